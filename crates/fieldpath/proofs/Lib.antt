@@ -1,0 +1,5 @@
+pub mod Orders
+pub mod Ascending
+pub mod Texts
+pub mod KeyFields
+pub mod Shown

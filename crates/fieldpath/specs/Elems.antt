@@ -1,0 +1,29 @@
+-- The element that an `Elem` stands for, and what reading one answers.
+use Rattle.std.specs.Prelude.{◌≡◌, Option, Some, None, string_bytes}
+use Rattle.std.specs.declared.result.Result.{Result}
+use Rattle.std.specs.declared.result.Result.TheVariants.{Ok, Err}
+use Rattle.serde_json.specs.Data.{Data}
+use Rattle.fieldpath.specs.Elements.{Element, field, key, value, NoElement, no_prefix, bad_json, not_canonical}
+use Rattle.fieldpath.specs.Scalars.{scalar}
+use Rattle.fieldpath.specs.declared.elem.Elem.{Elem}
+use Rattle.fieldpath.specs.declared.elem.Elem.TheVariants as made
+use Rattle.fieldpath.specs.declared.elem.ElemFault.{ElemFault}
+use Rattle.fieldpath.specs.declared.elem.ElemFault.TheVariants as faults
+
+abbrev pub element : Elem → Element
+element (made.Field s) = field (string_bytes s)
+element (made.Key ks) = key ks
+element (made.Value s) = value (scalar s)
+
+-- What a call returned, by its view, is what is read, unless memory ran out.
+abbrev pub Gives : {X Y : Type 0} → (X → Y) → Result X ElemFault → Result Y NoElement → Type 0
+Gives view (Ok x) read = read ≡ Ok (view x)
+Gives view (Err faults.NoPrefix) read = read ≡ Err no_prefix
+Gives view (Err faults.BadJson) read = read ≡ Err bad_json
+Gives view (Err faults.NotCanonical) read = read ≡ Err not_canonical
+Gives view (Err faults.Memory) read = Unit {0}
+
+-- JSON, or that there is none
+abbrev pub json_or_bad : Option Data → Result Data NoElement
+json_or_bad None = Err bad_json
+json_or_bad (Some d) = Ok d

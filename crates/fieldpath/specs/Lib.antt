@@ -1,0 +1,4 @@
+pub mod Paths
+pub mod Elements
+pub mod Scalars
+pub mod Elems

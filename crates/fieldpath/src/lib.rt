@@ -1,0 +1,16 @@
+//! Paths into objects: elements, their order and their texts (FieldsV1).
+//!
+//! Promises: an element's text is the canonical one, exactly the canonical texts are read,
+//! and paths are ordered element by element by the bytes of these texts.
+//! Stands on `serde_json` for the JSON inside an element's text.
+#![tactic(auto)]
+
+mod elem;
+mod keys;
+mod path;
+mod scalar;
+
+pub use elem::{Elem, ElemFault};
+pub use keys::{Keys, KeysFault};
+pub use path::Path;
+pub use scalar::Scalar;
