@@ -1,0 +1,12 @@
+pub mod Contents
+pub mod Trees
+pub mod Merging
+pub mod Sets
+pub mod Levels
+pub mod Picking
+pub mod Cutting
+pub mod Order
+pub mod Listing
+pub mod Insides
+pub mod Finding
+pub mod Inserting

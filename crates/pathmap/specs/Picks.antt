@@ -1,0 +1,33 @@
+-- The paths of one content that are picked beside another content.
+use Rattle.std.specs.Prelude.{Bool, true, false, not, [], Option, Some, None, is_some}
+use Rattle.std.specs.FinMap as fin
+use Rattle.std.specs.FinSet as set
+use Rattle.pathmap.specs.Contents.{Standing, Content, PathSet, dom}
+use Rattle.pathmap.specs.Beside.{same_value, changed, has_at_or_below, clear_of}
+use Rattle.pathmap.specs.declared.pick.Rule.{Rule}
+use Rattle.pathmap.specs.declared.pick.Rule.TheVariants.{Absent, Present, Changed, Clear}
+
+-- the paths of c that d lacks; that d has too; that d lacks or has another value at; at or below which d has none
+abbrev pub picked : Rule → Content → Content → PathSet
+picked Absent c d = set.difference (dom c) (dom d)
+picked Present c d = set.intersection (dom c) (dom d)
+picked Changed c d = changed c d
+picked Clear c d = clear_of (dom c) (dom d)
+
+-- whether the rule picks the empty path, where v stands, beside d
+abbrev pub picks : Rule → Standing → Content → Bool
+picks Absent v d = not (is_some (fin.get d []))
+picks Present v d = is_some (fin.get d [])
+picks Changed v d = not (same_value (Some v) (fin.get d []))
+picks Clear v d = not (has_at_or_below (dom d) [])
+
+abbrev pub picks_some : Rule → Option Standing → Content → Bool
+picks_some rule None d = false
+picks_some rule (Some v) d = picks rule v d
+
+-- whether the rule picks a path beside a map that has none
+abbrev pub picks_alone : Rule → Bool
+picks_alone Absent = true
+picks_alone Present = false
+picks_alone Changed = true
+picks_alone Clear = true

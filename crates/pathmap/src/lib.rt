@@ -1,0 +1,18 @@
+//! Finite maps from paths, as tries: what contents of objects and sets of paths are made of.
+//!
+//! Promises: each call is its equation over whole maps (`over`, `without`, `changed` ..).
+//! Stands on `fieldpath` for paths and their order.
+#![tactic(auto)]
+
+mod find;
+mod held;
+mod insert;
+mod over;
+mod pathmap;
+mod paths;
+mod pick;
+mod without;
+
+pub use held::Held;
+pub use over::put_over;
+pub use pathmap::PathMap;

@@ -1,0 +1,60 @@
+ghost use Rattle.std.specs.Prelude.{◌≡◌, [], ◌∷◌, ◌++◌, map, is_some, if◌then◌else◌, IfOk, OnOk};
+ghost use Rattle.pathmap.specs.Contents.{dom, gather, in_order};
+ghost use Rattle.pathmap.specs.Maps.{content, contents_in};
+
+use crate::held::Held;
+use crate::pathmap::PathMap;
+use fieldpath::Path;
+use std::alloc::{AllocError, Global};
+use std::collections::BTreeMap;
+
+fn list_held(
+    held: &Option<Held>,
+    alloc: Global,
+    front: &Path,
+    all: &mut Vec<Path>,
+) -> Result<(), AllocError>
+    ensures { OnOk result (all.new.items ≡ all.old.items ++ (if is_some held.now then front.now ∷ [] else [])) }
+{
+    if held.is_some() {
+        all.push(front.try_copy(alloc)?)?;
+    }
+    Ok(())
+}
+
+#[cycle(list)]
+fn list_below(
+    below: &BTreeMap<String, PathMap>,
+    alloc: Global,
+    front: &Path,
+    all: &mut Vec<Path>,
+) -> Result<(), AllocError>
+    ensures { OnOk result (all.new.items ≡ all.old.items ++ map (λ q. front.now ++ q) (in_order (dom (gather (contents_in below.now.entries))))) }
+{
+    for (name, inner) in below.iter() {
+        let mut path = front.try_copy(alloc)?;
+        path.push(name.clone()?)?;
+        list(inner, alloc, &path, all)?;
+    }
+    Ok(())
+}
+
+/// Each path of the map, with the front before it.
+#[cycle(list)]
+fn list(below: &PathMap, alloc: Global, front: &Path, all: &mut Vec<Path>) -> Result<(), AllocError>
+    ensures { OnOk result (all.new.items ≡ all.old.items ++ map (λ q. front.now ++ q) (in_order (dom (content below.now)))) }
+{
+    list_held(&below.held, alloc, front, all)?;
+    list_below(&below.below, alloc, front, all)
+}
+
+impl PathMap {
+    /// Its paths, in order.
+    pub fn paths(&self, alloc: Global) -> Result<Vec<Path>, AllocError>
+        ensures { IfOk result (λ v. v.items ≡ in_order (dom (content self.now))) }
+    {
+        let mut all = Vec::new(alloc);
+        list(self, alloc, &Path::new(alloc), &mut all)?;
+        Ok(all)
+    }
+}
