@@ -1,0 +1,10 @@
+use Rattle.std.proofs.Common.{◌≡◌, map, length, drop}
+use Rattle.serde_json.specs.View.{items_view}
+use Rattle.schema.specs.Served.{served}
+use Rattle.schema.specs.TypesFile.{types_of}
+use Rattle.schema.proofs.TypeByType.{after}
+use Rattle.schema.proofs.file.read_types.Given as goal
+
+abbrev pub invariant-loop-value : goal.invariant-loop-value
+invariant-loop-value l =
+    (types_of (items_view l.values) ≡ after (map served l.types.items) (types_of (items_view (drop l.value-index l.values)))) × (length l.types.items ≡ l.value-index)

@@ -1,0 +1,18 @@
+use Rattle.std.proofs.Common.{◌≡◌, ℕ, List, Some, None, false, map, string_bytes, codes, ap, sym, ◌∙◌, option_map, refl}
+use Rattle.serde_json.specs.Data.{Members}
+use Rattle.serde_json.specs.View.{members_view}
+use Rattle.schema.specs.Keywords.{key_names, members_at, is_keyed_struct, keyed_kind}
+use Rattle.schema.specs.Refusals.{misfit, some_or}
+use Rattle.schema.proofs.Texts.{was_some}
+use Rattle.schema.proofs.forms.keyed_kind.Goals as goal
+
+no_struct : (ms item : Members) (names : List (List ℕ)) → key_names ms ≡ Some names → members_at (codes "items") ms ≡ Some item → is_keyed_struct names (Some item) ≡ false → keyed_kind ms ≡ None
+no_struct ms item names named at not = rw (named, at, not) refl
+
+pub returns-then-not-is_keyed_struct : goal.returns-then-not-is_keyed_struct
+returns-then-not-is_keyed_struct c =
+    let ms = members_view c.args.schema.now.entries in
+    let names = map string_bytes c.in_ok-names.names.items in
+    let at = sym c.members_at.ensures ∙ ap (option_map (λ m. members_view m.now.entries)) c.in-Some.is in
+    ap (some_or misfit) (no_struct ms (members_view c.in-Some.item.now.entries) names (was_some (key_names ms) names c.in_ok-names.ensures) at
+    (ap (λ ns. is_keyed_struct (map string_bytes ns) (Some (members_view c.in-Some.item.now.entries))) (sym c.deref.ensures.value) ∙ sym c.is_keyed_struct.ensures ∙ c.if-not-is_keyed_struct.true))

@@ -1,0 +1,10 @@
+pub mod Shape
+pub mod Place
+pub mod Lawful
+pub mod Names
+pub mod Refusals
+pub mod Keywords
+pub mod Forms
+pub mod TypesFile
+pub mod Served
+pub mod Seen

@@ -1,0 +1,136 @@
+//! Which schemas keep the rules of a types file.
+ghost use Rattle.std.specs.Prelude.{◌≡◌, map, string_bytes, nat_le};
+ghost use Rattle.schema.specs.Shape.{shape, fields_in, kind_of, shape_at};
+ghost use Rattle.schema.specs.Lawful.{max_depth, is_scalar, is_some_scalar, ascend, names_of, has_keys, item_is_lawful, depth_limit, depth_of, fields_depth, is_well_formed, are_well_formed, is_lawful};
+
+use crate::schema::{ListKind, Schema};
+
+/// How deep a type's schema may nest, itself counted.
+pub const MAX_DEPTH: usize = 16;
+
+fn fields_ascend(fields: &[(String, Schema)]) -> bool
+    ensures { result ≡ ascend (names_of (fields_in fields.now)) }
+{
+    fields.is_sorted_by(|one, next| one.0 < next.0)
+}
+
+pub(crate) fn names_ascend(names: &[String]) -> bool
+    ensures { result ≡ ascend (map string_bytes names.now) }
+{
+    names.is_sorted_by(|one, next| one < next)
+}
+
+fn has_scalar(fields: &[(String, Schema)], name: &str) -> bool
+    ensures { result ≡ is_some_scalar (shape_at name.now (fields_in fields.now)) }
+{
+    for (known, inner) in fields {
+        if known.as_str() == name {
+            return inner.is_scalar();
+        }
+    }
+    false
+}
+
+impl ListKind {
+    /// Whether a list of this kind may have items of this schema.
+    fn takes(&self, item: &Schema) -> bool
+        ensures { result ≡ item_is_lawful (kind_of self.now) (shape item.now) }
+    {
+        match self {
+            ListKind::Atomic => true,
+            ListKind::Set => item.is_scalar(),
+            ListKind::Keyed(names) => {
+                !names.is_empty() && names_ascend(names) && item.has_keys(names)
+            }
+        }
+    }
+}
+
+#[cycle(well_formed)]
+fn are_well_formed(fields: &[(String, Schema)]) -> bool
+    ensures { result ≡ are_well_formed (fields_in fields.now) }
+{
+    for (_, inner) in fields {
+        if !inner.is_well_formed() {
+            return false;
+        }
+    }
+    true
+}
+
+#[cycle(within)]
+fn are_within(fields: &[(String, Schema)], depth: usize) -> bool
+    ensures { result ≡ nat_le (fields_depth (fields_in fields.now)) depth }
+{
+    for (_, inner) in fields {
+        if !inner.is_within(depth) {
+            return false;
+        }
+    }
+    true
+}
+
+impl Schema {
+    fn is_scalar(&self) -> bool
+        ensures { result ≡ is_scalar (shape self.now) }
+    {
+        matches!(self, Schema::Text | Schema::Whole | Schema::Truth)
+    }
+
+    fn has_keys(&self, names: &[String]) -> bool
+        ensures { result ≡ has_keys (map string_bytes names.now) (shape self.now) }
+    {
+        match self {
+            Schema::Struct(fields, is_atomic) => {
+                !*is_atomic && names.iter().all(|name| has_scalar(fields, name.as_str()))
+            }
+            _ => false,
+        }
+    }
+
+    #[cycle(well_formed)]
+    fn is_well_formed(&self) -> bool
+        ensures { result ≡ is_well_formed (shape self.now) }
+    {
+        match self {
+            Schema::Text | Schema::Whole | Schema::Truth => true,
+            Schema::Struct(fields, _) => fields_ascend(fields) && are_well_formed(fields),
+            Schema::MapOf(inner, _) => inner.is_well_formed(),
+            Schema::List(inner, kind) => kind.takes(inner) && inner.is_well_formed(),
+        }
+    }
+
+    /// Whether the schema nests at most `depth` deep, itself counted.
+    #[cycle(within)]
+    fn is_within(&self, depth: usize) -> bool
+        ensures { result ≡ nat_le (depth_of (shape self.now)) depth }
+    {
+        if depth == 0 {
+            return false;
+        }
+        match self {
+            Schema::Text | Schema::Whole | Schema::Truth => true,
+            Schema::Struct(fields, _) => are_within(fields, depth - 1),
+            Schema::MapOf(inner, _) => inner.is_within(depth - 1),
+            Schema::List(inner, _) => inner.is_within(depth - 1),
+        }
+    }
+
+    /// A type's schema is a granular struct; what is none can only be a part of one.
+    fn depth_limit(&self) -> usize
+        ensures { result ≡ depth_limit (shape self.now) }
+    {
+        match self {
+            Schema::Struct(_, false) => MAX_DEPTH,
+            _ => MAX_DEPTH - 1,
+        }
+    }
+
+    /// Whether the schema keeps the rules of a types file, as a type's schema or as a part of one:
+    /// names in byte order, items as their list's kind wants them, at most 16 deep; 15 where it can only be a part.
+    pub fn lawful(&self) -> bool
+        ensures { result ≡ is_lawful (shape self.now) }
+    {
+        self.is_well_formed() && self.is_within(self.depth_limit())
+    }
+}

@@ -1,0 +1,27 @@
+//! Types and their schemas, as a types file declares them.
+//!
+//! Promises: a types file reads as exactly the types that it declares, or as its first fault;
+//! a schema gives each path at most one place.
+//! Stands on `fieldpath` for elements and on `serde_json` for the file.
+#![tactic(auto)]
+
+mod fault;
+mod file;
+mod forms;
+mod keywords;
+mod lawful;
+mod names;
+mod place;
+mod read;
+mod schema;
+mod served;
+mod types;
+
+pub use fault::TypesFault;
+pub use place::Place;
+pub use schema::{ListKind, Schema};
+pub use served::Served;
+pub use types::Types;
+
+#[cfg(test)]
+mod tests;

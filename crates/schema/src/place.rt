@@ -1,0 +1,8 @@
+/// What stands at a path that a schema gives a place.
+#[derive(Clone, Copy, Debug, PartialEq, Eq)]
+pub enum Place {
+    /// A scalar or an atomic value.
+    Leaf,
+    SetItem,
+    MapItem,
+}

@@ -1,0 +1,106 @@
+//! Reads schemas.
+ghost use Rattle.std.specs.Prelude.{◌≡◌, ◌≤◌, codes};
+ghost use Rattle.serde_json.specs.View.{view, members_view};
+ghost use Rattle.schema.specs.Shape.{shape, fields_in};
+ghost use Rattle.schema.specs.Keywords.{has};
+ghost use Rattle.schema.specs.Forms.{object_form};
+ghost use Rattle.schema.specs.TypesFile.{shape_in, schema_at, properties_in, fields_at, shape_of_form};
+ghost use Rattle.schema.specs.Seen.{Gives};
+
+use crate::fault::TypesFault;
+use crate::forms::{Form, own_form};
+use crate::keywords::has;
+use crate::schema::Schema;
+use serde_json::{Map, Value};
+use std::alloc::Global;
+
+#[cycle(read)]
+fn schema_at(
+    alloc: Global,
+    schema: &Map<String, Value>,
+    name: &str,
+    depth: usize,
+) -> Result<Schema, TypesFault>
+    requires { depth ≤ 16 }
+    ensures { Gives shape result (schema_at name.now depth (members_view schema.now.entries)) }
+{
+    match schema.get(name) {
+        Some(value) => read_schema(alloc, value, depth + 1),
+        None => Err(TypesFault::Misfit),
+    }
+}
+
+/// The fields of a struct, in byte order of their names.
+#[cycle(read)]
+fn read_fields(
+    alloc: Global,
+    value: &Value,
+    depth: usize,
+) -> Result<Vec<(String, Schema)>, TypesFault>
+    requires { depth ≤ 16 }
+    ensures { Gives (λ v. fields_in v.items) result (fields_at depth (view value.now)) }
+{
+    let Value::Object(properties) = value else {
+        return Err(TypesFault::Misfit);
+    };
+    let mut fields = Vec::new(alloc);
+    for (name, value) in properties.iter() {
+        let inner = read_schema(alloc, value, depth + 1)?;
+        fields.push((name.clone()?, inner))?;
+    }
+    Ok(fields)
+}
+
+#[cycle(read)]
+fn properties_in(
+    alloc: Global,
+    schema: &Map<String, Value>,
+    depth: usize,
+) -> Result<Vec<(String, Schema)>, TypesFault>
+    requires { depth ≤ 16 }
+    ensures { Gives (λ v. fields_in v.items) result (properties_in depth (members_view schema.now.entries)) }
+{
+    match schema.get("properties") {
+        Some(value) => read_fields(alloc, value, depth),
+        None => Ok(Vec::new(alloc)),
+    }
+}
+
+#[cycle(read)]
+fn read_object(
+    alloc: Global,
+    schema: &Map<String, Value>,
+    depth: usize,
+    is_atomic: bool,
+) -> Result<Schema, TypesFault>
+    requires { depth ≤ 16 }
+    ensures { let ms = members_view schema.now.entries in
+        Gives shape result (shape_of_form (has (codes "additionalProperties") ms) (schema_at (codes "additionalProperties") depth ms) (properties_in depth ms) (schema_at (codes "items") depth ms) (object_form is_atomic)) }
+{
+    if has(schema, "additionalProperties") {
+        let values = schema_at(alloc, schema, "additionalProperties", depth)?;
+        return Ok(Schema::MapOf(Box::new(alloc, values)?, is_atomic));
+    }
+    Ok(Schema::Struct(properties_in(alloc, schema, depth)?, is_atomic))
+}
+
+/// Reads a schema at a depth.
+#[cycle(read)]
+pub(crate) fn read_schema(alloc: Global, value: &Value, depth: usize) -> Result<Schema, TypesFault>
+    requires { depth ≤ 17 }
+    ensures { Gives shape result (shape_in depth (view value.now)) }
+{
+    let Value::Object(schema) = value else {
+        return Err(TypesFault::Misfit);
+    };
+    match own_form(alloc, depth, schema)? {
+        Form::Object(is_atomic) => read_object(alloc, schema, depth, is_atomic),
+        Form::List(kind) => {
+            let item = schema_at(alloc, schema, "items", depth)?;
+            Ok(Schema::List(Box::new(alloc, item)?, kind))
+        }
+        Form::Text => Ok(Schema::Text),
+        Form::Whole => Ok(Schema::Whole),
+        Form::Truth => Ok(Schema::Truth),
+    }
+}

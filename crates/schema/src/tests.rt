@@ -1,0 +1,220 @@
+//! A types file of two types, and each refusal.
+
+use super::{Types, TypesFault};
+use serde_json::Value;
+use std::alloc::Global;
+use std::test::Fail;
+
+/// Two types: one with each kind of list, and one of counts.
+const WIDGET_TYPES: &str = r#"{"types":[
+ {"group":"demo.example","version":"v1","kind":"Widget","plural":"widgets",
+  "schema":{"type":"object","properties":{"spec":{"type":"object","properties":{
+   "args":{"type":"array","items":{"type":"string"}},
+   "config":{"type":"object","additionalProperties":{"type":"string"}},
+   "image":{"type":"string"},
+   "ports":{"type":"array","x-kubernetes-list-type":"map",
+    "x-kubernetes-list-map-keys":["name"],
+    "items":{"type":"object","properties":{"name":{"type":"string"},
+     "note":{"type":"string"},"port":{"type":"integer"}}}},
+   "replicas":{"type":"integer"},
+   "tags":{"type":"array","x-kubernetes-list-type":"set","items":{"type":"string"}}
+  }}}}},
+ {"group":"summary.example","version":"v1","kind":"LabelSummary","plural":"labelsummaries",
+  "schema":{"type":"object","properties":{"spec":{"type":"object","properties":{
+   "counts":{"type":"object","additionalProperties":{"type":"integer"}},
+   "label":{"type":"string"},"total":{"type":"integer"}}}}}}]}"#;
+
+const METADATA: &str =
+    r#"("metadata", Struct([("annotations", MapOf(Text, false)), ("labels", MapOf(Text, false))], false))"#;
+
+fn read(alloc: Global, text: &str) -> Result<Result<Types, TypesFault>, Fail> {
+    let value = Value::from_str(alloc, text)?;
+    Ok(Types::read(alloc, &value))
+}
+
+/// A types file of one type with this schema.
+fn file_of(alloc: Global, schema: &str) -> Result<String, Fail> {
+    let mut file = String::from_str(
+        alloc,
+        r#"{"types":[{"group":"demo.example","kind":"Widget","plural":"widgets","version":"v1","schema":"#,
+    )?;
+    file.push_str(schema)?;
+    file.push_str("}]}")?;
+    Ok(file)
+}
+
+fn fault_of(alloc: Global, text: &str) -> Result<Option<TypesFault>, Fail> {
+    Ok(read(alloc, text)?.err())
+}
+
+fn fault_of_schema(alloc: Global, schema: &str) -> Result<Option<TypesFault>, Fail> {
+    let file = file_of(alloc, schema)?;
+    fault_of(alloc, file.as_str())
+}
+
+/// A schema of this depth, at least 2: a struct, and lists of lists of texts in it.
+fn nested(alloc: Global, depth: usize) -> Result<String, Fail> {
+    let mut inner = String::from_str(alloc, r#"{"type":"string"}"#)?;
+    for _ in 2..depth {
+        inner = format!(in alloc; r#"{{"type":"array","items":{inner}}}"#)?;
+    }
+    Ok(format!(in alloc; r#"{{"type":"object","properties":{{"a":{inner}}}}}"#)?)
+}
+
+#[test]
+fn widget_types(rt: HostRuntime) -> Result<(), Fail> {
+    let alloc = rt.alloc();
+    let types = read(alloc, WIDGET_TYPES)??;
+    assert_eq!(rt; types.find("demo.example", "v1", "widgets"), Some(0));
+    assert_eq!(rt;
+        types.find("summary.example", "v1", "labelsummaries"),
+        Some(1)
+    );
+    assert_eq!(rt; types.find("demo.example", "v2", "widgets"), None);
+    assert!(rt; types.get(2).is_none());
+
+    let widget = types.get(0).ok_or("no widget")?;
+    assert_eq!(rt; widget.kind.as_str(), "Widget");
+    assert!(rt; widget.schema.lawful());
+    let shown = format!(in alloc; "{:?}", widget.schema)?;
+    let want = format!(in alloc;
+        "Struct([{METADATA}, (\"spec\", Struct([\
+        (\"args\", List(Text, Atomic)), (\"config\", MapOf(Text, false)), (\"image\", Text), \
+        (\"ports\", List(Struct([(\"name\", Text), (\"note\", Text), (\"port\", Whole)], false), Keyed([\"name\"]))), \
+        (\"replicas\", Whole), (\"tags\", List(Text, Set))], false))], false)"
+    )?;
+    assert_eq!(rt; shown.as_str(), want.as_str());
+
+    let summary = types.get(1).ok_or("no summary")?;
+    let shown = format!(in alloc; "{:?}", summary.schema)?;
+    let want = format!(in alloc;
+        "Struct([{METADATA}, (\"spec\", Struct([\
+        (\"counts\", MapOf(Whole, false)), (\"label\", Text), (\"total\", Whole)], false))], false)"
+    )?;
+    assert_eq!(rt; shown.as_str(), want.as_str());
+    Ok(())
+}
+
+#[test]
+fn refusals(rt: HostRuntime) -> Result<(), Fail> {
+    let alloc = rt.alloc();
+    for (property, fault) in [
+        (r#"{"type":"string","enum":[]}"#, TypesFault::UnknownKeyword),
+        (r#"{"type":"number"}"#, TypesFault::UnknownType),
+        (r#"{"type":["string"]}"#, TypesFault::UnknownType),
+        (r#"{}"#, TypesFault::UnknownType),
+        (
+            r#"{"type":"array","x-kubernetes-list-type":"map","items":{"type":"object","properties":{"a":{"type":"string"}}}}"#,
+            TypesFault::Misfit,
+        ),
+        (
+            r#"{"type":"array","x-kubernetes-list-type":"map","x-kubernetes-list-map-keys":["a","a"],"items":{"type":"object","properties":{"a":{"type":"string"}}}}"#,
+            TypesFault::Misfit,
+        ),
+        (
+            r#"{"type":"array","x-kubernetes-list-map-keys":["a"],"items":{"type":"object","properties":{"a":{"type":"string"}}}}"#,
+            TypesFault::Misfit,
+        ),
+        (
+            r#"{"type":"array","x-kubernetes-list-type":"set","items":{"type":"number"}}"#,
+            TypesFault::Misfit,
+        ),
+        (r#"{"type":"array"}"#, TypesFault::Misfit),
+        (
+            r#"{"type":"string","items":{"type":"string"}}"#,
+            TypesFault::Misfit,
+        ),
+        (
+            r#"{"type":"object","properties":{},"additionalProperties":{"type":"string"}}"#,
+            TypesFault::Misfit,
+        ),
+        (r#"5"#, TypesFault::Misfit),
+    ] {
+        let schema = format!(in alloc; r#"{{"type":"object","properties":{{"a":{property}}}}}"#)?;
+        assert_eq!(rt;
+            fault_of_schema(alloc, schema.as_str())?,
+            Some(fault),
+            "{property}"
+        );
+    }
+    for (schema, fault) in [
+        (r#"{"type":"string"}"#, TypesFault::Misfit),
+        (r#"{"type":"object"}"#, TypesFault::Misfit),
+        (r#"[]"#, TypesFault::Misfit),
+        (
+            r#"{"type":"object","x-kubernetes-map-type":"atomic","properties":{}}"#,
+            TypesFault::Misfit,
+        ),
+        (
+            r#"{"type":"object","properties":{"b":{"type":"number"},"a":{"type":"string","enum":[]}}}"#,
+            TypesFault::UnknownKeyword,
+        ),
+    ] {
+        assert_eq!(rt; fault_of_schema(alloc, schema)?, Some(fault), "{schema}");
+    }
+    Ok(())
+}
+
+#[test]
+fn refusals_of_files(rt: HostRuntime) -> Result<(), Fail> {
+    let alloc = rt.alloc();
+    let deep = nested(alloc, 17)?;
+    assert_eq!(rt;
+        fault_of_schema(alloc, deep.as_str())?,
+        Some(TypesFault::TooDeep)
+    );
+    let least = nested(alloc, 16)?;
+    assert_eq!(rt; fault_of_schema(alloc, least.as_str())?, None);
+
+    let widget =
+        r#"{"group":"demo.example","kind":"Widget","plural":"widgets","version":"v1","schema":{"type":"object","properties":{}}}"#;
+    let twice = format!(in alloc; r#"{{"types":[{widget},{widget}]}}"#)?;
+    assert_eq!(rt;
+        fault_of(alloc, twice.as_str())?,
+        Some(TypesFault::SameNames)
+    );
+
+    for file in [
+        r#"[]"#,
+        r#"{}"#,
+        r#"{"types":[],"version":1}"#,
+        r#"{"types":[5]}"#,
+        r#"{"types":[{"group":"demo.example","kind":"Widget","plural":"widgets","version":"v1"}]}"#,
+        r#"{"types":[{"group":"demo.example","kind":"Widget","plural":"namespaces","version":"v1","schema":5}]}"#,
+        r#"{"types":[{"group":"demo.Example","kind":"Widget","plural":"widgets","version":"v1","schema":5}]}"#,
+        r#"{"types":[{"group":"demo.example","kind":"Widget","plural":"widgets","version":"v1","schema":5,"scope":1}]}"#,
+    ] {
+        assert_eq!(rt;
+            fault_of(alloc, file)?,
+            Some(TypesFault::NotTheForm),
+            "{file}"
+        );
+    }
+    assert_eq!(rt; fault_of(alloc, r#"{"types":[]}"#)?, None);
+    Ok(())
+}
+
+#[test]
+fn read_past_and_sorted(rt: HostRuntime) -> Result<(), Fail> {
+    let alloc = rt.alloc();
+    let file = file_of(
+        alloc,
+        r#"{"type":"object","title":5,"properties":{"apiVersion":{"enum":[]},"kind":5,"metadata":{"type":"number"},
+            "zone":{"type":"boolean","description":"where","format":"x"},
+            "ports":{"type":"array","x-kubernetes-list-type":"map","x-kubernetes-list-map-keys":["protocol","port"],
+             "items":{"type":"object","x-kubernetes-map-type":"granular","properties":{"port":{"type":"integer"},"protocol":{"type":"string"}}}},
+            "at":{"type":"object","x-kubernetes-map-type":"atomic"},
+            "by":{"type":"object","x-kubernetes-map-type":"atomic","additionalProperties":{"type":"object"}}}}"#,
+    )?;
+    let types = read(alloc, file.as_str())??;
+    let widget = types.get(0).ok_or("no widget")?;
+    let shown = format!(in alloc; "{:?}", widget.schema)?;
+    let want = format!(in alloc;
+        "Struct([(\"at\", Struct([], true)), (\"by\", MapOf(Struct([], false), true)), {METADATA}, \
+        (\"ports\", List(Struct([(\"port\", Whole), (\"protocol\", Text)], false), Keyed([\"port\", \"protocol\"]))), \
+        (\"zone\", Truth)], false)"
+    )?;
+    assert_eq!(rt; shown.as_str(), want.as_str());
+    assert!(rt; widget.schema.lawful());
+    Ok(())
+}

@@ -1,0 +1,56 @@
+ghost use Rattle.std.specs.Prelude.{◌≤◌, vec_len};
+
+use crate::fault::TypesFault;
+use crate::file::{listed, read_types};
+use crate::served::{Served, names_differ};
+use serde_json::Value;
+use std::alloc::Global;
+
+/// The types that are served, in the order of their types file. A type's place in it is its number, from 0.
+#[derive(Debug, Drop)]
+pub struct Types {
+    all: Vec<Served>,
+    ghost few: { vec_len all ≤ 4294967295 },
+}
+
+impl Types {
+    ghost use Rattle.std.specs.Prelude.{◌≡◌, slice_get, option_map};
+    ghost use Rattle.serde_json.specs.View.{view};
+    ghost use Rattle.schema.specs.Served.{served, types_view};
+    ghost use Rattle.schema.specs.Seen.{Gives};
+    ghost use Rattle.schema.specs.TypesFile.{declared_types, type_number};
+
+    /// Reads a types file: `{"types":[..]}`, each type an object with `group`, `version`, `kind`, `plural` and a `schema`.
+    /// Refuses a file by its first fault: its own form and number of types, then type by type, and types with equal names last.
+    pub fn read(alloc: Global, value: &Value) -> Result<Types, TypesFault>
+        ensures { Gives types_view result (declared_types (view value.now)) }
+    {
+        let values = listed(value)?;
+        let all = read_types(alloc, values)?;
+        if !names_differ(&all) {
+            return Err(TypesFault::SameNames);
+        }
+        Ok(Types { all })
+    }
+
+    /// The number of the type with these names.
+    pub fn find(&self, group: &str, version: &str, plural: &str) -> Option<u32>
+        ensures { result ≡ type_number group.now version.now plural.now (types_view self.now) }
+    {
+        let mut number = 0;
+        for served in &self.all {
+            if served.is_named(group, version, plural) {
+                return Some(number);
+            }
+            number += 1;
+        }
+        None
+    }
+
+    /// The type of this number.
+    pub fn get(&self, number: u32) -> Option<&Served>
+        ensures { option_map (λ s. served s.now) result ≡ slice_get (types_view self.now) number }
+    {
+        self.all.get(number as usize)
+    }
+}
