@@ -1,0 +1,2 @@
+pub mod FieldsV1
+pub mod Below

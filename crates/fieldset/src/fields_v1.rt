@@ -1,0 +1,135 @@
+ghost use Rattle.std.specs.Prelude.{◌≡◌, List, ℕ, map, drop, codes, IfOk, OnOk, string_bytes};
+ghost use Rattle.std.specs.Option.{option_map};
+ghost use Rattle.serde_json.specs.Data.{Members, no_members, put};
+ghost use Rattle.serde_json.specs.View.{members_view};
+ghost use Rattle.fieldpath.specs.Elements.{name_text};
+ghost use Rattle.pathmap.specs.Contents.{dom, marked};
+ghost use Rattle.pathmap.specs.Maps.{content};
+ghost use Rattle.schema.specs.Shape.{shape, shape_at, fields_in};
+ghost use Rattle.fieldset.specs.FieldsV1.{leaf, members_of, put_names};
+ghost use Rattle.fieldset.specs.Below.{as_item, is_leaf, members_some, shape_below};
+
+use pathmap::PathMap;
+use schema::{ListKind, Schema};
+use serde_json::{Map, Value};
+use std::alloc::{AllocError, Global};
+
+fn is_leaf(schema: &Schema) -> bool
+    ensures { result ≡ is_leaf (shape schema.now) }
+{
+    match schema {
+        Schema::Text | Schema::Whole | Schema::Truth => true,
+        Schema::Struct(_, is_atomic) | Schema::MapOf(_, is_atomic) => *is_atomic,
+        Schema::List(_, ListKind::Atomic) => true,
+        Schema::List(_, ListKind::Set | ListKind::Keyed(_)) => false,
+    }
+}
+
+/// The text of an element less its prefix.
+fn after_prefix(element: &String) -> &[u8]
+    ensures { result.now ≡ drop 2 (string_bytes element.now) }
+{
+    let bytes = element.as_bytes();
+    if bytes.len() < 2 { &[] } else { &bytes[2..] }
+}
+
+fn field_schema<'a>(fields: &'a [(String, Schema)], name: &[u8]) -> Option<&'a Schema>
+    ensures { option_map (λ s. shape s.now) result ≡ shape_at name.now (fields_in fields.now) }
+{
+    for (known, inner) in fields {
+        if known.as_bytes() == name {
+            return Some(inner);
+        }
+    }
+    None
+}
+
+fn schema_below<'a>(schema: &'a Schema, element: &String) -> Option<&'a Schema>
+    ensures { option_map (λ s. shape s.now) result ≡ shape_below (shape schema.now) (string_bytes element.now) }
+{
+    match schema {
+        Schema::Struct(fields, _) => field_schema(fields, after_prefix(element)),
+        Schema::MapOf(inner, _) | Schema::List(inner, ListKind::Keyed(_)) => Some(inner),
+        _ => None,
+    }
+}
+
+fn put_leaf(members: &mut Map<String, Value>, alloc: Global, text: String) -> Result<(), AllocError>
+    ensures { OnOk result (members_view members.new.entries ≡ put (string_bytes text) leaf (members_view members.old.entries)) }
+{
+    drop(members.insert(text, Value::Object(Map::new(alloc)))?);
+    Ok(())
+}
+
+fn name_element(alloc: Global, name: &String) -> Result<String, AllocError>
+    ensures { IfOk result (λ s. string_bytes s ≡ name_text (string_bytes name.now)) }
+{
+    let mut text = String::from_str(alloc, "f:")?;
+    text.push_str(name)?;
+    Ok(text)
+}
+
+fn put_names(
+    members: &mut Map<String, Value>,
+    alloc: Global,
+    names: &[String],
+) -> Result<(), AllocError>
+    ensures { OnOk result (members_view members.new.entries ≡ put_names (map string_bytes names.now) (members_view members.old.entries)) }
+{
+    for name in names {
+        put_leaf(members, alloc, name_element(alloc, name)?)?;
+    }
+    Ok(())
+}
+
+/// An item of a map list has `.` and its key fields too.
+fn put_item(
+    members: &mut Map<String, Value>,
+    alloc: Global,
+    names: &[String],
+) -> Result<(), AllocError>
+    ensures { OnOk result (members_view members.new.entries ≡ put (codes ".") leaf (put_names (map string_bytes names.now) (members_view members.old.entries))) }
+{
+    put_names(members, alloc, names)?;
+    put_leaf(members, alloc, String::from_str(alloc, ".")?)
+}
+
+fn put_as_item(
+    members: &mut Map<String, Value>,
+    alloc: Global,
+    schema: &Schema,
+    is_there: bool,
+) -> Result<(), AllocError>
+    ensures { OnOk result (members_view members.new.entries ≡ as_item (shape schema.now) is_there (members_view members.old.entries)) }
+{
+    match schema {
+        Schema::List(_, ListKind::Keyed(names)) if is_there => put_item(members, alloc, names),
+        _ => Ok(()),
+    }
+}
+
+/// The members of a map's paths, under the schema that stands there, if any does.
+pub(crate) fn members(
+    map: &PathMap,
+    alloc: Global,
+    schema: Option<&Schema>,
+) -> Result<Map<String, Value>, AllocError>
+    ensures { IfOk result (λ m. members_view m.entries ≡ members_some (option_map (λ s. shape s.now) schema.entry) (marked (dom (content map.now)))) }
+{
+    let mut all = Map::new(alloc);
+    let Some(schema) = schema else {
+        return Ok(all);
+    };
+    if is_leaf(schema) {
+        return Ok(all);
+    }
+    for (name, inner) in map.below.iter() {
+        if inner.is_bare() {
+            continue;
+        }
+        let mut below = members(inner, alloc, schema_below(schema, name))?;
+        put_as_item(&mut below, alloc, schema, inner.held.is_some())?;
+        drop(all.insert(name.clone()?, Value::Object(below))?);
+    }
+    Ok(all)
+}
