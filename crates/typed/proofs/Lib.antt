@@ -1,0 +1,16 @@
+pub mod Faults
+pub mod Shapes
+pub mod Plains
+pub mod Insides
+pub mod Prints
+pub mod Joins
+pub mod Floats
+pub mod Listed
+pub mod Members
+pub mod Atomic
+pub mod Parts
+pub mod Putting
+pub mod ElementTexts
+pub mod KeyFields
+pub mod RoundTrip
+pub mod Places

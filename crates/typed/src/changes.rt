@@ -1,0 +1,61 @@
+ghost use Rattle.std.specs.Prelude.{◌≡◌, IfOk};
+ghost use Rattle.std.specs.FinSet as set;
+ghost use Rattle.pathmap.specs.Beside.{changed, without};
+ghost use Rattle.pathmap.specs.Contents.{dom};
+ghost use Rattle.pathmap.specs.Maps.{content};
+
+use crate::tree::Tree;
+use fieldset::FieldSet;
+use std::alloc::{AllocError, Global};
+
+/// How one content differs from another that it came from.
+#[derive(Drop)]
+pub struct Changes {
+    /// Paths that the other content lacks.
+    pub added: FieldSet,
+    /// Paths of both whose values differ.
+    pub modified: FieldSet,
+    /// Paths of the other content alone.
+    pub removed: FieldSet,
+}
+
+impl Tree {
+    /// The paths that have a value.
+    pub fn paths(&self, alloc: Global) -> Result<FieldSet, AllocError>
+        ensures { IfOk result (λ s. s ≡ dom self.now) }
+    {
+        Ok(FieldSet::of(self.map().marks(alloc)?))
+    }
+
+    /// The paths that the other content lacks or has another value at.
+    pub fn changed_from(&self, alloc: Global, other: &Tree) -> Result<FieldSet, AllocError>
+        ensures { IfOk result (λ s. s ≡ changed self.now other.now) }
+    {
+        Ok(FieldSet::of(self.map().changed(alloc, other.map())?))
+    }
+
+    /// What this content added to another, modified and removed.
+    pub fn compare(&self, alloc: Global, other: &Tree) -> Result<Changes, AllocError>
+        ensures added { IfOk result (λ c. c.added ≡ set.difference (dom self.now) (dom other.now)) }
+        ensures modified { IfOk result (λ c. c.modified ≡ set.intersection (changed self.now other.now) (dom other.now)) }
+        ensures removed { IfOk result (λ c. c.removed ≡ set.difference (dom other.now) (dom self.now)) }
+    {
+        let mine = self.paths(alloc)?;
+        let theirs = other.paths(alloc)?;
+        let added = mine.minus(alloc, &theirs)?;
+        let modified = self.changed_from(alloc, other)?.common(alloc, &theirs)?;
+        let removed = theirs.minus(alloc, &mine)?;
+        Ok(Changes {
+            added,
+            modified,
+            removed,
+        })
+    }
+
+    /// This content less every path at or below one of the set.
+    pub fn without(self, set: &FieldSet) -> Tree
+        ensures { result ≡ without self set.now }
+    {
+        Tree::of(self.into_map().without(set.map()))
+    }
+}

@@ -1,0 +1,228 @@
+ghost use Rattle.std.specs.Prelude.{◌≡◌, ℕ, List, [], None, Err, Ok, IfOk, OnOk, false, if◌then◌else◌, map, option_map, string_bytes};
+ghost use Rattle.serde_json.specs.Written.{has_float, members_have_float};
+ghost use Rattle.fieldpath.specs.Elements.{key_text, name_text, scalar_text};
+ghost use Rattle.pathmap.specs.Contents.{Content};
+ghost use Rattle.std.specs.List.{list_any};
+ghost use Rattle.std.specs.Ordering.{is_eq, nat_cmp};
+ghost use Rattle.std.specs.Cmp.Lexicographic.{slice_cmp};
+ghost use Rattle.std.specs.Str.{bytes_eq};
+ghost use Rattle.pathmap.specs.Maps.{at_name, content};
+ghost use Rattle.serde_json.specs.Find.{as_array, as_object, get_member};
+ghost use Rattle.serde_json.specs.View.{items_view, members_view, view};
+ghost use Rattle.typed.specs.declared.fault.Cause.TheVariants.{KeyFieldMissing, NotAnObject, WrongType};
+ghost use Rattle.typed.specs.Faults.{Gives, Read, and_then, some_or};
+ghost use Rattle.typed.specs.Reading.{at_field, have_keys, is_there, keys_in, object_item, put_some};
+ghost use Rattle.typed.specs.Steps.{AddsItem, AreSeen, Joins, item_view, unless_key};
+
+use crate::fault::{Cause, ReadFault, wrong};
+use pathmap::{Held, PathMap};
+use serde_json::{Map, Value};
+use std::alloc::{AllocError, Global};
+use std::collections::BTreeMap;
+
+/// An item of a set or of a map list: its element's text, and what stands below it.
+#[derive(Drop)]
+pub(crate) struct Item {
+    pub(crate) element: String,
+    pub(crate) below: BTreeMap<String, PathMap>,
+}
+
+/// The members of an object.
+pub(crate) fn object_of(alloc: Global, value: &Value) -> Result<&Map<String, Value>, ReadFault>
+    ensures { Gives (λ m. members_view m.now.entries) result (some_or NotAnObject (as_object (view value.now))) }
+{
+    match value.as_object() {
+        Some(members) => Ok(members),
+        None => Err(wrong(alloc, Cause::NotAnObject)),
+    }
+}
+
+/// The items of a list.
+pub(crate) fn array_of(alloc: Global, value: &Value) -> Result<&Vec<Value>, ReadFault>
+    ensures { Gives (λ v. items_view v.now.items) result (some_or WrongType (as_array (view value.now))) }
+{
+    match value.as_array() {
+        Some(items) => Ok(items),
+        None => Err(wrong(alloc, Cause::WrongType)),
+    }
+}
+
+/// The member of this name.
+pub(crate) fn find<'a>(members: &'a Map<String, Value>, name: &str) -> Option<&'a Value>
+    ensures { option_map (λ v. view v.now) result ≡ get_member name.now (members_view members.now.entries) }
+{
+    members.get(name)
+}
+
+fn is_there(value: Option<&Value>) -> bool
+    ensures { result ≡ is_there (option_map (λ v. view v.now) value.entry) }
+{
+    match value {
+        Some(value) => !value.is_null(),
+        None => false,
+    }
+}
+
+fn has_keys(names: &[String], members: &Map<String, Value>) -> bool
+    ensures { result ≡ have_keys (map string_bytes names.now) (members_view members.now.entries) }
+{
+    for name in names {
+        if !is_there(find(members, name.as_str())) {
+            return false;
+        }
+    }
+    true
+}
+
+/// The members of an item of a map list, which has its key fields.
+pub(crate) fn keyed_object<'a>(
+    names: &[String],
+    alloc: Global,
+    item: &'a Value,
+) -> Result<&'a Map<String, Value>, ReadFault>
+    ensures { Gives (λ m. members_view m.now.entries) result
+        (and_then (object_item (view item.now)) (λ ms. if have_keys (map string_bytes names.now) ms then Ok ms else Err (KeyFieldMissing, []))) }
+{
+    match item.as_object() {
+        Some(members) => {
+            if has_keys(names, members) {
+                Ok(members)
+            } else {
+                Err(wrong(alloc, Cause::KeyFieldMissing))
+            }
+        }
+        None => {
+            if item.is_null() {
+                Err(wrong(alloc, Cause::WrongType))
+            } else {
+                Err(wrong(alloc, Cause::NotAnObject))
+            }
+        }
+    }
+}
+
+/// The text of a scalar's element.
+pub(crate) fn scalar_text(alloc: Global, scalar: &Value) -> Result<String, AllocError>
+    ensures { IfOk result (λ s. has_float (view scalar.now) ≡ false → string_bytes s ≡ scalar_text (view scalar.now)) }
+{
+    let mut text = String::from_str(alloc, "v:")?;
+    text.push_str(scalar.to_string(alloc)?.as_str())?;
+    Ok(text)
+}
+
+fn put_key(
+    keys: &mut Map<String, Value>,
+    members: &Map<String, Value>,
+    name: &String,
+) -> Result<(), AllocError>
+    ensures { OnOk result (members_view keys.new.entries
+        ≡ put_some (string_bytes name.now) (get_member (string_bytes name.now) (members_view members.now.entries)) (members_view keys.old.entries)) }
+{
+    match find(members, name.as_str()) {
+        Some(value) => {
+            drop(keys.insert(name.clone()?, value.clone()?)?);
+            Ok(())
+        }
+        None => Ok(()),
+    }
+}
+
+fn key_members(
+    names: &[String],
+    alloc: Global,
+    members: &Map<String, Value>,
+) -> Result<Map<String, Value>, AllocError>
+    ensures { IfOk result (λ m. members_view m.entries ≡ keys_in (map string_bytes names.now) (members_view members.now.entries)) }
+{
+    let Some((name, rest)) = names.split_first() else {
+        return Ok(Map::new(alloc));
+    };
+    let mut keys = key_members(rest, alloc, members)?;
+    put_key(&mut keys, members, name)?;
+    Ok(keys)
+}
+
+/// The text of an item's element, by its key fields.
+pub(crate) fn key_text(
+    names: &[String],
+    alloc: Global,
+    members: &Map<String, Value>,
+) -> Result<String, AllocError>
+    ensures { IfOk result (λ s. members_have_float (members_view members.now.entries) ≡ false
+        → string_bytes s ≡ key_text (keys_in (map string_bytes names.now) (members_view members.now.entries))) }
+{
+    let keys = Value::Object(key_members(names, alloc, members)?);
+    let mut text = String::from_str(alloc, "k:")?;
+    text.push_str(keys.to_string(alloc)?.as_str())?;
+    Ok(text)
+}
+
+/// Takes what was read of an item; an earlier one with its element is a fault of the list.
+pub(crate) fn add_item(
+    alloc: Global,
+    below: &mut BTreeMap<String, PathMap>,
+    place: usize,
+    read: Result<Item, ReadFault>,
+) -> Result<(), ReadFault>
+    ensures { (answer : Read (List ℕ × Content)) (seen : List (List ℕ)) → AreSeen seen below.old.entries → Gives item_view read answer
+        → AddsItem seen place below.old.entries below.new.entries result answer }
+{
+    match read {
+        Ok(item) => {
+            if below.contains_key(&item.element) {
+                return Err(wrong(alloc, Cause::DuplicateItem));
+            }
+            let map = PathMap {
+                held: Some(Held::Mark),
+                below: item.below,
+            };
+            drop(below.insert(item.element, map)?);
+            Ok(())
+        }
+        Err(fault) => Err(fault.in_item(alloc, place)),
+    }
+}
+
+/// Whether the name is that of a key field.
+fn is_key(names: &[String], name: &str) -> bool
+    ensures { result ≡ list_any (bytes_eq name.now) (map string_bytes names.now) }
+{
+    for known in names {
+        if name == known.as_str() {
+            return true;
+        }
+    }
+    false
+}
+
+fn name_text(alloc: Global, name: &str) -> Result<String, AllocError>
+    ensures { IfOk result (λ s. string_bytes s ≡ name_text name.now) }
+{
+    let mut text = String::from_str(alloc, "f:")?;
+    text.push_str(name)?;
+    Ok(text)
+}
+
+/// Takes what was read of a member. Of a key field only a fault counts, since its value stands in the item's element.
+pub(crate) fn add_member(
+    alloc: Global,
+    below: &mut BTreeMap<String, PathMap>,
+    names: &[String],
+    name: &str,
+    read: Result<PathMap, ReadFault>,
+) -> Result<(), ReadFault>
+    ensures joins { (answer : Read Content) → at_name (name_text name.now) below.old.entries ≡ None → Gives content read answer
+        → Joins below.old.entries below.new.entries result (at_field name.now (unless_key (map string_bytes names.now) name.now answer)) }
+    ensures others { OnOk result ((g : List ℕ) → is_eq (slice_cmp nat_cmp g (name_text name.now)) ≡ false → at_name g below.new.entries ≡ at_name g below.old.entries) }
+{
+    match read {
+        Ok(map) => {
+            if is_key(names, name) {
+                return Ok(());
+            }
+            drop(below.insert(name_text(alloc, name)?, map)?);
+            Ok(())
+        }
+        Err(fault) => Err(fault.in_field(alloc, name)),
+    }
+}

@@ -1,0 +1,27 @@
+//! Contents of objects, as trees under a schema.
+//!
+//! Promises: a value is read as exactly the content that it spells, or as the first fault in its shape with its path;
+//! one content is put over another path by path.
+//! Stands on `pathmap` for maps of paths and on `schema` for shapes.
+#![tactic(auto)]
+
+mod changes;
+mod fault;
+mod items;
+mod plain;
+mod print;
+mod print_law;
+mod print_parts;
+#[cfg(test)]
+mod print_tests;
+mod read;
+#[cfg(test)]
+mod tests;
+mod tree;
+
+pub use changes::Changes;
+pub use fault::{Cause, ReadFault};
+pub use print::print_map;
+pub use print_law::{contents_have_places, printed_reads_back};
+pub use read::read_map;
+pub use tree::Tree;

@@ -1,0 +1,123 @@
+ghost use Rattle.std.specs.Prelude.{◌≡◌, ◌++◌, IfOk, OnOk, option_map, option_to_list};
+ghost use Rattle.serde_json.specs.Read.{read};
+ghost use Rattle.serde_json.specs.View.{view, items_view, members_view};
+ghost use Rattle.pathmap.specs.Maps.{content, standing};
+ghost use Rattle.typed.specs.Printing.{after, array_or_none, keys_in, object_or_none, scalar_in, value_at, value_of, with_member};
+
+use pathmap::{Held, PathMap};
+use serde_json::{Map, Value};
+use std::alloc::{AllocError, Global};
+
+/// The JSON value of a text, if it is JSON.
+fn read_text(alloc: Global, text: &str) -> Result<Option<Value>, AllocError>
+    ensures { IfOk result (λ o. option_map view o ≡ read text.now) }
+{
+    match Value::from_str(alloc, text) {
+        Ok(value) => Ok(Some(value)),
+        Err(error) => {
+            if error.is_memory() {
+                Err(AllocError)
+            } else {
+                Ok(None)
+            }
+        }
+    }
+}
+
+fn print_held(alloc: Global, held: &Held) -> Result<Option<Value>, AllocError>
+    ensures { IfOk result (λ o. option_map view o ≡ value_of (standing held.now)) }
+{
+    match held {
+        Held::Text(text) => Ok(Some(Value::from(text.clone()?))),
+        Held::Whole(number) => Ok(Some(Value::from(*number))),
+        Held::Truth(truth) => Ok(Some(Value::from(*truth))),
+        Held::Plain(text) => read_text(alloc, text.as_str()),
+        Held::Mark => Ok(None),
+    }
+}
+
+/// The value at the top.
+pub(crate) fn print_top(alloc: Global, map: &PathMap) -> Result<Option<Value>, AllocError>
+    ensures { IfOk result (λ o. option_map view o ≡ value_at (content map.now)) }
+{
+    match &map.held {
+        Some(held) => print_held(alloc, held),
+        None => Ok(None),
+    }
+}
+
+/// An element's text less its prefix.
+pub(crate) fn text_after<'a>(element: &'a str, prefix: &str) -> Option<&'a str>
+    ensures { option_map (λ s. s.now) result ≡ after prefix.now element.now }
+{
+    element.strip_prefix(prefix)
+}
+
+/// The scalar in a set item's element.
+pub(crate) fn scalar_of(alloc: Global, element: &str) -> Result<Option<Value>, AllocError>
+    ensures { IfOk result (λ o. option_map view o ≡ scalar_in element.now) }
+{
+    match text_after(element, "v:") {
+        Some(text) => read_text(alloc, text),
+        None => Ok(None),
+    }
+}
+
+/// The key fields in a map list item's element.
+pub(crate) fn keys_of(
+    alloc: Global,
+    element: &str,
+) -> Result<Option<Map<String, Value>>, AllocError>
+    ensures { IfOk result (λ o. option_map (λ m. members_view m.entries) o ≡ keys_in element.now) }
+{
+    let Some(text) = text_after(element, "k:") else {
+        return Ok(None);
+    };
+    match read_text(alloc, text)? {
+        Some(Value::Object(keys)) => Ok(Some(keys)),
+        _ => Ok(None),
+    }
+}
+
+pub(crate) fn put_member(
+    members: &mut Map<String, Value>,
+    alloc: Global,
+    name: &str,
+    value: Option<Value>,
+) -> Result<(), AllocError>
+    ensures { OnOk result (members_view members.new.entries ≡ with_member name.now (option_map view value) (members_view members.old.entries)) }
+{
+    if let Some(value) = value {
+        members.insert(String::from_str(alloc, name)?, value)?;
+    }
+    Ok(())
+}
+
+pub(crate) fn object_of(members: Map<String, Value>) -> Option<Value>
+    ensures { option_map view result ≡ object_or_none (members_view members.entries) }
+{
+    if members.len() == 0 {
+        None
+    } else {
+        Some(Value::from(members))
+    }
+}
+
+pub(crate) fn push_item(items: &mut Vec<Value>, item: Option<Value>) -> Result<(), AllocError>
+    ensures { OnOk result (items.new.items ≡ items.old.items ++ option_to_list item) }
+{
+    if let Some(item) = item {
+        items.push(item)?;
+    }
+    Ok(())
+}
+
+pub(crate) fn array_of(items: Vec<Value>) -> Option<Value>
+    ensures { option_map view result ≡ array_or_none (items_view items.items) }
+{
+    if items.is_empty() {
+        None
+    } else {
+        Some(Value::from(items))
+    }
+}
