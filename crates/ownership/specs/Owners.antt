@@ -1,0 +1,55 @@
+-- Who owns which paths. Server-Side Apply, "Field management": a manager is a name and an operation (`Apply` or `Update`), with a subresource where it wrote by one.
+use Rattle.std.specs.Prelude.{ℕ, Bool, not, List, [], ◌∷◌, filter, map, unwrap_or, if◌then◌else◌, codes, ◌==◌}
+use Rattle.std.specs.Coded.{Coded}
+use Rattle.std.specs.Ordering.{eq_by_cmp}
+use Rattle.std.specs.FinMap as fin
+use Rattle.std.specs.FinSet as set
+use Rattle.fieldpath.specs.Paths.{path_cmp}
+use Rattle.pathmap.specs.Contents.{PathSet}
+use Rattle.pathmap.specs.Codes.{coded_path, coded_paths}
+
+-- a manager is the list of its texts: name, operation, subresource (empty for none); so managers are in that order
+abbrev pub Manager : Type 0
+Manager = List (List ℕ)
+
+abbrev pub manager_of : List ℕ → List ℕ → Manager
+manager_of name operation = name ∷ operation ∷ [] ∷ []
+
+abbrev pub apply_operation : List ℕ
+apply_operation = codes "Apply"
+
+abbrev pub update_operation : List ℕ
+update_operation = codes "Update"
+
+-- each manager's paths; a manager with none has no entry
+abbrev pub Owners : Type 0
+Owners = fin.FinMap path_cmp PathSet
+
+abbrev pub coded_owners : Coded Owners
+coded_owners = fin.code coded_path coded_paths
+
+abbrev pub is_same : Manager → Manager → Bool
+is_same = eq_by_cmp path_cmp
+
+-- what a manager owns, nothing where it has no entry
+unfoldable pub owned_by : Owners → Manager → PathSet
+owned_by w m = unwrap_or (fin.get w m) set.empty
+
+-- the entries of all managers but one, in order
+unfoldable pub others : Owners → Manager → List (Manager × PathSet)
+others w m = filter (λ e. not (is_same m e.0)) (fin.entries w)
+
+abbrev pub is_empty : PathSet → Bool
+is_empty s = set.len s == 0
+
+-- each entry less these paths; what is empty then vanishes
+abbrev pub less : PathSet → List (Manager × PathSet) → List (Manager × PathSet)
+less s es = filter (λ e. not (is_empty e.1)) (map (λ e. (e.0, set.difference e.1 s)) es)
+
+-- one entry more, unless it is empty
+unfoldable pub with_owner : Owners → Manager → PathSet → Owners
+with_owner w m s = if is_empty s then w else fin.insert w m s
+
+-- all others lose these paths, and this manager owns just the given ones
+unfoldable pub taken_over : Owners → Manager → PathSet → PathSet → Owners
+taken_over w m lost mine = with_owner (fin.from_entries (less lost (others w m))) m mine

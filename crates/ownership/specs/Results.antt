@@ -1,0 +1,30 @@
+-- What an apply answers.
+use Rattle.std.specs.Prelude.{◌≡◌, Bool, true, false, map}
+use Rattle.std.specs.declared.result.Result.{Result}
+use Rattle.std.specs.declared.result.Result.TheVariants.{Ok, Err}
+use Rattle.pathmap.specs.Contents.{Content}
+use Rattle.ownership.specs.Owners.{Manager}
+use Rattle.ownership.specs.Managers.{texts}
+use Rattle.ownership.specs.Apply as def
+use Rattle.ownership.specs.Apply.{State, conflicts, applied, is_refused}
+use Rattle.ownership.specs.declared.conflict.ApplyFault.{ApplyFault}
+use Rattle.ownership.specs.declared.conflict.ApplyFault.TheVariants.{Conflicts, Memory}
+use Rattle.ownership.specs.declared.conflict.Conflict.{Conflict}
+use Rattle.ownership.specs.ObjectText as text
+use Rattle.ownership.specs.declared.object.Identity.{Identity}
+use Rattle.ownership.specs.declared.owned.Owned.{Owned}
+
+abbrev pub state_of : Owned → State
+state_of o = record { content = o.tree; owners = o.managers }
+
+abbrev pub identity_of : Identity → text.Identity
+identity_of i = record { api_version = i.api_version.now; kind = i.kind.now; namespace = i.namespace.now; name = i.name.now }
+
+abbrev pub conflict_of : Conflict → def.Conflict
+conflict_of c = (c.path, texts c.manager)
+
+-- Ok with the new state, where there is no conflict or force; all conflicts, where there are some and no force; or want of memory
+abbrev pub Applies : State → Content → Manager → Bool → Result Owned ApplyFault → Type 0
+Applies live body m force (Ok o) = (is_refused (conflicts live body m) force ≡ false) × (state_of o ≡ applied live body m)
+Applies live body m force (Err (Conflicts cs)) = (is_refused (conflicts live body m) force ≡ true) × (map conflict_of cs.items ≡ conflicts live body m)
+Applies live body m force (Err Memory) = Unit {0}

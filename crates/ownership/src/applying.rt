@@ -1,0 +1,62 @@
+ghost use Rattle.std.specs.Prelude.{◌≡◌, IfOk, map};
+ghost use Rattle.ownership.specs.Owners.{apply_operation, manager_of};
+ghost use Rattle.ownership.specs.Apply.{dropped, is_refused};
+ghost use Rattle.ownership.specs.Managers.{texts};
+ghost use Rattle.ownership.specs.Results.{Applies, conflict_of, state_of};
+
+use crate::conflict::{ApplyFault, Conflict};
+use crate::manager::{Manager, Operation};
+use crate::owned::Owned;
+use fieldset::FieldSet;
+use std::alloc::{AllocError, Global};
+use typed::Tree;
+
+/// The paths that the manager owned, at or below which neither another manager nor the body has one.
+fn dropped(
+    alloc: Global,
+    live: &Owned,
+    manager: &Manager,
+    config: &Tree,
+) -> Result<FieldSet, AllocError>
+    ensures { IfOk result (λ s. s ≡ dropped (state_of live.now) config.now (texts manager.now)) }
+{
+    match live.managers.get(manager) {
+        Some(owned) => {
+            let wanted = live
+                .managers
+                .with_others(alloc, manager, config.paths(alloc)?)?;
+            owned.clear_of(alloc, &wanted)
+        }
+        None => Ok(FieldSet::new(alloc)),
+    }
+}
+
+fn is_refused(conflicts: &[Conflict], force: bool) -> bool
+    ensures { result ≡ is_refused (map conflict_of conflicts.now) force }
+{
+    !force && !conflicts.is_empty()
+}
+
+/// Applies a body (Server-Side Apply, "Field management"): `live` is the object before, empty where there is none,
+/// `manager` the name of who applies, `config` the body's content. Without `force` a conflict refuses it.
+pub fn apply(
+    alloc: Global,
+    live: &Owned,
+    manager: &str,
+    config: &Tree,
+    force: bool,
+) -> Result<Owned, ApplyFault>
+    ensures { Applies (state_of live.now) config.now (manager_of manager.now apply_operation) force result }
+{
+    let manager = Manager::new(alloc, manager, Operation::Apply)?;
+    let changed = config.changed_from(alloc, &live.tree)?;
+    let conflicts = live.managers.conflicts(alloc, &manager, &changed)?;
+    if is_refused(&conflicts, force) {
+        return Err(ApplyFault::Conflicts(conflicts));
+    }
+    let dropped = dropped(alloc, live, &manager, config)?;
+    let tree = live.tree.merge(alloc, config)?.without(&dropped);
+    let owned = config.paths(alloc)?;
+    let managers = live.managers.taken_over(alloc, manager, &changed, owned)?;
+    Ok(Owned { tree, managers })
+}

@@ -1,0 +1,70 @@
+ghost use Rattle.std.specs.Prelude.{◌≡◌, IfOk};
+ghost use Rattle.fieldpath.specs.Paths.{path_cmp};
+ghost use Rattle.ownership.specs.Owners.{is_same, manager_of};
+ghost use Rattle.ownership.specs.Managers.{operation_text, texts};
+
+use std::alloc::{AllocError, Global};
+use std::cmp::Ordering;
+
+/// How a manager wrote (ManagedFieldsEntry v1, `operation`).
+#[derive(Clone, Copy, Debug, PartialEq, Eq)]
+pub enum Operation {
+    Apply,
+    Update,
+}
+
+impl Operation {
+    /// The operation as it stands in `managedFields`.
+    pub fn text(self) -> &'static str
+        ensures { result.now ≡ operation_text self }
+    {
+        match self {
+            Operation::Apply => "Apply",
+            Operation::Update => "Update",
+        }
+    }
+}
+
+/// Who writes: a name and an operation (Server-Side Apply, "Managers").
+#[derive(Debug, Drop)]
+pub struct Manager {
+    pub name: String,
+    pub operation: Operation,
+}
+
+impl Manager {
+    /// The manager of this name that wrote by this operation.
+    pub fn new(alloc: Global, name: &str, operation: Operation) -> Result<Manager, AllocError>
+        ensures { IfOk result (λ m. texts m ≡ manager_of name.now (operation_text operation)) }
+    {
+        Ok(Manager {
+            name: String::from_str(alloc, name)?,
+            operation,
+        })
+    }
+
+    /// The order of managers: by name, then operation.
+    pub fn compare(&self, other: &Manager) -> Ordering
+        ensures { result ≡ path_cmp (texts self.now) (texts other.now) }
+    {
+        self.name
+            .as_str()
+            .cmp(other.name.as_str())
+            .then(self.operation.text().cmp(other.operation.text()))
+    }
+
+    pub fn is_same(&self, other: &Manager) -> bool
+        ensures { result ≡ is_same (texts self.now) (texts other.now) }
+    {
+        self.compare(other).is_eq()
+    }
+
+    pub fn try_copy(&self) -> Result<Manager, AllocError>
+        ensures { IfOk result (λ m. texts m ≡ texts self.now) }
+    {
+        Ok(Manager {
+            name: self.name.clone()?,
+            operation: self.operation,
+        })
+    }
+}

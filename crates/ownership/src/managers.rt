@@ -1,0 +1,234 @@
+ghost use Rattle.std.specs.Prelude.{◌≡◌, ◌++◌, IfOk, OnOk, filter, map, not, option_map};
+ghost use Rattle.std.specs.FinSet as set;
+ghost use Rattle.ownership.specs.Results.{conflict_of};
+ghost use Rattle.std.specs.List.{insert};
+ghost use Rattle.std.specs.FinMap.{find};
+ghost use Rattle.std.specs.FinMap as fin;
+ghost use Rattle.fieldpath.specs.Paths.{path_cmp};
+ghost use Rattle.pathmap.specs.Contents.{in_order};
+ghost use Rattle.ownership.specs.Apply.{all_paths, conflicts_with};
+ghost use Rattle.ownership.specs.Owners.{is_same, less, others, taken_over};
+ghost use Rattle.ownership.specs.Managers.{pairs, texts};
+ghost use Rattle.ownership.specs.Ranks.{rank};
+
+use crate::conflict::Conflict;
+use crate::manager::Manager;
+use fieldset::FieldSet;
+use std::alloc::{AllocError, Global};
+use std::cmp::Ordering;
+use std::marker::Model;
+
+/// What one manager owns.
+#[derive(Drop)]
+pub struct Entry {
+    pub manager: Manager,
+    /// Never empty in `Managers`.
+    pub paths: FieldSet,
+}
+
+/// Each manager's paths, in the order of managers; a manager without paths has no entry.
+#[derive(Drop)]
+pub struct Managers {
+    entries: Vec<Entry>,
+}
+
+impl Model for Managers {
+    ghost use Rattle.std.specs.Prelude.{◌≡◌};
+    ghost use Rattle.std.specs.FinMap as fin;
+    ghost use Rattle.fieldpath.specs.Paths.{path_cmp};
+    ghost use Rattle.ownership.specs.Owners.{Owners, coded_owners};
+    ghost use Rattle.ownership.specs.Managers.{pairs};
+
+    ghost Value = { Owners };
+
+    ghost coded = { coded_owners };
+
+    ghost view = { λ m. fin.from_entries (pairs m.entries.items) };
+
+    ghost invariant = { λ m. fin.entries (fin.from_entries {R = path_cmp} (pairs m.entries.items)) ≡ pairs m.entries.items };
+}
+
+fn rank(entries: &[Entry], manager: &Manager) -> usize
+    ensures { result ≡ rank (texts manager.now) (pairs entries.now) }
+{
+    let mut rank = 0;
+    for entry in entries {
+        if manager.compare(&entry.manager) != Ordering::Greater {
+            return rank;
+        }
+        rank += 1;
+    }
+    rank
+}
+
+/// All entries but the manager's, each less some paths; what is empty then vanishes.
+fn less_others(
+    entries: &[Entry],
+    alloc: Global,
+    manager: &Manager,
+    lost: &FieldSet,
+) -> Result<Vec<Entry>, AllocError>
+    ensures { IfOk result (λ v. pairs v.items ≡ less lost.now (filter (λ e. not (is_same (texts manager.now) e.0)) (pairs entries.now))) }
+{
+    let mut left = Vec::new(alloc);
+    for entry in entries {
+        if !manager.is_same(&entry.manager) {
+            let paths = entry.paths.minus(alloc, lost)?;
+            if !paths.is_empty() {
+                left.push(Entry {
+                    manager: entry.manager.try_copy()?,
+                    paths,
+                })?;
+            }
+        }
+    }
+    Ok(left)
+}
+
+/// The paths of some entries but the manager's, beside others.
+fn with_others(
+    entries: &[Entry],
+    alloc: Global,
+    manager: &Manager,
+    paths: FieldSet,
+) -> Result<FieldSet, AllocError>
+    ensures { IfOk result (λ s. s ≡ all_paths paths (filter (λ e. not (is_same (texts manager.now) e.0)) (pairs entries.now))) }
+{
+    let mut all = paths;
+    for entry in entries {
+        if !manager.is_same(&entry.manager) {
+            all = entry.paths.union(alloc, &all)?;
+        }
+    }
+    Ok(all)
+}
+
+fn paths_of<'a>(entries: &'a [Entry], manager: &Manager) -> Option<&'a FieldSet>
+    ensures { option_map (λ s. s.now) result ≡ find path_cmp (texts manager.now) (pairs entries.now) }
+{
+    for entry in entries {
+        if manager.is_same(&entry.manager) {
+            return Some(&entry.paths);
+        }
+    }
+    None
+}
+
+/// The entries with one more, in its place.
+fn with_entry(
+    entries: Vec<Entry>,
+    manager: Manager,
+    paths: FieldSet,
+) -> Result<Vec<Entry>, AllocError>
+    ensures { IfOk result (λ v. pairs v.items ≡ insert (pairs entries.items) (rank (texts manager) (pairs entries.items)) (texts manager, paths)) }
+{
+    let place = rank(&entries, &manager);
+    let mut all = entries;
+    all.insert(place, Entry { manager, paths })?;
+    Ok(all)
+}
+
+/// The paths of a set that one manager owns.
+fn add_conflicts(
+    all: &mut Vec<Conflict>,
+    alloc: Global,
+    entry: &Entry,
+    changed: &FieldSet,
+) -> Result<(), AllocError>
+    ensures { OnOk result (map conflict_of all.new.items ≡ map conflict_of all.old.items ++ map (λ p. (p, texts entry.now.manager)) (in_order (set.intersection entry.now.paths changed.now))) }
+{
+    let paths = entry.paths.common(alloc, changed)?.paths(alloc)?;
+    for path in paths {
+        all.push(Conflict {
+            path,
+            manager: entry.manager.try_copy()?,
+        })?;
+    }
+    Ok(())
+}
+
+/// The paths of a set that other managers own.
+fn conflicts_with(
+    entries: &[Entry],
+    alloc: Global,
+    manager: &Manager,
+    changed: &FieldSet,
+) -> Result<Vec<Conflict>, AllocError>
+    ensures { IfOk result (λ v. map conflict_of v.items ≡ conflicts_with changed.now (filter (λ e. not (is_same (texts manager.now) e.0)) (pairs entries.now))) }
+{
+    let mut all = Vec::new(alloc);
+    for entry in entries {
+        if !manager.is_same(&entry.manager) {
+            add_conflicts(&mut all, alloc, entry, changed)?;
+        }
+    }
+    Ok(all)
+}
+
+impl Managers {
+    /// Nobody owns anything.
+    pub fn new(alloc: Global) -> Managers
+        ensures { result ≡ fin.empty }
+    {
+        Managers {
+            entries: Vec::new(alloc),
+        }
+    }
+
+    /// The entries, in order.
+    pub fn entries(&self) -> &[Entry]
+        ensures { pairs result.now ≡ fin.entries self.now }
+    {
+        &self.entries
+    }
+
+    /// What a manager owns; nothing where it has no entry.
+    pub fn get(&self, manager: &Manager) -> Option<&FieldSet>
+        ensures { option_map (λ s. s.now) result ≡ fin.get self.now (texts manager.now) }
+    {
+        paths_of(&self.entries, manager)
+    }
+
+    /// Some paths, beside those of all other managers.
+    pub fn with_others(
+        &self,
+        alloc: Global,
+        manager: &Manager,
+        paths: FieldSet,
+    ) -> Result<FieldSet, AllocError>
+        ensures { IfOk result (λ s. s ≡ all_paths paths (others self.now (texts manager.now))) }
+    {
+        with_others(&self.entries, alloc, manager, paths)
+    }
+
+    /// The owners after the others have lost some paths; the manager then owns just the given ones.
+    pub fn taken_over(
+        &self,
+        alloc: Global,
+        manager: Manager,
+        lost: &FieldSet,
+        mine: FieldSet,
+    ) -> Result<Managers, AllocError>
+        ensures { IfOk result (λ w. w ≡ taken_over self.now (texts manager) lost.now mine) }
+    {
+        let left = less_others(&self.entries, alloc, &manager, lost)?;
+        let entries = if mine.is_empty() {
+            left
+        } else {
+            with_entry(left, manager, mine)?
+        };
+        Ok(Managers { entries })
+    }
+
+    /// The paths of a set that other managers own, each with its manager, in order.
+    pub fn conflicts(
+        &self,
+        alloc: Global,
+        manager: &Manager,
+        changed: &FieldSet,
+    ) -> Result<Vec<Conflict>, AllocError>
+        ensures { IfOk result (λ v. map conflict_of v.items ≡ conflicts_with changed.now (others self.now (texts manager.now))) }
+    {
+        conflicts_with(&self.entries, alloc, manager, changed)
+    }
+}

@@ -1,0 +1,157 @@
+ghost use Rattle.std.specs.Prelude.{◌≡◌, IfOk, OnOk, option_map, option_and_then};
+ghost use Rattle.serde_json.specs.Data.{put, string};
+ghost use Rattle.serde_json.specs.Find.{as_object};
+ghost use Rattle.serde_json.specs.View.{items_view, members_view, view};
+ghost use Rattle.schema.specs.Shape.{shape};
+ghost use Rattle.ownership.specs.Managers.{pair, pairs, texts};
+ghost use Rattle.ownership.specs.ObjectText.{entry_items, entry_value, members_or_none, metadata_members, metadata_of, object_value, put_entries};
+ghost use Rattle.ownership.specs.Results.{identity_of, state_of};
+
+use crate::managers::Entry;
+use crate::owned::Owned;
+use schema::Schema;
+use serde_json::{Map, Value, json};
+use std::alloc::{AllocError, Global};
+
+/// What an object is of, and its key (Kubernetes API conventions, "Types (Kinds)", "Metadata").
+#[derive(Clone, Copy, Debug)]
+pub struct Identity<'a> {
+    /// `group/version`.
+    pub api_version: &'a str,
+    pub kind: &'a str,
+    pub namespace: &'a str,
+    pub name: &'a str,
+}
+
+fn entry_value(
+    alloc: Global,
+    schema: &Schema,
+    api_version: &str,
+    entry: &Entry,
+) -> Result<Value, AllocError>
+    ensures { IfOk result (λ v. view v ≡ entry_value (shape schema.now) api_version.now (texts entry.now.manager) entry.now.paths) }
+{
+    let fields = entry.paths.to_fields_v1(alloc, schema)?;
+    json!(in alloc; {
+        "apiVersion": api_version,
+        "fieldsType": "FieldsV1",
+        "fieldsV1": fields,
+        "manager": entry.manager.name.as_str(),
+        "operation": entry.manager.operation.text()
+    })
+}
+
+fn entry_items(
+    alloc: Global,
+    schema: &Schema,
+    api_version: &str,
+    entries: &[Entry],
+) -> Result<Vec<Value>, AllocError>
+    ensures { IfOk result (λ v. items_view v.items ≡ entry_items (shape schema.now) api_version.now (pairs entries.now)) }
+{
+    let mut items = Vec::new(alloc);
+    for entry in entries {
+        items.push(entry_value(alloc, schema, api_version, entry)?)?;
+    }
+    Ok(items)
+}
+
+/// The labels and annotations that were printed, if any.
+fn labels_of(alloc: Global, printed: &Option<Value>) -> Result<Map<String, Value>, AllocError>
+    ensures { IfOk result (λ m. members_view m.entries ≡ metadata_members (option_map view printed.now)) }
+{
+    let Some(value) = printed else {
+        return Ok(Map::new(alloc));
+    };
+    match value.get("metadata") {
+        Some(metadata) => Ok(members_of(alloc, Some(metadata.clone()?))),
+        None => Ok(Map::new(alloc)),
+    }
+}
+
+/// The members of what was printed; none where it is no object.
+fn members_of(alloc: Global, printed: Option<Value>) -> Map<String, Value>
+    ensures { members_view result.entries ≡ members_or_none (option_and_then as_object (option_map view printed)) }
+{
+    match printed {
+        Some(value) => into_members(alloc, value),
+        None => Map::new(alloc),
+    }
+}
+
+fn into_members(alloc: Global, value: Value) -> Map<String, Value>
+    ensures { members_view result.entries ≡ members_or_none (as_object (view value)) }
+{
+    match value {
+        Value::Object(members) => members,
+        _ => Map::new(alloc),
+    }
+}
+
+/// Puts a text.
+fn put_text(
+    members: &mut Map<String, Value>,
+    alloc: Global,
+    name: &str,
+    text: &str,
+) -> Result<(), AllocError>
+    ensures { OnOk result (members_view members.new.entries ≡ put name.now (string text.now) (members_view members.old.entries)) }
+{
+    serde_json::put(members, alloc, name, Value::try_from_str(alloc, text)?)
+}
+
+/// Puts the entries, where there are some.
+fn put_entries(
+    members: &mut Map<String, Value>,
+    alloc: Global,
+    entries: Vec<Value>,
+) -> Result<(), AllocError>
+    ensures { OnOk result (members_view members.new.entries ≡ put_entries (items_view entries.items) (members_view members.old.entries)) }
+{
+    if entries.is_empty() {
+        return Ok(());
+    }
+    serde_json::put(members, alloc, "managedFields", Value::Array(entries))
+}
+
+impl Owned {
+    fn metadata(
+        &self,
+        alloc: Global,
+        schema: &Schema,
+        of: Identity<'_>,
+        version: u64,
+        labels: Map<String, Value>,
+    ) -> Result<Map<String, Value>, AllocError>
+        ensures { IfOk result (λ m. members_view m.entries ≡ metadata_of (shape schema.now) (identity_of of.entry) version self.now.managers (members_view labels.entries)) }
+    {
+        let mut metadata = labels;
+        let entries = entry_items(alloc, schema, of.api_version, self.managers.entries())?;
+        put_entries(&mut metadata, alloc, entries)?;
+        let version = version.to_string(alloc)?;
+        put_text(&mut metadata, alloc, "resourceVersion", version.as_str())?;
+        put_text(&mut metadata, alloc, "namespace", of.namespace)?;
+        put_text(&mut metadata, alloc, "name", of.name)?;
+        Ok(metadata)
+    }
+
+    /// The object: its envelope, its content, its version and who owns what.
+    pub fn to_object(
+        &self,
+        alloc: Global,
+        schema: &Schema,
+        of: Identity<'_>,
+        version: u64,
+    ) -> Result<Value, AllocError>
+        ensures { IfOk result (λ v. view v ≡ object_value (shape schema.now) (identity_of of.entry) version (state_of self.now)) }
+    {
+        let printed = self.tree.to_value(alloc, schema)?;
+        let labels = labels_of(alloc, &printed)?;
+        let metadata = self.metadata(alloc, schema, of, version, labels)?;
+        let mut members = members_of(alloc, printed);
+        serde_json::put(&mut members, alloc, "metadata", Value::Object(metadata))?;
+        put_text(&mut members, alloc, "kind", of.kind)?;
+        put_text(&mut members, alloc, "apiVersion", of.api_version)?;
+        Ok(Value::Object(members))
+    }
+}
