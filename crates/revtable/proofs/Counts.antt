@@ -1,0 +1,66 @@
+-- The number of rows that hold an object.
+use Rattle.std.proofs.Common.{◌≡◌, ℕ, pos, List, [], ◌∷◌, map, true, Some, refl, sym, ap, subst, ◌∙◌, length, min, IsPermutation, filter, is_some}
+use Rattle.std.specs.List.{flat_map}
+use Rattle.sqlite.specs.declared.types.Value.{Value}
+use Rattle.sqlite.specs.declared.types.Value.TheVariants.{Null, Int}
+use Rattle.sqlite.specs.Order.{Row}
+use Rattle.sqlite.specs.Tree.{Trees}
+use Rattle.sqlite.specs.Query.{output, Output, matches_as, end, IsAnswerAs}
+use Rattle.sqlite.specs.Program.{overlay}
+use Rattle.sqlite.specs.State.{State, Shown}
+use Rattle.sqlite.proofs.Callers.{reads_as, one_permutation}
+use Rattle.std.proofs.lemmas.List.{length-map}
+use Rattle.std.specs.List.{AllZip}
+use Rattle.std.proofs.lemmas.List.Sorted.{length_permutation}
+use Rattle.sqlite_sql.specs.Term.{Env, eval}
+use Rattle.sqlite.specs.Term.{lit}
+use Rattle.sqlite_sql.specs.Group.{IsSummary, Summarizes, value_over}
+use Rattle.revtable.specs.History.{Change}
+use Rattle.revtable.specs.Kept.{with_body}
+use Rattle.revtable.specs.Rows.{change_schema, row_of, IsKept, changes_in}
+use Rattle.revtable.proofs.Last.{kept_if}
+use Rattle.revtable.proofs.Where.{count_tests}
+use Rattle.revtable.proofs.Texts.{count_grouping, count_all, count_text, count_query, count_is, count_plain}
+
+matched : (lost : Value) (trees : Trees) (changes : List Change) → trees 0 ≡ map row_of changes → matches_as lost trees count_query.filter count_query.from ([] ∷ []) ≡ map (λ c. [] ∷ row_of c ∷ []) (with_body changes)
+matched lost trees changes is = ap (flat_map (λ row. matches_as lost trees count_query.filter end ([] ∷ row ∷ []))) is ∙ go changes
+  where
+    go : (cs : List Change) → flat_map (λ row. matches_as lost trees count_query.filter end ([] ∷ row ∷ [])) (map row_of cs) ≡ map (λ c. [] ∷ row_of c ∷ []) (with_body cs)
+    go [] = refl
+    go (c ∷ cs) = rw (count_tests c) (kept_if (is_some c.body) (λ d. [] ∷ row_of d ∷ []) c _ (with_body cs) (go cs))
+
+abbrev most : ℕ
+most = 9223372036854775807
+
+same_some : {A : Type 0} {a b : A} → Some a ≡ Some b → a ≡ b
+same_some e = cc
+
+one_value : (group : List Env) (values : Row) → AllZip (λ a v. value_over group a ≡ Some v) (count_all ∷ []) values → values ≡ Int (pos (min (length group) most)) ∷ []
+one_value group [] h = absurd h
+one_value group (v ∷ []) h = ap (λ x. x ∷ []) (sym (same_some h.0)) ∙ ap (λ n. Int (pos (min n most)) ∷ []) (length-map group (eval (lit Null)))
+one_value group (v ∷ w ∷ more) h = absurd h.1
+
+one_row : (group : List Env) (rows : List Row) → AllZip (IsSummary count_grouping) (group ∷ []) rows → rows ≡ (Int (pos (min (length group) most)) ∷ []) ∷ []
+one_row group [] h = absurd h
+one_row group (r ∷ []) h = ap (λ x. x ∷ []) (h.0.2 ∙ one_value group h.0.0 h.0.1)
+one_row group (r ∷ q ∷ more) h = absurd h.1
+
+counted : (all staged : List Env) → Summarizes count_grouping [] all staged → staged ≡ ([] ∷ (Int (pos (min (length all) most)) ∷ []) ∷ []) ∷ []
+counted all staged g =
+    let order : List Env = g.grouping.0 in
+    let rows : g.rows ≡ (Int (pos (min (length order) most)) ∷ []) ∷ [] = one_row order g.rows (subst (λ l. AllZip (IsSummary count_grouping) l g.rows) g.grouping.2 g.summaries) in
+    g.having ∙ ap (λ l. filter (λ env. true) (map (λ r. [] ∷ r ∷ []) l)) rows ∙ ap (λ n. ([] ∷ (Int (pos (min n most)) ∷ []) ∷ []) ∷ []) (length_permutation all order g.grouping.1)
+
+pub finds_count : (old new : State) (rows : List Row) → IsKept old → Shown count_text [] old new rows → rows ≡ (Int (pos (min (length (with_body (changes_in old))) most)) ∷ []) ∷ []
+finds_count old new rows was h =
+    let got = reads_as count_text [] old new change_schema was.schema _ count_is.0 count_plain count_is.1 rows h in
+    let a : IsAnswerAs Null count_query (overlay old.now.trees []) [] rows = got.answer Null in
+    let number : Value = Int (pos (min (length (with_body (changes_in old))) most)) in
+    let all : List Env = map (λ c. [] ∷ row_of c ∷ []) (with_body (changes_in old)) in
+    let staged : a.staged ≡ ([] ∷ (number ∷ []) ∷ []) ∷ [] =
+    counted _ a.staged a.grouped ∙ ap (λ (l : List Env). ([] ∷ (Int (pos (min (length l) most)) ∷ []) ∷ []) ∷ []) (matched Null old.now.trees (changes_in old) was.rows)
+    ∙ ap (λ n. ([] ∷ (Int (pos (min n most)) ∷ []) ∷ []) ∷ []) (length-map (with_body (changes_in old)) (λ (c : Change). [] ∷ row_of c ∷ [])) in
+    let one : Output = ([], number ∷ []) in
+    let kept : a.kept ≡ one ∷ [] = a.distinct ∙ ap (map (output count_query)) staged in
+    let ordered = one_permutation one a.ordered (subst (λ l. IsPermutation l a.ordered) kept a.same) in
+    a.shown ∙ ap (λ os. map (λ (o : Output). o.1) os) ordered

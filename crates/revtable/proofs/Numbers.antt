@@ -1,0 +1,213 @@
+-- The two numbers beside the rows.
+use Rattle.std.proofs.Common.{◌≡◌, ℕ, zero, suc, ◌<◌, ◌≤◌, Bool, true, false, cond, List, [], ◌∷◌, ◌++◌, map, slice_get, refl, sym, ap, ap₂, subst, ◌∙◌, Option, Some, None, arith, option_and_then, min, max, pos, is_some, unwrap_or}
+use Rattle.std.proofs.Common.{leb-true, leb-false, le-leb, ltb-true, ltb-false, lt-ltb, le-ltb, zero-le}
+use Rattle.std.proofs.lemmas.Bool.{lt-leb}
+use Rattle.std.specs.Prelude.{nat_le, nat_lt, take, ◌+◌, ◌-◌, length}
+use Rattle.std.specs.Option.{option_to_list}
+use Rattle.std.specs.List.{filter}
+use Rattle.std.specs.FinMap as fin
+use Rattle.sqlite.specs.Order.{Row, column}
+use Rattle.sqlite.specs.declared.types.Value.TheVariants.{Int}
+use Rattle.sqlite_keyed.proofs.ListLemmas.{all_weaker, map_back}
+use Rattle.revtable.specs.Asked.{as_change, last_change}
+use Rattle.revtable.specs.Decoded.{change_shown, entry_shown}
+use Rattle.revtable.specs.History.{Key, Change, Object, Objects, History, IsHistory, IsRising, key_cmp, last_revision, changed, later, left_by, object_by, put_or_remove, state_at, up_to}
+use Rattle.revtable.specs.Kept.{IsPruned, kept, with_body}
+use Rattle.revtable.specs.Page.{changes_within, listed, page, picked}
+use Rattle.revtable.specs.Rows.{IsOrdered, AreBelow, shown, body_value, body_in, number_in}
+use Rattle.revtable.proofs.Keys.{key_cmp_total}
+use Rattle.revtable.proofs.Kept.{written_is, pruned_is}
+use Rattle.revtable.proofs.Last.{get_last}
+use Rattle.revtable.proofs.Revisions.{ascending, all_within, rising-filter}
+use Rattle.revtable.proofs.Standing.{filter_same_on}
+
+pub ordered : (h : History) → IsPruned h → IsOrdered h.changes
+ordered h p = ascending 0 h.current h.changes p.is.rising
+
+below_next : (h : History) → IsPruned h → AreBelow (suc h.current) h.changes
+below_next h p = all_weaker (λ c. c.revision ≤ h.current) (λ c. c.revision < suc h.current) (λ c (le : c.revision ≤ h.current). omega arith) h.changes (all_within 0 h.current h.changes p.is.rising)
+
+pub below_at : (h : History) (n : ℕ) → IsPruned h → n ≡ suc h.current → AreBelow n h.changes
+below_at h n p is = subst (λ m. AreBelow m h.changes) (sym is) (below_next h p)
+
+-- a revision past the current one counts as that
+pub up_to_min : (top r : ℕ) (cs : List Change) → IsRising 0 cs top → up_to (min r top) cs ≡ up_to r cs
+up_to_min top r cs rise = filter_same_on (λ c. nat_le c.revision (min r top)) (λ c. nat_le c.revision r) cs
+    (all_weaker (λ c. c.revision ≤ top) (λ c. nat_le c.revision (min r top) ≡ nat_le c.revision r) (λ c (le : c.revision ≤ top). one c.revision le) cs (all_within 0 top cs rise))
+  where
+    one : (n : ℕ) → n ≤ top → nat_le n (min r top) ≡ nat_le n r
+    one n le = go (nat_le n r) refl
+      where
+        go : (b : Bool) → nat_le n r ≡ b → nat_le n (min r top) ≡ b
+        go true e = let a : n ≤ r = leb-true _ _ e in le-leb n (min r top) (omega arith)
+        go false e = let a : r < n = leb-false _ _ e in lt-leb n (min r top) (omega arith)
+
+later_min : (top r : ℕ) (cs : List Change) → IsRising 0 cs top → later (min r top) cs ≡ later r cs
+later_min top r cs rise = filter_same_on (λ c. nat_lt (min r top) c.revision) (λ c. nat_lt r c.revision) cs
+    (all_weaker (λ c. c.revision ≤ top) (λ c. nat_lt (min r top) c.revision ≡ nat_lt r c.revision) (λ c (le : c.revision ≤ top). one c.revision le) cs (all_within 0 top cs rise))
+  where
+    one : (n : ℕ) → n ≤ top → nat_lt (min r top) n ≡ nat_lt r n
+    one n le = go (nat_lt r n) refl
+      where
+        go : (b : Bool) → nat_lt r n ≡ b → nat_lt (min r top) n ≡ b
+        go true e = let a : r < n = ltb-true _ _ e in lt-ltb (min r top) n (omega arith)
+        go false e = let a : n ≤ r = ltb-false _ _ e in le-ltb (min r top) n (omega arith)
+
+span_min : (h : History) (from to : ℕ) → IsHistory h → up_to (min to h.current) (later (min from h.current) h.changes) ≡ up_to to (later from h.changes)
+span_min h from to is =
+    up_to_min h.current to (later (min from h.current) h.changes) (rising-filter (λ c. nat_lt (min from h.current) c.revision) 0 h.current h.changes is.rising)
+    ∙ ap (up_to to) (later_min h.current from h.changes is.rising)
+
+pub state_min : (h : History) (r : ℕ) → IsHistory h → state_at h.changes (min r h.current) ≡ state_at h.changes r
+state_min h r is = ap (changed fin.empty) (up_to_min h.current r h.changes is.rising)
+
+-- ---- the row of the last change
+
+abbrev pub left_shown : Row → Option Object
+left_shown row = object_by (change_shown row).revision (change_shown row).body
+
+body_back : (b : Option (List ℕ)) → body_in (body_value b) ≡ b
+body_back None = refl
+body_back (Some t) = refl
+
+pub shown_back : (c : Change) → change_shown (shown c) ≡ c
+shown_back c = rw (body_back c.body) refl
+
+pub first_left : (cs : List Change) (k : Key) (r : ℕ) (rows : List Row) → rows ≡ map shown (option_to_list (last_change k r cs)) → option_and_then left_shown (slice_get rows 0) ≡ fin.get (state_at cs r) k
+first_left cs k r rows is = ap (λ l. option_and_then left_shown (slice_get l 0)) is ∙ go (last_change k r cs) ∙ sym (get_last cs k r)
+  where
+    go : (o : Option Change) → option_and_then left_shown (slice_get (map shown (option_to_list o)) 0) ≡ option_and_then left_by o
+    go None = refl
+    go (Some c) = ap left_by (shown_back c)
+
+pub latest_is : (h : History) (k : Key) (r m : ℕ) (rows : List Row) → IsPruned h → m ≡ min r h.current → rows ≡ map shown (option_to_list (last_change k m h.changes))
+    → option_and_then left_shown (slice_get rows 0) ≡ fin.get (state_at h.changes r) k
+latest_is h k r m rows p is found = first_left h.changes k m rows found ∙ ap (λ n. fin.get (state_at h.changes n) k) is ∙ ap (λ s. fin.get s k) (state_min h r p.is)
+
+-- ---- the numbers after a write and after a prune
+
+pub after_put : (h : History) (n : ℕ) (k : Key) (body : Option (List ℕ)) (cs : List Change) → IsPruned h → n ≡ suc h.current → n ≤ last_revision → cs ≡ h.changes ++ record { revision = n; key = k; body = body } ∷ []
+    → IsPruned (record { changes = cs; current = n; compacted = h.compacted })
+after_put h n k body cs p is fits changes =
+    subst (λ l. IsPruned (record { changes = l; current = n; compacted = h.compacted })) (sym changes)
+    (subst (λ m. IsPruned (record { changes = h.changes ++ record { revision = m; key = k; body = body } ∷ []; current = m; compacted = h.compacted })) (sym is)
+    (written_is h k body p (subst (λ m. m ≤ last_revision) is fits)))
+
+pub after_prune : (h : History) (r low m : ℕ) (cs : List Change) → IsPruned h → low ≡ min r h.current → m ≡ max low h.compacted → cs ≡ kept m h.changes → IsPruned (record { changes = cs; current = h.current; compacted = m })
+after_prune h r low m cs p is found changes =
+    let fits : h.compacted ≤ h.current = p.is.low in
+    subst (λ l. IsPruned (record { changes = l; current = h.current; compacted = m })) (sym changes) (pruned_is h m p.is (omega arith))
+
+-- ---- how many there can be
+
+take_whole : {X : Type 0} (n : ℕ) (xs : List X) → length xs ≤ n → take n xs ≡ xs
+take_whole zero [] h = refl
+take_whole (suc n) [] h = refl
+take_whole zero (x ∷ xs) h = absurd (omega arith)
+take_whole (suc n) (x ∷ xs) h = ap (λ l. x ∷ l) (take_whole n xs (omega arith))
+
+-- no list here is longer than the highest revision
+pub take_min : {X : Type 0} (m : ℕ) (xs : List X) → length xs ≤ last_revision → take (min m last_revision) xs ≡ take m xs
+take_min m xs h = go (nat_le m last_revision) refl
+  where
+    go : (b : Bool) → nat_le m last_revision ≡ b → take (min m last_revision) xs ≡ take m xs
+    go true e = let a : m ≤ last_revision = leb-true _ _ e in ap (λ n. take n xs) (omega arith)
+    go false e =
+        let a : last_revision < m = leb-false _ _ e in
+        let b : length xs ≤ m = omega arith in
+        ap (λ n. take n xs) (let c : min m last_revision ≡ last_revision = omega arith in c) ∙ take_whole last_revision xs h ∙ sym (take_whole m xs b)
+
+pub take_most : {X : Type 0} (m : ℕ) (xs : List X) → length xs ≤ last_revision → last_revision ≤ m → take m xs ≡ xs
+take_most m xs h le = take_whole m xs (omega arith)
+
+filter_shorter : {X : Type 0} (p : X → Bool) (xs : List X) → length (filter p xs) ≤ length xs
+filter_shorter p [] = zero-le
+filter_shorter p (x ∷ xs) = go (p x) (filter_shorter p xs)
+  where
+    go : (b : Bool) → length (filter p xs) ≤ length xs → length (cond b (x ∷ filter p xs) (filter p xs)) ≤ suc (length xs)
+    go true h = omega arith
+    go false h = omega arith
+
+rising_length : (lo top : ℕ) (cs : List Change) → IsRising lo cs top → lo + length cs ≤ top
+rising_length lo top [] rise = omega (arith, rise)
+rising_length lo top (c ∷ cs) rise = let a : lo < c.revision = rise.0 in let b : c.revision + length cs ≤ top = rising_length c.revision top cs rise.1 in omega arith
+
+one_more : (s : Objects) (k : Key) (o : Option Object) → fin.len (put_or_remove s k o) ≤ suc (fin.len s)
+one_more s k None = go (fin.contains_key s k) (fin.len-remove key_cmp_total s k)
+  where
+    go : (b : Bool) → fin.len (fin.remove s k) ≡ cond b (fin.len s - 1) (fin.len s) → fin.len (fin.remove s k) ≤ suc (fin.len s)
+    go true e = omega arith
+    go false e = omega arith
+one_more s k (Some o) = go (fin.contains_key s k) (fin.len-insert key_cmp_total s k o)
+  where
+    go : (b : Bool) → fin.len (fin.insert s k o) ≡ cond b (fin.len s) (fin.len s + 1) → fin.len (fin.insert s k o) ≤ suc (fin.len s)
+    go true e = omega arith
+    go false e = omega arith
+
+changed_length : (s : Objects) (cs : List Change) → fin.len (changed s cs) ≤ fin.len s + length cs
+changed_length s [] = omega arith
+changed_length s (c ∷ cs) =
+    let a : fin.len (changed (put_or_remove s c.key (left_by c)) cs) ≤ fin.len (put_or_remove s c.key (left_by c)) + length cs = changed_length (put_or_remove s c.key (left_by c)) cs in
+    let b : fin.len (put_or_remove s c.key (left_by c)) ≤ suc (fin.len s) = one_more s c.key (left_by c) in
+    omega arith
+
+pub changes_few : (h : History) (p : Change → Bool) → IsHistory h → length (filter p h.changes) ≤ last_revision
+changes_few h p is =
+    let a : 0 + length h.changes ≤ h.current = rising_length 0 h.current h.changes is.rising in
+    let b : length (filter p h.changes) ≤ length h.changes = filter_shorter p h.changes in
+    let c : h.current ≤ last_revision = is.high in
+    omega arith
+
+pub objects_few : (h : History) (r : ℕ) (p : Key × Object → Bool) → IsHistory h → length (filter p (fin.entries (state_at h.changes r))) ≤ last_revision
+objects_few h r p is =
+    let s : Objects = state_at h.changes r in
+    let a : length (filter p (fin.entries s)) ≤ length (fin.entries s) = filter_shorter p (fin.entries s) in
+    let b : fin.len s ≡ length (fin.entries s) = fin.len-entries s in
+    let c : fin.len s ≤ fin.len (fin.empty {X = Object} {R = key_cmp}) + length (up_to r h.changes) = changed_length fin.empty (up_to r h.changes) in
+    let d : fin.len (fin.empty {X = Object} {R = key_cmp}) ≡ 0 = fin.len-empty key_cmp Object in
+    let e : length (up_to r h.changes) ≤ last_revision = changes_few h (λ c. nat_le c.revision r) is in
+    omega arith
+
+pub spans_few : (h : History) (from to : ℕ) (p : Change → Bool) → IsHistory h → length (filter p (up_to to (later from h.changes))) ≤ last_revision
+spans_few h from to p is =
+    let a : length (filter p (up_to to (later from h.changes))) ≤ length (up_to to (later from h.changes)) = filter_shorter p (up_to to (later from h.changes)) in
+    let b : length (up_to to (later from h.changes)) ≤ length (later from h.changes) = filter_shorter (λ c. nat_le c.revision to) (later from h.changes) in
+    let c : length (later from h.changes) ≤ last_revision = changes_few h (λ c. nat_lt from c.revision) is in
+    omega arith
+
+-- ---- what the rows of an answer are read as
+
+-- the rows of a page
+pub at_is : (h : History) (kind : ℕ) (ns : Option (List ℕ)) (after : Option (List ℕ × List ℕ)) (r most rv mx : ℕ) (rows : List Row) → IsPruned h → rv ≡ min r h.current → mx ≡ min most last_revision
+    → rows ≡ map (λ e. shown (as_change e)) (page kind ns after mx (state_at h.changes rv)) → map entry_shown rows ≡ page kind ns after most (state_at h.changes r)
+at_is h kind ns after r most rv mx rows p revision max_is found =
+    ap (map entry_shown) found ∙ map_back (λ e. shown (as_change e)) entry_shown (λ e. refl) (page kind ns after mx (state_at h.changes rv))
+    ∙ ap (λ n. page kind ns after mx (state_at h.changes n)) revision ∙ ap (page kind ns after mx) (state_min h r p.is)
+    ∙ ap (λ n. page kind ns after n (state_at h.changes r)) max_is
+    ∙ take_min most (listed kind ns after (state_at h.changes r)) (objects_few h r _ p.is)
+
+pub at_whole : (h : History) (kind : ℕ) (ns : Option (List ℕ)) (after : Option (List ℕ × List ℕ)) (r most : ℕ) → IsPruned h → last_revision ≤ most
+    → page kind ns after most (state_at h.changes r) ≡ listed kind ns after (state_at h.changes r)
+at_whole h kind ns after r most p le = take_most most (listed kind ns after (state_at h.changes r)) (objects_few h r _ p.is) le
+
+-- the rows of a span
+pub span_is : (h : History) (kind : ℕ) (ns : Option (List ℕ)) (from to most f t mx : ℕ) (rows : List Row) → IsPruned h → f ≡ min from h.current → t ≡ min to h.current → mx ≡ min most last_revision
+    → rows ≡ map shown (changes_within kind ns mx (up_to t (later f h.changes))) → map change_shown rows ≡ changes_within kind ns most (up_to to (later from h.changes))
+span_is h kind ns from to most f t mx rows p from_is to_is max_is found =
+    ap (map change_shown) found ∙ map_back shown change_shown shown_back (changes_within kind ns mx (up_to t (later f h.changes)))
+    ∙ ap₂ (λ a b. changes_within kind ns mx (up_to a (later b h.changes))) to_is from_is ∙ ap (changes_within kind ns mx) (span_min h from to p.is)
+    ∙ ap (λ n. changes_within kind ns n (up_to to (later from h.changes))) max_is
+    ∙ take_min most (picked kind ns (up_to to (later from h.changes))) (spans_few h from to _ p.is)
+
+pub span_whole : (h : History) (kind : ℕ) (ns : Option (List ℕ)) (from to most : ℕ) → IsPruned h → last_revision ≤ most
+    → changes_within kind ns most (up_to to (later from h.changes)) ≡ picked kind ns (up_to to (later from h.changes))
+span_whole h kind ns from to most p le = take_most most (picked kind ns (up_to to (later from h.changes))) (spans_few h from to _ p.is) le
+
+-- the row of a count
+pub count_is : (h : History) (rows : List Row) (row : Row) (n : ℕ) → IsPruned h → rows ≡ (Int (pos (min (length (with_body h.changes)) last_revision)) ∷ []) ∷ [] → Some row ≡ slice_get rows 0 → column row 0 ≡ Int (pos n)
+    → n ≡ length (with_body h.changes)
+count_is h rows row n p found first read =
+    let a : length (with_body h.changes) ≤ last_revision = changes_few h (λ c. is_some c.body) p.is in
+    let b : n ≡ min (length (with_body h.changes)) last_revision =
+    ap number_in (sym read) ∙ ap (λ o. number_in (column (unwrap_or o []) 0)) (first ∙ ap (λ l. slice_get l 0) found) in
+    omega arith

@@ -1,0 +1,298 @@
+-- What the tests of WHERE say of a change.
+use Rattle.std.proofs.Common.{◌≡◌, ℕ, pos, List, [], ◌∷◌, Bool, true, false, not, ◌&&◌, ◌||◌, refl, ap, ◌∙◌, arith, Option, Some, None, is_some, unwrap_or, is_eq, min, int_cmp, Ordering, Less, Equal, Greater, cond, length, suc, zero, filter, ◌==◌}
+use Rattle.std.specs.Prelude.{nat_lt, nat_le, is_none}
+use Rattle.std.specs.Ordering.{int_eq, is_gt, is_ge, is_le, nat_cmp, ordering_then}
+use Rattle.std.specs.List.{list_any, list_all}
+use Rattle.std.specs.Cmp.{eq_by_cmp_equiv}
+use Rattle.std.proofs.lemmas.Int.{ints}
+use Rattle.std.proofs.lemmas.Bool.Decides.{nat_tests}
+use Rattle.std.proofs.lemmas.Cmp.{tied_itself}
+use Rattle.sqlite.specs.declared.types.Value.{Value}
+use Rattle.sqlite.specs.declared.types.Value.TheVariants.{Null, Int, Text as Words}
+use Rattle.sqlite.specs.Collation.TheVariants.{Binary}
+use Rattle.sqlite_sql.specs.declared.ops.CompareOp.TheVariants.{Eq, Gt, Ge, Le}
+use Rattle.sqlite_sql.specs.declared.ops.BinaryOp.TheVariants.{Compare, Or, Is}
+use Rattle.sqlite_sql.specs.declared.ops.UnaryOp.TheVariants.{Not}
+use Rattle.sqlite_sql.specs.Term.{Env, holds}
+use Rattle.sqlite_sql.specs.Ops.{binary, unary, truth, from_truth, or3, not3}
+use Rattle.sqlite_value.proofs.OrderLemmas.{value_cmp-Int, value_cmp-Text, value_cmp_total, value_cmp-apart}
+use Rattle.sqlite_value.specs.Order.{value_cmp, Row}
+use Rattle.revtable.specs.History.{Key, Change, text_cmp, is_same_key}
+use Rattle.revtable.specs.Asked.{is_last_of, low_of, name_in}
+use Rattle.revtable.specs.Kept.{replaces, stands}
+use Rattle.revtable.specs.Page.{is_in_namespace, is_within, is_past}
+use Rattle.revtable.specs.Rows.{row_of, body_value}
+use Rattle.revtable.proofs.Keys.{key_cmp_total}
+use Rattle.revtable.proofs.Texts.{last_query, span_query, page_query, prune_query, count_query, later_tests}
+
+pub truth_back : (b : Bool) → unwrap_or (truth (from_truth (Some b))) false ≡ b
+truth_back true = refl
+truth_back false = refl
+
+eq_is : (a b : ℕ) → is_eq (int_cmp (pos a) (pos b)) ≡ is_eq (nat_cmp a b)
+eq_is a b = grind (arith, ints, nat_tests)
+
+gt_is : (a b : ℕ) → is_gt (int_cmp (pos a) (pos b)) ≡ nat_lt b a
+gt_is a b = grind (arith, ints, nat_tests)
+
+le_is : (a b : ℕ) → is_le (int_cmp (pos a) (pos b)) ≡ nat_le a b
+le_is a b = grind (arith, ints, nat_tests)
+
+with_true : (b : Bool) → (b && true) ≡ b
+with_true true = refl
+with_true false = refl
+
+three : (a b c : Ordering) (d : Bool) → (is_eq a && (is_eq b && (is_eq c && d))) ≡ (is_eq (ordering_then a (ordering_then b c)) && d)
+three Less b c d = refl
+three Equal Less c d = refl
+three Equal Equal c d = refl
+three Equal Greater c d = refl
+three Greater b c d = refl
+
+pub same_key_symm : (a b : Key) → is_same_key a b ≡ is_same_key b a
+same_key_symm a b = (eq_by_cmp_equiv key_cmp_total).symm a b
+
+-- the parameters that name a key and a revision
+abbrev pub bound_key : Key → ℕ → Row
+bound_key k r = Int (pos k.kind) ∷ Words k.namespace ∷ Words k.name ∷ Int (pos r) ∷ []
+
+pub last_tests : (k : Key) (r : ℕ) (c : Change) → list_all (holds (bound_key k r ∷ row_of c ∷ [])) last_query.filter ≡ is_last_of k r c
+unfolding binary
+last_tests k r c =
+    rw (value_cmp-Int (pos c.key.kind) (pos k.kind), value_cmp-Text c.key.namespace k.namespace, value_cmp-Text c.key.name k.name, value_cmp-Int (pos c.revision) (pos r)) (
+    rw (
+      truth_back (is_eq (int_cmp (pos c.key.kind) (pos k.kind))),
+      truth_back (is_eq (text_cmp c.key.namespace k.namespace)),
+      truth_back (is_eq (text_cmp c.key.name k.name)),
+      truth_back (is_le (int_cmp (pos c.revision) (pos r))),
+      eq_is c.key.kind k.kind,
+      le_is c.revision r,
+      with_true (nat_le c.revision r),
+    ) (three (nat_cmp c.key.kind k.kind) (text_cmp c.key.namespace k.namespace) (text_cmp c.key.name k.name) (nat_le c.revision r)))
+
+-- ---- the changes that replace one
+
+pub later_are : (params : Row) (c : ℕ) (it later : Change) (to : Rattle.sqlite.specs.Term.Term) → Rattle.sqlite_sql.specs.Term.eval to (params ∷ row_of it ∷ row_of later ∷ []) ≡ Int (pos c)
+    → list_all (holds (params ∷ row_of it ∷ row_of later ∷ [])) (later_tests to) ≡ replaces c it later
+unfolding binary
+later_are params c it later to is =
+    rw (is, value_cmp-Int (pos it.key.kind) (pos later.key.kind), value_cmp-Text it.key.namespace later.key.namespace, value_cmp-Text it.key.name later.key.name, value_cmp-Int (pos later.revision) (pos it.revision), value_cmp-Int (pos later.revision) (pos c)) (
+    rw (
+      truth_back (is_eq (int_cmp (pos it.key.kind) (pos later.key.kind))),
+      truth_back (is_eq (text_cmp it.key.namespace later.key.namespace)),
+      truth_back (is_eq (text_cmp it.key.name later.key.name)),
+      truth_back (is_gt (int_cmp (pos later.revision) (pos it.revision))),
+      truth_back (is_le (int_cmp (pos later.revision) (pos c))),
+      eq_is it.key.kind later.key.kind,
+      gt_is later.revision it.revision,
+      le_is later.revision c,
+      with_true (nat_le later.revision c),
+    ) (three (nat_cmp it.key.kind later.key.kind) (text_cmp it.key.namespace later.key.namespace) (text_cmp it.key.name later.key.name) (nat_lt it.revision later.revision && nat_le later.revision c)))
+
+nonzero : (n : ℕ) → not (int_eq (pos (min 1 n)) (pos 0)) ≡ nat_lt 0 n
+nonzero zero = grind (arith, ints, nat_tests)
+nonzero (suc n) = grind (arith, ints, nat_tests)
+
+pub some_counted : (p : Change → Bool) (cs : List Change) → nat_lt 0 (length (filter p cs)) ≡ list_any p cs
+some_counted p [] = grind (arith, nat_tests)
+some_counted p (c ∷ cs) = go (p c) (some_counted p cs)
+  where
+    go : (b : Bool) → nat_lt 0 (length (filter p cs)) ≡ list_any p cs → nat_lt 0 (length (cond b (c ∷ filter p cs) (filter p cs))) ≡ (b || list_any p cs)
+    go true more = grind (arith, nat_tests)
+    go false more = more
+
+null_is : (b : Option (List ℕ)) → is_eq (value_cmp (body_value b) Null) ≡ is_none b
+null_is None = ap is_eq (tied_itself value_cmp_total Null)
+null_is (Some t) = ap is_eq (value_cmp-apart (Words t) Null (λ e. absurd (omega (arith, e))))
+
+or_is : (a b : Bool) → unwrap_or (truth (from_truth (or3 (truth (from_truth (Some a))) (Some b)))) false ≡ (a || b)
+or_is true true = refl
+or_is true false = refl
+or_is false true = refl
+or_is false false = refl
+
+pub prune_tests : (c n : ℕ) (it : Change)
+    → list_all (holds ((Int (pos c) ∷ []) ∷ row_of it ∷ (Int (pos (min 1 n)) ∷ []) ∷ [])) prune_query.filter ≡ (nat_le it.revision c && (is_none it.body || nat_lt 0 n))
+unfolding binary
+prune_tests c n it =
+    rw (value_cmp-Int (pos it.revision) (pos c)) (rw (null_is it.body) (
+    rw (truth_back (is_le (int_cmp (pos it.revision) (pos c))), or_is (is_none it.body) (not (int_eq (pos (min 1 n)) (pos 0))), le_is it.revision c, nonzero n, with_true (is_none it.body || nat_lt 0 n)) refl))
+
+-- ---- a type, a namespace, a place and a revision
+
+or_both : (a b : Bool) → unwrap_or (truth (from_truth (or3 (truth (from_truth (Some a))) (truth (from_truth (Some b)))))) false ≡ (a || b)
+or_both true true = refl
+or_both true false = refl
+or_both false true = refl
+or_both false false = refl
+
+same_number : (a b : ℕ) → is_eq (int_cmp (pos a) (pos b)) ≡ (a == b)
+same_number a b = grind (arith, ints, nat_tests)
+
+null_text : (t : List ℕ) → is_eq (value_cmp (Words t) Null) ≡ false
+null_text t = ap is_eq (value_cmp-apart (Words t) Null (λ e. absurd (omega (arith, e))))
+
+null_null : is_eq (value_cmp Null Null) ≡ true
+null_null = ap is_eq (tied_itself value_cmp_total Null)
+
+abbrev pub bound_span : ℕ → ℕ → ℕ → Option (List ℕ) → ℕ → Row
+bound_span from to kind ns max = Int (pos from) ∷ Int (pos to) ∷ Int (pos kind) ∷ body_value ns ∷ Int (pos max) ∷ []
+
+abbrev pub is_in_span : ℕ → ℕ → ℕ → Option (List ℕ) → Change → Bool
+is_in_span from to kind ns c = nat_lt from c.revision && (nat_le c.revision to && is_within kind ns c.key)
+
+pub span_tests : (from to kind : ℕ) (ns : Option (List ℕ)) (max : ℕ) (c : Change) → list_all (holds (bound_span from to kind ns max ∷ row_of c ∷ [])) span_query.filter ≡ is_in_span from to kind ns c
+unfolding binary
+span_tests from to kind None max c =
+    rw (value_cmp-Int (pos c.revision) (pos from), value_cmp-Int (pos c.revision) (pos to), value_cmp-Int (pos c.key.kind) (pos kind)) (rw null_null (
+    rw (
+      truth_back (is_gt (int_cmp (pos c.revision) (pos from))),
+      truth_back (is_le (int_cmp (pos c.revision) (pos to))),
+      truth_back (is_eq (int_cmp (pos c.key.kind) (pos kind))),
+      gt_is c.revision from,
+      le_is c.revision to,
+      same_number c.key.kind kind,
+    ) refl))
+span_tests from to kind (Some ns) max c =
+    rw (value_cmp-Int (pos c.revision) (pos from), value_cmp-Int (pos c.revision) (pos to), value_cmp-Int (pos c.key.kind) (pos kind), value_cmp-Text c.key.namespace ns) (rw (null_text ns) (
+    rw (
+      truth_back (is_gt (int_cmp (pos c.revision) (pos from))),
+      truth_back (is_le (int_cmp (pos c.revision) (pos to))),
+      truth_back (is_eq (int_cmp (pos c.key.kind) (pos kind))),
+      or_both false (is_eq (text_cmp c.key.namespace ns)),
+      gt_is c.revision from,
+      le_is c.revision to,
+      same_number c.key.kind kind,
+      with_true (is_eq (text_cmp c.key.namespace ns)),
+    ) refl))
+
+-- ---- a page
+
+abbrev pub bound_page : ℕ → List ℕ → Option (List ℕ) → Option (List ℕ) → ℕ → ℕ → Row
+bound_page kind low ns name r max = Int (pos kind) ∷ Words low ∷ body_value ns ∷ body_value name ∷ Int (pos r) ∷ Int (pos max) ∷ []
+
+abbrev ns_is : Option (List ℕ) → List ℕ → Bool
+ns_is None n = true
+ns_is (Some ns) n = is_eq (text_cmp n ns)
+
+abbrev name_is : List ℕ → Option (List ℕ) → Key → Bool
+name_is low None k = true
+name_is low (Some name) k = is_gt (text_cmp k.namespace low) || is_gt (text_cmp k.name name)
+
+abbrev tests_of : ℕ → List ℕ → Option (List ℕ) → Option (List ℕ) → ℕ → Bool → Change → Bool
+tests_of kind low ns name r found it =
+    (it.key.kind == kind) && (is_ge (text_cmp it.key.namespace low) && (ns_is ns it.key.namespace && (name_is low name it.key && (nat_le it.revision r && (is_some it.body && not found)))))
+
+abbrev or_value : Value → Value → Value
+or_value a b = from_truth (or3 (truth a) (truth b))
+
+-- each test, of the values that it compares
+abbrev passes : Value → Bool
+passes v = unwrap_or (truth v) false
+
+of_kind : (a b : ℕ) → passes (binary (Compare Eq Binary) (Int (pos a)) (Int (pos b))) ≡ (a == b)
+unfolding binary
+of_kind a b = rw (value_cmp-Int (pos a) (pos b)) (truth_back (is_eq (int_cmp (pos a) (pos b))) ∙ same_number a b)
+
+up_to_revision : (a b : ℕ) → passes (binary (Compare Le Binary) (Int (pos a)) (Int (pos b))) ≡ nat_le a b
+unfolding binary
+up_to_revision a b = rw (value_cmp-Int (pos a) (pos b)) (truth_back (is_le (int_cmp (pos a) (pos b))) ∙ le_is a b)
+
+from_low : (a b : List ℕ) → passes (binary (Compare Ge Binary) (Words a) (Words b)) ≡ is_ge (text_cmp a b)
+unfolding binary
+from_low a b = rw (value_cmp-Text a b) (truth_back (is_ge (text_cmp a b)))
+
+of_namespace : (ns : Option (List ℕ)) (n : List ℕ) → passes (binary Or (binary (Is Binary) (body_value ns) Null) (binary (Compare Eq Binary) (Words n) (body_value ns))) ≡ ns_is ns n
+unfolding binary
+of_namespace None n = rw null_null refl
+of_namespace (Some ns) n = rw (value_cmp-Text n ns, null_text ns) (or_both false (is_eq (text_cmp n ns)))
+
+or_more : (a b : Bool) → passes (or_value (or_value (from_truth (Some false)) (from_truth (Some a))) (from_truth (Some b))) ≡ (a || b)
+or_more true true = refl
+or_more true false = refl
+or_more false true = refl
+or_more false false = refl
+
+or_first : (a : Bool) → passes (or_value (or_value (from_truth (Some true)) (from_truth (Some a))) Null) ≡ true
+or_first true = refl
+or_first false = refl
+
+after_name : (low : List ℕ) (name : Option (List ℕ)) (k : Key)
+    → passes (binary Or (binary Or (binary (Is Binary) (body_value name) Null) (binary (Compare Gt Binary) (Words k.namespace) (Words low))) (binary (Compare Gt Binary) (Words k.name) (body_value name))) ≡ name_is low name k
+unfolding binary
+after_name low None k = rw (value_cmp-Text k.namespace low) (rw null_null (or_first (is_gt (text_cmp k.namespace low))))
+after_name low (Some name) k = rw (value_cmp-Text k.namespace low, value_cmp-Text k.name name) (rw (null_text name) (or_more (is_gt (text_cmp k.namespace low)) (is_gt (text_cmp k.name name))))
+
+not_is : (b : Bool) → passes (from_truth (not3 (truth (from_truth (Some b))))) ≡ not b
+not_is true = refl
+not_is false = refl
+
+not_null : (b : Option (List ℕ)) → not (is_none b) ≡ is_some b
+not_null None = refl
+not_null (Some t) = refl
+
+has_body : (b : Option (List ℕ)) → passes (unary Not (binary (Is Binary) (body_value b) Null)) ≡ is_some b
+unfolding binary unary
+has_body b = rw (null_is b) (not_is (is_none b) ∙ not_null b)
+
+not_counted : (n : ℕ) → passes (unary Not (Int (pos (min 1 n)))) ≡ not (nat_lt 0 n)
+unfolding unary
+not_counted n = not_number (not (int_eq (pos (min 1 n)) (pos 0))) ∙ ap not (nonzero n)
+  where
+    not_number : (b : Bool) → passes (from_truth (not3 (Some b))) ≡ not b
+    not_number true = refl
+    not_number false = refl
+
+raw_page : (kind : ℕ) (low : List ℕ) (ns name : Option (List ℕ)) (r max n : ℕ) (it : Change)
+    → list_all (holds (bound_page kind low ns name r max ∷ row_of it ∷ (Int (pos (min 1 n)) ∷ []) ∷ [])) page_query.filter ≡ tests_of kind low ns name r (nat_lt 0 n) it
+raw_page kind low ns name r max n it =
+    rw (of_kind it.key.kind kind, from_low it.key.namespace low, of_namespace ns it.key.namespace, after_name low name it.key, up_to_revision it.revision r, has_body it.body, not_counted n, with_true (not (nat_lt 0 n))) refl
+
+-- ---- the place of a page
+
+from_empty : (n : List ℕ) → is_ge (text_cmp n []) ≡ true
+from_empty [] = refl
+from_empty (x ∷ n) = refl
+
+in_one : (o : Ordering) (rest : Bool) → (is_ge o && (is_eq o && (true && rest))) ≡ (is_eq o && (true && rest))
+in_one Less rest = refl
+in_one Equal rest = refl
+in_one Greater rest = refl
+
+after_both : (o p : Ordering) (b rest : Bool) → (is_ge o && (b && ((is_gt o || is_gt p) && rest))) ≡ (b && (is_gt (ordering_then o p) && rest))
+after_both Less p true rest = refl
+after_both Less p false rest = refl
+after_both Equal p b rest = refl
+after_both Greater p b rest = refl
+
+place_is : (ns : Option (List ℕ)) (after : Option (List ℕ × List ℕ)) (k : Key) (rest : Bool)
+    → (is_ge (text_cmp k.namespace (low_of ns after)) && (ns_is ns k.namespace && (name_is (low_of ns after) (name_in after) k && rest))) ≡ (is_in_namespace ns k && (is_past after k && rest))
+place_is None None k rest = rw (from_empty k.namespace) refl
+place_is (Some ns) None k rest = in_one (text_cmp k.namespace ns) rest
+place_is None (Some after) k rest = after_both (text_cmp k.namespace after.0) (text_cmp k.name after.1) true rest
+place_is (Some ns) (Some after) k rest = after_both (text_cmp k.namespace after.0) (text_cmp k.name after.1) (is_eq (text_cmp k.namespace ns)) rest
+
+in_turn : (k n a s : Bool) → (k && (n && (a && s))) ≡ (s && ((k && n) && a))
+in_turn true true true true = refl
+in_turn true true true false = refl
+in_turn true true false true = refl
+in_turn true true false false = refl
+in_turn true false a true = refl
+in_turn true false a false = refl
+in_turn false n a true = refl
+in_turn false n a false = refl
+
+-- what a page's query picks: the standing changes of the type and namespace after the place
+abbrev pub is_on_page : ℕ → Option (List ℕ) → Option (List ℕ × List ℕ) → ℕ → List Change → Change → Bool
+is_on_page kind ns after r cs it = stands r cs it && (is_within kind ns it.key && is_past after it.key)
+
+pub page_tests : (kind : ℕ) (ns : Option (List ℕ)) (after : Option (List ℕ × List ℕ)) (r max : ℕ) (cs : List Change) (it : Change)
+    → list_all (holds (bound_page kind (low_of ns after) ns (name_in after) r max ∷ row_of it ∷ (Int (pos (min 1 (length (filter (replaces r it) cs)))) ∷ []) ∷ [])) page_query.filter ≡ is_on_page kind ns after r cs it
+page_tests kind ns after r max cs it =
+    raw_page kind (low_of ns after) ns (name_in after) r max (length (filter (replaces r it) cs)) it
+    ∙ ap (λ b. tests_of kind (low_of ns after) ns (name_in after) r b it) (some_counted (replaces r it) cs)
+    ∙ ap (λ b. (it.key.kind == kind) && b) (place_is ns after it.key (stands r cs it))
+    ∙ in_turn (it.key.kind == kind) (is_in_namespace ns it.key) (is_past after it.key) (stands r cs it)
+
+pub count_tests : (c : Change) → list_all (holds ([] ∷ row_of c ∷ [])) count_query.filter ≡ is_some c.body
+count_tests c = rw (has_body c.body) (with_true (is_some c.body))

@@ -1,0 +1,9 @@
+pub mod Asked
+pub mod Codes
+pub mod Decoded
+pub mod History
+pub mod Kept
+pub mod Page
+pub mod Read
+pub mod Rows
+pub mod View

@@ -1,0 +1,35 @@
+use sqlite::{Error, ErrorCode};
+use std::alloc::{AllocError, AllocFailed};
+use thiserror::Error;
+
+/// Why a call on the table gave no answer. It has changed nothing.
+#[derive(Debug, Drop, Error)]
+pub enum Fault {
+    /// A growth was refused.
+    #[error("out of memory")]
+    Memory,
+    /// SQLite refused a statement, for memory or for size.
+    #[error("the table refused a statement")]
+    Store,
+}
+
+impl From<Error> for Fault {
+    fn from(error: Error) -> Fault {
+        match error {
+            Error::SqliteFailure(ErrorCode::OutOfMemory) => Fault::Memory,
+            _ => Fault::Store,
+        }
+    }
+}
+
+impl From<AllocError> for Fault {
+    fn from(_: AllocError) -> Fault {
+        Fault::Memory
+    }
+}
+
+impl<T: Drop> From<AllocFailed<T>> for Fault {
+    fn from(_: AllocFailed<T>) -> Fault {
+        Fault::Memory
+    }
+}

@@ -1,0 +1,28 @@
+//! Laws of histories, which crates above build on. Each function does nothing; what it promises is the law.
+
+ghost use Rattle.std.specs.Prelude.{◌≡◌, ℕ, suc, ◌≤◌, List, Option};
+ghost use Rattle.revtable.specs.History.{History, IsHistory, Key, compacted_to, last_revision, later, state_at, written};
+ghost use Rattle.revtable.specs.Kept.{IsPruned, pruned};
+ghost use Rattle.revtable.specs.View.{compacted_in, state_in, view, written_in};
+
+/// From the compacted number on, the kept changes have the same states and the same later changes, so the view
+/// depends on them and on the two numbers alone; and the view gives each of these states.
+pub fn view_of_kept()
+    ensures states { (h : History) (c r : ℕ) → IsHistory h → c ≤ r → state_at (pruned c h).changes r ≡ state_at h.changes r }
+    ensures later { (h : History) (c r : ℕ) → IsHistory h → c ≤ r → later r (pruned c h).changes ≡ later r h.changes }
+    ensures same { (h : History) → IsHistory h → view (pruned h.compacted h) ≡ view h }
+    ensures within { (h : History) (r : ℕ) → IsHistory h → h.compacted ≤ r → state_in (view h) r ≡ state_at h.changes r }
+{}
+
+/// A write and a compaction of a history are seen as a write and a compaction of its view.
+pub fn view_of_calls()
+    ensures writes { (h : History) (k : Key) (body : Option (List ℕ)) → IsHistory h → view (written h k body) ≡ written_in (view h) k body }
+    ensures compacts { (h : History) (c : ℕ) → IsHistory h → h.compacted ≤ c → view (compacted_to c h) ≡ compacted_in c (view h) }
+{}
+
+/// What a prune forgets is never missed: the kept changes are enough to go on from.
+pub fn kept_is_enough()
+    ensures fresh { (h : History) → IsHistory h → IsPruned (pruned h.compacted h) }
+    ensures writes { (h : History) (k : Key) (body : Option (List ℕ)) → IsHistory h → pruned h.compacted (written h k body) ≡ written (pruned h.compacted h) k body }
+    ensures prunes { (h : History) (c : ℕ) → IsHistory h → h.compacted ≤ c → pruned c (pruned h.compacted h) ≡ pruned c (compacted_to c h) }
+{}

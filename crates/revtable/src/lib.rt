@@ -1,0 +1,18 @@
+//! The changes of named objects, one after the other, in a table over SQL in memory.
+//!
+//! A table is seen as its history: the changes that are kept, oldest first, with the revision that stands now
+//! and the one up to which old changes are forgotten. Each call's answer is a filter of that history, and a call
+//! that fails leaves it as it was. It stands on `sqlite` and on that crate's promises over its memory store.
+#![tactic(auto)]
+
+mod fault;
+mod laws;
+mod reading;
+mod row;
+mod statements;
+mod table;
+
+pub use fault::Fault;
+pub use laws::{kept_is_enough, view_of_calls, view_of_kept};
+pub use row::{Change, Entry, Key, Marks, Object};
+pub use table::Table;

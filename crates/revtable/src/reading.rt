@@ -1,0 +1,77 @@
+//! Rows, read as what they show.
+
+ghost use Rattle.std.specs.Prelude.{◌≡◌, IfOk, map, option_map};
+ghost use Rattle.revtable.specs.Decoded.{key_shown, change_shown, entry_shown, object_shown};
+ghost use Rattle.revtable.specs.History.{object_by};
+ghost use Rattle.revtable.specs.Read.{change_of, entry_of, key_of, object_of};
+
+use crate::fault::Fault;
+use crate::row::{Change, Entry, Key, Object};
+use sqlite::{Error, Row};
+use std::alloc::Global;
+
+fn read_key(row: &Row) -> Result<Key, Error>
+    ensures { IfOk result (λ k. key_of k ≡ key_shown row.now) }
+{
+    Ok(Key {
+        kind: row.get(1)?,
+        namespace: row.get(2)?,
+        name: row.get(3)?,
+    })
+}
+
+fn read_change(row: &Row) -> Result<Change, Error>
+    ensures { IfOk result (λ c. change_of c ≡ change_shown row.now) }
+{
+    Ok(Change {
+        revision: row.get(0)?,
+        key: read_key(row)?,
+        body: row.get(4)?,
+    })
+}
+
+fn read_entry(row: &Row) -> Result<Entry, Error>
+    ensures { IfOk result (λ e. entry_of e ≡ entry_shown row.now) }
+{
+    Ok(Entry {
+        key: read_key(row)?,
+        object: Object {
+            revision: row.get(0)?,
+            body: row.get(4)?,
+        },
+    })
+}
+
+/// The object that a change leaves, or none if it is a deletion.
+pub(crate) fn read_left(row: &Row) -> Result<Option<Object>, Error>
+    ensures { IfOk result (λ o. option_map object_of o ≡ object_by (change_shown row.now).revision (change_shown row.now).body) }
+{
+    let body: Option<String> = row.get(4)?;
+    match body {
+        None => Ok(None),
+        Some(body) => Ok(Some(Object {
+            revision: row.get(0)?,
+            body,
+        })),
+    }
+}
+
+pub(crate) fn read_changes(alloc: Global, rows: &[Row]) -> Result<Vec<Change>, Fault>
+    ensures { IfOk result (λ v. map change_of v.items ≡ map change_shown rows.now) }
+{
+    let mut all = Vec::new(alloc);
+    for row in rows {
+        all.push(read_change(row)?)?;
+    }
+    Ok(all)
+}
+
+pub(crate) fn read_entries(alloc: Global, rows: &[Row]) -> Result<Vec<Entry>, Fault>
+    ensures { IfOk result (λ v. map entry_of v.items ≡ map entry_shown rows.now) }
+{
+    let mut all = Vec::new(alloc);
+    for row in rows {
+        all.push(read_entry(row)?)?;
+    }
+    Ok(all)
+}

@@ -1,0 +1,163 @@
+//! The statements, each with what it does to the changes that the rows keep.
+
+ghost use Rattle.std.specs.Prelude.{◌≡◌, [], ◌∷◌, ◌++◌, ℕ, ◌^◌, ◌<◌, pos, min, length, map, IfOk, OnOk, OnErr, option_map};
+ghost use Rattle.revtable.specs.Read.{key_of};
+ghost use Rattle.std.specs.Option.{option_to_list};
+ghost use Rattle.revtable.specs.Asked.{as_change, last_change, low_of, name_in};
+ghost use Rattle.revtable.specs.History.{IsRising, last_revision, later, state_at, up_to};
+ghost use Rattle.revtable.specs.Kept.{kept, with_body};
+ghost use Rattle.revtable.specs.Page.{changes_within, page};
+ghost use Rattle.revtable.specs.Rows.{changes_in, shown, AreBelow, IsKept, IsOrdered};
+ghost use Rattle.sqlite.specs.declared.types.Value.TheVariants.{Int};
+ghost use Rattle.sqlite.specs.Held.{state};
+ghost use Rattle.sqlite.specs.Steps.{over_memory, IsEmpty};
+
+use crate::row::Key;
+use sqlite::{Connection, Error, MemStore, Row, params};
+
+/// Makes the table, with an index by key and revision.
+pub(crate) fn create(conn: &mut Connection<MemStore>) -> Result<usize, Error>
+    requires { IsEmpty (state over_memory conn.old) }
+    ensures kept { OnOk result (IsKept (state over_memory conn.new)) }
+    ensures empty { OnOk result (changes_in (state over_memory conn.new) ≡ []) }
+{
+    conn.execute(
+        "CREATE TABLE change (revision INTEGER PRIMARY KEY, kind INTEGER NOT NULL, namespace TEXT NOT NULL, name TEXT NOT NULL, body TEXT, UNIQUE (kind, namespace, name, revision)) STRICT",
+        &[],
+    )
+}
+
+/// Adds a change whose revision is above all others.
+pub(crate) fn insert(
+    conn: &mut Connection<MemStore>,
+    revision: u64,
+    key: &Key,
+    body: Option<&str>,
+) -> Result<usize, Error>
+    requires fits { revision < 2 ^ 63 }
+    requires kept { IsKept (state over_memory conn.old) }
+    requires below { AreBelow revision (changes_in (state over_memory conn.old)) }
+    ensures kept { IsKept (state over_memory conn.new) }
+    ensures ok { OnOk result (changes_in (state over_memory conn.new)
+        ≡ changes_in (state over_memory conn.old) ++ record { revision = revision; key = key_of key.now; body = option_map (λ b. b.now) body.entry } ∷ []) }
+    ensures err { OnErr result (changes_in (state over_memory conn.new) ≡ changes_in (state over_memory conn.old)) }
+{
+    conn.execute(
+        "INSERT INTO change (revision, kind, namespace, name, body) VALUES (?1, ?2, ?3, ?4, ?5)",
+        params![revision as i64, key.kind, &key.namespace, &key.name, body],
+    )
+}
+
+/// The last change of a key up to a revision, if there is one.
+pub(crate) fn newest(
+    conn: &mut Connection<MemStore>,
+    key: &Key,
+    revision: u64,
+) -> Result<Vec<Row>, Error>
+    requires fits { revision < 2 ^ 63 }
+    requires kept { IsKept (state over_memory conn.old) }
+    requires ordered { IsOrdered (changes_in (state over_memory conn.old)) }
+    ensures kept { IsKept (state over_memory conn.new) }
+    ensures same { changes_in (state over_memory conn.new) ≡ changes_in (state over_memory conn.old) }
+    ensures ok { IfOk result (λ rows. rows.items ≡ map shown (option_to_list (last_change (key_of key.now) revision (changes_in (state over_memory conn.old))))) }
+{
+    conn.query_all(
+        "SELECT revision, kind, namespace, name, body FROM change WHERE kind = ?1 AND namespace = ?2 AND name = ?3 AND revision <= ?4 ORDER BY revision DESC LIMIT 1",
+        params![key.kind, &key.namespace, &key.name, revision as i64],
+    )
+}
+
+/// Takes out all but the kept changes.
+pub(crate) fn delete_old(conn: &mut Connection<MemStore>, revision: u64) -> Result<usize, Error>
+    requires fits { revision < 2 ^ 63 }
+    requires was { IsKept (state over_memory conn.old) }
+    requires ordered { IsOrdered (changes_in (state over_memory conn.old)) }
+    ensures stays { IsKept (state over_memory conn.new) }
+    ensures ok { OnOk result (changes_in (state over_memory conn.new) ≡ kept revision (changes_in (state over_memory conn.old))) }
+    ensures err { OnErr result (changes_in (state over_memory conn.new) ≡ changes_in (state over_memory conn.old)) }
+{
+    conn.execute(
+        "DELETE FROM change WHERE revision <= ?1 AND (body IS NULL OR EXISTS (SELECT 1 FROM change AS later WHERE change.kind = later.kind AND change.namespace = later.namespace AND change.name = later.name AND later.revision > change.revision AND later.revision <= ?1))",
+        params![revision as i64],
+    )
+}
+
+/// The first changes of a type, and of a namespace if one is named, after one revision up to another.
+pub(crate) fn spanned(
+    conn: &mut Connection<MemStore>,
+    kind: u32,
+    namespace: Option<&str>,
+    from: u64,
+    to: u64,
+    max: u64,
+) -> Result<Vec<Row>, Error>
+    requires from { from < 2 ^ 63 }
+    requires to { to < 2 ^ 63 }
+    requires max { max < 2 ^ 63 }
+    requires kept { IsKept (state over_memory conn.old) }
+    requires ordered { IsOrdered (changes_in (state over_memory conn.old)) }
+    ensures kept { IsKept (state over_memory conn.new) }
+    ensures same { changes_in (state over_memory conn.new) ≡ changes_in (state over_memory conn.old) }
+    ensures ok { IfOk result (λ rows. rows.items ≡ map shown (changes_within kind (option_map (λ b. b.now) namespace.entry) max (up_to to (later from (changes_in (state over_memory conn.old)))))) }
+{
+    conn.query_all(
+        "SELECT revision, kind, namespace, name, body FROM change WHERE revision > ?1 AND revision <= ?2 AND kind = ?3 AND (?4 IS NULL OR namespace = ?4) ORDER BY revision LIMIT ?5",
+        params![from as i64, to as i64, kind, namespace, max as i64],
+    )
+}
+
+/// The text that the namespaces of a page begin from.
+fn lowest<'a>(namespace: Option<&'a str>, after: Option<(&'a str, &'a str)>) -> &'a str
+    ensures { result.now ≡ low_of (option_map (λ b. b.now) namespace.entry) (option_map (λ p. (p.0.now, p.1.now)) after.entry) }
+{
+    match (after, namespace) {
+        (Some((first, _)), _) => first,
+        (None, Some(only)) => only,
+        (None, None) => "",
+    }
+}
+
+fn name_after<'a>(after: Option<(&'a str, &'a str)>) -> Option<&'a str>
+    ensures { option_map (λ b. b.now) result ≡ name_in (option_map (λ p. (p.0.now, p.1.now)) after.entry) }
+{
+    match after {
+        Some((_, name)) => Some(name),
+        None => None,
+    }
+}
+
+/// The first objects of a type, and of a namespace if one is named, at a revision and after a namespace and name.
+pub(crate) fn listed(
+    conn: &mut Connection<MemStore>,
+    kind: u32,
+    namespace: Option<&str>,
+    revision: u64,
+    after: Option<(&str, &str)>,
+    max: u64,
+) -> Result<Vec<Row>, Error>
+    requires fits { revision < 2 ^ 63 }
+    requires max { max < 2 ^ 63 }
+    requires kept { IsKept (state over_memory conn.old) }
+    requires rising { (top : ℕ) × IsRising 0 (changes_in (state over_memory conn.old)) top }
+    ensures kept { IsKept (state over_memory conn.new) }
+    ensures same { changes_in (state over_memory conn.new) ≡ changes_in (state over_memory conn.old) }
+    ensures ok { IfOk result (λ rows. rows.items ≡ map (λ e. shown (as_change e))
+        (page kind (option_map (λ b. b.now) namespace.entry) (option_map (λ p. (p.0.now, p.1.now)) after.entry) max (state_at (changes_in (state over_memory conn.old)) revision))) }
+{
+    let low = lowest(namespace, after);
+    let name = name_after(after);
+    conn.query_all(
+        "SELECT revision, kind, namespace, name, body FROM change WHERE kind = ?1 AND namespace >= ?2 AND (?3 IS NULL OR namespace = ?3) AND (?4 IS NULL OR namespace > ?2 OR name > ?4) AND revision <= ?5 AND body IS NOT NULL AND NOT EXISTS (SELECT 1 FROM change AS later WHERE change.kind = later.kind AND change.namespace = later.namespace AND change.name = later.name AND later.revision > change.revision AND later.revision <= ?5) ORDER BY namespace, name LIMIT ?6",
+        params![kind, low, namespace, name, revision as i64, max as i64],
+    )
+}
+
+/// How many rows hold an object.
+pub(crate) fn counted(conn: &mut Connection<MemStore>) -> Result<Vec<Row>, Error>
+    requires { IsKept (state over_memory conn.old) }
+    ensures kept { IsKept (state over_memory conn.new) }
+    ensures same { changes_in (state over_memory conn.new) ≡ changes_in (state over_memory conn.old) }
+    ensures ok { IfOk result (λ rows. rows.items ≡ (Int (pos (min (length (with_body (changes_in (state over_memory conn.old)))) last_revision)) ∷ []) ∷ []) }
+{
+    conn.query_all("SELECT COUNT(*) FROM change WHERE body IS NOT NULL", &[])
+}

@@ -1,0 +1,177 @@
+ghost use Rattle.std.specs.Prelude.{◌≡◌, [], ◌∷◌, ◌++◌, ℕ, suc, ◌≤◌, true, map, IfOk, OnOk, OnErr, Some, None, option_map, length};
+ghost use Rattle.std.specs.FinMap as fin;
+ghost use Rattle.revtable.specs.History.{fresh, last_revision, later, standing, state_at, up_to, written};
+ghost use Rattle.revtable.specs.Kept.{IsPruned, between_marks, pruned, with_body};
+ghost use Rattle.revtable.specs.Page.{changes_within, listed, page, picked};
+ghost use Rattle.revtable.specs.Read.{change_of, entry_of, key_of, object_of};
+
+use crate::fault::Fault;
+use crate::reading::{read_changes, read_entries, read_left};
+use crate::row::{Change, Entry, Key, Marks, Object};
+use crate::statements;
+use sqlite::{Connection, MemStore};
+use std::alloc::Global;
+use std::marker::Model;
+
+/// The highest revision, and the most rows that a statement is asked for.
+const LAST_REVISION: u64 = i64::MAX as u64;
+
+/// A table of changes in memory. A contract sees it as a history of which only the kept changes are left.
+#[derive(Drop)]
+pub struct Table {
+    alloc: Global,
+    conn: Connection<MemStore>,
+    current: u64,
+    compacted: u64,
+}
+
+impl Model for Table {
+    ghost use Rattle.sqlite.specs.Held.{state};
+    ghost use Rattle.sqlite.specs.Steps.{over_memory};
+    ghost use Rattle.revtable.specs.History.{History};
+    ghost use Rattle.revtable.specs.Kept.{IsPruned};
+    ghost use Rattle.revtable.specs.Rows.{IsKept, changes_in};
+
+    ghost Value = { History };
+
+    ghost view = { λ t. record { changes = changes_in (state over_memory t.conn); current = t.current; compacted = t.compacted } };
+
+    ghost invariant = { λ t. IsKept (state over_memory t.conn) × IsPruned (record { changes = changes_in (state over_memory t.conn); current = t.current; compacted = t.compacted }) };
+}
+
+impl Table {
+    /// An empty table whose two numbers are 1.
+    pub fn open(alloc: Global) -> Result<Table, Fault>
+        ensures { IfOk result (λ t. t ≡ fresh 1) }
+    {
+        Table::open_at(alloc, 1)
+    }
+
+    /// An empty table whose two numbers are this revision, from 1 to 9223372036854775807.
+    pub fn open_at(alloc: Global, revision: u64) -> Result<Table, Fault>
+        requires from { 1 ≤ revision }
+        requires to { revision ≤ last_revision }
+        ensures { IfOk result (λ t. t ≡ fresh revision) }
+    {
+        let mut conn = Connection::open_in_memory(alloc)?;
+        statements::create(&mut conn)?;
+        Ok(Table {
+            alloc,
+            conn,
+            current: revision,
+            compacted: revision,
+        })
+    }
+
+    /// The revision that stands now, and the one up to which old changes are forgotten.
+    pub fn marks(&self) -> Marks
+        ensures current { result.current ≡ self.now.current }
+        ensures compacted { result.compacted ≡ self.now.compacted }
+        ensures sound { IsPruned self.now }
+    {
+        Marks {
+            current: self.current,
+            compacted: self.compacted,
+        }
+    }
+
+    /// Adds the next change of a key: with a body what it now holds, without one its deletion.
+    pub fn put(&mut self, revision: u64, key: &Key, body: Option<&str>) -> Result<(), Fault>
+        requires next { revision ≡ suc self.old.current }
+        requires fits { revision ≤ last_revision }
+        requires there { body ≡ None → fin.contains_key (standing self.old) (key_of key.now) ≡ true }
+        ensures ok { OnOk result (self.new ≡ written self.old (key_of key.now) (option_map (λ b. b.now) body.entry)) }
+        ensures err { OnErr result (self.new ≡ self.old) }
+    {
+        statements::insert(&mut self.conn, revision, key, body)?;
+        self.current = revision;
+        Ok(())
+    }
+
+    /// What stands under a key.
+    pub fn latest(&mut self, key: &Key) -> Result<Option<Object>, Fault>
+        ensures ok { IfOk result (λ o. option_map object_of o ≡ fin.get (standing self.old) (key_of key.now)) }
+        ensures same { self.new ≡ self.old }
+    {
+        self.latest_at(key, self.current)
+    }
+
+    /// What stood under a key at a revision, which counts as the current one if it is past it.
+    pub fn latest_at(&mut self, key: &Key, revision: u64) -> Result<Option<Object>, Fault>
+        ensures ok { IfOk result (λ o. option_map object_of o ≡ fin.get (state_at self.old.changes revision) (key_of key.now)) }
+        ensures same { self.new ≡ self.old }
+    {
+        let revision = revision.min(self.current);
+        let rows = statements::newest(&mut self.conn, key, revision)?;
+        match rows.first() {
+            None => Ok(None),
+            Some(row) => Ok(read_left(row)?),
+        }
+    }
+
+    /// The first `max` objects of a type at a revision, in the order of namespace and name: of one namespace or
+    /// of all, and from after a namespace and name on. A revision past the current one counts as that.
+    pub fn at(
+        &mut self,
+        kind: u32,
+        namespace: Option<&str>,
+        revision: u64,
+        after: Option<(&str, &str)>,
+        max: u64,
+    ) -> Result<Vec<Entry>, Fault>
+        ensures ok { IfOk result (λ v. map entry_of v.items
+            ≡ page kind (option_map (λ b. b.now) namespace.entry) (option_map (λ p. (p.0.now, p.1.now)) after.entry) max (state_at self.old.changes revision)) }
+        ensures whole { last_revision ≤ max → IfOk result (λ v. map entry_of v.items
+            ≡ listed kind (option_map (λ b. b.now) namespace.entry) (option_map (λ p. (p.0.now, p.1.now)) after.entry) (state_at self.old.changes revision)) }
+        ensures same { self.new ≡ self.old }
+    {
+        let revision = revision.min(self.current);
+        let max = max.min(LAST_REVISION);
+        let rows = statements::listed(&mut self.conn, kind, namespace, revision, after, max)?;
+        read_entries(self.alloc, &rows)
+    }
+
+    /// The first `max` changes of a type after one revision up to another, oldest first: of one namespace or of all.
+    pub fn span(
+        &mut self,
+        kind: u32,
+        namespace: Option<&str>,
+        from: u64,
+        to: u64,
+        max: u64,
+    ) -> Result<Vec<Change>, Fault>
+        ensures ok { IfOk result (λ v. map change_of v.items ≡ changes_within kind (option_map (λ b. b.now) namespace.entry) max (up_to to (later from self.old.changes))) }
+        ensures whole { last_revision ≤ max → IfOk result (λ v. map change_of v.items ≡ picked kind (option_map (λ b. b.now) namespace.entry) (up_to to (later from self.old.changes))) }
+        ensures same { self.new ≡ self.old }
+    {
+        let from = from.min(self.current);
+        let to = to.min(self.current);
+        let max = max.min(LAST_REVISION);
+        let rows = statements::spanned(&mut self.conn, kind, namespace, from, to, max)?;
+        read_changes(self.alloc, &rows)
+    }
+
+    /// How many rows hold an object: as many as there are kept changes with a body.
+    pub fn rows(&mut self) -> Result<u64, Fault>
+        ensures ok { IfOk result (λ n. n ≡ length (with_body self.old.changes)) }
+        ensures same { self.new ≡ self.old }
+    {
+        let rows = statements::counted(&mut self.conn)?;
+        match rows.first() {
+            None => Err(Fault::Store),
+            Some(row) => Ok(row.get(0)?),
+        }
+    }
+
+    /// Forgets all but the kept changes at a revision, which counts as the nearer of the two numbers if it does
+    /// not lie between them.
+    pub fn prune(&mut self, revision: u64) -> Result<(), Fault>
+        ensures ok { OnOk result (self.new ≡ pruned (between_marks self.old revision) self.old) }
+        ensures err { OnErr result (self.new ≡ self.old) }
+    {
+        let revision = revision.min(self.current).max(self.compacted);
+        statements::delete_old(&mut self.conn, revision)?;
+        self.compacted = revision;
+        Ok(())
+    }
+}
