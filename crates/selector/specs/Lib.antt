@@ -1,0 +1,4 @@
+pub mod Labels
+pub mod Requirement
+pub mod Grammar
+pub mod Views

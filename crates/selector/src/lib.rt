@@ -1,0 +1,20 @@
+//! Label selectors: which objects a list or a watch asks for, by their labels (Kubernetes documentation,
+//! "Labels and Selectors").
+//!
+//! A text is read as its one list of requirements, or refused with its first fault from the left; an object
+//! is selected where its labels meet every requirement.
+//!
+//! Stands on std alone.
+#![tactic(auto)]
+
+mod fault;
+mod label;
+mod requirement;
+mod selector;
+mod text;
+
+pub use fault::{Fault, ReadError};
+pub use selector::Selector;
+
+#[cfg(test)]
+mod tests;

@@ -1,0 +1,194 @@
+//! One requirement on an object's labels.
+
+ghost use Rattle.std.specs.Prelude.{◌≡◌, [], map, option_map, string_bytes};
+ghost use Rattle.selector.specs.Grammar.{Gives, required, key_of, value_of, values_of, outside_of, among_of, worded, set_of, equal, different, signed, plain_of, part_of, parts_of};
+ghost use Rattle.selector.specs.Labels.{value_at};
+ghost use Rattle.selector.specs.Requirement.{meets};
+ghost use Rattle.selector.specs.Views.{condition_of, requirement_of, labels_of};
+
+use crate::fault::{Fault, ReadError};
+use crate::label::{is_label_key, is_label_value};
+use crate::text::{first_part, trimmed};
+use std::alloc::Global;
+use std::collections::BTreeMap;
+
+/// What is asked of the value at a key.
+#[derive(Debug, Drop)]
+pub(crate) enum Condition {
+    Equals(String),
+    Differs(String),
+    Among(Vec<String>),
+    Outside(Vec<String>),
+    Exists,
+    Absent,
+}
+
+/// A key, and what is asked of its value.
+#[derive(Debug, Drop)]
+pub(crate) struct Requirement {
+    pub(crate) key: String,
+    pub(crate) condition: Condition,
+}
+
+impl Condition {
+    fn is_met(&self, value: Option<&String>) -> bool
+        ensures { result ≡ meets (condition_of self.now) (option_map (λ v. string_bytes v.now) value.entry) }
+    {
+        match (self, value) {
+            (Condition::Equals(wanted), Some(value)) => value == wanted,
+            (Condition::Differs(other), Some(value)) => value != other,
+            (Condition::Among(values), Some(value)) => values.contains(value),
+            (Condition::Outside(values), Some(value)) => !values.contains(value),
+            (Condition::Exists, Some(_)) => true,
+            (Condition::Absent, Some(_)) => false,
+            (Condition::Equals(_) | Condition::Among(_) | Condition::Exists, None) => false,
+            (Condition::Differs(_) | Condition::Outside(_) | Condition::Absent, None) => true,
+        }
+    }
+}
+
+impl Requirement {
+    pub(crate) fn is_met(&self, labels: &BTreeMap<String, String>) -> bool
+        ensures { result ≡ meets (condition_of self.now.condition) (value_at (string_bytes self.now.key) (labels_of labels.now)) }
+    {
+        self.condition.is_met(labels.get(&self.key))
+    }
+}
+
+fn key_of(alloc: Global, text: &str) -> Result<String, ReadError>
+    ensures { Gives (λ k. string_bytes k) result (key_of text.now) }
+{
+    let key = trimmed(text);
+    if !is_label_key(key) {
+        return Err(ReadError::Fault(Fault::BadKey));
+    }
+    Ok(String::from_str(alloc, key)?)
+}
+
+fn value_of(alloc: Global, text: &str) -> Result<String, ReadError>
+    ensures { Gives (λ v. string_bytes v) result (value_of text.now) }
+{
+    let value = trimmed(text);
+    if !is_label_value(value) {
+        return Err(ReadError::Fault(Fault::BadValue));
+    }
+    Ok(String::from_str(alloc, value)?)
+}
+
+/// The values between the brackets.
+fn values_of(alloc: Global, text: &str) -> Result<Vec<String>, ReadError>
+    ensures { Gives (λ v. map string_bytes v.items) result (values_of text.now) }
+{
+    let mut values = Vec::new(alloc);
+    for value in text.split(',') {
+        values.push(value_of(alloc, value)?)?;
+    }
+    Ok(values)
+}
+
+fn among(alloc: Global, key: &str, values: &str) -> Result<Requirement, ReadError>
+    ensures { Gives requirement_of result (among_of (Some key.now) [] values.now) }
+{
+    let key = key_of(alloc, key)?;
+    let condition = Condition::Among(values_of(alloc, values)?);
+    Ok(Requirement { key, condition })
+}
+
+fn outside(alloc: Global, key: &str, values: &str) -> Result<Requirement, ReadError>
+    ensures { Gives requirement_of result (outside_of (Some key.now) values.now) }
+{
+    let key = key_of(alloc, key)?;
+    let condition = Condition::Outside(values_of(alloc, values)?);
+    Ok(Requirement { key, condition })
+}
+
+/// `key in` or `key notin`, and the values.
+fn worded(alloc: Global, head: &str, values: &str) -> Result<Requirement, ReadError>
+    ensures { Gives requirement_of result (worded head.now values.now) }
+{
+    if let Some(key) = head.strip_suffix(" in") {
+        among(alloc, key, values)
+    } else if let Some(key) = head.strip_suffix(" notin") {
+        outside(alloc, key, values)
+    } else {
+        Err(ReadError::Fault(Fault::Bracket))
+    }
+}
+
+/// What stands before an opening bracket and after it.
+fn set_of(alloc: Global, head: &str, inner: &str) -> Result<Requirement, ReadError>
+    ensures { Gives requirement_of result (set_of head.now inner.now) }
+{
+    match inner.split_once(')') {
+        Some((values, after)) if after.is_empty() => {
+            worded(alloc, head.trim_end_matches(' '), values)
+        }
+        _ => Err(ReadError::Fault(Fault::Bracket)),
+    }
+}
+
+fn equals(alloc: Global, key: &str, value: &str) -> Result<Requirement, ReadError>
+    ensures { Gives requirement_of result (signed key.now (Some (equal, value.now))) }
+{
+    let key = key_of(alloc, key)?;
+    let condition = Condition::Equals(value_of(alloc, value)?);
+    Ok(Requirement { key, condition })
+}
+
+fn differs(alloc: Global, key: &str, value: &str) -> Result<Requirement, ReadError>
+    ensures { Gives requirement_of result (signed key.now (Some (different, value.now))) }
+{
+    let key = key_of(alloc, key)?;
+    let condition = Condition::Differs(value_of(alloc, value)?);
+    Ok(Requirement { key, condition })
+}
+
+fn about_key(alloc: Global, key: &str, condition: Condition) -> Result<Requirement, ReadError>
+    ensures { Gives requirement_of result (required key.now (Ok (condition_of condition))) }
+{
+    let key = key_of(alloc, key)?;
+    Ok(Requirement { key, condition })
+}
+
+/// A part without brackets.
+fn plain_of(alloc: Global, part: &str) -> Result<Requirement, ReadError>
+    ensures { Gives requirement_of result (plain_of part.now) }
+{
+    if part.is_empty() {
+        return Err(ReadError::Fault(Fault::EmptyPart));
+    }
+    if let Some(key) = part.strip_prefix('!') {
+        return about_key(alloc, key, Condition::Absent);
+    }
+    let Some((before, after)) = part.split_once('=') else {
+        return about_key(alloc, part, Condition::Exists);
+    };
+    match before.strip_suffix('!') {
+        Some(key) => differs(alloc, key, after),
+        None => equals(alloc, before, after.strip_prefix('=').unwrap_or(after)),
+    }
+}
+
+/// A part, without the blanks round it.
+pub(crate) fn part_of(alloc: Global, part: &str) -> Result<Requirement, ReadError>
+    ensures { Gives requirement_of result (part_of part.now) }
+{
+    match part.split_once('(') {
+        Some((head, inner)) => set_of(alloc, head, inner),
+        None => plain_of(alloc, part),
+    }
+}
+
+/// The parts between the commas outside brackets.
+pub(crate) fn parts_of(alloc: Global, text: &str) -> Result<Vec<Requirement>, ReadError>
+    ensures { Gives (λ v. map requirement_of v.items) result (parts_of text.now) }
+{
+    let mut requirements = Vec::new(alloc);
+    let mut rest = Some(text);
+    while let Some(left) = rest {
+        let (part, after) = first_part(left);
+        requirements.push(part_of(alloc, trimmed(part))?)?;
+        rest = after;
+    }
+    Ok(requirements)
+}

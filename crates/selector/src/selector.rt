@@ -1,0 +1,61 @@
+//! A list of requirements, all of which have to be met.
+
+ghost use Rattle.std.specs.Prelude.{◌≡◌};
+ghost use Rattle.selector.specs.Grammar.{Gives, parse_selector};
+ghost use Rattle.selector.specs.Requirement.{selects};
+ghost use Rattle.selector.specs.Views.{labels_of};
+
+use crate::fault::{Fault, ReadError};
+use crate::requirement::{Requirement, parts_of};
+use crate::text::has_paired_brackets;
+use std::alloc::Global;
+use std::collections::BTreeMap;
+use std::marker::Model;
+
+/// Requirements on an object's labels, all of which have to be met; none select every object. Contracts see
+/// the list of the requirements.
+#[derive(Debug, Drop)]
+pub struct Selector {
+    requirements: Vec<Requirement>,
+}
+
+impl Model for Selector {
+    ghost use Rattle.std.specs.Prelude.{List, map};
+    ghost use Rattle.selector.specs.Requirement.{Requirement};
+    ghost use Rattle.selector.specs.Views.{requirement_of};
+
+    ghost Value = { List Requirement };
+
+    ghost view = { λ s. map requirement_of s.requirements.items };
+}
+
+impl Selector {
+    /// Reads `tier in (web, db),!old` and the like. The empty text selects every object; blanks round a part
+    /// and round its signs have no meaning (Kubernetes documentation, "Labels and Selectors").
+    ///
+    /// Refused with its first fault: a bracket that isn't paired anywhere; then the parts from the left, of
+    /// each its form, its key and its values in turn.
+    pub fn read(alloc: Global, text: &str) -> Result<Selector, ReadError>
+        ensures { Gives (λ s. s) result (parse_selector text.now) }
+    {
+        if text.is_empty() {
+            return Ok(Selector {
+                requirements: Vec::new(alloc),
+            });
+        }
+        if !has_paired_brackets(text) {
+            return Err(ReadError::Fault(Fault::Bracket));
+        }
+        let requirements = parts_of(alloc, text)?;
+        Ok(Selector { requirements })
+    }
+
+    /// Whether an object with these labels is selected. Takes no memory.
+    pub fn matches(&self, labels: &BTreeMap<String, String>) -> bool
+        ensures { result ≡ selects self.now (labels_of labels.now) }
+    {
+        self.requirements
+            .iter()
+            .all(|requirement| requirement.is_met(labels))
+    }
+}
