@@ -1,0 +1,9 @@
+pub mod Among
+pub mod Flags
+pub mod Followed
+pub mod Held
+pub mod Pushes
+pub mod Rows
+pub mod Same
+pub mod Shown
+pub mod Under

@@ -1,0 +1,10 @@
+//! What is kept of an object.
+
+use crate::object::Object;
+
+/// An object, and its keys in each index.
+#[derive(Debug, Drop)]
+pub(crate) struct Entry {
+    pub(crate) object: Object,
+    pub(crate) keys: Vec<Vec<String>>,
+}

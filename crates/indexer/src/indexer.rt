@@ -1,0 +1,189 @@
+//! The objects that the client keeps, and indexes over them.
+
+ghost use Rattle.std.specs.Prelude.{◌≡◌, List, map, IfOk, OnOk, string_bytes, true, false};
+ghost use Rattle.std.specs.FinMap as fin;
+ghost use Rattle.indexer.specs.PutAll.{put_all};
+ghost use Rattle.indexer.specs.Kept.{HoldsPostings, held_in};
+ghost use Rattle.indexer.specs.Names.{are_distinct};
+ghost use Rattle.indexer.specs.declared.indexer.NewError.TheVariants.{Memory};
+ghost use Rattle.indexer.specs.Objects.{stored_of};
+
+use crate::entry::Entry;
+use crate::index_by::{IndexBy, are_distinct, keys_by_each, names_of_each};
+use crate::kept;
+use crate::object::{Object, ObjectKey};
+use crate::postings::{Postings, objects_under, texts_in};
+use std::alloc::{AllocError, Global};
+use std::collections::{BTreeMap, BTreeSet};
+use std::error::Error;
+use std::fmt;
+
+/// Objects by namespace and name, and indexes that follow them.
+#[derive(Drop)]
+pub struct Indexer {
+    objects: BTreeMap<ObjectKey, Entry>,
+    postings: Vec<Postings>,
+    names: Vec<String>,
+    indexes: Vec<Box<dyn IndexBy>>,
+    alloc: Global,
+    ghost indexed: { HoldsPostings objects postings.items },
+}
+
+/// Why no indexer was made.
+#[derive(Debug, Drop)]
+pub enum NewError {
+    /// Two indexes have one name.
+    SameName,
+    /// There was no memory.
+    Memory,
+}
+
+impl fmt::Display for NewError {
+    fn fmt<W: fmt::Write>(&self, f: &mut fmt::Formatter<W>) -> fmt::Result {
+        let told = match self {
+            NewError::SameName => "two indexes have one name",
+            NewError::Memory => "out of memory",
+        };
+        write!(f, "{told}")
+    }
+}
+
+impl Error for NewError {}
+
+impl From<AllocError> for NewError {
+    ghost from_gives = { λ _ e. e ≡ Memory };
+
+    fn from(_e: AllocError) -> NewError {
+        NewError::Memory
+    }
+}
+
+/// Objects put one after the other, and their postings.
+#[derive(Drop)]
+struct Gathered {
+    objects: BTreeMap<ObjectKey, Entry>,
+    postings: Vec<Postings>,
+}
+
+fn gather(
+    alloc: Global,
+    indexes: &[Box<dyn IndexBy>],
+    from: Vec<Object>,
+) -> Result<Gathered, AllocError>
+    ensures holds { IfOk result (λ r. HoldsPostings r.objects r.postings.items) }
+    ensures held { IfOk result (λ r. held_in r.objects ≡ put_all (λ o. map (λ b. keys b o) indexes.now) (map stored_of from.items) fin.empty) }
+{
+    let mut objects = BTreeMap::new(alloc);
+    let mut postings = Vec::new(alloc);
+    for object in from {
+        let keys = keys_by_each(alloc, indexes, &object)?;
+        kept::put(alloc, &mut objects, &mut postings, object, keys)?;
+    }
+    Ok(Gathered { objects, postings })
+}
+
+impl Indexer {
+    ghost use Rattle.std.specs.Prelude.{◌≡◌, ◌<◌, ◌↔◌, ℕ, List, map, true, false, OnOk, OnErr, IfOk, IfSome, option_map, option_copied};
+    ghost use Rattle.std.specs.BTreeSet.{btree_set_len};
+    ghost use Rattle.std.specs.FinMap as fin;
+    ghost use Rattle.indexer.specs.declared.object.ObjectKey.{ObjectKey};
+    ghost use Rattle.indexer.specs.Indexer.{held_of, indexes_of, names_of, is_under};
+    ghost use Rattle.indexer.specs.Names.{are_distinct};
+    ghost use Rattle.indexer.specs.PutAll.{put_all};
+    ghost use Rattle.indexer.specs.Objects.{place_of, place_of_object, stored_of, is_among};
+    ghost use Rattle.indexer.specs.Postings.{has_in};
+
+    /// No objects, and these indexes; refused where two have one name.
+    pub fn new(alloc: Global, indexes: Vec<Box<dyn IndexBy>>) -> Result<Indexer, NewError>
+        ensures made { IfOk result (λ r. held_of r ≡ fin.empty) }
+        ensures indexes { IfOk result (λ r. indexes_of r ≡ indexes.items) }
+        ensures names { IfOk result (λ r. names_of r ≡ map (λ b. title b) indexes.items) }
+        ensures distinct { OnOk result (are_distinct (map (λ b. title b) indexes.items) ≡ true) }
+        ensures same_name { result ≡ Err NewError.SameName → are_distinct (map (λ b. title b) indexes.items) ≡ false }
+    {
+        let names = names_of_each(alloc, &indexes)?;
+        if !are_distinct(&names) {
+            return Err(NewError::SameName);
+        }
+        Ok(Indexer {
+            objects: BTreeMap::new(alloc),
+            postings: Vec::new(alloc),
+            names,
+            indexes,
+            alloc,
+        })
+    }
+
+    /// Keeps just these objects, put one after the other. Refused, it changes nothing.
+    pub fn replace(&mut self, objects: Vec<Object>) -> Result<(), AllocError>
+        ensures ok { OnOk result (held_of self.new ≡ put_all (λ o. map (λ b. keys b o) (indexes_of self.old)) (map stored_of objects.items) fin.empty) }
+        ensures err { OnErr result (held_of self.new ≡ held_of self.old) }
+        ensures indexes { indexes_of self.new ≡ indexes_of self.old }
+        ensures names { names_of self.new ≡ names_of self.old }
+    {
+        let gathered = gather(self.alloc, &self.indexes, objects)?;
+        let Gathered { objects, postings } = gathered;
+        self.objects = objects;
+        self.postings = postings;
+        Ok(())
+    }
+
+    /// Keeps the object where it stands, in place of the one that was there, which is handed out, and in every
+    /// index under its keys alone. Refused, it changes nothing.
+    pub fn put(&mut self, object: Object) -> Result<Option<Object>, AllocError>
+        ensures ok { OnOk result (held_of self.new ≡ fin.insert (held_of self.old) (place_of_object object) (stored_of object, map (λ b. keys b (stored_of object)) (indexes_of self.old))) }
+        ensures was { IfOk result (λ o. option_map stored_of o ≡ option_map (λ h. h.0) (fin.get (held_of self.old) (place_of_object object))) }
+        ensures err { OnErr result (held_of self.new ≡ held_of self.old) }
+        ensures indexes { indexes_of self.new ≡ indexes_of self.old }
+        ensures names { names_of self.new ≡ names_of self.old }
+    {
+        let keys = keys_by_each(self.alloc, &self.indexes, &object)?;
+        match kept::put(
+            self.alloc,
+            &mut self.objects,
+            &mut self.postings,
+            object,
+            keys,
+        )? {
+            Some(was) => Ok(Some(was.object)),
+            None => Ok(None),
+        }
+    }
+
+    /// Keeps no object at the key, nor in any index; the one that was there is handed out.
+    pub fn remove(&mut self, key: &ObjectKey) -> Option<Object>
+        ensures removed { held_of self.new ≡ fin.remove (held_of self.old) (place_of key.now) }
+        ensures was { option_map stored_of result ≡ option_map (λ h. h.0) (fin.get (held_of self.old) (place_of key.now)) }
+        ensures indexes { indexes_of self.new ≡ indexes_of self.old }
+        ensures names { names_of self.new ≡ names_of self.old }
+    {
+        match kept::remove(&mut self.objects, &mut self.postings, key) {
+            Some(was) => Some(was.object),
+            None => None,
+        }
+    }
+
+    /// The object at the key. Takes no memory.
+    pub fn get(&self, key: &ObjectKey) -> Option<&Object>
+        ensures { option_map (λ o. stored_of o.now) result ≡ option_map (λ h. h.0) (fin.get (held_of self.now) (place_of key.now)) }
+    {
+        kept::object_at(&self.objects, key)
+    }
+
+    /// The keys of the objects that have a key in the index of this name; None where none has it, or no index
+    /// the name. Takes no memory.
+    pub fn by_index(&self, name: &str, key: &str) -> Option<&BTreeSet<ObjectKey>>
+        ensures members { (q : ObjectKey) → has_in (option_copied result) q ≡ is_under (held_of self.now) (names_of self.now) name.now key.now (place_of q) }
+        ensures some { IfSome result (λ keys. 0 < btree_set_len keys.now) }
+    {
+        objects_under(&self.names, &self.postings, name, key)
+    }
+
+    /// The keys in the index of this name that some object has, in order of their bytes; none where no index
+    /// has the name.
+    pub fn keys(&self, name: &str) -> Result<Vec<&str>, AllocError>
+        ensures { IfOk result (λ v. (k : List ℕ) → (is_among (map (λ t. t.now) v.items) k ≡ true) ↔ ((q : ObjectKey) × (is_under (held_of self.now) (names_of self.now) name.now k (place_of q) ≡ true))) }
+    {
+        texts_in(self.alloc, &self.names, &self.postings, name)
+    }
+}

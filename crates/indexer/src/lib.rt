@@ -1,0 +1,24 @@
+//! The client's cache of objects, with indexes that follow every change.
+//!
+//! After any list of calls the objects are the map of those put and not removed since, and each index has,
+//! for each of its keys, just the objects whose keys by its function have it. A refused call leaves the
+//! objects and every index.
+//!
+//! Stands on std alone.
+#![tactic(auto)]
+
+mod entry;
+mod index_by;
+mod indexer;
+mod kept;
+mod law;
+mod object;
+mod postings;
+
+pub use index_by::IndexBy;
+pub use indexer::{Indexer, NewError};
+pub use law::indexes_follow;
+pub use object::{Object, ObjectKey};
+
+#[cfg(test)]
+mod tests;

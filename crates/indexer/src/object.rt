@@ -1,0 +1,47 @@
+//! Objects and their keys.
+
+ghost use Rattle.std.specs.Prelude.{◌≡◌, IfOk, string_bytes};
+
+use std::alloc::AllocError;
+use std::collections::BTreeMap;
+
+/// Where an object stands: its namespace and its name. Keys are in order of namespace, then name.
+#[derive(Debug, Drop, PartialEq, Eq, PartialOrd, Ord)]
+pub struct ObjectKey {
+    pub namespace: String,
+    pub name: String,
+}
+
+/// An object as the client keeps it.
+#[derive(Debug, Drop)]
+pub struct Object {
+    pub namespace: String,
+    pub name: String,
+    /// The revision of its last change (its `metadata.resourceVersion`).
+    pub revision: u64,
+    /// Its `metadata.labels`.
+    pub labels: BTreeMap<String, String>,
+    /// The object as it was read, JSON.
+    pub text: String,
+}
+
+impl ObjectKey {
+    ghost use Rattle.indexer.specs.Keys.{IsKeyOf, IsCopyOf};
+
+    /// The key of an object.
+    pub fn of(object: &Object) -> Result<ObjectKey, AllocError>
+        ensures { IfOk result (IsKeyOf object.now) }
+    {
+        let namespace = object.namespace.clone()?;
+        let name = object.name.clone()?;
+        Ok(ObjectKey { namespace, name })
+    }
+
+    pub(crate) fn try_copy(&self) -> Result<ObjectKey, AllocError>
+        ensures { IfOk result (IsCopyOf self.now) }
+    {
+        let namespace = self.namespace.clone()?;
+        let name = self.name.clone()?;
+        Ok(ObjectKey { namespace, name })
+    }
+}

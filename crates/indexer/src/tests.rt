@@ -1,0 +1,117 @@
+//! Puts, changes and removals under two indexes, and each refusal.
+
+use super::{IndexBy, Indexer, NewError, Object, ObjectKey};
+use std::alloc::{AllocError, Global};
+use std::collections::BTreeMap;
+use std::test::Fail;
+
+/// By the object's namespace.
+#[derive(Drop)]
+struct Namespace;
+
+impl IndexBy for Namespace {
+    ghost use Rattle.std.specs.Prelude.{codes, [], ◌∷◌};
+
+    ghost title = { λ _. codes "namespace" };
+
+    ghost keys = { λ _ o. o.namespace ∷ [] };
+
+    fn name(&self) -> &str {
+        "namespace"
+    }
+
+    fn keys_of(&self, alloc: Global, object: &Object) -> Result<Vec<String>, AllocError> {
+        Ok(vec![in alloc; object.namespace.clone()?]?)
+    }
+}
+
+/// By the first byte of the object's text, told twice.
+#[derive(Drop)]
+struct Text;
+
+impl IndexBy for Text {
+    ghost use Rattle.std.specs.Prelude.{codes, [], ◌∷◌};
+
+    ghost title = { λ _. codes "text" };
+
+    ghost keys = { λ _ o. o.text ∷ o.text ∷ [] };
+
+    fn name(&self) -> &str {
+        "text"
+    }
+
+    fn keys_of(&self, alloc: Global, object: &Object) -> Result<Vec<String>, AllocError> {
+        Ok(vec![in alloc; object.text.clone()?, object.text.clone()?]?)
+    }
+}
+
+fn object(alloc: Global, name: &str, revision: u64, text: &str) -> Result<Object, AllocError> {
+    Ok(Object {
+        namespace: String::from_str(alloc, "default")?,
+        name: String::from_str(alloc, name)?,
+        revision,
+        labels: BTreeMap::new(alloc),
+        text: String::from_str(alloc, text)?,
+    })
+}
+
+fn key(alloc: Global, name: &str) -> Result<ObjectKey, AllocError> {
+    Ok(ObjectKey {
+        namespace: String::from_str(alloc, "default")?,
+        name: String::from_str(alloc, name)?,
+    })
+}
+
+fn count(indexer: &Indexer, name: &str, key: &str) -> usize {
+    indexer.by_index(name, key).map_or(0, |keys| keys.len())
+}
+
+#[test]
+fn an_index_follows_a_change(rt: HostRuntime) -> Result<(), Fail> {
+    let alloc = rt.alloc();
+    let mut indexes: Vec<Box<dyn IndexBy>> = Vec::new(alloc);
+    indexes.push(Box::new(alloc, Namespace)?)?;
+    indexes.push(Box::new(alloc, Text)?)?;
+    let mut indexer = Indexer::new(alloc, indexes)?;
+    assert!(rt; indexer.put(object(alloc, "a", 2, "x")?)?.is_none());
+    assert!(rt; indexer.put(object(alloc, "b", 3, "x")?)?.is_none());
+    assert_eq!(rt; count(&indexer, "namespace", "default"), 2);
+    assert_eq!(rt; count(&indexer, "text", "x"), 2);
+    assert_eq!(rt;
+        indexer
+            .put(object(alloc, "a", 4, "y")?)?
+            .map(|was| was.revision),
+        Some(2)
+    );
+    assert_eq!(rt; count(&indexer, "text", "x"), 1);
+    assert_eq!(rt; count(&indexer, "text", "y"), 1);
+    assert_eq!(rt;
+        indexer.get(&key(alloc, "a")?).map(|now| now.revision),
+        Some(4)
+    );
+    assert_eq!(rt;
+        indexer.remove(&key(alloc, "b")?).map(|was| was.revision),
+        Some(3)
+    );
+    assert!(rt; indexer.by_index("text", "x").is_none());
+    assert!(rt; indexer.by_index("none", "y").is_none());
+    assert!(rt; indexer.remove(&key(alloc, "b")?).is_none());
+    indexer.replace(vec![in alloc; object(alloc, "c", 5, "y")?, object(alloc, "d", 5, "z")?]?)?;
+    assert!(rt; indexer.get(&key(alloc, "a")?).is_none());
+    assert_eq!(rt; count(&indexer, "namespace", "default"), 2);
+    assert_eq!(rt; count(&indexer, "text", "y"), 1);
+    assert_eq!(rt; indexer.keys("text")?.len(), 2);
+    assert!(rt; indexer.keys("none")?.is_empty());
+    Ok(())
+}
+
+#[test]
+fn two_indexes_with_one_name(rt: HostRuntime) -> Result<(), Fail> {
+    let alloc = rt.alloc();
+    let mut indexes: Vec<Box<dyn IndexBy>> = Vec::new(alloc);
+    indexes.push(Box::new(alloc, Text)?)?;
+    indexes.push(Box::new(alloc, Text)?)?;
+    let made = Indexer::new(alloc, indexes);
+    assert!(rt; matches!(made, Err(NewError::SameName)));
+    Ok(())
+}
