@@ -1,0 +1,3 @@
+mod ReplayWords
+mod ScriptLemmas
+mod TypesText

@@ -1,0 +1,5 @@
+pub mod ApplyLine
+pub mod ReplayCommand
+pub mod ReplayProgram
+pub mod Script
+pub mod ScriptSteps

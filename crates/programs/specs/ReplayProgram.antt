@@ -1,0 +1,52 @@
+-- How `ssa-replay` tells what it found.
+use Rattle.std.specs.Prelude.{◌≡◌, ℕ, List, Some, None, Result, Ok, Err, ⊤}
+use Rattle.clap.specs.Values.{kind_of}
+use Rattle.clap.specs.declared.error.kind.ErrorKind.{ErrorKind}
+use Rattle.clap.specs.declared.error.kind.ErrorKind.TheVariants as kind
+use Rattle.schema.specs.Refusals.{Refusal, unknown_keyword, unknown_type, misfit, too_deep, same_names, not_the_form}
+use Rattle.schema.specs.Served.{types_view}
+use Rattle.schema.specs.TypesFile.{ServedShape, declared_types}
+use Rattle.schema.specs.declared.types.Types.{Types}
+use Rattle.serde_json.specs.Data.{Data}
+use Rattle.serde_json.specs.Read.{read as read_json}
+use Rattle.programs.specs.declared.replay_program.RunFault.{RunFault}
+use Rattle.programs.specs.declared.replay_program.RunFault.TheVariants as fault
+
+abbrev pub status_of_kind : ErrorKind → ℕ
+status_of_kind kind.DisplayHelp = 0
+status_of_kind kind.DisplayVersion = 0
+status_of_kind _ = 2
+
+-- the exit status: 2 for the words, 3 for a file or the types, 4 for a line of the script, 5 for memory;
+-- 1 where the replies cannot be written, 0 where help was asked for
+abbrev pub status_of : RunFault → ℕ
+status_of (fault.Words e) = status_of_kind (kind_of e)
+status_of (fault.TypesFile e) = 3
+status_of (fault.TypesText e) = 3
+status_of (fault.Types n e) = 3
+status_of (fault.ScriptFile e) = 3
+status_of (fault.Script n) = 4
+status_of (fault.Output e) = 1
+status_of fault.Memory = 5
+
+abbrev pub number_of : Refusal → ℕ
+number_of unknown_keyword = 1
+number_of unknown_type = 2
+number_of misfit = 3
+number_of too_deep = 4
+number_of same_names = 5
+number_of not_the_form = 6
+
+-- the fault tells the refusal, by its number
+abbrev pub IsRefusal : Result (List ServedShape) Refusal → RunFault → Type 0
+IsRefusal answer (fault.Types n e) = (r : Refusal) × (answer ≡ Err r) × (n ≡ number_of r)
+IsRefusal answer fault.Memory = ⊤
+IsRefusal answer _ = ⊥
+
+-- what is told of the text of a types file: the types that it declares, or that it is no JSON, or the number of its refusal
+abbrev pub Tells : List ℕ → Result Types RunFault → Type 0
+Tells text (Ok types) = (d : Data) × (read_json text ≡ Some d) × (declared_types d ≡ Ok (types_view types))
+Tells text (Err (fault.TypesText e)) = read_json text ≡ None
+Tells text (Err (fault.Types n e)) = (d : Data) × (read_json text ≡ Some d) × IsRefusal (declared_types d) (fault.Types n e)
+Tells text (Err fault.Memory) = ⊤
+Tells text (Err _) = ⊥

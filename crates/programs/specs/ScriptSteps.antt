@@ -1,0 +1,44 @@
+-- What each step of reading a line finds.
+use Rattle.std.specs.Prelude.{◌&&◌, ◌==◌, ℕ, Bool, not, nat_le, List, Option, Some, None, option_and_then, option_map, if◌then◌else◌, codes}
+use Rattle.std.specs.List.{list_all}
+use Rattle.std.specs.Str.{bytes_eq}
+use Rattle.serde_json.specs.Data.{Data, Members, no_members, member}
+use Rattle.serde_json.specs.Find.{as_bool, as_str, as_object}
+use Rattle.serde_json.specs.Read.{read as read_json}
+use Rattle.programs.specs.Script.{Apply}
+
+-- the first member's value, if the member has the name, and the members after it
+abbrev pub next_named : List ℕ → Members → Option (Data × Members)
+next_named name no_members = None
+next_named name (member k d ms) = if bytes_eq k name then Some (d, ms) else None
+
+abbrev pub with_rest : {X : Type 0} → (Data → Option X) → Option (Data × Members) → Option (X × Members)
+with_rest f found = option_and_then (λ p. option_map (λ x. (x, p.1)) (f p.0)) found
+
+abbrev pub is_last : {X : Type 0} → X → Members → Option X
+is_last x no_members = Some x
+is_last x (member k d ms) = None
+
+abbrev pub is_target : List ℕ → Bool
+is_target = list_all (λ b. nat_le 33 b && nat_le b 126 && not (b == 63))
+
+abbrev pub if_target : Apply → Option Apply
+if_target a = if is_target a.target then Some a else None
+
+abbrev pub apply_in : Members → Option Apply
+apply_in ms =
+    option_and_then (λ b. option_and_then (λ f. option_and_then (λ m. option_and_then (λ t.
+    option_and_then if_target (is_last (record { body = b.0; force = f.0; manager = m.0; target = t.0 }) t.1))
+    (with_rest as_str (next_named (codes "target") m.1)))
+    (with_rest as_str (next_named (codes "manager") f.1)))
+    (with_rest as_bool (next_named (codes "force") b.1)))
+    (next_named (codes "body") ms)
+
+abbrev pub only_apply : Members → Option Members
+only_apply ms = option_and_then (λ p. is_last p.0 p.1) (with_rest as_object (next_named (codes "apply") ms))
+
+abbrev pub event_in : Data → Option Apply
+event_in d = option_and_then apply_in (option_and_then only_apply (as_object d))
+
+abbrev pub event_of : List ℕ → Option Apply
+event_of line = option_and_then event_in (read_json line)
