@@ -4,7 +4,7 @@
 Usage: bench/applies.py [PROGRAM]   (default: crates/ssa_replay/out/ssa_replay; build it first by ./ssa-replay)
 
 For objects of 10, 100, 1,000 and 3,000 map entries it writes scripts of apply lines, runs the program over them and
-prints the time of one apply, its growth from size to size, applies a second and the peak memory of the run. Each line
+prints the processor time of one apply (one core), its growth from size to size, applies a second and the peak memory of the run. Each line
 applies the whole object with one value changed, so each makes a new version. The time of a run over one line is taken off.
 """
 import json
@@ -12,7 +12,6 @@ import os
 import subprocess
 import sys
 import tempfile
-import time
 
 TYPES = {"types": [{"group": "demo.example", "version": "v1", "kind": "Widget", "plural": "widgets", "schema": {
     "type": "object", "properties": {"spec": {"type": "object", "properties": {
@@ -32,10 +31,9 @@ def run(program, folder, lines):
     script = os.path.join(folder, "script.jsonl")
     with open(script, "w") as out:
         out.write("\n".join(lines) + "\n")
-    before = time.perf_counter()
     child = subprocess.Popen([program, "--types", os.path.join(folder, "types.json"), "--script", script], stdout=subprocess.DEVNULL)
     _, status, usage = os.wait4(child.pid, 0)
-    took = time.perf_counter() - before
+    took = usage.ru_utime + usage.ru_stime
     if status != 0:
         sys.exit(f"the program ended with status {status}")
     return took, usage.ru_maxrss / 1024

@@ -9,6 +9,8 @@ mod elem;
 mod keys;
 mod path;
 mod scalar;
+#[cfg(test)]
+mod tests;
 
 pub use elem::{Elem, ElemFault};
 pub use keys::{Keys, KeysFault};

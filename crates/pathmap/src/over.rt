@@ -4,27 +4,12 @@ ghost use Rattle.std.specs.Cmp.Lexicographic.{slice_cmp};
 ghost use Rattle.std.specs.Map.{remove_entry};
 ghost use Rattle.std.specs.BTreeMap.{is_at};
 ghost use Rattle.pathmap.specs.Contents.{gather, over};
-ghost use Rattle.pathmap.specs.Maps.{at_top, content, content_at, contents_in, either_top, standing};
+ghost use Rattle.pathmap.specs.Maps.{at_top, content, content_at, contents_in, either_top};
 
 use crate::held::Held;
 use crate::pathmap::PathMap;
 use std::alloc::{AllocError, Global};
 use std::collections::BTreeMap;
-
-impl Held {
-    /// A copy with texts of its own.
-    pub fn try_copy(&self) -> Result<Held, AllocError>
-        ensures { IfOk result (λ h. standing h ≡ standing self.now) }
-    {
-        match self {
-            Held::Text(text) => Ok(Held::Text(text.clone()?)),
-            Held::Whole(number) => Ok(Held::Whole(*number)),
-            Held::Truth(truth) => Ok(Held::Truth(*truth)),
-            Held::Plain(text) => Ok(Held::Plain(text.clone()?)),
-            Held::Mark => Ok(Held::Mark),
-        }
-    }
-}
 
 fn held_over(theirs: &Option<Held>, mine: Option<Held>) -> Result<Option<Held>, AllocError>
     ensures { IfOk result (λ h. at_top h ≡ either_top theirs.now mine) }

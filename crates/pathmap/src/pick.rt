@@ -8,7 +8,7 @@ ghost use Rattle.std.specs.FinSet as set;
 ghost use Rattle.std.specs.FinMap as fin;
 ghost use Rattle.fieldpath.specs.Paths.{PathTexts};
 ghost use Rattle.pathmap.specs.Contents.{dom, gather};
-ghost use Rattle.pathmap.specs.Beside.{changed, clear_of, same_standing};
+ghost use Rattle.pathmap.specs.Beside.{changed, clear_of};
 ghost use Rattle.pathmap.specs.Maps.{at_name, content, content_at, content_or_nothing, contents_in, standing};
 ghost use Rattle.pathmap.specs.Picks.{picked, picks, picks_alone, picks_some};
 
@@ -16,22 +16,6 @@ use crate::held::Held;
 use crate::pathmap::PathMap;
 use std::alloc::{AllocError, Global};
 use std::collections::BTreeMap;
-
-impl Held {
-    /// Whether both are one value.
-    pub fn same(&self, other: &Held) -> bool
-        ensures { result ≡ same_standing (standing self.now) (standing other.now) }
-    {
-        match (self, other) {
-            (Held::Text(mine), Held::Text(theirs)) => mine.as_str() == theirs.as_str(),
-            (Held::Whole(mine), Held::Whole(theirs)) => *mine == *theirs,
-            (Held::Truth(mine), Held::Truth(theirs)) => *mine == *theirs,
-            (Held::Plain(mine), Held::Plain(theirs)) => mine.as_str() == theirs.as_str(),
-            (Held::Mark, Held::Mark) => true,
-            _ => false,
-        }
-    }
-}
 
 /// Which paths of a map are picked beside another map.
 #[derive(Clone, Copy)]

@@ -159,7 +159,10 @@ fn print_replies<P: Print>(
     Ok(done?)
 }
 
-fn run<R: Files + Print + AllocGlobal>(rt: &R, words: &[String]) -> Result<(), RunFault> {
+pub(crate) fn run<R: Files + Print + AllocGlobal>(
+    rt: &R,
+    words: &[String],
+) -> Result<(), RunFault> {
     let alloc = rt.alloc();
     let options = options(alloc, words)?;
     let types = read_types(rt, options.types)?;

@@ -1,0 +1,90 @@
+//! Why a store's call gave no answer. Each of these leaves the store as it was.
+
+use revtable::Fault;
+use thiserror::Error;
+
+#[derive(Debug, Drop, Error)]
+pub enum WriteFault {
+    /// The highest revision, 9223372036854775807, is taken.
+    #[error("revisions are used up")]
+    Exhausted,
+    #[error("{0}")]
+    Failed(Fault),
+}
+
+impl From<Fault> for WriteFault {
+    ghost use Rattle.std.specs.Prelude.{◌≡◌};
+    ghost use Rattle.revstore.specs.declared.fault.WriteFault.TheVariants.{Failed};
+
+    ghost from_gives = { λ fault e. e ≡ Failed fault };
+
+    fn from(fault: Fault) -> WriteFault {
+        WriteFault::Failed(fault)
+    }
+}
+
+#[derive(Debug, Drop, Error)]
+pub enum ListFault {
+    /// The revision is below the compacted number.
+    #[error("the revision is compacted")]
+    Expired,
+    /// The revision is past the current one.
+    #[error("the revision is past the current one")]
+    TooLarge,
+    #[error("{0}")]
+    Failed(Fault),
+}
+
+impl From<Fault> for ListFault {
+    ghost use Rattle.std.specs.Prelude.{◌≡◌};
+    ghost use Rattle.revstore.specs.declared.fault.ListFault.TheVariants.{Failed};
+
+    ghost from_gives = { λ fault e. e ≡ Failed fault };
+
+    fn from(fault: Fault) -> ListFault {
+        ListFault::Failed(fault)
+    }
+}
+
+#[derive(Debug, Drop, Error)]
+pub enum ChangesFault {
+    /// The revision is below the compacted number.
+    #[error("the revision is compacted")]
+    Expired,
+    #[error("{0}")]
+    Failed(Fault),
+}
+
+impl From<Fault> for ChangesFault {
+    ghost use Rattle.std.specs.Prelude.{◌≡◌};
+    ghost use Rattle.revstore.specs.declared.fault.ChangesFault.TheVariants.{Failed};
+
+    ghost from_gives = { λ fault e. e ≡ Failed fault };
+
+    fn from(fault: Fault) -> ChangesFault {
+        ChangesFault::Failed(fault)
+    }
+}
+
+#[derive(Debug, Drop, Error)]
+pub enum CompactFault {
+    /// The revision is below the compacted number.
+    #[error("the revision is compacted already")]
+    Expired,
+    /// The revision is past the current one.
+    #[error("the revision is past the current one")]
+    TooLarge,
+    #[error("{0}")]
+    Failed(Fault),
+}
+
+impl From<Fault> for CompactFault {
+    ghost use Rattle.std.specs.Prelude.{◌≡◌};
+    ghost use Rattle.revstore.specs.declared.fault.CompactFault.TheVariants.{Failed};
+
+    ghost from_gives = { λ fault e. e ≡ Failed fault };
+
+    fn from(fault: Fault) -> CompactFault {
+        CompactFault::Failed(fault)
+    }
+}

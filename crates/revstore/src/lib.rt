@@ -1,0 +1,16 @@
+//! The revisioned store: objects by key, with one counter of revisions for all of them.
+//!
+//! A store is seen as a view: the current revision, the compacted number, the objects that stood there, and the
+//! changes after it. Each answer is a filter of that view, `Expired` and `TooLarge` come exactly outside its
+//! range, and a call that fails leaves it as it was. It stands on `revtable` and names no SQL.
+#![tactic(auto)]
+
+mod fault;
+mod laws;
+mod store;
+#[cfg(test)]
+mod tests;
+
+pub use fault::{ChangesFault, CompactFault, ListFault, WriteFault};
+pub use laws::whole_runs;
+pub use store::Store;

@@ -1,0 +1,158 @@
+ghost use Rattle.std.specs.Prelude.{◌≡◌, ◌↔◌, ℕ, suc, ◌-◌, ◌<◌, ◌≤◌, true, map, Err, IfOk, OnOk, OnErr, None, option_map};
+ghost use Rattle.std.specs.FinMap as fin;
+ghost use Rattle.revtable.specs.History.{last_revision, later};
+ghost use Rattle.revtable.specs.Page.{changes_within, listed, page, picked};
+ghost use Rattle.revtable.specs.Read.{change_of, entry_of, key_of, object_of};
+ghost use Rattle.revtable.specs.View.{compacted_in, state_in, view, written_in};
+
+use crate::fault::{ChangesFault, CompactFault, ListFault, WriteFault};
+use revtable::{Change, Entry, Fault, Key, Object, Table};
+use std::marker::Model;
+
+/// The highest revision.
+const LAST_REVISION: u64 = i64::MAX as u64;
+
+/// The objects of all types, by key, and their changes.
+#[derive(Drop)]
+pub struct Store {
+    table: Table,
+}
+
+impl Model for Store {
+    ghost use Rattle.revtable.specs.Kept.{IsPruned};
+    ghost use Rattle.revtable.specs.Codes.{view_code};
+    ghost use Rattle.revtable.specs.View.{View, view as view_of};
+
+    ghost Value = { View };
+
+    ghost coded = { view_code };
+
+    ghost view = { λ s. view_of s.table };
+
+    ghost invariant = { λ s. IsPruned s.table };
+}
+
+impl Store {
+    /// The store that a table keeps.
+    pub fn new(table: Table) -> Store
+        ensures { result ≡ view table }
+    {
+        let _ = table.marks();
+        Store { table }
+    }
+
+    /// The revision that stands now.
+    pub fn current(&self) -> u64
+        ensures { result ≡ self.now.current }
+    {
+        self.table.marks().current
+    }
+
+    /// The revision below which nothing is answered.
+    pub fn compacted(&self) -> u64
+        ensures { result ≡ self.now.compacted }
+    {
+        self.table.marks().compacted
+    }
+
+    /// Adds the next change of a key, and answers its revision. Without a body it is the deletion of what stands there.
+    pub fn write(&mut self, key: &Key, body: Option<&str>) -> Result<u64, WriteFault>
+        requires there { body ≡ None → fin.contains_key (state_in self.old self.old.current) (key_of key.now) ≡ true }
+        ensures ok { OnOk result (self.new ≡ written_in self.old (key_of key.now) (option_map (λ b. b.now) body.entry)) }
+        ensures revision { IfOk result (λ r. r ≡ suc self.old.current) }
+        ensures exhausted { (result ≡ Err WriteFault.Exhausted) ↔ (self.old.current ≡ last_revision) }
+        ensures err { OnErr result (self.new ≡ self.old) }
+    {
+        let current = self.table.marks().current;
+        if current == LAST_REVISION {
+            return Err(WriteFault::Exhausted);
+        }
+        let revision = current + 1;
+        self.table.put(revision, key, body)?;
+        Ok(revision)
+    }
+
+    /// What stands under a key.
+    pub fn get(&mut self, key: &Key) -> Result<Option<Object>, Fault>
+        ensures ok { IfOk result (λ o. option_map object_of o ≡ fin.get (state_in self.old self.old.current) (key_of key.now)) }
+        ensures same { self.new ≡ self.old }
+    {
+        self.table.latest(key)
+    }
+
+    /// The first `max` objects of a type at a revision, in the order of namespace and name: of one namespace or
+    /// of all, and from after a namespace and name on.
+    pub fn list_at(
+        &mut self,
+        kind: u32,
+        namespace: Option<&str>,
+        revision: u64,
+        after: Option<(&str, &str)>,
+        max: u64,
+    ) -> Result<Vec<Entry>, ListFault>
+        ensures ok { IfOk result (λ v. map entry_of v.items
+            ≡ page kind (option_map (λ b. b.now) namespace.entry) (option_map (λ p. (p.0.now, p.1.now)) after.entry) max (state_in self.old revision)) }
+        ensures whole { last_revision ≤ max → IfOk result (λ v. map entry_of v.items
+            ≡ listed kind (option_map (λ b. b.now) namespace.entry) (option_map (λ p. (p.0.now, p.1.now)) after.entry) (state_in self.old revision)) }
+        ensures expired { (result ≡ Err ListFault.Expired) ↔ (revision < self.old.compacted) }
+        ensures too_large { (result ≡ Err ListFault.TooLarge) ↔ (self.old.current < revision) }
+        ensures same { self.new ≡ self.old }
+    {
+        let marks = self.table.marks();
+        if revision < marks.compacted {
+            return Err(ListFault::Expired);
+        }
+        if revision > marks.current {
+            return Err(ListFault::TooLarge);
+        }
+        Ok(self.table.at(kind, namespace, revision, after, max)?)
+    }
+
+    /// The first `max` changes of a type after a revision, oldest first: of one namespace or of all.
+    pub fn changes(
+        &mut self,
+        kind: u32,
+        namespace: Option<&str>,
+        after: u64,
+        max: u64,
+    ) -> Result<Vec<Change>, ChangesFault>
+        ensures ok { IfOk result (λ v. map change_of v.items ≡ changes_within kind (option_map (λ b. b.now) namespace.entry) max (later after self.old.changes)) }
+        ensures whole { last_revision ≤ max → IfOk result (λ v. map change_of v.items ≡ picked kind (option_map (λ b. b.now) namespace.entry) (later after self.old.changes)) }
+        ensures expired { (result ≡ Err ChangesFault.Expired) ↔ (after < self.old.compacted) }
+        ensures same { self.new ≡ self.old }
+    {
+        let marks = self.table.marks();
+        if after < marks.compacted {
+            return Err(ChangesFault::Expired);
+        }
+        Ok(self.table.span(kind, namespace, after, marks.current, max)?)
+    }
+
+    /// What stood under a key just before a revision.
+    pub fn before(&mut self, key: &Key, revision: u64) -> Result<Option<Object>, Fault>
+        requires above { self.old.compacted < revision }
+        requires known { revision ≤ self.old.current }
+        ensures ok { IfOk result (λ o. option_map object_of o ≡ fin.get (state_in self.old (revision - 1)) (key_of key.now)) }
+        ensures same { self.new ≡ self.old }
+    {
+        self.table.latest_at(key, revision - 1)
+    }
+
+    /// Forgets what no answer from this revision on can show.
+    pub fn compact(&mut self, revision: u64) -> Result<(), CompactFault>
+        ensures ok { OnOk result (self.new ≡ compacted_in revision self.old) }
+        ensures expired { (result ≡ Err CompactFault.Expired) ↔ (revision < self.old.compacted) }
+        ensures too_large { (result ≡ Err CompactFault.TooLarge) ↔ (self.old.current < revision) }
+        ensures err { OnErr result (self.new ≡ self.old) }
+    {
+        let marks = self.table.marks();
+        if revision < marks.compacted {
+            return Err(CompactFault::Expired);
+        }
+        if revision > marks.current {
+            return Err(CompactFault::TooLarge);
+        }
+        self.table.prune(revision)?;
+        Ok(())
+    }
+}

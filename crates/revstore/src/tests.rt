@@ -1,0 +1,276 @@
+//! What no clause says: that the calls succeed where memory is ample, on examples of the promises. The table's
+//! calls are tested here too, so that one test program reaches the database.
+//!
+//! Each call stands in a helper with no clause, so that a test carries few facts.
+
+use super::*;
+use revtable::{Change, Entry, Fault, Key, Marks, Object, Table};
+use std::alloc::Global;
+use std::test::Fail;
+
+const LAST_REVISION: u64 = i64::MAX as u64;
+
+fn key(alloc: Global, namespace: &str, name: &str) -> Result<Key, Fault> {
+    Ok(Key {
+        kind: 7,
+        namespace: String::from_str(alloc, namespace)?,
+        name: String::from_str(alloc, name)?,
+    })
+}
+
+fn table_at(alloc: Global, revision: u64) -> Result<Table, Fault> {
+    if (1..=LAST_REVISION).contains(&revision) {
+        Table::open_at(alloc, revision)
+    } else {
+        Table::open(alloc)
+    }
+}
+
+fn add(table: &mut Table, key: &Key, body: &str) -> Result<(), Fault> {
+    let current = table.marks().current;
+    if current < LAST_REVISION {
+        table.put(current + 1, key, Some(body))?;
+    }
+    Ok(())
+}
+
+fn remove(table: &mut Table, key: &Key) -> Result<(), Fault> {
+    let current = table.marks().current;
+    let found = table.latest(key)?;
+    if current < LAST_REVISION && found.is_some() {
+        table.put(current + 1, key, None)?;
+    }
+    Ok(())
+}
+
+fn marks(table: &Table) -> (u64, u64) {
+    let Marks { current, compacted } = table.marks();
+    (current, compacted)
+}
+
+fn rows(table: &mut Table) -> Result<u64, Fault> {
+    table.rows()
+}
+
+fn prune(table: &mut Table, revision: u64) -> Result<(), Fault> {
+    table.prune(revision)
+}
+
+fn stood(table: &mut Table, key: &Key, revision: u64) -> Result<Option<Object>, Fault> {
+    table.latest_at(key, revision)
+}
+
+fn page(
+    table: &mut Table,
+    namespace: Option<&str>,
+    revision: u64,
+    after: Option<(&str, &str)>,
+    max: u64,
+) -> Result<Vec<Entry>, Fault> {
+    table.at(7, namespace, revision, after, max)
+}
+
+fn span(
+    table: &mut Table,
+    namespace: Option<&str>,
+    from: u64,
+    to: u64,
+    max: u64,
+) -> Result<Vec<Change>, Fault> {
+    table.span(7, namespace, from, to, max)
+}
+
+/// One key has five writes, another is made and deleted: a prune leaves what still stands or came later.
+#[test]
+fn rows_after_a_prune(rt: HostRuntime) -> Result<(), Fail> {
+    let mut table = table_at(rt.alloc(), 1)?;
+    let first = key(rt.alloc(), "default", "w1")?;
+    let second = key(rt.alloc(), "default", "w2")?;
+    for body in ["a", "b", "c", "d", "e"] {
+        add(&mut table, &first, body)?;
+    }
+    add(&mut table, &second, "f")?;
+    remove(&mut table, &second)?;
+    assert_eq!(rt; marks(&table), (8, 1));
+    assert_eq!(rt; rows(&mut table)?, 6);
+    prune(&mut table, 5)?;
+    assert_eq!(rt; rows(&mut table)?, 3);
+    prune(&mut table, 8)?;
+    assert_eq!(rt; rows(&mut table)?, 1);
+    assert_eq!(rt; marks(&table), (8, 8));
+    Ok(())
+}
+
+fn two_namespaces(alloc: Global) -> Result<Table, Fault> {
+    let mut table = table_at(alloc, 1)?;
+    let b = key(alloc, "default", "b")?;
+    let a = key(alloc, "default", "a")?;
+    let other = key(alloc, "other", "a")?;
+    add(&mut table, &b, "b2")?;
+    add(&mut table, &a, "a3")?;
+    add(&mut table, &other, "o4")?;
+    remove(&mut table, &b)?;
+    add(&mut table, &a, "a6")?;
+    Ok(table)
+}
+
+#[test]
+fn pages_are_in_the_order_of_keys(rt: HostRuntime) -> Result<(), Fail> {
+    let mut table = two_namespaces(rt.alloc())?;
+    let all = page(&mut table, None, 4, None, 10)?;
+    let [x, y, z] = all.as_slice() else {
+        return Err(Fault::Store.into());
+    };
+    assert_eq!(rt; x.object.body.as_str(), "a3");
+    assert_eq!(rt; y.object.body.as_str(), "b2");
+    assert_eq!(rt; z.key.namespace.as_str(), "other");
+    assert_eq!(rt; page(&mut table, Some("default"), 6, None, 10)?.len(), 1);
+    assert_eq!(rt;
+        page(&mut table, None, 4, Some(("default", "a")), 10)?.len(),
+        2
+    );
+    assert_eq!(rt;
+        page(&mut table, None, 4, Some(("default", "a")), 1)?.len(),
+        1
+    );
+    Ok(())
+}
+
+#[test]
+fn changes_are_in_the_order_of_revisions(rt: HostRuntime) -> Result<(), Fail> {
+    let mut table = two_namespaces(rt.alloc())?;
+    let changes = span(&mut table, Some("default"), 2, 6, 10)?;
+    let [third, fifth, sixth] = changes.as_slice() else {
+        return Err(Fault::Store.into());
+    };
+    assert_eq!(rt; third.revision, 3);
+    assert!(rt; fifth.body.is_none());
+    assert_eq!(rt; sixth.revision, 6);
+    assert_eq!(rt; span(&mut table, None, 1, 6, 2)?.len(), 2);
+    Ok(())
+}
+
+#[test]
+fn the_highest_revision(rt: HostRuntime) -> Result<(), Fail> {
+    let mut table = table_at(rt.alloc(), LAST_REVISION - 1)?;
+    let only = key(rt.alloc(), "default", "w1")?;
+    add(&mut table, &only, "a")?;
+    assert_eq!(rt; marks(&table), (9223372036854775807, 9223372036854775806));
+    let Some(found) = stood(&mut table, &only, u64::MAX)? else {
+        return Err(Fault::Store.into());
+    };
+    assert_eq!(rt; found.revision, 9223372036854775807);
+    assert_eq!(rt; page(&mut table, None, u64::MAX, None, u64::MAX)?.len(), 1);
+    prune(&mut table, u64::MAX)?;
+    assert_eq!(rt; rows(&mut table)?, 1);
+    Ok(())
+}
+
+fn store_at(alloc: Global, revision: u64) -> Result<Store, Fault> {
+    Ok(Store::new(table_at(alloc, revision)?))
+}
+
+fn write(store: &mut Store, key: &Key, body: &str) -> Result<u64, WriteFault> {
+    store.write(key, Some(body))
+}
+
+fn erase(store: &mut Store, key: &Key) -> Result<(), WriteFault> {
+    let found = store.get(key)?;
+    if found.is_some() {
+        store.write(key, None)?;
+    }
+    Ok(())
+}
+
+fn get(store: &mut Store, key: &Key) -> Result<Option<Object>, Fault> {
+    store.get(key)
+}
+
+fn before(store: &mut Store, key: &Key, revision: u64) -> Result<Option<Object>, Fault> {
+    if store.compacted() < revision && revision <= store.current() {
+        store.before(key, revision)
+    } else {
+        Ok(None)
+    }
+}
+
+fn list_at(store: &mut Store, revision: u64) -> Result<usize, ListFault> {
+    Ok(store.list_at(7, None, revision, None, 10)?.len())
+}
+
+fn changes(store: &mut Store, after: u64) -> Result<usize, ChangesFault> {
+    Ok(store.changes(7, Some("default"), after, 10)?.len())
+}
+
+fn compact(store: &mut Store, revision: u64) -> Result<(), CompactFault> {
+    store.compact(revision)
+}
+
+fn numbers(store: &Store) -> (u64, u64) {
+    (store.current(), store.compacted())
+}
+
+#[test]
+fn a_fresh_store(rt: HostRuntime) -> Result<(), Fail> {
+    let mut store = store_at(rt.alloc(), 1)?;
+    assert_eq!(rt; numbers(&store), (1, 1));
+    assert_eq!(rt; list_at(&mut store, 1)?, 0);
+    assert!(rt; matches!(list_at(&mut store, 2), Err(ListFault::TooLarge)));
+    assert!(rt; matches!(list_at(&mut store, 0), Err(ListFault::Expired)));
+    assert!(rt; matches!(compact(&mut store, 0), Err(CompactFault::Expired)));
+    assert!(rt; matches!(compact(&mut store, 2), Err(CompactFault::TooLarge)));
+    compact(&mut store, 1)?;
+    Ok(())
+}
+
+#[test]
+fn a_deleted_object_until_it_is_compacted(rt: HostRuntime) -> Result<(), Fail> {
+    let mut store = store_at(rt.alloc(), 1)?;
+    let only = key(rt.alloc(), "default", "w1")?;
+    assert_eq!(rt; write(&mut store, &only, "a")?, 2);
+    assert_eq!(rt; write(&mut store, &only, "b")?, 3);
+    erase(&mut store, &only)?;
+    assert!(rt; get(&mut store, &only)?.is_none());
+    assert_eq!(rt; changes(&mut store, 1)?, 3);
+    let Some(found) = before(&mut store, &only, 4)? else {
+        return Err(Fault::Store.into());
+    };
+    assert_eq!(rt; found.body.as_str(), "b");
+    compact(&mut store, 4)?;
+    assert_eq!(rt; numbers(&store), (4, 4));
+    assert!(rt; matches!(changes(&mut store, 3), Err(ChangesFault::Expired)));
+    assert_eq!(rt; changes(&mut store, 4)?, 0);
+    Ok(())
+}
+
+#[test]
+fn revisions_are_used_up(rt: HostRuntime) -> Result<(), Fail> {
+    let mut store = store_at(rt.alloc(), LAST_REVISION)?;
+    let only = key(rt.alloc(), "default", "w1")?;
+    assert!(rt; matches!(write(&mut store, &only, "a"), Err(WriteFault::Exhausted)));
+    assert!(rt; get(&mut store, &only)?.is_none());
+    Ok(())
+}
+
+/// Run with each allocation refused in turn, this ends in a fault, or finds the store as it was or as it became.
+#[test]
+fn a_refused_growth_changes_nothing(rt: HostRuntime) -> Result<(), Fail> {
+    let mut store = store_at(rt.alloc(), 1)?;
+    let only = key(rt.alloc(), "default", "w1")?;
+    write(&mut store, &only, "a")?;
+    let revision = match write(&mut store, &only, "b") {
+        Ok(revision) => revision,
+        Err(_) => 2,
+    };
+    let compacted = match compact(&mut store, 2) {
+        Ok(()) => 2,
+        Err(_) => 1,
+    };
+    assert_eq!(rt; numbers(&store), (revision, compacted));
+    let Some(found) = get(&mut store, &only)? else {
+        return Err(Fault::Store.into());
+    };
+    assert_eq!(rt; found.revision, revision);
+    assert_eq!(rt; list_at(&mut store, 2)?, 1);
+    Ok(())
+}
