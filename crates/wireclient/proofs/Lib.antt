@@ -1,0 +1,4 @@
+pub mod Heads
+mod Judging
+pub mod Leading
+pub mod Requests

@@ -1,0 +1,4 @@
+pub mod Request
+pub mod Reply
+pub mod Reads
+pub mod Views

@@ -1,0 +1,92 @@
+-- What a reader tells of the bytes that came.
+use Rattle.std.specs.Prelude.{◌≡◌, ℕ, ◌≤◌, ◌+◌, ◌-◌, ◌*◌, Bool, true, false, ◌||◌, nat_le, if◌then◌else◌, List, [], ◌∷◌, ◌++◌, length, map, Option, None, Some, ◌&&◌, codes}
+use Rattle.std.specs.Char.{to_ascii_lowercase, is_ascii_digit}
+use Rattle.std.specs.Str.{bytes_eq}
+use Rattle.httparse.specs.Grammar.{ResponseHead, ReadsResponse, status_code}
+use Rattle.httparse.specs.Spans.{name_and_value}
+use Rattle.wireclient.specs.Reply.{Framing, by_length, by_chunks, Judgement, Told, Place, leading, State, heading, place_after, max_head, step}
+
+-- ---- the head
+
+-- a field's name and its value
+abbrev pub Named : Type 0
+Named = List ℕ × List ℕ
+
+-- equal, without regard to ASCII case
+abbrev pub is_text : List ℕ → List ℕ → Bool
+is_text text word = bytes_eq (map to_ascii_lowercase text) word
+
+abbrev pub is_length : Named → Bool
+is_length f = is_text f.0 (codes "content-length")
+
+abbrev pub is_encoding : Named → Bool
+is_encoding f = is_text f.0 (codes "transfer-encoding")
+
+abbrev pub max_body : ℕ
+max_body = 1073741824
+
+-- digits, after those that make n; by value within the limit
+abbrev pub length_after : ℕ → List ℕ → Option Framing
+length_after n [] = Some (by_length n)
+length_after n (b ∷ bs) = if is_ascii_digit b && nat_le (n * 10 + (b - 48)) max_body then length_after (n * 10 + (b - 48)) bs else None
+
+-- one or more digits
+abbrev pub length_in : List ℕ → Option Framing
+length_in [] = None
+length_in (b ∷ bs) = length_after 0 (b ∷ bs)
+
+abbrev pub encoding_in : List ℕ → Option Framing
+encoding_in value = if is_text value (codes "chunked") then Some by_chunks else None
+
+abbrev pub framing_by : Named → Option Framing
+framing_by f = if is_length f then length_in f.1 else encoding_in f.1
+
+abbrev pub frames : Named → Bool
+frames f = is_length f || is_encoding f
+
+-- by the one field that frames a body; found is what it said, where it came before these
+abbrev pub framing_with : Option (Option Framing) → List Named → Option Framing
+framing_with None [] = None
+framing_with None (f ∷ fs) = if frames f then framing_with (Some (framing_by f)) fs else framing_with None fs
+framing_with (Some found) [] = found
+framing_with (Some found) (f ∷ fs) = if frames f then None else framing_with (Some found) fs
+
+abbrev pub framing_of : List Named → Option Framing
+framing_of fs = framing_with None fs
+
+abbrev pub max_fields : ℕ
+max_fields = 64
+
+-- what the bytes of a whole head say: it is a head of the grammar with at most so many fields, one of which frames the body
+abbrev pub Judged : List ℕ → Judgement → Type 0
+Judged bytes None = (h : ResponseHead) → ReadsResponse bytes h [] → length h.fields ≤ max_fields → framing_of (map name_and_value h.fields) ≡ None
+Judged bytes (Some (status, framing)) =
+    (h : ResponseHead) × ReadsResponse bytes h [] × (length h.fields ≤ max_fields) × (status ≡ status_code h) × (framing_of (map name_and_value h.fields) ≡ Some framing)
+
+-- j is the judgement of a head that this byte ends; where none ends, or too many bytes came, it may be anything
+abbrev pub JudgedWhereEnded : Bool → List ℕ → Option Place → Judgement → Type 0
+JudgedWhereEnded true bytes p j = Unit {0}
+JudgedWhereEnded false bytes (Some p) j = Unit {0}
+JudgedWhereEnded false bytes None j = Judged bytes j
+
+abbrev pub JudgedAt : State → ℕ → Judgement → Type 0
+JudgedAt (heading bytes p) b j = JudgedWhereEnded (nat_le max_head (length bytes)) (bytes ++ b ∷ []) (place_after p b) j
+JudgedAt _ b j = Unit {0}
+
+-- one byte leads from a state to another, with the items told before and after it
+abbrev pub Steps : State → ℕ → State → List Told → List Told → Type 0
+Steps s b t old new = (j : Judgement) × JudgedAt s b j × (t ≡ (step j s b).0) × (new ≡ old ++ (step j s b).1)
+
+-- ---- the whole
+
+abbrev pub start : State
+start = heading [] leading
+
+-- these bytes lead from one state to another, with these items told
+abbrev pub Leads : State → List ℕ → State → List Told → Type 0
+Leads s [] t items = (t ≡ s) × (items ≡ [])
+Leads s (b ∷ bytes) t items = (j : Judgement) × (rest : List Told) × JudgedAt s b j × Leads (step j s b).0 bytes t rest × (items ≡ (step j s b).1 ++ rest)
+
+-- a reader of all these bytes, which told these items, stands here; None is a reader without memory
+abbrev pub Stands : Option State → List ℕ → List Told → Type 0
+Stands reader bytes items = (s : State) × (reader ≡ Some s) × Leads start bytes s items

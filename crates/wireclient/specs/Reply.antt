@@ -1,0 +1,94 @@
+-- A reply, byte by byte (RFC 9112, sections 2.2, 6 and 7.1), and the items that a reader tells of it.
+use Rattle.std.specs.Prelude.{ℕ, ◌+◌, ◌-◌, ◌*◌, min, ◌&&◌, ◌==◌, if◌then◌else◌, nat_le, nat_lt, List, [], ◌∷◌, ◌++◌, length, Option, None, Some}
+use Rattle.std.specs.Char.{is_ascii_hexdigit, digit_value}
+
+-- how the body is framed: so many bytes, or chunks
+pub data Framing : Type 0 where
+  by_length : ℕ → Framing
+  by_chunks : Framing
+
+-- what a head says: its status and the framing; none where it is malformed
+abbrev pub Judgement : Type 0
+Judgement = Option (ℕ × Framing)
+
+pub data Told : Type 0 where
+  head : ℕ → Told
+  whole : List ℕ → Told
+  line : List ℕ → Told
+  end : Told
+  malformed : Told
+
+-- where a head's bytes stand: before the first line, inside a line, after a line feed, after a line feed and CR
+pub data Place : Type 0 where
+  leading inside fed fed_cr : Place
+
+-- what has come of the reply
+pub data State : Type 0 where
+  heading : List ℕ → Place → State  -- the head so far
+  body : ℕ → List ℕ → State  -- so many bytes are to come, and those that came
+  size : ℕ → ℕ → List ℕ → State  -- digits of a chunk's size, their value, and the line so far
+  size_lf : ℕ → List ℕ → State
+  data_in : ℕ → List ℕ → State  -- so many bytes of the chunk are to come
+  data_cr data_lf : List ℕ → State
+  last_cr last_lf : List ℕ → State  -- after the chunk of size 0
+  ended broken : State
+
+-- limits
+abbrev pub max_head : ℕ
+max_head = 16384
+
+abbrev pub max_line : ℕ
+max_line = 2097152
+
+abbrev pub Next : Type 0
+Next = State × List Told
+
+abbrev pub fails : Next
+fails = (broken, malformed ∷ [])
+
+abbrev pub goes_to : State → Next
+goes_to s = (s, [])
+
+-- none where the head ends: the first line feed followed by a line feed or by CR LF, after the leading CR and LF bytes
+abbrev pub place_after : Place → ℕ → Option Place
+place_after leading b = if b == 13 then Some leading else if b == 10 then Some leading else Some inside
+place_after inside b = if b == 10 then Some fed else Some inside
+place_after fed b = if b == 10 then None else if b == 13 then Some fed_cr else Some inside
+place_after fed_cr b = if b == 10 then None else Some inside
+
+abbrev pub begun : Judgement → Next
+begun None = fails
+begun (Some (status, by_length n)) = if n == 0 then (ended, head status ∷ whole [] ∷ end ∷ []) else (body n [], head status ∷ [])
+begun (Some (status, by_chunks)) = (size 0 0 [], head status ∷ [])
+
+abbrev pub headed : Judgement → List ℕ → Option Place → Next
+headed j bytes None = begun j
+headed j bytes (Some p) = goes_to (heading bytes p)
+
+-- after a byte of a chunk's data: left bytes of it are still to come
+abbrev pub data_after : ℕ → List ℕ → State
+data_after left text = if left == 0 then data_cr text else data_in left text
+
+-- one hexadecimal digit more, as a number of 64 bits, which 16 digits do not pass
+abbrev pub digit_onto : ℕ → ℕ → ℕ
+digit_onto value digit = min (min (value * 16) 18446744073709551615 + digit) 18446744073709551615
+
+-- one byte more; j is the judgement of the head, should it end here
+abbrev pub step : Judgement → State → ℕ → Next
+step j (heading bytes p) b = if nat_le max_head (length bytes) then fails else headed j (bytes ++ b ∷ []) (place_after p b)
+step j (body left bytes) b = if nat_le left 1 then (ended, whole (bytes ++ b ∷ []) ∷ end ∷ []) else goes_to (body (left - 1) (bytes ++ b ∷ []))
+step j (size count value text) b =
+    if is_ascii_hexdigit b && nat_lt count 16 then goes_to (size (count + 1) (digit_onto value (digit_value b)) text)
+    else if b == 13 && nat_lt 0 count then goes_to (size_lf value text)
+    else fails
+step j (size_lf value text) b = if b == 10 then goes_to (if value == 0 then last_cr text else data_in value text) else fails
+step j (data_in left text) b =
+    if nat_le max_line (length text) then fails
+    else if b == 10 then (data_after (left - 1) [], line text ∷ [])
+    else goes_to (data_after (left - 1) (text ++ b ∷ []))
+step j (data_cr text) b = if b == 13 then goes_to (data_lf text) else fails
+step j (data_lf text) b = if b == 10 then goes_to (size 0 0 text) else fails
+step j (last_cr text) b = if b == 13 then goes_to (last_lf text) else fails
+step j (last_lf text) b = if b == 10 && length text == 0 then (ended, end ∷ []) else fails
+step j ended b = goes_to ended
+step j broken b = goes_to broken

@@ -1,0 +1,44 @@
+-- What the crate's values say, without where they lie in memory.
+use Rattle.std.specs.Prelude.{ℕ, Option, option_map}
+use Rattle.wireclient.specs.declared.item.Item as items
+use Rattle.wireclient.specs.declared.item.Item.TheVariants as item
+use Rattle.wireclient.specs.declared.state.Framing as framings
+use Rattle.wireclient.specs.declared.state.Framing.TheVariants as framing
+use Rattle.wireclient.specs.declared.state.Place as places
+use Rattle.wireclient.specs.declared.state.Place.TheVariants as place
+use Rattle.wireclient.specs.declared.state.State as states
+use Rattle.wireclient.specs.declared.state.State.TheVariants as state
+use Rattle.wireclient.specs.Reply.{Judgement, Framing, by_length, by_chunks, Told, head, whole, line, end, malformed, Place, leading, inside, fed, fed_cr, State, heading, body, size, size_lf, data_in, data_cr, data_lf, last_cr, last_lf, ended, broken}
+
+abbrev pub framing_in : framings.Framing → Framing
+framing_in (framing.Length n) = by_length n
+framing_in framing.Chunks = by_chunks
+
+abbrev pub place_of : places.Place → Place
+place_of place.Leading = leading
+place_of place.Inside = inside
+place_of place.Fed = fed
+place_of place.FedCr = fed_cr
+
+abbrev pub told_of : items.Item → Told
+told_of (item.Head status) = head status
+told_of (item.Body bytes) = whole bytes.items
+told_of (item.Line bytes) = line bytes.items
+told_of item.End = end
+told_of item.Malformed = malformed
+
+abbrev pub state_of : states.State → State
+state_of (state.Heading bytes p) = heading bytes.items (place_of p)
+state_of (state.Body left bytes) = body left bytes.items
+state_of (state.Size count value text) = size count value text.items
+state_of (state.SizeLf value text) = size_lf value text.items
+state_of (state.Data left text) = data_in left text.items
+state_of (state.DataCr text) = data_cr text.items
+state_of (state.DataLf text) = data_lf text.items
+state_of (state.LastCr text) = last_cr text.items
+state_of (state.LastLf text) = last_lf text.items
+state_of state.Ended = ended
+state_of state.Broken = broken
+
+abbrev pub judgement_of : Option (ℕ × framings.Framing) → Judgement
+judgement_of o = option_map (λ r. (r.0, framing_in r.1)) o

@@ -1,0 +1,16 @@
+//! What a reply consists of.
+
+/// A part of a reply, in the order in which they come.
+#[derive(Debug, Drop, PartialEq, Eq)]
+pub enum Item {
+    /// The head, with its status code.
+    Head(u16),
+    /// The whole body of a reply with a `Content-Length`.
+    Body(Vec<u8>),
+    /// A line of a chunked reply, without its line feed.
+    Line(Vec<u8>),
+    /// The end of the reply; what comes after it is read past.
+    End,
+    /// The next byte broke a rule, and nothing more is told.
+    Malformed,
+}

@@ -1,0 +1,20 @@
+//! The client's side of the wire: the bytes of a request, and a reader of replies that is fed in pieces.
+//!
+//! However a reply is cut, the items told so far are those of the bytes that came: a head, then a body or
+//! whole lines, then the end, or what came before a bad byte and then `Malformed`.
+//!
+//! Stands on `httparse` for the grammar of a head (RFC 9112).
+#![tactic(auto)]
+
+mod head;
+mod item;
+mod reader;
+mod request;
+mod state;
+
+pub use item::Item;
+pub use reader::{ReadFault, ReplyReader};
+pub use request::request_bytes;
+
+#[cfg(test)]
+mod tests;

@@ -1,0 +1,102 @@
+//! A reader of replies.
+
+ghost use Rattle.std.specs.Prelude.{◌≡◌, IfOk, map};
+ghost use Rattle.wireclient.specs.Reads.{Leads};
+ghost use Rattle.wireclient.specs.Views.{state_of, told_of};
+
+use crate::item::Item;
+use crate::state::{Place, State, step};
+use std::alloc::{AllocError, Global};
+use std::marker::Model;
+use std::mem;
+
+/// Why nothing more is told.
+#[derive(Clone, Copy, Debug, PartialEq, Eq)]
+pub enum ReadFault {
+    /// The reply broke a rule, as was told.
+    Malformed,
+    /// There was no memory.
+    Memory,
+}
+
+/// A reader of replies, fed in pieces. Contracts see what has come of the reply, or none once there was no
+/// memory.
+#[derive(Debug, Drop)]
+pub struct ReplyReader {
+    state: State,
+    is_dead: bool,
+    alloc: Global,
+}
+
+impl Model for ReplyReader {
+    ghost use Rattle.std.specs.Prelude.{Option, Some, None, if◌then◌else◌};
+    ghost use Rattle.wireclient.specs.Reply as reply;
+    ghost use Rattle.wireclient.specs.Views.{state_of};
+
+    ghost Value = { Option reply.State };
+
+    ghost view = { λ r. if r.is_dead then None else Some (state_of r.state) };
+}
+
+/// A state, and what was told on the way to it.
+#[derive(Drop)]
+struct Reading {
+    state: State,
+    told: Vec<Item>,
+}
+
+fn read(alloc: Global, from: State, piece: &[u8]) -> Result<Reading, AllocError>
+    ensures { IfOk result (λ r. Leads (state_of from) piece.now (state_of r.state) (map told_of r.told.items)) }
+{
+    let mut told = Vec::new(alloc);
+    let mut state = from;
+    for byte in piece {
+        state = step(alloc, state, *byte, &mut told)?;
+    }
+    Ok(Reading { state, told })
+}
+
+impl ReplyReader {
+    ghost use Rattle.std.specs.Prelude.{◌≡◌, ◌⊎◌, ℕ, List, [], ◌++◌, map, Some, None, IfOk, OnErr};
+    ghost use Rattle.wireclient.specs.Reads.{Stands};
+    ghost use Rattle.wireclient.specs.Reply.{Told, broken};
+    ghost use Rattle.wireclient.specs.Views.{told_of};
+
+    /// A reader of which nothing has come.
+    pub fn new(alloc: Global) -> ReplyReader
+        ensures { Stands result [] [] }
+    {
+        ReplyReader {
+            state: State::Heading(Vec::new(alloc), Place::Leading),
+            is_dead: false,
+            alloc,
+        }
+    }
+
+    /// Takes the next piece and tells what it completes. After `Malformed` was told, or without memory, every
+    /// later call is refused the same.
+    pub fn feed(&mut self, piece: &[u8]) -> Result<Vec<Item>, ReadFault>
+        ensures told { (bytes : List ℕ) (before : List Told) → Stands self.old bytes before → IfOk result (λ out. Stands self.new (bytes ++ piece.now) (before ++ map told_of out.items)) }
+        ensures malformed { self.old ≡ Some broken → (result ≡ Err ReadFault.Malformed) × (self.new ≡ self.old) }
+        ensures memory { self.old ≡ None → (result ≡ Err ReadFault.Memory) × (self.new ≡ self.old) }
+        ensures err { OnErr result ((self.new ≡ None) ⊎ ((self.old ≡ Some broken) × (self.new ≡ self.old))) }
+    {
+        if self.is_dead {
+            return Err(ReadFault::Memory);
+        }
+        if let State::Broken = self.state {
+            return Err(ReadFault::Malformed);
+        }
+        let state = mem::replace(&mut self.state, State::Broken);
+        match read(self.alloc, state, piece) {
+            Ok(Reading { state, told }) => {
+                self.state = state;
+                Ok(told)
+            }
+            Err(_) => {
+                self.is_dead = true;
+                Err(ReadFault::Memory)
+            }
+        }
+    }
+}

@@ -1,0 +1,250 @@
+//! What has come of a reply, and what a byte more makes of it.
+
+ghost use Rattle.std.specs.Prelude.{◌≡◌, ◌++◌, [], ◌∷◌, None, map, IfOk, OnOk, option_map, ◌==◌, if◌then◌else◌};
+ghost use Rattle.wireclient.specs.Reads.{Steps};
+ghost use Rattle.wireclient.specs.Reply.{heading, Judgement, place_after, data_after, step, begun, fails, goes_to, broken, body, size, size_lf, data_in, last_lf, malformed};
+ghost use Rattle.wireclient.specs.Views.{place_of, state_of, told_of, judgement_of};
+
+use crate::head::judge;
+use crate::item::Item;
+use httparse::parse_hex_digit;
+use std::alloc::{AllocError, Global};
+
+pub(crate) const MAX_HEAD: usize = 16_384;
+
+pub(crate) const MAX_LINE: usize = 2_097_152;
+
+/// How the body is framed.
+#[derive(Clone, Copy, Debug, PartialEq, Eq)]
+pub(crate) enum Framing {
+    Length(u64),
+    Chunks,
+}
+
+/// Where the bytes of a head stand.
+#[derive(Clone, Copy, Debug, PartialEq, Eq)]
+pub(crate) enum Place {
+    /// Before the first line.
+    Leading,
+    Inside,
+    /// After a line feed.
+    Fed,
+    /// After a line feed and CR.
+    FedCr,
+}
+
+/// What has come of a reply; the bytes kept are what isn't told yet.
+#[derive(Debug, Drop)]
+pub(crate) enum State {
+    Heading(Vec<u8>, Place),
+    /// So many bytes are to come, and those that came.
+    Body(u64, Vec<u8>),
+    /// Digits of a chunk's size, their value, and the line so far.
+    Size(u8, u64, Vec<u8>),
+    SizeLf(u64, Vec<u8>),
+    Data(u64, Vec<u8>),
+    DataCr(Vec<u8>),
+    DataLf(Vec<u8>),
+    LastCr(Vec<u8>),
+    LastLf(Vec<u8>),
+    Ended,
+    Broken,
+}
+
+/// None where the head ends.
+pub(crate) fn place_after(place: Place, byte: u8) -> Option<Place>
+    ensures { option_map place_of result ≡ place_after (place_of place) byte }
+{
+    match (place, byte) {
+        (Place::Leading, b'\r' | b'\n') => Some(Place::Leading),
+        (Place::Inside, b'\n') => Some(Place::Fed),
+        (Place::Fed | Place::FedCr, b'\n') => None,
+        (Place::Fed, b'\r') => Some(Place::FedCr),
+        (Place::Leading | Place::Inside | Place::Fed | Place::FedCr, _) => Some(Place::Inside),
+    }
+}
+
+fn fails(told: &mut Vec<Item>) -> Result<State, AllocError>
+    ensures state { IfOk result (λ s. state_of s ≡ broken) }
+    ensures told { OnOk result (map told_of told.new.items ≡ map told_of told.old.items ++ malformed ∷ []) }
+{
+    told.push(Item::Malformed)?;
+    Ok(State::Broken)
+}
+
+fn body_step(
+    mut bytes: Vec<u8>,
+    left: u64,
+    byte: u8,
+    told: &mut Vec<Item>,
+) -> Result<State, AllocError>
+    ensures state { IfOk result (λ s. state_of s ≡ (step None (body left bytes.items) byte).0) }
+    ensures told { OnOk result (map told_of told.new.items ≡ map told_of told.old.items ++ (step None (body left bytes.items) byte).1) }
+{
+    bytes.push(byte)?;
+    if left > 1 {
+        return Ok(State::Body(left - 1, bytes));
+    }
+    told.push(Item::Body(bytes))?;
+    told.push(Item::End)?;
+    Ok(State::Ended)
+}
+
+fn data_after(left: u64, text: Vec<u8>) -> State
+    ensures { state_of result ≡ data_after left text.items }
+{
+    if left == 0 {
+        State::DataCr(text)
+    } else {
+        State::Data(left, text)
+    }
+}
+
+fn data_step(
+    alloc: Global,
+    mut text: Vec<u8>,
+    left: u64,
+    byte: u8,
+    told: &mut Vec<Item>,
+) -> Result<State, AllocError>
+    ensures state { IfOk result (λ s. state_of s ≡ (step None (data_in left text.items) byte).0) }
+    ensures told { OnOk result (map told_of told.new.items ≡ map told_of told.old.items ++ (step None (data_in left text.items) byte).1) }
+{
+    if text.len() >= MAX_LINE {
+        return fails(told);
+    }
+    if byte == b'\n' {
+        told.push(Item::Line(text))?;
+        return Ok(data_after(left.saturating_sub(1), Vec::new(alloc)));
+    }
+    text.push(byte)?;
+    Ok(data_after(left.saturating_sub(1), text))
+}
+
+fn size_step(
+    text: Vec<u8>,
+    count: u8,
+    value: u64,
+    byte: u8,
+    told: &mut Vec<Item>,
+) -> Result<State, AllocError>
+    ensures state { IfOk result (λ s. state_of s ≡ (step None (size count value text.items) byte).0) }
+    ensures told { OnOk result (map told_of told.new.items ≡ map told_of told.old.items ++ (step None (size count value text.items) byte).1) }
+{
+    match parse_hex_digit(byte) {
+        Some(digit) if count < 16 => {
+            let value = value.saturating_mul(16).saturating_add(digit);
+            Ok(State::Size(count + 1, value, text))
+        }
+        None if byte == b'\r' && count > 0 => Ok(State::SizeLf(value, text)),
+        _ => fails(told),
+    }
+}
+
+fn size_lf_step(
+    text: Vec<u8>,
+    value: u64,
+    byte: u8,
+    told: &mut Vec<Item>,
+) -> Result<State, AllocError>
+    ensures state { IfOk result (λ s. state_of s ≡ (step None (size_lf value text.items) byte).0) }
+    ensures told { OnOk result (map told_of told.new.items ≡ map told_of told.old.items ++ (step None (size_lf value text.items) byte).1) }
+{
+    if byte != b'\n' {
+        return fails(told);
+    }
+    if value == 0 {
+        Ok(State::LastCr(text))
+    } else {
+        Ok(State::Data(value, text))
+    }
+}
+
+fn last_lf_step(text: Vec<u8>, byte: u8, told: &mut Vec<Item>) -> Result<State, AllocError>
+    ensures state { IfOk result (λ s. state_of s ≡ (step None (last_lf text.items) byte).0) }
+    ensures told { OnOk result (map told_of told.new.items ≡ map told_of told.old.items ++ (step None (last_lf text.items) byte).1) }
+{
+    if byte != b'\n' || !text.is_empty() {
+        return fails(told);
+    }
+    told.push(Item::End)?;
+    Ok(State::Ended)
+}
+
+/// Goes on where the byte is the one that has to come.
+fn expect(next: State, wanted: u8, byte: u8, told: &mut Vec<Item>) -> Result<State, AllocError>
+    ensures state { IfOk result (λ s. state_of s ≡ (if byte == wanted then goes_to (state_of next) else fails).0) }
+    ensures told { OnOk result (map told_of told.new.items ≡ map told_of told.old.items ++ (if byte == wanted then goes_to (state_of next) else fails).1) }
+{
+    if byte == wanted {
+        Ok(next)
+    } else {
+        fails(told)
+    }
+}
+
+fn begun(
+    alloc: Global,
+    judged: Option<(u16, Framing)>,
+    told: &mut Vec<Item>,
+) -> Result<State, AllocError>
+    ensures state { IfOk result (λ s. state_of s ≡ (begun (judgement_of judged)).0) }
+    ensures told { OnOk result (map told_of told.new.items ≡ map told_of told.old.items ++ (begun (judgement_of judged)).1) }
+{
+    let Some((status, framing)) = judged else {
+        return fails(told);
+    };
+    told.push(Item::Head(status))?;
+    match framing {
+        Framing::Chunks => Ok(State::Size(0, 0, Vec::new(alloc))),
+        Framing::Length(0) => {
+            told.push(Item::Body(Vec::new(alloc)))?;
+            told.push(Item::End)?;
+            Ok(State::Ended)
+        }
+        Framing::Length(left) => Ok(State::Body(left, Vec::new(alloc))),
+    }
+}
+
+fn heading_step(
+    alloc: Global,
+    mut bytes: Vec<u8>,
+    place: Place,
+    byte: u8,
+    told: &mut Vec<Item>,
+) -> Result<State, AllocError>
+    ensures { IfOk result (λ s. Steps (heading bytes.items (place_of place)) byte (state_of s) (map told_of told.old.items) (map told_of told.new.items)) }
+{
+    if bytes.len() >= MAX_HEAD {
+        return fails(told);
+    }
+    bytes.push(byte)?;
+    match place_after(place, byte) {
+        Some(place) => Ok(State::Heading(bytes, place)),
+        None => begun(alloc, judge(&bytes), told),
+    }
+}
+
+/// What a byte more makes of it, and what is told then.
+pub(crate) fn step(
+    alloc: Global,
+    state: State,
+    byte: u8,
+    told: &mut Vec<Item>,
+) -> Result<State, AllocError>
+    ensures { IfOk result (λ s. Steps (state_of state) byte (state_of s) (map told_of told.old.items) (map told_of told.new.items)) }
+{
+    match state {
+        State::Heading(bytes, place) => heading_step(alloc, bytes, place, byte, told),
+        State::Body(left, bytes) => body_step(bytes, left, byte, told),
+        State::Size(count, value, text) => size_step(text, count, value, byte, told),
+        State::SizeLf(value, text) => size_lf_step(text, value, byte, told),
+        State::Data(left, text) => data_step(alloc, text, left, byte, told),
+        State::DataCr(text) => expect(State::DataLf(text), b'\r', byte, told),
+        State::DataLf(text) => expect(State::Size(0, 0, text), b'\n', byte, told),
+        State::LastCr(text) => expect(State::LastLf(text), b'\r', byte, told),
+        State::LastLf(text) => last_lf_step(text, byte, told),
+        State::Ended => Ok(State::Ended),
+        State::Broken => Ok(State::Broken),
+    }
+}
