@@ -1,5 +1,5 @@
 //! What is printed for good and bad scripts, types files and words.
-use crate::replay_program::{run, types_in};
+use crate::replay_program::{RunFault, run, types_in};
 use crate::{read_script, replay};
 use std::alloc::Global;
 use std::fs;
@@ -7,6 +7,10 @@ use std::test::Fail;
 
 const TYPES: &str =
     r#"{"types":[{"group":"demo.example","version":"v1","kind":"Widget","plural":"widgets","schema":{"type":"object","properties":{"spec":{"type":"object","properties":{"config":{"type":"object","additionalProperties":{"type":"string"}},"image":{"type":"string"},"replicas":{"type":"integer"}}}}}}]}"#;
+
+/// Widgets with a list of each kind.
+const LISTS: &str =
+    r#"{"types":[{"group":"demo.example","version":"v1","kind":"Widget","plural":"widgets","schema":{"type":"object","properties":{"spec":{"type":"object","properties":{"args":{"type":"array","items":{"type":"string"}},"config":{"type":"object","additionalProperties":{"type":"string"}},"ports":{"type":"array","x-kubernetes-list-type":"map","x-kubernetes-list-map-keys":["name"],"items":{"type":"object","properties":{"name":{"type":"string"},"note":{"type":"string"},"port":{"type":"integer"}}}},"tags":{"type":"array","x-kubernetes-list-type":"set","items":{"type":"string"}}}}}}}]}"#;
 
 const WIDGET: &str = "/apis/demo.example/v1/namespaces/default/widgets/w1";
 
@@ -19,7 +23,12 @@ fn apply_line(alloc: Global, manager: &str, target: &str, body: &str) -> Result<
 
 /// What a script prints over the types above.
 fn printed(alloc: Global, script: &str) -> Result<String, Fail> {
-    let types = types_in(alloc, TYPES)?;
+    printed_over(alloc, TYPES, script)
+}
+
+/// What a script prints over a types file.
+fn printed_over(alloc: Global, types: &str, script: &str) -> Result<String, Fail> {
+    let types = types_in(alloc, types)?;
     let lines = read_script(alloc, script)?;
     let mut out = Vec::new(alloc);
     replay(alloc, types, &lines, &mut out)?;
@@ -118,6 +127,119 @@ fn bad_bodies_are_told(rt: HostRuntime) -> Result<(), Fail> {
     Ok(())
 }
 
+/// A manager applies a body that goes on so after its kind.
+fn applied(alloc: Global, manager: &str, rest: &str) -> Result<String, Fail> {
+    let body = format!(in alloc;
+        "{{\"apiVersion\":\"demo.example/v1\",\"kind\":\"Widget\"{rest}}}"
+    )?;
+    apply_line(alloc, manager, WIDGET, body.as_str())
+}
+
+/// The replies to applies by manager and rest of the body, over widgets with lists.
+fn replies(alloc: Global, rows: &[(&str, &str)]) -> Result<String, Fail> {
+    let mut script = String::new(alloc);
+    for (manager, rest) in rows {
+        script.push_str(applied(alloc, manager, rest)?.as_str())?;
+    }
+    printed_over(alloc, LISTS, script.as_str())
+}
+
+#[test]
+fn set_items(rt: HostRuntime) -> Result<(), Fail> {
+    let alloc = rt.alloc();
+    let rows = [
+        ("alice", r#","spec":{"tags":["b","a"]}"#),
+        ("bob", r#","spec":{"tags":["b","c"]}"#),
+        ("alice", ""),
+        ("bob", r#","spec":{"tags":["a","a"]}"#),
+    ];
+    let out = replies(alloc, &rows)?;
+    let wanted = [
+        (
+            "201 ",
+            r#""resourceVersion":"2"},"spec":{"tags":["a","b"]}}"#,
+        ),
+        (
+            "200 ",
+            r#""resourceVersion":"3"},"spec":{"tags":["a","b","c"]}}"#,
+        ),
+        (
+            "200 ",
+            r#""resourceVersion":"4"},"spec":{"tags":["b","c"]}}"#,
+        ),
+        (
+            "422 ",
+            r#""message":".spec.tags: duplicate item","metadata":{},"reason":"Invalid","status":"Failure"}"#,
+        ),
+    ];
+    assert_eq!(rt; out.lines().count(), wanted.len());
+    for (line, (start, end)) in out.lines().zip(wanted) {
+        assert!(rt; line.starts_with(start) && line.ends_with(end), "{line}");
+    }
+    Ok(())
+}
+
+#[test]
+fn atomic_list(rt: HostRuntime) -> Result<(), Fail> {
+    let alloc = rt.alloc();
+    let rows = [
+        ("alice", r#","spec":{"args":["x","y"]}"#),
+        ("bob", r#","spec":{"args":["x"]}"#),
+        (
+            "alice",
+            r#","metadata":{"labels":null},"spec":{"args":["x","y"],"config":{}}"#,
+        ),
+    ];
+    let out = replies(alloc, &rows)?;
+    let wanted = [
+        (
+            "201 ",
+            r#""resourceVersion":"2"},"spec":{"args":["x","y"]}}"#,
+        ),
+        (
+            r#"409 {"apiVersion":"v1","code":409,"details":{"causes":[{"field":".spec.args","message":"conflict with \"alice\" using demo.example/v1","reason":"FieldManagerConflict"}]},"#,
+            r#""reason":"Conflict","status":"Failure"}"#,
+        ),
+        (
+            "200 ",
+            r#""resourceVersion":"2"},"spec":{"args":["x","y"]}}"#,
+        ),
+    ];
+    assert_eq!(rt; out.lines().count(), wanted.len());
+    for (line, (start, end)) in out.lines().zip(wanted) {
+        assert!(rt; line.starts_with(start) && line.ends_with(end), "{line}");
+    }
+    Ok(())
+}
+
+#[test]
+fn bad_lists_are_told(rt: HostRuntime) -> Result<(), Fail> {
+    let alloc = rt.alloc();
+    let rows = [
+        (
+            r#","spec":{"ports":[{"name":"web"},{"name":"web"}]}"#,
+            (422, "Invalid", ".spec.ports: duplicate item"),
+        ),
+        (
+            r#","spec":{"ports":[{"port":80}]}"#,
+            (422, "Invalid", ".spec.ports[0]: key field missing"),
+        ),
+        (
+            r#","spec":{"ports":[{"name":"web"},5]}"#,
+            (400, "BadRequest", ".spec.ports[1]: not an object"),
+        ),
+        (
+            r#","spec":{"args":[null]}"#,
+            (400, "BadRequest", ".spec.args[0]: wrong type"),
+        ),
+    ];
+    for (rest, (code, reason, message)) in rows {
+        let wanted = status_line(alloc, code, reason, message)?;
+        assert_eq!(rt; replies(alloc, &[("alice", rest)])?, wanted);
+    }
+    Ok(())
+}
+
 #[test]
 fn bad_calls_are_told(rt: HostRuntime) -> Result<(), Fail> {
     let alloc = rt.alloc();
@@ -196,6 +318,10 @@ fn faults_are_told_in_order(rt: HostRuntime) -> Result<(), Fail> {
             r#"{"types":[{"group":"g","version":"v","kind":"K","plural":"p","schema":[]}]}"#,
             "types file: refusal 3: ",
         ),
+        (
+            r#"{"types":[{"group":"g","version":"v","kind":"K","plural":"p","schema":{"type":"object","properties":{}}},{"group":"g","version":"v","kind":"L","plural":"p","schema":{"type":"object","properties":{}}}]}"#,
+            "types file: refusal 5: ",
+        ),
         ("{}", "types file: refusal 6: "),
     ];
     for (text, start) in rows {
@@ -213,6 +339,36 @@ fn faults_are_told_in_order(rt: HostRuntime) -> Result<(), Fail> {
     assert_eq!(rt; told(&rt, &words)?, bad);
     fs::remove_file(&rt, "no-types.json")?;
     fs::remove_file(&rt, "no-script.jsonl")?;
+    Ok(())
+}
+
+/// A types file whose one schema is nested this deep.
+fn nested_types(alloc: Global, depth: usize) -> Result<String, Fail> {
+    let mut text = String::from_str(
+        alloc,
+        r#"{"types":[{"group":"g","version":"v","kind":"K","plural":"p","schema":{"type":"object","properties":{"a":"#,
+    )?;
+    for _ in 2..depth {
+        text.push_str(r#"{"type":"object","additionalProperties":"#)?;
+    }
+    text.push_str(r#"{"type":"string"}"#)?;
+    for _ in 1..depth {
+        text.push_str("}")?;
+    }
+    text.push_str("}}]}")?;
+    Ok(text)
+}
+
+#[test]
+fn sixteen_levels_are_read(rt: HostRuntime) -> Result<(), Fail> {
+    let alloc = rt.alloc();
+    assert!(rt; types_in(alloc, nested_types(alloc, 16)?.as_str()).is_ok());
+    let text = match types_in(alloc, nested_types(alloc, 17)?.as_str()) {
+        Ok(_) => String::new(alloc),
+        Err(fault) => format!(in alloc; "{fault}")?,
+    };
+    assert!(rt; text.starts_with("types file: refusal 4: "), "{text}");
+    assert_eq!(rt; RunFault::Memory.status(), 5);
     Ok(())
 }
 
