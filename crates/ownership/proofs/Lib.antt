@@ -5,4 +5,6 @@ pub mod Dropping
 pub mod Keeping
 pub mod Ends
 pub mod Leaves
+pub mod Clauses
+pub mod Changing
 pub mod Objects
