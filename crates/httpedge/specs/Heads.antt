@@ -1,5 +1,5 @@
 -- What the head of a request says (RFC 9112, sections 2.2, 3, 5 and 6), and when a front of a connection's bytes has it.
-use Rattle.std.specs.Prelude.{◌≡◌, ◌⊎◌, ℕ, ◌+◌, Bool, true, false, ◌&&◌, ◌||◌, ◌==◌, not, nat_lt, if◌then◌else◌, List, [], ◌∷◌, length, map, take, drop, Option, Some, None, codes, nat_eq}
+use Rattle.std.specs.Prelude.{◌≡◌, ◌⊎◌, ℕ, ◌+◌, Bool, ◌&&◌, ◌||◌, ◌==◌, not, nat_lt, if◌then◌else◌, List, [], ◌∷◌, ◌++◌, length, map, take, drop, Option, Some, None, codes, nat_eq}
 use Rattle.std.specs.Char.{is_ascii_digit}
 use Rattle.std.specs.List.{list_all, list_any, starts_with, filter}
 use Rattle.std.specs.Str.{bytes_eq, str_eq_ignore_ascii_case}
@@ -114,8 +114,18 @@ judged method target minor fields rest =
     else if not (starts_with nat_eq target (codes "/")) then refused bad_head
     else told (request_of method target fields, rest)
 
+-- the same with more bytes after it
+abbrev pub with_more : List ℕ → Front (Request × List ℕ) → Front (Request × List ℕ)
+with_more more undecided = undecided
+with_more more (refused r) = refused r
+with_more more (told (request, rest)) = told (request, rest ++ more)
+
 abbrev pub judged_head : RequestHead → List ℕ → Front (Request × List ℕ)
 judged_head h rest = judged h.method h.target h.minor (map name_and_value h.fields) rest
+
+-- what can be said of a head: the request, and the bytes after it
+abbrev pub Said : Type 0
+Said = Front (Request × List ℕ)
 
 -- these bytes are the head of a request, or no head, and this is what they say with the rest
 abbrev pub SaysWhole : List ℕ → List ℕ → Front (Request × List ℕ) → Type 0

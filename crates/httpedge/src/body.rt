@@ -11,20 +11,20 @@ use std::alloc::{AllocError, Global};
 
 const MAX_BODY: usize = 65_536;
 
-fn needs_body(method: &[u8]) -> bool
+fn needs_body(method: &str) -> bool
     ensures { result ≡ needs_body method.now }
 {
-    method == b"POST".as_slice() || method == b"PUT".as_slice() || method == b"PATCH".as_slice()
+    method == "POST" || method == "PUT" || method == "PATCH"
 }
 
-fn may_have_body(method: &[u8]) -> bool
+pub(crate) fn may_have_body(method: &str) -> bool
     ensures { result ≡ may_have_body method.now }
 {
-    method == b"DELETE".as_slice()
+    method == "DELETE"
 }
 
 /// The number that digits write, where it isn't above the limit.
-fn number_of(digits: &[u8]) -> Option<usize>
+pub(crate) fn number_of(digits: &[u8]) -> Option<usize>
     ensures { MatchOption result (max_body < number_of digits.now) (λ n. (n ≡ number_of digits.now) × (n ≤ max_body)) }
 {
     let mut number = 0;

@@ -1,11 +1,12 @@
 //! What the head of a request says, and when it has come.
 
-ghost use Rattle.std.specs.Prelude.{◌≡◌, ◌≤◌, ◌==◌, ℕ, List, [], length, take, drop, map, option_map, IfSome, nat_eq};
+ghost use Rattle.std.specs.Prelude.{◌≡◌, ◌≢◌, ◌≤◌, ◌++◌, ℕ, List, Some, None, [], length, take, drop, map, option_map, IfSome, IsUtf8};
 ghost use Rattle.std.specs.List.{All, list_all, list_any, filter};
 ghost use Rattle.std.specs.Char.{is_ascii_digit};
 ghost use Rattle.httparse.specs.Grammar.{RequestHead, ReadsRequest};
 ghost use Rattle.httparse.specs.Spans.{header_bytes, span_bytes, IsHeaderWithin, IsWithin, IsRequestWithin};
-ghost use Rattle.httpedge.specs.Heads.{max_head, end_inside, head_end, has_name, is_host, media_in, is_encoded, without_zeros, length_in, agreed, length_after, missing, digits, judged, IsWholeAt, SaysWhole, SaysAt, Says};
+ghost use Rattle.httpedge.specs.Heads.{max_head, end_inside, head_end, has_name, is_host, media_in, is_encoded, without_zeros, length_in, agreed, length_after, missing, digits, judged, IsWholeAt, SaysWhole, SaysAt, Said, Says, with_more};
+ghost use Rattle.httpedge.specs.Refusals.{undecided};
 ghost use Rattle.httpedge.specs.Views.{front_of, head_of, length_of};
 
 use crate::refusal::{Front, Refusal};
@@ -33,8 +34,8 @@ pub enum Length<'b> {
 /// What the server takes from a head (RFC 9112, sections 3, 5 and 6), and the bytes that came after it.
 #[derive(Clone, Copy, Debug)]
 pub struct Head<'b> {
-    pub method: &'b [u8],
-    pub target: &'b [u8],
+    pub method: &'b str,
+    pub target: &'b str,
     /// The value of the first Content-Type.
     pub media: Option<&'b [u8]>,
     /// Whether there is a Transfer-Encoding.
@@ -192,6 +193,16 @@ fn length_of<'b>(head: &'b [u8], fields: &[HeaderSpan]) -> Length<'b>
     length
 }
 
+fn text_of(bytes: &[u8]) -> &str
+    requires { IsUtf8 bytes.now }
+    ensures { result.now ≡ bytes.now }
+{
+    match str::from_utf8(bytes) {
+        Ok(text) => text,
+        Err(_) => "",
+    }
+}
+
 /// The judgement of a head of the grammar.
 fn judged<'b>(
     head: &'b [u8],
@@ -201,6 +212,8 @@ fn judged<'b>(
 ) -> Front<Head<'b>>
     requires method { IsWithin (length head.now) parts.method }
     requires path { IsWithin (length head.now) parts.path }
+    requires method_text { IsUtf8 (span_bytes head.now parts.method) }
+    requires path_text { IsUtf8 (span_bytes head.now parts.path) }
     requires fields { All (IsHeaderWithin (length head.now)) fields.now }
     ensures { front_of head_of result ≡ judged (span_bytes head.now parts.method) (span_bytes head.now parts.path) parts.version (map (header_bytes head.now) fields.now) rest.now }
 {
@@ -218,8 +231,8 @@ fn judged<'b>(
         return Front::Refused(Refusal::BadHead);
     }
     Front::Told(Head {
-        method: parts.method.of(head),
-        target,
+        method: text_of(parts.method.of(head)),
+        target: text_of(target),
         media: media_in(head, fields),
         is_encoded: is_encoded(head, fields),
         length: length_of(head, fields),
@@ -287,9 +300,7 @@ fn judge_at(bytes: &[u8], end: usize) -> Front<Head<'_>>
     judge(&bytes[..end], &bytes[end..])
 }
 
-/// What the bytes that came on a connection say of the request's head. They may come in any pieces: once
-/// decided, bytes that come later change nothing but the rest.
-pub fn read_head(bytes: &[u8]) -> Front<Head<'_>>
+fn read_front(bytes: &[u8]) -> Front<Head<'_>>
     ensures { Says bytes.now (front_of head_of result) }
 {
     match end_of(bytes) {
@@ -297,4 +308,14 @@ pub fn read_head(bytes: &[u8]) -> Front<Head<'_>>
         None if bytes.len() > MAX_HEAD => Front::Refused(Refusal::HeadTooLarge),
         None => Front::Undecided,
     }
+}
+
+/// What the bytes that came on a connection say of the request's head, however they were cut: once decided,
+/// bytes that come later change nothing but what stands after the head.
+pub fn read_head(bytes: &[u8]) -> Front<Head<'_>>
+    ensures says { Says bytes.now (front_of head_of result) }
+    ensures alone { (front : Said) → Says bytes.now front → front ≡ front_of head_of result }
+    ensures stays { (more : List ℕ) → front_of head_of result ≢ undecided → Says (bytes.now ++ more) (with_more more (front_of head_of result)) }
+{
+    read_front(bytes)
 }

@@ -10,8 +10,10 @@ mod body;
 mod head;
 mod refusal;
 mod reply;
+mod target;
 
 pub use body::read_body;
 pub use head::{Head, Length, read_head};
 pub use refusal::{Front, Refusal};
 pub use reply::reply_bytes;
+pub use target::{judged_media, path_of, query_of};

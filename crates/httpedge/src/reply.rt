@@ -1,19 +1,24 @@
 //! The bytes of a reply.
 
-ghost use Rattle.std.specs.Prelude.{◌≡◌, length, IfOk, option_map, unwrap_or, string_bytes, [], codes};
-ghost use Rattle.http.specs.StatusCode.{IsStatusCode, reason_phrase};
-ghost use Rattle.httpedge.specs.ReplyBytes.{allow_field, reply_head, reply};
+ghost use Rattle.std.specs.Prelude.{◌≡◌, [], IfOk, option_map, unwrap_or, string_bytes};
+ghost use Rattle.http.specs.StatusCode.{reason_phrase};
+ghost use Rattle.httpedge.specs.ReplyBytes.{phrase_of, allow_field, reply};
 
 use http::StatusCode;
 use std::alloc::{AllocError, Global};
 
-/// The phrase of a status code (RFC 9110, section 15).
+fn standard_phrase(status: StatusCode) -> &'static str
+    ensures { result.now ≡ unwrap_or (reason_phrase status) [] }
+{
+    status.canonical_reason().unwrap_or("")
+}
+
+/// The phrase of a status code (RFC 9110, section 15), empty for a number that is none.
 fn phrase_of(code: u16) -> &'static str
-    requires { IsStatusCode code }
-    ensures { result.now ≡ unwrap_or (reason_phrase code) [] }
+    ensures { result.now ≡ phrase_of code }
 {
     match StatusCode::from_u16(code) {
-        Ok(status) => status.canonical_reason().unwrap_or(""),
+        Ok(status) => standard_phrase(status),
         Err(_) => "",
     }
 }
@@ -35,7 +40,6 @@ pub fn reply_bytes(
     allow: Option<&str>,
     body: &str,
 ) -> Result<Vec<u8>, AllocError>
-    requires { IsStatusCode code }
     ensures { IfOk result (λ v. v.items ≡ reply code (option_map (λ m. m.now) allow.entry) body.now) }
 {
     let phrase = phrase_of(code);

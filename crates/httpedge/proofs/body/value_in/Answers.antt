@@ -1,7 +1,5 @@
 use Rattle.std.proofs.Common.{ap, sym}
 use Rattle.serde_json.specs.View.{view}
-use Rattle.serde_json.specs.declared.error.Error.{Error}
-use Rattle.serde_json.specs.declared.error.Code.TheVariants.{OutOfMemory}
 use Rattle.httpedge.specs.Bodies.{some_or_refused}
 use Rattle.httpedge.proofs.Numbers.{value_read, value_unread, isnt}
 use Rattle.httpedge.proofs.body.value_in.Goals as goal

@@ -1,5 +1,4 @@
 use Rattle.std.proofs.Common.{Ok, Err, subst, length}
-use Rattle.httparse.specs.declared.Error.{Error}
 use Rattle.httparse.specs.declared.Status.{Status}
 use Rattle.httparse.specs.declared.Status.TheVariants.{Complete}
 use Rattle.httparse.specs.declared.spans.RequestSpans.{RequestSpans}
