@@ -1,0 +1,5 @@
+pub mod Cuts
+pub mod Heading
+pub mod Numbers
+pub mod Targets
+pub mod Whole

@@ -1,0 +1,5 @@
+pub mod Refusals
+pub mod Heads
+pub mod Bodies
+pub mod ReplyBytes
+pub mod Views
