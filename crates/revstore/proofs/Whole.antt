@@ -1,16 +1,16 @@
 -- Calls on a view answer as calls on its history.
 use Rattle.std.proofs.Common.{◌≡◌, ℕ, suc, ◌<◌, ◌≤◌, ◌-◌, ◌==◌, Bool, true, false, cond, List, [], ◌∷◌, refl, sym, ap, ap₂, ◌∙◌, Option, Some, None, arith}
-use Rattle.std.proofs.Common.{ltb-true, ltb-false, leb-true, leb-false}
+use Rattle.std.proofs.Common.{ltb-false, leb-false}
 use Rattle.std.proofs.lemmas.Bool.{eqb-false}
 use Rattle.std.specs.Prelude.{nat_lt, nat_le}
 use Rattle.std.specs.FinMap as fin
-use Rattle.revtable.specs.History.{Key, Change, History, IsHistory, Objects, compacted_to, last_revision, later, state_at, written}
+use Rattle.revtable.specs.History.{Key, History, IsHistory, compacted_to, last_revision, later, state_at, written}
 use Rattle.revtable.specs.Page.{changes_within, page}
-use Rattle.revtable.specs.View.{View, compacted_in, state_in, view, written_in}
+use Rattle.revtable.specs.View.{compacted_in, state_in, view, written_in}
 use Rattle.revtable.proofs.Revisions.{later-later, rising-push}
 use Rattle.revtable.proofs.Seen.{view_compacts, view_writes}
 use Rattle.revtable.proofs.Views.{view_states}
-use Rattle.revstore.specs.Runs.{Asked, to_put, to_delete, to_compact, to_get, to_list, to_change, to_look_before, Told, is_written, is_exhausted, is_absent, is_compacted, is_expired, is_too_large, is_found, is_listed, is_changed, if_free, answered, next, answers, after_all, answered_in, next_in, answers_in, after_all_in}
+use Rattle.revstore.specs.Runs.{Asked, to_put, to_delete, to_compact, to_get, to_list, to_change, to_look_before, is_written, is_exhausted, is_absent, is_expired, is_too_large, is_found, is_listed, is_changed, if_free, answered, next, answers, after_all, answered_in, next_in, answers_in, after_all_in}
 
 at_current : (h : History) → IsHistory h → state_in (view h) h.current ≡ state_at h.changes h.current
 at_current h is = view_states h h.current is is.low

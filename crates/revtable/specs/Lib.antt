@@ -1,6 +1,7 @@
 pub mod Asked
 pub mod Codes
 pub mod Decoded
+pub mod Faults
 pub mod History
 pub mod Kept
 pub mod Page

@@ -4,12 +4,12 @@ use Rattle.std.specs.Prelude.{IfOk, OnOk}
 use Rattle.wireclient.specs.Reads.{Judged, JudgedWhereEnded, Steps}
 use Rattle.wireclient.specs.Reply.{Judgement, State, heading, Place, place_after, Told, Next, fails, begun, headed, max_head}
 
-judged_so : (t : Bool) (bytes : List ℕ) (o : Option Place) (j : Judgement) → Judged bytes j → JudgedWhereEnded t bytes o j
+pub judged_so : (t : Bool) (bytes : List ℕ) (o : Option Place) (j : Judgement) → Judged bytes j → JudgedWhereEnded t bytes o j
 judged_so true bytes o j h = tt
 judged_so false bytes (Some p) j h = tt
 judged_so false bytes None j h = h
 
-next_so : (t : Bool) (bytes : List ℕ) (o : Option Place) (j : Judgement) → t ≡ false → o ≡ None → cond t fails (headed j bytes o) ≡ begun j
+pub next_so : (t : Bool) (bytes : List ℕ) (o : Option Place) (j : Judgement) → t ≡ false → o ≡ None → cond t fails (headed j bytes o) ≡ begun j
 next_so true bytes o j t-is o-is = absurd cc
 next_so false bytes (Some p) j t-is o-is = absurd cc
 next_so false bytes None j t-is o-is = refl

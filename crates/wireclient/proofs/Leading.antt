@@ -15,7 +15,7 @@ leads_append s m t (x ∷ xs) ys is ks h k = (
   ap (λ (told : List Told). told ++ ks) h.4 ∙ append_assoc (step h.0 s x).1 h.1 ks,
 )
 
-one_byte : (s t : State) (b : ℕ) (j : Judgement) → JudgedAt s b j → t ≡ (step j s b).0 → Leads s (b ∷ []) t (step j s b).1
+pub one_byte : (s t : State) (b : ℕ) (j : Judgement) → JudgedAt s b j → t ≡ (step j s b).0 → Leads s (b ∷ []) t (step j s b).1
 one_byte s t b j judged is = (j, [], judged, (is, refl), sym (append-nil (step j s b).1))
 
 pub leads_more : (s m t : State) (piece : List ℕ) (i b d : ℕ) (old new : List Told) → i < length piece → b ≡ get_or piece i d → Leads s (take i piece) m old → Steps m b t old new → Leads s (take (i + 1) piece) t new

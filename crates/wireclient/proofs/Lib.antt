@@ -1,4 +1,7 @@
+mod Determined
 pub mod Heads
 mod Judging
 pub mod Leading
+mod Printed
+mod ReadBack
 pub mod Requests

@@ -8,11 +8,13 @@
 
 mod head;
 mod item;
+mod laws;
 mod reader;
 mod request;
 mod state;
 
 pub use item::Item;
+pub use laws::{one_reading, reply_reads_back};
 pub use reader::{ReadFault, ReplyReader};
 pub use request::request_bytes;
 

@@ -1,0 +1,53 @@
+-- The items are a function of the bytes.
+use Rattle.std.proofs.Common.{◌≡◌, ℕ, Bool, true, false, cond, leb, List, [], ◌∷◌, ◌++◌, length, map, Option, Some, None, refl, sym, ap, ap₂, subst, ◌∙◌}
+use Rattle.httparse.specs.Grammar.{ResponseHead, status_code}
+use Rattle.httparse.specs.Spans.{name_and_value}
+use Rattle.httparse.proofs.GrammarLemmas.{response_unique}
+use Rattle.wireclient.specs.Reads.{Judged, JudgedWhereEnded, JudgedAt, Leads, Stands, framing_of, start}
+use Rattle.wireclient.specs.Reply.{Framing, Judgement, Told, Place, State, heading, body, size, size_lf, data_in, data_cr, data_lf, last_cr, last_lf, ended, broken, place_after, max_head, Next, fails, headed, step}
+
+framed_alike : (h k : ResponseHead) → h ≡ k → framing_of (map name_and_value h.fields) ≡ framing_of (map name_and_value k.fields)
+framed_alike h k same = ap (λ (m : ResponseHead). framing_of (map name_and_value m.fields)) same
+
+judged_once : (bytes : List ℕ) (j k : Judgement) → Judged bytes j → Judged bytes k → j ≡ k
+judged_once bytes None None a b = refl
+judged_once bytes None (Some (status, framing)) a b = absurd (let not = a b.0 b.1 b.2 in let is = b.4 in cc)
+judged_once bytes (Some (status, framing)) None a b = absurd (let not = b a.0 a.1 a.2 in let is = a.4 in cc)
+judged_once bytes (Some (s, f)) (Some (t, g)) a b =
+    let same : a.0 ≡ b.0 = (response_unique bytes a.0 b.0 [] [] a.1 b.1).0 in
+    let status : s ≡ t = a.3 ∙ ap status_code same ∙ sym b.3 in
+    let framing : ◌≡◌ {A = Option Framing} (Some f) (Some g) = sym a.4 ∙ framed_alike a.0 b.0 same ∙ b.4 in
+    let framed : f ≡ g = cc in
+    ap₂ (λ (n : ℕ) (m : Framing). Some (n, m)) status framed
+
+headed_once : (t : Bool) (bytes : List ℕ) (o : Option Place) (j k : Judgement) → JudgedWhereEnded t bytes o j → JudgedWhereEnded t bytes o k
+    → cond t fails (headed j bytes o) ≡ cond t fails (headed k bytes o)
+headed_once true bytes o j k a b = refl
+headed_once false bytes (Some p) j k a b = refl
+headed_once false bytes None j k a b = ap (λ (m : Judgement). headed m bytes None) (judged_once bytes j k a b)
+
+stepped_once : (s : State) (b : ℕ) (j k : Judgement) → JudgedAt s b j → JudgedAt s b k → step j s b ≡ step k s b
+stepped_once (heading bytes p) b j k x y = headed_once (leb max_head (length bytes)) (bytes ++ b ∷ []) (place_after p b) j k x y
+stepped_once (body left bytes) b j k x y = refl
+stepped_once (size count value text) b j k x y = refl
+stepped_once (size_lf value text) b j k x y = refl
+stepped_once (data_in left text) b j k x y = refl
+stepped_once (data_cr text) b j k x y = refl
+stepped_once (data_lf text) b j k x y = refl
+stepped_once (last_cr text) b j k x y = refl
+stepped_once (last_lf text) b j k x y = refl
+stepped_once ended b j k x y = refl
+stepped_once broken b j k x y = refl
+
+leads_once : (s t u : State) (bytes : List ℕ) (items others : List Told) → Leads s bytes t items → Leads s bytes u others → (items ≡ others) × (t ≡ u)
+leads_once s t u [] items others a b = (a.1 ∙ sym b.1, a.0 ∙ sym b.0)
+leads_once s t u (x ∷ bytes) items others a b =
+    let next : step b.0 s x ≡ step a.0 s x = stepped_once s x b.0 a.0 b.2 a.2 in
+    let rest : Leads (step a.0 s x).0 bytes u b.1 = subst (λ (n : Next). Leads n.0 bytes u b.1) next b.3 in
+    let after = leads_once (step a.0 s x).0 t u bytes a.1 b.1 a.3 rest in
+    (a.4 ∙ ap₂ (λ (n : Next) (more : List Told). n.1 ++ more) (sym next) after.0 ∙ sym b.4, after.1)
+
+pub stands_once : (one other : Option State) (bytes : List ℕ) (items others : List Told) → Stands one bytes items → Stands other bytes others → (items ≡ others) × (one ≡ other)
+stands_once one other bytes items others a b =
+    let same = leads_once start a.0 b.0 bytes items others a.2 b.2 in
+    (same.0, a.1 ∙ ap (λ (s : State). Some s) same.1 ∙ sym b.1)

@@ -1,0 +1,161 @@
+-- A printed reply is read as its status, its body and the end.
+use Rattle.std.proofs.Common.{arith, ◌≡◌, ℕ, ◌+◌, ◌-◌, ◌*◌, ◌≤◌, ◌<◌, ◌^◌, Bool, true, false, cond, leb, List, [], ◌∷◌, ◌++◌, length, map, Option, Some, None, refl, sym, ap, ap₂, subst, ◌∙◌, append_assoc, append-nil}
+use Rattle.std.proofs.lemmas.Bool.{lt-leb, le-leb, ne_eqb}
+use Rattle.std.proofs.lemmas.Fmt.{decimal_is_IsNumeral}
+use Rattle.std.proofs.lemmas.List.{length-append}
+use Rattle.std.proofs.lemmas.Str.Parse.{digit_from_value}
+use Rattle.std.proofs.lemmas.Str.{digit_value_digit}
+use Rattle.std.specs.Prelude.{◌&&◌, ◌==◌, if◌then◌else◌}
+use Rattle.std.specs.Char.{digit_value, is_ascii_digit}
+use Rattle.std.specs.Fmt.{decimal}
+use Rattle.std.specs.Str.Parse.{AllDigits, digits_value_after}
+use Rattle.httparse.specs.Grammar.{ResponseHead, IsResponseHead, print_response, status_code}
+use Rattle.httparse.specs.Spans.{name_and_value}
+use Rattle.wireclient.specs.Reads.{Judged, JudgedWhereEnded, Leads, Stands, framing_of, length_after, length_in, max_body, max_fields, start}
+use Rattle.wireclient.specs.Reply.{by_length, Judgement, Told, head, whole, end, Place, leading, heading, body, ended, place_after, max_head, Next, fails, goes_to, begun, headed, step}
+use Rattle.wireclient.proofs.Leading.{leads_append, one_byte}
+use Rattle.wireclient.proofs.Heads.{judged_so, next_so}
+use Rattle.wireclient.proofs.Printed.{Goes, EndsAtLast, head_ends}
+
+-- ---- a byte that doesn't end the head
+
+unjudged : (t : Bool) (bytes : List ℕ) (o : Option Place) (m : Place) → o ≡ Some m → JudgedWhereEnded t bytes o None
+unjudged true bytes o m is = tt
+unjudged false bytes (Some p) m is = tt
+unjudged false bytes None m is = absurd cc
+
+goes_on : (t : Bool) (bytes : List ℕ) (o : Option Place) (m : Place) → t ≡ false → o ≡ Some m → cond t fails (headed None bytes o) ≡ goes_to (heading bytes m)
+goes_on true bytes o m t-is o-is = absurd cc
+goes_on false bytes (Some p) m t-is o-is = let same : p ≡ m = cc in ap (λ (q : Place). goes_to (heading bytes q)) same
+goes_on false bytes None m t-is o-is = absurd cc
+
+walked : (seen : List ℕ) (p q : Place) (bytes : List ℕ) → length seen + length bytes ≤ max_head → Goes p bytes q → Leads (heading seen p) bytes (heading (seen ++ bytes) q) []
+walked seen p q [] fits goes = (ap₂ (λ (xs : List ℕ) (r : Place). heading xs r) (append-nil seen) (sym goes), refl)
+walked seen p q (b ∷ bytes) fits goes =
+    let long = length-append seen (b ∷ []) in
+    let next : step None (heading seen p) b ≡ goes_to (heading (seen ++ b ∷ []) goes.0) =
+    goes_on (leb max_head (length seen)) (seen ++ b ∷ []) (place_after p b) goes.0 (lt-leb _ _ (omega (arith, fits))) goes.1 in
+    let rest = walked (seen ++ b ∷ []) goes.0 q bytes (omega (arith, long, fits)) goes.2 in
+    let same : Leads (heading (seen ++ b ∷ []) goes.0) bytes (heading (seen ++ b ∷ bytes) q) [] = subst (λ (xs : List ℕ). Leads (heading (seen ++ b ∷ []) goes.0) bytes (heading xs q) []) (append_assoc seen (b ∷ []) bytes) rest in (
+      None,
+      [],
+      unjudged (leb max_head (length seen)) (seen ++ b ∷ []) (place_after p b) goes.0 goes.1,
+      subst (λ (n : Next). Leads n.0 bytes (heading (seen ++ b ∷ bytes) q) []) (sym next) same,
+      sym (ap (λ (n : Next). n.1 ++ []) next),
+    )
+
+-- ---- the byte that ends it
+
+head_read : (seen : List ℕ) (p : Place) (j : Judgement) → length seen < max_head → place_after p 10 ≡ None → Judged (seen ++ 10 ∷ []) j → Leads (heading seen p) (10 ∷ []) (begun j).0 (begun j).1
+head_read seen p j fits ends judged =
+    let next : step j (heading seen p) 10 ≡ begun j = next_so (leb max_head (length seen)) (seen ++ 10 ∷ []) (place_after p 10) j (lt-leb _ _ fits) ends in
+    subst (λ (n : Next). Leads (heading seen p) (10 ∷ []) n.0 n.1) next
+    (one_byte (heading seen p) (step j (heading seen p) 10).0 10 j (judged_so (leb max_head (length seen)) (seen ++ 10 ∷ []) (place_after p 10) j judged) refl)
+
+whole_head_read : (bytes : List ℕ) (j : Judgement) → length bytes ≤ max_head → EndsAtLast bytes → Judged bytes j → Leads start bytes (begun j).0 (begun j).1
+whole_head_read bytes j fits e judged =
+    let long : length bytes ≡ length e.seen + 1 = ap (λ (xs : List ℕ). length xs) e.is ∙ length-append e.seen (10 ∷ []) in
+    let before : Leads start e.seen (heading e.seen e.place) [] = walked [] leading e.place e.seen (omega (arith, long, fits)) e.goes in
+    let last : Leads (heading e.seen e.place) (10 ∷ []) (begun j).0 (begun j).1 = head_read e.seen e.place j (omega (arith, long, fits)) e.ends (subst (λ (xs : List ℕ). Judged xs j) e.is judged) in
+    subst (λ (xs : List ℕ). Leads start xs (begun j).0 (begun j).1) (sym e.is)
+    (leads_append start (heading e.seen e.place) (begun j).0 e.seen (10 ∷ []) [] (begun j).1 before last)
+
+-- ---- the body
+
+last_of_body : (t : Bool) (bytes : List ℕ) (left : ℕ) → t ≡ true → cond t (ended, whole bytes ∷ end ∷ []) (goes_to (body left bytes)) ≡ (ended, whole bytes ∷ end ∷ [])
+last_of_body true bytes left is = refl
+last_of_body false bytes left is = absurd cc
+
+more_of_body : (t : Bool) (bytes : List ℕ) (left : ℕ) → t ≡ false → cond t (ended, whole bytes ∷ end ∷ []) (goes_to (body left bytes)) ≡ goes_to (body left bytes)
+more_of_body true bytes left is = absurd cc
+more_of_body false bytes left is = refl
+
+body_read : (left : ℕ) (seen : List ℕ) (b : ℕ) (bytes : List ℕ) → left ≡ length bytes + 1 → Leads (body left seen) (b ∷ bytes) ended (whole (seen ++ b ∷ bytes) ∷ end ∷ [])
+body_read left seen b [] is =
+    let next = last_of_body (leb left 1) (seen ++ b ∷ []) (left - 1) (le-leb _ _ (omega (arith, is))) in (
+      None,
+      [],
+      tt,
+      (sym (ap (λ (n : Next). n.0) next), refl),
+      sym (ap (λ (n : Next). n.1 ++ []) next),
+    )
+body_read left seen b (c ∷ bytes) is =
+    let next = more_of_body (leb left 1) (seen ++ b ∷ []) (left - 1) (lt-leb _ _ (omega (arith, is))) in
+    let rest = body_read (left - 1) (seen ++ b ∷ []) c bytes (omega (arith, is)) in
+    let told : List Told = whole (seen ++ b ∷ c ∷ bytes) ∷ end ∷ [] in
+    let same : Leads (body (left - 1) (seen ++ b ∷ [])) (c ∷ bytes) ended (whole (seen ++ b ∷ c ∷ bytes) ∷ end ∷ []) =
+    subst (λ (xs : List ℕ). Leads (body (left - 1) (seen ++ b ∷ [])) (c ∷ bytes) ended (whole xs ∷ end ∷ [])) (append_assoc seen (b ∷ []) (c ∷ bytes)) rest in (
+      None,
+      whole (seen ++ b ∷ c ∷ bytes) ∷ end ∷ [],
+      tt,
+      subst (λ (n : Next). Leads n.0 (c ∷ bytes) ended (whole (seen ++ b ∷ c ∷ bytes) ∷ end ∷ [])) (sym next) same,
+      sym (ap (λ (n : Next). n.1 ++ whole (seen ++ b ∷ c ∷ bytes) ∷ end ∷ []) next),
+    )
+
+-- ---- both
+
+body_begins : (status n : ℕ) → 0 < n → begun (Some (status, by_length n)) ≡ (body n [], head status ∷ [])
+body_begins status n some = go (n == 0) (ne_eqb n 0 (λ e. absurd (omega (arith, e, some))))
+  where
+    go : (t : Bool) → t ≡ false → ◌≡◌ {A = Next} (cond t (ended, head status ∷ whole [] ∷ end ∷ []) (body n [], head status ∷ [])) (body n [], head status ∷ [])
+    go true is = absurd cc
+    go false is = refl
+
+pub reply_read : (h : ResponseHead) (bytes : List ℕ) → IsResponseHead h → length (print_response h) ≤ max_head → length h.fields ≤ max_fields
+    → framing_of (map name_and_value h.fields) ≡ Some (by_length (length bytes))
+    → Stands (Some ended) (print_response h ++ bytes) (head (status_code h) ∷ whole bytes ∷ end ∷ [])
+reply_read h bytes is fits few framed =
+    let j : Judgement = Some (status_code h, by_length (length bytes)) in
+    let judged : Judged (print_response h) (Some (status_code h, by_length (length bytes))) = (h, (is, sym (append-nil (print_response h))), few, refl, framed) in
+    let first = whole_head_read (print_response h) (Some (status_code h, by_length (length bytes))) fits (head_ends h is) judged in
+    (ended, refl, after bytes first)
+  where
+    after : (bytes : List ℕ) → Leads start (print_response h) (begun (Some (status_code h, by_length (length bytes)))).0 (begun (Some (status_code h, by_length (length bytes)))).1
+        → Leads start (print_response h ++ bytes) ended (head (status_code h) ∷ whole bytes ∷ end ∷ [])
+    after [] first = subst (λ (xs : List ℕ). Leads start xs ended (head (status_code h) ∷ whole [] ∷ end ∷ [])) (sym (append-nil (print_response h))) first
+    after (b ∷ bytes) first =
+        leads_append start (body (length (b ∷ bytes)) []) ended (print_response h) (b ∷ bytes) (head (status_code h) ∷ []) (whole (b ∷ bytes) ∷ end ∷ [])
+        (subst (λ (n : Next). Leads start (print_response h) n.0 n.1) (body_begins (status_code h) (length (b ∷ bytes)) (omega arith)) first)
+        (body_read (length (b ∷ bytes)) [] b bytes (omega arith))
+
+-- ---- a printed length
+
+grows : (n : ℕ) (digits : List ℕ) → n ≤ digits_value_after 10 n digits
+grows n [] = omega arith
+grows n (b ∷ digits) = let more = grows (n * 10 + digit_value b) digits in omega (arith, more)
+
+in_digits : (b : ℕ) → 48 ≤ b → b ≤ 57 → is_ascii_digit b ≡ true
+in_digits b low high = go (leb 48 b) (leb b 57) (le-leb _ _ low) (le-leb _ _ high)
+  where
+    go : (s t : Bool) → s ≡ true → t ≡ true → (s && t) ≡ true
+    go true true s-is t-is = refl
+    go true false s-is t-is = absurd cc
+    go false t s-is t-is = absurd cc
+
+digit_reads : (s t : Bool) (n : ℕ) (digits : List ℕ) → s ≡ true → t ≡ true → (if s && t then length_after n digits else None) ≡ length_after n digits
+digit_reads true true n digits s-is t-is = refl
+digit_reads true false n digits s-is t-is = absurd cc
+digit_reads false t n digits s-is t-is = absurd cc
+
+digits_read : (n : ℕ) (digits : List ℕ) → AllDigits 10 digits → digits_value_after 10 n digits ≤ max_body → length_after n digits ≡ Some (by_length (digits_value_after 10 n digits))
+digits_read n [] all fits = refl
+digits_read n (b ∷ digits) all fits =
+    let range = digit_from_value b all.0 in
+    let value : digit_value b + 48 ≡ b = digit_value_digit b range in
+    let same : n * 10 + (b - 48) ≡ n * 10 + digit_value b = omega (arith, value) in
+    let more = grows (n * 10 + digit_value b) digits in
+    digit_reads (is_ascii_digit b) (leb (n * 10 + (b - 48)) max_body) (n * 10 + (b - 48)) digits (in_digits b range.0 range.1) (le-leb _ _ (omega (arith, same, more, fits)))
+    ∙ ap (λ (m : ℕ). length_after m digits) same
+    ∙ digits_read (n * 10 + digit_value b) digits all.1 fits
+
+some_digits : (digits : List ℕ) → 0 < length digits → length_in digits ≡ length_after 0 digits
+some_digits [] some = absurd (omega (arith, some))
+some_digits (b ∷ digits) some = refl
+
+pub length_reads : (n : ℕ) → n ≤ max_body → length_in (decimal n) ≡ Some (by_length n)
+length_reads n fits =
+    let wide : n < 2 ^ 64 = omega (arith, fits) in
+    let printed = decimal_is_IsNumeral n wide in
+    some_digits (decimal n) printed.0.0
+    ∙ digits_read 0 (decimal n) printed.0.1 (subst (λ (m : ℕ). m ≤ max_body) (sym printed.1) fits)
+    ∙ ap (λ (m : ℕ). Some (by_length m)) printed.1
