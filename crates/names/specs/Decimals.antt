@@ -1,5 +1,5 @@
 -- Whole numbers as texts, and versions (Kubernetes documentation, "Kubernetes API Concepts", "Resource versions").
-use Rattle.std.specs.Prelude.{ℕ, Bool, false, ◌&&◌, ◌==◌, if◌then◌else◌, nat_le, List, length, slice_get, Option, Some, None}
+use Rattle.std.specs.Prelude.{◌≡◌, ◌≤◌, ℕ, Bool, false, ◌&&◌, ◌==◌, if◌then◌else◌, nat_le, List, length, slice_get, Option, Some, None, decimal}
 use Rattle.std.specs.List.{list_all}
 use Rattle.std.specs.Char.{is_ascii_digit}
 use Rattle.std.specs.Str.Parse.{digits_value}
@@ -15,6 +15,10 @@ is_decimal text = is_decimal_from (slice_get text 0) text
 -- the number that a decimal writes, where it is at most max
 abbrev pub decimal_up_to : ℕ → List ℕ → Option ℕ
 decimal_up_to max text = if is_decimal text && nat_le (digits_value 10 text) max then Some (digits_value 10 text) else None
+
+-- the text is the decimal of a number, which is at most max
+abbrev pub IsDecimalOf : ℕ → List ℕ → ℕ → Type 0
+IsDecimalOf max text n = (n ≤ max) × (text ≡ decimal n)
 
 -- versions fit signed integers of 64 bits
 abbrev pub version_of : List ℕ → Option ℕ

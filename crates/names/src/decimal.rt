@@ -1,10 +1,10 @@
 //! Whole numbers as texts, and versions (Kubernetes documentation, "Kubernetes API Concepts", "Resource
 //! versions").
 
-ghost use Rattle.std.specs.Prelude.{◌≡◌};
+ghost use Rattle.std.specs.Prelude.{◌≡◌, ◌↔◌, ℕ};
 ghost use Rattle.std.specs.Char.{is_ascii_digit};
 ghost use Rattle.std.specs.List.{list_all};
-ghost use Rattle.names.specs.Decimals.{is_decimal, decimal_up_to, version_of};
+ghost use Rattle.names.specs.Decimals.{IsDecimalOf, is_decimal, decimal_up_to, version_of};
 
 /// The greatest version, also that of any 64-bit signed integer.
 const MAX_VERSION: u64 = 9223372036854775807;
@@ -40,7 +40,8 @@ pub fn decimal_up_to(max: u64, text: &str) -> Option<u64>
 
 /// The version that a text is: a decimal without leading zeros, at most 9223372036854775807.
 pub fn version_of(text: &str) -> Option<u64>
-    ensures { result ≡ version_of text.now }
+    ensures value { result ≡ version_of text.now }
+    ensures exact { (n : ℕ) → (result ≡ Some n) ↔ IsDecimalOf MAX_VERSION text.now n }
 {
     decimal_up_to(MAX_VERSION, text)
 }
