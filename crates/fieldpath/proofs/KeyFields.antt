@@ -120,7 +120,8 @@ from_first : (e : Entry) (es : List Entry) → AllByRecursion (λ y. string_cmp 
 from_first e [] above h = refl
 from_first e (x ∷ es) above h = ap₂ (λ a b. a && b) (ap is_lt above.0) h
 
-ascend_keys : (es : List Entry) → IsStrictlySortedBy string_cmp (keys_of es) → ascend (map (λ e. string_bytes e.0) es) ≡ true
+-- the names of a map ascend
+pub ascend_keys : (es : List Entry) → IsStrictlySortedBy string_cmp (keys_of es) → ascend (map (λ e. string_bytes e.0) es) ≡ true
 ascend_keys [] sorted = refl
 ascend_keys (e ∷ es) sorted = from_first e es (sorted_head string_cmp e.0 (keys_of es) sorted) (ascend_keys es (sorted_tail string_cmp e.0 (keys_of es) sorted))
 

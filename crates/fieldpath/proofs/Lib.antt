@@ -3,3 +3,4 @@ pub mod Ascending
 pub mod Texts
 pub mod KeyFields
 pub mod Shown
+pub mod Spelled

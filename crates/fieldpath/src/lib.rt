@@ -6,6 +6,7 @@
 #![tactic(auto)]
 
 mod elem;
+mod json_law;
 mod keys;
 mod path;
 mod scalar;
@@ -13,6 +14,7 @@ mod scalar;
 mod tests;
 
 pub use elem::{Elem, ElemFault};
+pub use json_law::{compact_texts_read_back, readings_are_spelled};
 pub use keys::{Keys, KeysFault};
 pub use path::Path;
 pub use scalar::Scalar;

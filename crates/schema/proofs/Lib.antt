@@ -1,4 +1,5 @@
-pub mod Ascending
+pub mod Items
+pub mod Depths
 pub mod Lists
 pub mod Placing
 pub mod Reading

@@ -31,7 +31,7 @@ found_or of Less d rest = refl
 found_or of Equal d rest = refl
 found_or of Greater d rest = refl
 
-at_name : {X : Type 0} (of : Option Data → X) (k l : List ℕ) (d : Data) (ms : Members) → of (get_member k (member l d ms)) ≡ cond (bytes_eq k l) (of (Some d)) (of (get_member k ms))
+pub at_name : {X : Type 0} (of : Option Data → X) (k l : List ℕ) (d : Data) (ms : Members) → of (get_member k (member l d ms)) ≡ cond (bytes_eq k l) (of (Some d)) (of (get_member k ms))
 at_name of k l d ms = found_or of (slice_cmp nat_cmp k l) d (get_member k ms) ∙ ap (λ b. cond b (of (Some d)) (of (get_member k ms))) (is_eq-slice_cmp k l)
 
 pub schema_at-is : (k : List ℕ) (depth : ℕ) (ms : Members) → schema_at k depth ms ≡ schema_or depth (get_member k ms)

@@ -1,7 +1,9 @@
 -- A schema, level by level, and its fields one by one.
 use Rattle.std.proofs.Common.{◌≡◌, ℕ, ◌+◌, ◌<◌, Bool, List, [], ◌∷◌, map, length, drop, get_or, drop-cons, add-one, String, Vec, Box, Global, string_bytes, suc, refl, sym, ap, ◌∙◌, rules}
-use Rattle.schema.specs.Shape.{shape, struct_of, map_of, field, fields_in}
+use Rattle.schema.specs.Shape.{shape, struct_of, map_of, list_of, kind_of, field, fields_in}
 use Rattle.schema.specs.Lawful.{names_of}
+use Rattle.schema.specs.declared.schema.ListKind.{ListKind}
+use Rattle.schema.specs.declared.schema.Schema as made
 use Rattle.schema.specs.declared.schema.Schema.{Schema, Struct, MapOf, the_lemmas}
 
 pub shape-Struct : (v : Vec (String Global × Schema) Global) (b : Bool) → shape (Struct v b) ≡ struct_of (fields_in v.items) b
@@ -18,3 +20,6 @@ one_field fs i x lt is = rw add-one (ap fields_in (drop-cons fs i x lt) ∙ ap (
 
 pub shape-MapOf : (b : Box Schema Global) (a : Bool) → shape (MapOf b a) ≡ map_of (shape b.value) a
 shape-MapOf b a = search (rules, the_lemmas)
+
+pub shape-List : (b : Box Schema Global) (k : ListKind) → shape (made.List b k) ≡ list_of (shape b.value) (kind_of k)
+shape-List b k = search (rules, the_lemmas)

@@ -12,7 +12,7 @@ use Rattle.std.proofs.lemmas.Cmp.{nat_list_cmp_total}
 use Rattle.std.proofs.lemmas.List.{length-map}
 use Rattle.std.proofs.lemmas.List.Sorted.{list_any-IsPermutation, length_permutation, IsPermutation-map}
 use Rattle.schema.specs.Keywords.{name_set, different}
-use Rattle.schema.specs.Lawful.{ascend, ascend_from}
+use Rattle.fieldpath.specs.Scalars.{ascend, ascend_from}
 
 abbrev Name : Type 0
 Name = List ℕ

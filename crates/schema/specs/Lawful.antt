@@ -1,8 +1,7 @@
 -- Which shapes keep the rules of a types file.
 use Rattle.std.specs.Prelude.{ℕ, suc, max, nat_le, Bool, true, false, not, ◌&&◌, if◌then◌else◌, List, [], ◌∷◌, Option, Some, None}
 use Rattle.std.specs.List.{list_all}
-use Rattle.std.specs.Ordering.{nat_cmp, is_lt}
-use Rattle.std.specs.Cmp.Lexicographic.{slice_cmp}
+use Rattle.fieldpath.specs.Scalars.{ascend}
 use Rattle.schema.specs.Shape.{Kind, atomic, set, keyed, Shape, text, whole, truth, struct_of, map_of, list_of, Fields, no_fields, field, shape_at}
 
 abbrev pub max_depth : ℕ
@@ -19,15 +18,6 @@ is_scalar (list_of s kind) = false
 abbrev pub is_some_scalar : Option Shape → Bool
 is_some_scalar None = false
 is_some_scalar (Some s) = is_scalar s
-
--- each above the one before it
-abbrev pub ascend_from : List ℕ → List (List ℕ) → Bool
-ascend_from n [] = true
-ascend_from n (m ∷ ms) = is_lt (slice_cmp nat_cmp n m) && ascend_from m ms
-
-abbrev pub ascend : List (List ℕ) → Bool
-ascend [] = true
-ascend (n ∷ ns) = ascend_from n ns
 
 abbrev pub names_of : Fields → List (List ℕ)
 names_of no_fields = []
@@ -82,3 +72,11 @@ abbrev mutual
 -- a type's schema, or a part of one
 abbrev pub is_lawful : Shape → Bool
 is_lawful s = is_well_formed s && nat_le (depth_of s) (depth_limit s)
+
+abbrev pub is_granular_struct : Shape → Bool
+is_granular_struct (struct_of all is_atomic) = not is_atomic
+is_granular_struct _ = false
+
+-- a type's schema, and no mere part of one
+abbrev pub is_type_shape : Shape → Bool
+is_type_shape s = is_granular_struct s && is_lawful s

@@ -1,6 +1,7 @@
 pub mod Shape
 pub mod Place
 pub mod Lawful
+pub mod Depths
 pub mod Names
 pub mod Refusals
 pub mod Keywords

@@ -1,7 +1,8 @@
 //! Which schemas keep the rules of a types file.
 ghost use Rattle.std.specs.Prelude.{◌≡◌, map, string_bytes, nat_le};
+ghost use Rattle.fieldpath.specs.Scalars.{ascend};
 ghost use Rattle.schema.specs.Shape.{shape, fields_in, kind_of, shape_at};
-ghost use Rattle.schema.specs.Lawful.{max_depth, is_scalar, is_some_scalar, ascend, names_of, has_keys, item_is_lawful, depth_limit, depth_of, fields_depth, is_well_formed, are_well_formed, is_lawful};
+ghost use Rattle.schema.specs.Lawful.{max_depth, is_scalar, is_some_scalar, names_of, has_keys, item_is_lawful, depth_limit, depth_of, fields_depth, is_well_formed, are_well_formed, is_lawful};
 
 use crate::schema::{ListKind, Schema};
 

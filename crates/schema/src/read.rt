@@ -1,11 +1,12 @@
 //! Reads schemas.
-ghost use Rattle.std.specs.Prelude.{◌≡◌, ◌≤◌, codes};
+ghost use Rattle.std.specs.Prelude.{◌≡◌, ◌≤◌, ◌+◌, IfOk, codes};
 ghost use Rattle.serde_json.specs.View.{view, members_view};
 ghost use Rattle.schema.specs.Shape.{shape, fields_in};
 ghost use Rattle.schema.specs.Keywords.{has};
 ghost use Rattle.schema.specs.Forms.{object_form};
 ghost use Rattle.schema.specs.TypesFile.{shape_in, schema_at, properties_in, fields_at, shape_of_form};
 ghost use Rattle.schema.specs.Seen.{Gives};
+ghost use Rattle.schema.specs.Depths.{KeepsAt, AreFieldsAt};
 
 use crate::fault::TypesFault;
 use crate::forms::{Form, own_form};
@@ -22,7 +23,8 @@ fn schema_at(
     depth: usize,
 ) -> Result<Schema, TypesFault>
     requires { depth ≤ 16 }
-    ensures { Gives shape result (schema_at name.now depth (members_view schema.now.entries)) }
+    ensures read { Gives shape result (schema_at name.now depth (members_view schema.now.entries)) }
+    ensures kept { IfOk result (λ s. KeepsAt (depth + 1) (shape s)) }
 {
     match schema.get(name) {
         Some(value) => read_schema(alloc, value, depth + 1),
@@ -38,7 +40,8 @@ fn read_fields(
     depth: usize,
 ) -> Result<Vec<(String, Schema)>, TypesFault>
     requires { depth ≤ 16 }
-    ensures { Gives (λ v. fields_in v.items) result (fields_at depth (view value.now)) }
+    ensures read { Gives (λ v. fields_in v.items) result (fields_at depth (view value.now)) }
+    ensures kept { IfOk result (λ v. AreFieldsAt depth (fields_in v.items)) }
 {
     let Value::Object(properties) = value else {
         return Err(TypesFault::Misfit);
@@ -58,7 +61,8 @@ fn properties_in(
     depth: usize,
 ) -> Result<Vec<(String, Schema)>, TypesFault>
     requires { depth ≤ 16 }
-    ensures { Gives (λ v. fields_in v.items) result (properties_in depth (members_view schema.now.entries)) }
+    ensures read { Gives (λ v. fields_in v.items) result (properties_in depth (members_view schema.now.entries)) }
+    ensures kept { IfOk result (λ v. AreFieldsAt depth (fields_in v.items)) }
 {
     match schema.get("properties") {
         Some(value) => read_fields(alloc, value, depth),
@@ -74,8 +78,9 @@ fn read_object(
     is_atomic: bool,
 ) -> Result<Schema, TypesFault>
     requires { depth ≤ 16 }
-    ensures { let ms = members_view schema.now.entries in
+    ensures read { let ms = members_view schema.now.entries in
         Gives shape result (shape_of_form (has (codes "additionalProperties") ms) (schema_at (codes "additionalProperties") depth ms) (properties_in depth ms) (schema_at (codes "items") depth ms) (object_form is_atomic)) }
+    ensures kept { IfOk result (λ s. KeepsAt depth (shape s)) }
 {
     if has(schema, "additionalProperties") {
         let values = schema_at(alloc, schema, "additionalProperties", depth)?;
@@ -88,7 +93,8 @@ fn read_object(
 #[cycle(read)]
 pub(crate) fn read_schema(alloc: Global, value: &Value, depth: usize) -> Result<Schema, TypesFault>
     requires { depth ≤ 17 }
-    ensures { Gives shape result (shape_in depth (view value.now)) }
+    ensures read { Gives shape result (shape_in depth (view value.now)) }
+    ensures kept { IfOk result (λ s. KeepsAt depth (shape s)) }
 {
     let Value::Object(schema) = value else {
         return Err(TypesFault::Misfit);

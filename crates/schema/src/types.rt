@@ -1,4 +1,7 @@
-ghost use Rattle.std.specs.Prelude.{◌≤◌, vec_len};
+ghost use Rattle.std.specs.Prelude.{◌≡◌, ◌≤◌, true, vec_len};
+ghost use Rattle.std.specs.List.{list_all};
+ghost use Rattle.schema.specs.Lawful.{is_type_shape};
+ghost use Rattle.schema.specs.Shape.{shape};
 
 use crate::fault::TypesFault;
 use crate::file::{listed, read_types};
@@ -11,12 +14,15 @@ use std::alloc::Global;
 pub struct Types {
     all: Vec<Served>,
     ghost few: { vec_len all ≤ 4294967295 },
+    ghost lawful: { list_all (λ t. is_type_shape (shape t.schema)) all.items ≡ true },
 }
 
 impl Types {
-    ghost use Rattle.std.specs.Prelude.{◌≡◌, slice_get, option_map};
+    ghost use Rattle.std.specs.Prelude.{◌≡◌, true, slice_get, option_map, IfSome};
     ghost use Rattle.serde_json.specs.View.{view};
     ghost use Rattle.schema.specs.Served.{served, types_view};
+    ghost use Rattle.schema.specs.Lawful.{is_granular_struct, is_lawful};
+    ghost use Rattle.schema.specs.Shape.{shape};
     ghost use Rattle.schema.specs.Seen.{Gives};
     ghost use Rattle.schema.specs.TypesFile.{declared_types, type_number};
 
@@ -47,9 +53,11 @@ impl Types {
         None
     }
 
-    /// The type of this number.
+    /// The type of this number. Its schema is a granular struct that keeps the rules of a types file.
     pub fn get(&self, number: u32) -> Option<&Served>
-        ensures { option_map (λ s. served s.now) result ≡ slice_get (types_view self.now) number }
+        ensures found { option_map (λ s. served s.now) result ≡ slice_get (types_view self.now) number }
+        ensures lawful { IfSome result (λ s. is_lawful (shape s.now.schema) ≡ true) }
+        ensures granular { IfSome result (λ s. is_granular_struct (shape s.now.schema) ≡ true) }
     {
         self.all.get(number as usize)
     }

@@ -25,11 +25,11 @@ ok_is x y h = ap (ok_or x) h
 pub err_not_ok : {X : Type 0} (e : Fault) (y : X) → ◌≡◌ {A = Read X} (Err e) (Ok y) → ⊥
 err_not_ok e y h = cc
 
-below_ok : {X Y : Type 0} (s : List ℕ) (f : X → Y) (r : Read X) (y : Y) → below s f r ≡ Ok y → (x : X) × (r ≡ Ok x) × (y ≡ f x)
+pub below_ok : {X Y : Type 0} (s : List ℕ) (f : X → Y) (r : Read X) (y : Y) → below s f r ≡ Ok y → (x : X) × (r ≡ Ok x) × (y ≡ f x)
 below_ok s f (Ok x) y h = (x, refl, sym (ok_is (f x) y h))
 below_ok s f (Err e) y h = absurd (err_not_ok _ y h)
 
-and_then_ok : {X Y : Type 0} (r : Read X) (g : X → Read Y) (y : Y) → and_then r g ≡ Ok y → (x : X) × (r ≡ Ok x) × (g x ≡ Ok y)
+pub and_then_ok : {X Y : Type 0} (r : Read X) (g : X → Read Y) (y : Y) → and_then r g ≡ Ok y → (x : X) × (r ≡ Ok x) × (g x ≡ Ok y)
 and_then_ok (Ok x) g y h = (x, refl, h)
 and_then_ok (Err e) g y h = absurd (err_not_ok e y h)
 
@@ -38,7 +38,7 @@ joined_ok (Err e) b c h = absurd (err_not_ok e c h)
 joined_ok (Ok x) (Err e) c h = absurd (err_not_ok e c h)
 joined_ok (Ok x) (Ok y) c h = ((x, refl), (y, refl))
 
-either_ok : {X : Type 0} (P : Type 0) (b : Bool) (r s : Read X) (x : X) → cond b r s ≡ Ok x → (r ≡ Ok x → P) → (s ≡ Ok x → P) → P
+pub either_ok : {X : Type 0} (P : Type 0) (b : Bool) (r s : Read X) (x : X) → cond b r s ≡ Ok x → (r ≡ Ok x → P) → (s ≡ Ok x → P) → P
 either_ok P true r s x h f g = f h
 either_ok P false r s x h f g = g h
 

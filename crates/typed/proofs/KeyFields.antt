@@ -16,7 +16,7 @@ use Rattle.pathmap.specs.Contents.{Content, nothing}
 use Rattle.pathmap.specs.Insides.{inside}
 use Rattle.pathmap.proofs.Contents.{nothing-over}
 use Rattle.pathmap.proofs.Levels.{under-nothing}
-use Rattle.schema.specs.Lawful.{ascend, ascend_from}
+use Rattle.fieldpath.specs.Scalars.{ascend, ascend_from}
 use Rattle.schema.specs.Place.{fits_some, fit_keys}
 use Rattle.schema.specs.Shape.{Shape, Fields, no_fields, field, shape_at}
 use Rattle.typed.specs.Faults.{below}

@@ -13,4 +13,6 @@ pub mod Putting
 pub mod ElementTexts
 pub mod KeyFields
 pub mod RoundTrip
+pub mod PlainAgain
+pub mod Placing
 pub mod Places

@@ -26,7 +26,7 @@ pub same_ok : (x y : Content) → ◌≡◌ {A = Read Content} (Ok x) (Ok y) →
 same_ok x y h = ap (value_or x) h
 
 -- what stands below e alone
-abbrev StandsBelow : List ℕ → Content → Type 0
+abbrev pub StandsBelow : List ℕ → Content → Type 0
 StandsBelow e c = (fin.get c [] ≡ None) × ((g : List ℕ) (rest : PathTexts) → is_eq (slice_cmp nat_cmp g e) ≡ false → fin.get c (g ∷ rest) ≡ None)
 
 under_stands : (e : List ℕ) (x : Content) → StandsBelow e (under e x)
@@ -35,7 +35,7 @@ under_stands e x = (get-under-top e x, λ g rest h. get-under e x g rest ∙ ap 
 nothing_stands : (e : List ℕ) → StandsBelow e nothing
 nothing_stands e = (get-nothing [], λ g rest h. get-nothing (g ∷ rest))
 
-one_stands : (inner : List ℕ → Data → Read Content) (k : List ℕ) (d : Data) (a : Content) → one_member inner k d ≡ Ok a → StandsBelow (name_text k) a
+pub one_stands : (inner : List ℕ → Data → Read Content) (k : List ℕ) (d : Data) (a : Content) → one_member inner k d ≡ Ok a → StandsBelow (name_text k) a
 one_stands inner k d a h = by_null (is_null d) (inner k d) h
   where
     by_null : (b : Bool) (r : Read Content) → cond b (Ok nothing) (at_field k r) ≡ Ok a → StandsBelow (name_text k) a
@@ -69,7 +69,7 @@ gone Less r e h = (refl, h)
 gone Equal r e h = absurd (true≢false (ap is_some h))
 gone Greater r e h = (refl, h)
 
-split : (r s : Read Content) (c : Content) → joined r s ≡ Ok c → (a : Content) × (b : Content) × (r ≡ Ok a) × (s ≡ Ok b) × (over a b ≡ c)
+pub split : (r s : Read Content) (c : Content) → joined r s ≡ Ok c → (a : Content) × (b : Content) × (r ≡ Ok a) × (s ≡ Ok b) × (over a b ≡ c)
 split (Err e) s c h = absurd (true≢false (sym (ap is_ok h)))
 split (Ok a) (Err e) c h = absurd (true≢false (sym (ap is_ok h)))
 split (Ok a) (Ok b) c h = (a, b, refl, refl, same_ok (over a b) c h)

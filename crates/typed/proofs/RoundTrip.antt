@@ -18,7 +18,8 @@ use Rattle.pathmap.specs.Contents as standing
 use Rattle.pathmap.specs.Insides.{inside, heads}
 use Rattle.pathmap.proofs.Contents.{same, get-nothing, over-nothing}
 use Rattle.pathmap.proofs.Merging.{get-here-top}
-use Rattle.schema.specs.Lawful.{ascend, names_of, item_is_lawful, has_keys, is_some_name, is_well_formed, are_well_formed}
+use Rattle.fieldpath.specs.Scalars.{ascend}
+use Rattle.schema.specs.Lawful.{names_of, item_is_lawful, has_keys, is_some_name, is_well_formed, are_well_formed}
 use Rattle.schema.specs.Shape.{atomic, set, keyed, Shape, text, whole, truth, struct_of, map_of, list_of, Fields, no_fields, field}
 use Rattle.typed.specs.declared.fault.Cause.TheVariants.{WrongType, DuplicateItem, KeyFieldMissing}
 use Rattle.typed.specs.Faults.{Read, below, some_or, shown_place}
@@ -68,19 +69,19 @@ is_field-any (f ∷ all) g = ap (λ b. bytes_eq g (name_text f) || b) (is_field-
 
 -- ---- the field that is found at a name
 
-abbrev AllFound : Fields → Fields → Type 0
+abbrev pub AllFound : Fields → Fields → Type 0
 AllFound all no_fields = Unit {0}
 AllFound all (field f s more) = ((d : Data) → content_of_field all f d ≡ content_of s d) × AllFound all more
 
-one_so : (a b : Bool) → a ≡ true → (a || b) ≡ true
+pub one_so : (a b : Bool) → a ≡ true → (a || b) ≡ true
 one_so true b h = refl
 one_so false b h = absurd (true≢false (sym h))
 
-other_so : (a b : Bool) → b ≡ true → (a || b) ≡ true
+pub other_so : (a b : Bool) → b ≡ true → (a || b) ≡ true
 other_so true b h = refl
 other_so false b h = h
 
-all_found : (all fs : Fields) → AreRising (names_of fs) → ((k : List ℕ) (d : Data) → list_any (bytes_eq k) (names_of fs) ≡ true → content_of_field all k d ≡ content_of_field fs k d) → AllFound all fs
+pub all_found : (all fs : Fields) → AreRising (names_of fs) → ((k : List ℕ) (d : Data) → list_any (bytes_eq k) (names_of fs) ≡ true → content_of_field all k d ≡ content_of_field fs k d) → AllFound all fs
 all_found all no_fields rise same = tt
 all_found all (field f s more) rise same = (
   (λ d. same f d (one_so (bytes_eq f f) (list_any (bytes_eq f) (names_of more)) (itself f)) ∙ ap (λ b. cond b (content_of s d) (content_of_field more f d)) (itself f)),

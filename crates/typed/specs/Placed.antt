@@ -1,17 +1,18 @@
 -- Which contents a shape has, and what printing owes them.
 -- Server-Side Apply, "Merge strategy": the cases are those of `place_of`, each path with a value that fits its place.
-use Rattle.std.specs.Prelude.{◌≡◌, ℕ, ℤ, Bool, true, false, ◌⊎◌, List, [], ◌∷◌, Option, Some, None, is_some}
+use Rattle.std.specs.Prelude.{◌≡◌, ◌≤◌, ℕ, ℤ, Bool, true, false, ◌⊎◌, List, [], ◌∷◌, Option, Some, None, is_some}
 use Rattle.std.specs.declared.result.Result.TheVariants.{Ok}
 use Rattle.std.specs.FinMap as fin
 use Rattle.std.specs.List.{list_any}
 use Rattle.std.specs.Str.{bytes_eq}
-use Rattle.serde_json.specs.Data.{Data}
+use Rattle.serde_json.specs.Data.{Data, depth}
 use Rattle.serde_json.specs.Find.{as_i64, of_integer}
-use Rattle.serde_json.specs.Read.{read}
+use Rattle.serde_json.specs.Read.{read, max_depth}
 use Rattle.serde_json.specs.Written.{compact_text}
 use Rattle.fieldpath.specs.Elements.{Scalar, KeyFields, has_prefix, read_element, name_text}
 use Rattle.fieldpath.specs.Elements as element
 use Rattle.fieldpath.specs.Paths.{PathTexts}
+use Rattle.fieldpath.specs.Spelled.{IsSpelled}
 use Rattle.pathmap.specs.Contents.{Standing, Content, nothing, here}
 use Rattle.pathmap.specs.Contents as standing
 use Rattle.pathmap.specs.Insides.{inside}
@@ -76,3 +77,7 @@ RoundTrip = (s : Shape) (c : Content) → is_well_formed s ≡ true → IsPlaced
 -- each path of such a content has a place
 abbrev pub HavePlaces : Type 0
 HavePlaces = (s : Shape) (c : Content) → IsPlaced s c → (p : PathTexts) → is_some (fin.get c p) ≡ true → is_some (place_of s p) ≡ true
+
+-- what reading gives of a value that a JSON text spells is a content that the shape has
+abbrev pub ReadingsArePlaced : Type 0
+ReadingsArePlaced = (s : Shape) (d : Data) (c : Content) → is_well_formed s ≡ true → IsSpelled d → depth d ≤ max_depth → content_of s d ≡ Ok c → IsPlaced s c

@@ -1,6 +1,7 @@
 use Rattle.std.proofs.Common.{◌∙◌, sym, ap, ◌&&◌}
 use Rattle.schema.specs.Shape.{fields_in}
-use Rattle.schema.specs.Lawful.{are_well_formed, ascend, names_of}
+use Rattle.fieldpath.specs.Scalars.{ascend}
+use Rattle.schema.specs.Lawful.{are_well_formed, names_of}
 use Rattle.schema.proofs.Shapes.{shape-Struct}
 use Rattle.schema.proofs.+well_formed.Goals as goal
 

@@ -1,7 +1,7 @@
 use Rattle.std.proofs.Common.{◌≡◌, ◌==◌, string_bytes, map, length, Some, None, ap, sym, ◌∙◌, option_map, arith}
 use Rattle.serde_json.specs.View.{items_view, members_view}
 use Rattle.schema.specs.Keywords.{different}
-use Rattle.schema.specs.Lawful.{ascend}
+use Rattle.fieldpath.specs.Scalars.{ascend}
 use Rattle.schema.specs.Refusals.{misfit, some_or}
 use Rattle.schema.proofs.Texts.{key_names_by}
 use Rattle.schema.proofs.Sorting.{sorted_differ, none_differ, sorted_repeat}

@@ -2,8 +2,8 @@ use Rattle.std.proofs.Common.{◌≡◌, string_bytes, sym, ap, ◌∙◌, nat_c
 use Rattle.std.proofs.lemmas.List.Sorted.{answers_always}
 use Rattle.std.specs.Cmp.Lexicographic.{slice_cmp}
 use Rattle.std.specs.Ordering.{is_lt}
-use Rattle.schema.specs.Lawful.{ascend}
-use Rattle.schema.proofs.Ascending.{ascend_by_neighbours}
+use Rattle.fieldpath.specs.Scalars.{ascend}
+use Rattle.fieldpath.proofs.Ascending.{ascend_by_neighbours}
 use Rattle.schema.proofs.Shapes.{names_of-fields_in}
 use Rattle.schema.proofs.lawful.fields_ascend.Goals as goal
 

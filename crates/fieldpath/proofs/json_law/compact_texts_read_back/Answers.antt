@@ -1,0 +1,5 @@
+use Rattle.fieldpath.proofs.Spelled.{compact-read}
+use Rattle.fieldpath.proofs.json_law.compact_texts_read_back.Goals as goal
+
+pub returns : goal.returns
+returns c = compact-read

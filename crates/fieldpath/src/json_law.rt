@@ -1,0 +1,12 @@
+ghost use Rattle.fieldpath.specs.Spelled.{CompactTextsReadBack, ReadingsAreSpelled};
+
+/// What a JSON text is read as is spelled: whole numbers within 64 bits, members in byte order of
+/// their names, each name once, at most 127 deep.
+pub fn readings_are_spelled()
+    ensures { ReadingsAreSpelled }
+{}
+
+/// The compact JSON text of a spelled value without floats is read as that value.
+pub fn compact_texts_read_back()
+    ensures { CompactTextsReadBack }
+{}
