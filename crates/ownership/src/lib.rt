@@ -12,6 +12,8 @@ mod managers;
 mod object;
 mod owned;
 mod same;
+#[cfg(test)]
+mod tests;
 mod updating;
 
 pub use applying::apply;
