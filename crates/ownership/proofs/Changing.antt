@@ -1,17 +1,20 @@
 -- What an update makes of the owners.
-use Rattle.std.proofs.Common.{◌≡◌, ◌||◌, Some, None, sym, ap, ap₂, ◌∙◌}
+use Rattle.std.proofs.Common.{◌≡◌, Bool, true, false, not, ◌&&◌, ◌||◌, Some, None, is_some, refl, sym, ap, ap₂, ◌∙◌, subst, true≢false}
 use Rattle.std.specs.FinMap as fin
 use Rattle.std.specs.FinSet as set
 use Rattle.std.specs.Option.{unwrap_or}
-use Rattle.fieldpath.specs.Paths.{path_cmp}
-use Rattle.pathmap.specs.Contents.{Content, PathSet}
-use Rattle.pathmap.specs.Beside.{changed}
+use Rattle.fieldpath.specs.Paths.{PathTexts, path_cmp}
+use Rattle.pathmap.specs.Contents.{Content, PathSet, dom}
+use Rattle.pathmap.specs.Beside.{changed, same_value}
 use Rattle.pathmap.proofs.Contents.{path_cmp_total}
-use Rattle.pathmap.proofs.Sets.{same_paths}
-use Rattle.ownership.specs.Owners.{Manager, Owners, owned_by, taken_over}
+use Rattle.pathmap.proofs.Sets.{same_paths, contains-changed, contains-dom}
+use Rattle.schema.specs.Shape.{Shape}
+use Rattle.ownership.specs.Owners.{Manager, Owners, is_same, owned_by, taken_over}
 use Rattle.ownership.specs.Apply.{State}
+use Rattle.ownership.specs.Keeping.{Stands, Owns, OwnedStand, LeavesOwned}
 use Rattle.ownership.specs.Update.{removed, updated}
-use Rattle.ownership.proofs.Taking.{empty-difference}
+use Rattle.ownership.proofs.Sameness.{left_true, right_true, both_true, same_manager-is, same_value-is}
+use Rattle.ownership.proofs.Taking.{empty-difference, owned_mine, owned_other}
 
 pub empty-union : (s : PathSet) → set.union set.empty s ≡ s
 empty-union s = same_paths (set.union set.empty s) s (λ q. set.contains-union path_cmp_total set.empty s q ∙ ap (λ b. b || set.contains s q) (set.contains-empty path_cmp q))
@@ -34,3 +37,118 @@ updated_is live new m k changes gone lost mine w same changes_are gone_is lost_i
     let mine_all = mine_is ∙ ap (λ x. set.union (set.difference (owned_by live.owners x) gone) changes) same ∙ ap₂ (λ g c. set.union (set.difference (owned_by live.owners m) g) c) gone_is changes_are in
     let owners_are = left ∙ ap (λ x. taken_over live.owners x lost mine) same ∙ ap₂ (taken_over live.owners m) lost_all mine_all in
     λ i. record { content = new; owners = owners_are i }
+
+-- ---- what stands and who owns it, after an update
+or_left : (a b : Bool) → a ≡ true → (a || b) ≡ true
+or_left a b e = ap (λ x. x || b) e
+
+or_right : (a b : Bool) → b ≡ true → (a || b) ≡ true
+or_right true b e = refl
+or_right false b e = e
+
+and_not : (a b : Bool) → (a && not b) ≡ false → a ≡ true → b ≡ true
+and_not true true e t = refl
+and_not true false e t = absurd (true≢false e)
+and_not false b e t = absurd (true≢false (sym t))
+
+and_none : (a b : Bool) → b ≡ true → (a && not b) ≡ false
+and_none true b t = ap not t
+and_none false b t = refl
+
+not_true : (b : Bool) → not b ≡ true → b ≡ false
+not_true true e = sym e
+not_true false e = refl
+
+module _ (live : State) (new : Content) (m : Manager) where
+  abbrev changes : PathSet
+  changes = changed new live.content
+
+  abbrev gone : PathSet
+  gone = removed live.content new
+
+  abbrev lost : PathSet
+  lost = set.union changes gone
+
+  abbrev mine : PathSet
+  mine = set.union (set.difference (owned_by live.owners m) gone) changes
+
+  contains-gone : (p : PathTexts) → set.contains gone p ≡ (is_some (fin.get live.content p) && not (is_some (fin.get new p)))
+  unfolding removed
+  contains-gone p = set.contains-difference path_cmp_total (dom live.content) (dom new) p ∙ ap₂ (λ a b. a && not b) (contains-dom live.content p) (contains-dom new p)
+
+  stays_there : (p : PathTexts) → Stands live.content p → set.contains gone p ≡ false → Stands new p
+  stays_there p there free = and_not (is_some (fin.get live.content p)) (is_some (fin.get new p)) (sym (contains-gone p) ∙ free) there
+
+  contains-mine : (p : PathTexts) → set.contains mine p ≡ ((set.contains (owned_by live.owners m) p && not (set.contains gone p)) || set.contains changes p)
+  contains-mine p =
+      set.contains-union path_cmp_total (set.difference (owned_by live.owners m) gone) changes p ∙ ap (λ b. b || set.contains changes p) (set.contains-difference path_cmp_total (owned_by live.owners m) gone p)
+
+  mine_stands : OwnedStand live → (p : PathTexts) → set.contains mine p ≡ true → Stands new p
+  mine_stands before p is = by_change (set.contains changes p) refl (sym (contains-mine p) ∙ is)
+    where
+      or_false : (a : Bool) → (a || false) ≡ true → a ≡ true
+      or_false true e = refl
+      or_false false e = e
+
+      by_change : (b : Bool) → set.contains changes p ≡ b → ((set.contains (owned_by live.owners m) p && not (set.contains gone p)) || set.contains changes p) ≡ true → Stands new p
+      by_change true is h = left_true (is_some (fin.get new p)) (not (same_value (fin.get new p) (fin.get live.content p))) (sym (contains-changed new live.content p) ∙ is)
+      by_change false is h =
+          let kept = or_false (set.contains (owned_by live.owners m) p && not (set.contains gone p)) (ap (λ b. (set.contains (owned_by live.owners m) p && not (set.contains gone p)) || b) (sym is) ∙ h) in
+          stays_there p (before m p (left_true (set.contains (owned_by live.owners m) p) _ kept)) (not_true (set.contains gone p) (right_true (set.contains (owned_by live.owners m) p) _ kept))
+
+  not_lost : (p : PathTexts) → set.contains lost p ≡ false → set.contains gone p ≡ false
+  not_lost p free = by_or (set.contains changes p) (set.contains gone p) (sym (set.contains-union path_cmp_total changes gone p) ∙ free)
+    where
+      by_or : (a b : Bool) → (a || b) ≡ false → b ≡ false
+      by_or true b e = absurd (true≢false e)
+      by_or false b e = e
+
+  owned_stand_by : OwnedStand live → (k : Manager) (p : PathTexts) (b : Bool) → is_same m k ≡ b → Owns (updated live new m) k p → Stands new p
+  unfolding updated
+  owned_stand_by before k p true same is =
+      mine_stands before p (ap (λ s. set.contains s p) (sym (owned_mine live.owners m lost mine) ∙ ap (owned_by (taken_over live.owners m lost mine)) (same_manager-is m k same)) ∙ is)
+  owned_stand_by before k p false other is =
+      let both = sym (set.contains-difference path_cmp_total (owned_by live.owners k) lost p) ∙ ap (λ s. set.contains s p) (sym (owned_other live.owners m lost mine k other)) ∙ is in
+      stays_there p (before k p (left_true (set.contains (owned_by live.owners k) p) _ both)) (not_lost p (not_true (set.contains lost p) (right_true (set.contains (owned_by live.owners k) p) _ both)))
+
+  updated_stand : OwnedStand live → OwnedStand (updated live new m)
+  unfolding updated
+  updated_stand before k p is = owned_stand_by before k p (is_same m k) refl is
+
+  -- ---- leaves
+  owns_mine : (p : PathTexts) → set.contains mine p ≡ true → Owns (updated live new m) m p
+  unfolding updated
+  owns_mine p is = ap (λ s. set.contains s p) (owned_mine live.owners m lost mine) ∙ is
+
+  owns_other : (k : Manager) (p : PathTexts) → is_same m k ≡ false → Owns live k p → set.contains lost p ≡ false → Owns (updated live new m) k p
+  unfolding updated
+  owns_other k p other is free =
+      ap (λ s. set.contains s p) (owned_other live.owners m lost mine k other) ∙ set.contains-difference path_cmp_total (owned_by live.owners k) lost p ∙ both_true _ _ is (ap not free)
+
+  owner_then : (p : PathTexts) → set.contains changes p ≡ false → set.contains gone p ≡ false → (k : Manager) (b : Bool) → is_same m k ≡ b → Owns live k p → (k : Manager) × Owns (updated live new m) k p
+  owner_then p same stays k true is owned =
+      let mine_is = both_true _ _ (ap (λ x. set.contains (owned_by live.owners x) p) (same_manager-is m k is) ∙ owned) (ap not stays) in
+      (m, owns_mine p (contains-mine p ∙ or_left (set.contains (owned_by live.owners m) p && not (set.contains gone p)) (set.contains changes p) mine_is))
+  owner_then p same stays k false is owned = (k, owns_other k p is owned (set.contains-union path_cmp_total changes gone p ∙ ap₂ (λ a b. a || b) same stays))
+
+  updated_leaves : (s : Shape) → LeavesOwned s live → LeavesOwned s (updated live new m)
+  unfolding updated
+  updated_leaves s owned p there end = by_change (set.contains changes p) refl
+    where
+      now : is_some (fin.get new p) ≡ true
+      now = there
+
+      by_change : (b : Bool) → set.contains changes p ≡ b → (k : Manager) × Owns (updated live new m) k p
+      by_change true is = (m, owns_mine p (contains-mine p ∙ or_right (set.contains (owned_by live.owners m) p && not (set.contains gone p)) (set.contains changes p) is))
+      by_change false is =
+          let alike = same_value-is (fin.get new p) (fin.get live.content p) (and_not (is_some (fin.get new p)) (same_value (fin.get new p) (fin.get live.content p)) (sym (contains-changed new live.content p) ∙ is) now) in
+          let owner = owned p (ap is_some (sym alike) ∙ now) end in
+          owner_then p is (contains-gone p ∙ and_none (is_some (fin.get live.content p)) (is_some (fin.get new p)) now) owner.0 (is_same m owner.0) refl owner.1
+
+-- ---- of the state that an update answers
+module _ (live : State) (new : Content) (m : Manager) (after : State) (is : after ≡ updated live new m) where
+  pub update_stands : OwnedStand live → OwnedStand after
+  update_stands before = subst OwnedStand (sym is) (updated_stand live new m before)
+
+  pub update_leaves : (s : Shape) → LeavesOwned s live → LeavesOwned s after
+  update_leaves s owned = subst (LeavesOwned s) (sym is) (updated_leaves live new m s owned)

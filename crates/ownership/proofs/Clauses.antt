@@ -6,7 +6,7 @@ use Rattle.ownership.specs.Owners.{Manager}
 use Rattle.ownership.specs.Apply.{State, conflicts, applied, is_refused}
 use Rattle.ownership.specs.Keeping.{OthersKeep, OwnedStand, HasPlaces, LeavesOwned, IsSettled}
 use Rattle.ownership.proofs.Keeping.{others_keep, owned_stand, again}
-use Rattle.ownership.proofs.Leaves.{leaves_owned}
+use Rattle.ownership.proofs.Leaves.{leaves_owned, places_kept}
 
 module _ (live : State) (body : Content) (m : Manager) (force : Bool) (new : State) (free : is_refused (conflicts live body m) force ≡ false) (is : new ≡ applied live body m) where
   pub keeps_others : force ≡ false → OthersKeep live new m
@@ -17,6 +17,9 @@ module _ (live : State) (body : Content) (m : Manager) (force : Bool) (new : Sta
 
   pub keeps_leaves : (s : Shape) → HasPlaces s live.content → HasPlaces s body → OwnedStand live → LeavesOwned s live → LeavesOwned s new
   keeps_leaves s places body_places before owned = subst (LeavesOwned s) (sym is) (leaves_owned live body m s places body_places before owned)
+
+  pub keeps_places : (s : Shape) → HasPlaces s live.content → HasPlaces s body → HasPlaces s new.content
+  keeps_places s places body_places = subst (λ x. HasPlaces s x.content) (sym is) (places_kept live body m s places body_places)
 
   pub settles : IsSettled new body m
   settles = subst (λ x. IsSettled x body m) (sym is) (again live body m)

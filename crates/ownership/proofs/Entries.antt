@@ -16,7 +16,7 @@ use Rattle.ownership.specs.Managers.{pair, pairs}
 use Rattle.ownership.specs.Ranks.{rank}
 use Rattle.ownership.specs.declared.managers.Entry.{Entry}
 
-abbrev Pairs : Type 0
+abbrev pub Pairs : Type 0
 Pairs = List (Manager × PathSet)
 
 -- ---- truth values
@@ -24,11 +24,11 @@ both : (a b : Bool) → T a → T b → T (a && b)
 both true b p q = q
 both false b p q = p
 
-fst : (a b : Bool) → T (a && b) → T a
+pub fst : (a b : Bool) → T (a && b) → T a
 fst true b p = tt
 fst false b p = p
 
-snd : (a b : Bool) → T (a && b) → T b
+pub snd : (a b : Bool) → T (a && b) → T b
 snd true b p = p
 snd false b p = absurd p
 

@@ -18,10 +18,8 @@ use Rattle.ownership.specs.Owners.{Manager, is_same, owned_by, others, taken_ove
 use Rattle.ownership.specs.Apply.{State, Conflict, conflicts_with, conflicts, all_paths, dropped, applied, is_refused}
 use Rattle.ownership.specs.Keeping.{Stands, Owns, OthersKeep, OwnedStand, IsSettled}
 use Rattle.ownership.proofs.Sameness.{left_true, right_true, both_true, none_left, same_value-is, same_value-itself, same_manager-is}
+use Rattle.ownership.proofs.Entries.{Pairs}
 use Rattle.ownership.proofs.Taking.{find-others, owned_mine, owned_other, taken_again}
-
-abbrev Pairs : Type 0
-Pairs = List (Manager × PathSet)
 
 not_both : {A : Type 0} (b : Bool) → b ≡ true → b ≡ false → A
 not_both b t f = absurd (true≢false (sym t ∙ f))

@@ -18,17 +18,10 @@ use Rattle.ownership.specs.Owners.{Manager, is_same, owned_by, others}
 use Rattle.ownership.specs.Apply.{State, all_paths, applied, dropped}
 use Rattle.ownership.specs.Keeping.{Owns, OwnedStand, HasPlaces, LeavesOwned, is_end}
 use Rattle.ownership.proofs.Ends.{ends}
+use Rattle.ownership.proofs.Entries.{Pairs, fst, snd}
 use Rattle.ownership.proofs.Keeping.{front_itself, some_below, one_above, still_owned}
 use Rattle.ownership.proofs.Sameness.{same_manager-is}
-use Rattle.ownership.proofs.Taking.{Pairs, none_above, find-others, sorted-others, owned_mine}
-
-left : (a b : Bool) → T (a && b) → T a
-left true b p = tt
-left false b p = p
-
-right : (a b : Bool) → T (a && b) → T b
-right true b p = p
-right false b p = absurd p
+use Rattle.ownership.proofs.Taking.{none_above, find-others, sorted-others, owned_mine}
 
 -- some entry has the path
 abbrev Found : Pairs → PathTexts → Type 0
@@ -40,7 +33,7 @@ no_path q is = absurd (true≢false (sym is ∙ set.contains-empty path_cmp q))
 -- a path of all is one of the first set or of an entry
 all_back : (s : PathSet) (es : Pairs) → T (is_sorted path_cmp es) → (q : PathTexts) → set.contains (all_paths s es) q ≡ true → (set.contains s q ≡ true) ⊎ Found es q
 all_back s [] h q is = inl is
-all_back s (e ∷ es) h q is = by_rest (all_back (set.union e.1 s) es (right _ _ h) q is)
+all_back s (e ∷ es) h q is = by_rest (all_back (set.union e.1 s) es (snd _ _ h) q is)
   where
     first : Manager → Option PathSet
     first k = find path_cmp k (e ∷ es)
@@ -55,7 +48,7 @@ all_back s (e ∷ es) h q is = by_rest (all_back (set.union e.1 s) es (right _ _
     later : (k : Manager) (b : Bool) → eq_by_cmp path_cmp k e.0 ≡ b → set.contains (unwrap_or (find path_cmp k es) set.empty) q ≡ true → Found (e ∷ es) q
     later k false tie is = (k, ap (λ b. set.contains (unwrap_or (cond b (Some e.1) (find path_cmp k es)) set.empty) q) tie ∙ is)
     later k true tie is =
-        no_path q (sym (ap (λ o. set.contains (unwrap_or o set.empty) q) (none_above k es (subst (λ x. T (below_all path_cmp x es)) (sym (path_cmp_antisymmetric k e.0 ((Equal-is (path_cmp k e.0)).0 tie))) (left _ _ h)))) ∙ is)
+        no_path q (sym (ap (λ o. set.contains (unwrap_or o set.empty) q) (none_above k es (subst (λ x. T (below_all path_cmp x es)) (sym (path_cmp_antisymmetric k e.0 ((Equal-is (path_cmp k e.0)).0 tie))) (fst _ _ h)))) ∙ is)
 
     by_rest : (set.contains (set.union e.1 s) q ≡ true) ⊎ Found es q → (set.contains s q ≡ true) ⊎ Found (e ∷ es) q
     by_rest (inl is) = by_first (set.contains e.1 q) (set.contains s q) refl (sym (set.contains-union path_cmp_total e.1 s q) ∙ is) refl
@@ -105,11 +98,26 @@ module _ (live : State) (body : Content) (m : Manager) (s : Shape) (places : Has
       let found = some_below all_of p (not_dropped free (ap (λ x. set.contains (owned_by live.owners x) p) (same_manager-is m k same) ∙ owned)) in
       by_front found.0 found.2 (all_back (dom body) (others live.owners m) (sorted-others live.owners m) found.0 found.1)
 
-module _ (live : State) (body : Content) (m : Manager) (s : Shape) (places : HasPlaces s live.content) (body_places : HasPlaces s body) (standing : OwnedStand live) (owned : LeavesOwned s live) where
+module _ (live : State) (body : Content) (m : Manager) where
   after-is : (p : PathTexts) → fin.get (applied live body m).content p ≡ cond (has_at_or_above (dropped live body m) p) None (either (fin.get body p) (fin.get live.content p))
   unfolding applied
   after-is p = get-without (over body live.content) (dropped live body m) p ∙ ap (cond (has_at_or_above (dropped live body m) p) None) (get-over body live.content p)
 
+  -- what stands after an apply stood in one of the two contents
+  pub places_kept : (s : Shape) → HasPlaces s live.content → HasPlaces s body → HasPlaces s (applied live body m).content
+  places_kept s places body_places p there = by_body (fin.get body p) refl
+    where
+      some_of : (b : Bool) (o : Option Standing) → is_some (cond b None o) ≡ true → is_some o ≡ true
+      some_of true o h = absurd (true≢false (sym h))
+      some_of false o h = h
+
+      by_body : (o : Option Standing) → fin.get body p ≡ o → is_some (place_of s p) ≡ true
+      by_body (Some v) is = body_places p (ap is_some is)
+      by_body None is =
+          places p (some_of (has_at_or_above (dropped live body m) p) (fin.get live.content p)
+          (sym (ap is_some (after-is p ∙ ap (λ o. cond (has_at_or_above (dropped live body m) p) None (either o (fin.get live.content p))) is)) ∙ there))
+
+module _ (live : State) (body : Content) (m : Manager) (s : Shape) (places : HasPlaces s live.content) (body_places : HasPlaces s body) (standing : OwnedStand live) (owned : LeavesOwned s live) where
   mine : (p : PathTexts) → is_some (fin.get body p) ≡ true → Owns (applied live body m) m p
   unfolding applied
   mine p is = ap (λ t. set.contains t p) (owned_mine live.owners m (changed body live.content) (dom body)) ∙ contains-dom body p ∙ is
@@ -124,7 +132,7 @@ module _ (live : State) (body : Content) (m : Manager) (s : Shape) (places : Has
       by_body : (o : Option Standing) → fin.get body p ≡ o → (k : Manager) × Owns (applied live body m) k p
       by_body (Some v) is = (m, mine p (ap is_some is))
       by_body None is =
-          let stood = sym (ap is_some (after-is p ∙ ap (λ o. cond (has_at_or_above (dropped live body m) p) None (either o (fin.get live.content p))) is)) ∙ there in
+          let stood = sym (ap is_some (after-is live body m p ∙ ap (λ o. cond (has_at_or_above (dropped live body m) p) None (either o (fin.get live.content p))) is)) ∙ there in
           let free = free_of (has_at_or_above (dropped live body m) p) (fin.get live.content p) stood in
           let was = sym (ap (λ b. is_some (cond b None (fin.get live.content p))) free) ∙ stood in
           let owner = owned p was end in

@@ -12,19 +12,8 @@ use Rattle.pathmap.specs.Contents.{PathSet}
 use Rattle.pathmap.proofs.Contents.{path_cmp_total, path_cmp_antisymmetric}
 use Rattle.pathmap.proofs.Sets.{same_paths}
 use Rattle.ownership.specs.Owners.{Manager, Owners, is_same, is_empty, owned_by, others, less, with_owner, taken_over}
-use Rattle.ownership.proofs.Entries.{is_other, is_sorted-filter}
+use Rattle.ownership.proofs.Entries.{Pairs, fst, snd, is_other, is_sorted-filter}
 use Rattle.ownership.proofs.Sameness.{no_paths, same_manager-is, same_manager-itself}
-
-abbrev pub Pairs : Type 0
-Pairs = List (Manager × PathSet)
-
-left : (a b : Bool) → T (a && b) → T a
-left true b p = tt
-left false b p = p
-
-right : (a b : Bool) → T (a && b) → T b
-right true b p = p
-right false b p = absurd p
 
 -- ---- sets less some paths
 pub difference-empty : (s : PathSet) → set.difference s set.empty ≡ s
@@ -62,22 +51,22 @@ tied q k e = path_cmp_antisymmetric q k ((Equal-is (path_cmp q k)).0 e)
 
 pub none_above : (q : Manager) (es : Pairs) → T (below_all path_cmp q es) → find path_cmp q es ≡ None
 none_above q [] h = refl
-none_above q (e ∷ es) h = by_test (eq_by_cmp path_cmp q e.0) refl (none_above q es (right _ _ h))
+none_above q (e ∷ es) h = by_test (eq_by_cmp path_cmp q e.0) refl (none_above q es (snd _ _ h))
   where
     by_test : (b : Bool) → eq_by_cmp path_cmp q e.0 ≡ b → find path_cmp q es ≡ None → cond b (Some e.1) (find path_cmp q es) ≡ None
-    by_test true is later = absurd (subst (λ o. T (is_lt o)) ((Equal-is (path_cmp q e.0)).0 is) (left _ _ h))
+    by_test true is later = absurd (subst (λ o. T (is_lt o)) ((Equal-is (path_cmp q e.0)).0 is) (fst _ _ h))
     by_test false is later = later
 
 -- the others, each less some paths
 pub find_left : (lost : PathSet) (q : Manager) (es : Pairs) → T (is_sorted path_cmp es) → find path_cmp q (less lost es) ≡ kept_less lost (find path_cmp q es)
 find_left lost q [] h = refl
-find_left lost q (e ∷ es) h = by_tests (set.difference e.1 lost) (eq_by_cmp path_cmp q e.0) (is_empty (set.difference e.1 lost)) refl refl refl (find_left lost q es (right _ _ h))
+find_left lost q (e ∷ es) h = by_tests (set.difference e.1 lost) (eq_by_cmp path_cmp q e.0) (is_empty (set.difference e.1 lost)) refl refl refl (find_left lost q es (snd _ _ h))
   where
     by_tests : (d : PathSet) (b t : Bool) → d ≡ set.difference e.1 lost → eq_by_cmp path_cmp q e.0 ≡ b → is_empty d ≡ t → find path_cmp q (less lost es) ≡ kept_less lost (find path_cmp q es)
         → find path_cmp q (cond (not t) ((e.0, d) ∷ less lost es) (less lost es)) ≡ kept_less lost (cond b (Some e.1) (find path_cmp q es))
     by_tests d true false is tie some later = ap (λ x. cond x (Some d) (find path_cmp q (less lost es))) tie ∙ sym (ap (λ x. cond x None (Some d)) some) ∙ ap kept is
     by_tests d true true is tie none later =
-        later ∙ ap (kept_less lost) (none_above q es (subst (λ k. T (below_all path_cmp k es)) (sym (tied q e.0 tie)) (left _ _ h))) ∙ sym (ap (λ x. cond x None (Some d)) none) ∙ ap kept is
+        later ∙ ap (kept_less lost) (none_above q es (subst (λ k. T (below_all path_cmp k es)) (sym (tied q e.0 tie)) (fst _ _ h))) ∙ sym (ap (λ x. cond x None (Some d)) none) ∙ ap kept is
     by_tests d false false is tie some later = ap (λ x. cond x (Some d) (find path_cmp q (less lost es))) tie ∙ later
     by_tests d false true is tie none later = later
 

@@ -50,6 +50,7 @@ pub fn apply(
 ) -> Result<Owned, ApplyFault>
     ensures applies { Applies (state_of live.now) config.now (manager_of manager.now apply_operation) force result }
     ensures others { force ≡ false → IfOk result (λ o. OthersKeep (state_of live.now) (state_of o) (manager_of manager.now apply_operation)) }
+    ensures places { (s : Shape) → HasPlaces s live.now.tree → HasPlaces s config.now → IfOk result (λ o. HasPlaces s o.tree) }
     ensures stand { OwnedStand (state_of live.now) → IfOk result (λ o. OwnedStand (state_of o)) }
     ensures leaves { (s : Shape) → HasPlaces s live.now.tree → HasPlaces s config.now → OwnedStand (state_of live.now) → LeavesOwned s (state_of live.now) → IfOk result (λ o. LeavesOwned s (state_of o)) }
     ensures again { IfOk result (λ o. IsSettled (state_of o) config.now (manager_of manager.now apply_operation)) }

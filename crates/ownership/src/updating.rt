@@ -1,6 +1,8 @@
 ghost use Rattle.std.specs.Prelude.{◌≡◌, IfOk};
 ghost use Rattle.std.specs.FinSet as set;
 ghost use Rattle.ownership.specs.Owners.{manager_of, owned_by, update_operation};
+ghost use Rattle.schema.specs.Shape.{Shape};
+ghost use Rattle.ownership.specs.Keeping.{LeavesOwned, OwnedStand};
 ghost use Rattle.ownership.specs.Managers.{texts};
 ghost use Rattle.ownership.specs.Results.{state_of};
 ghost use Rattle.ownership.specs.Update.{removed, updated};
@@ -39,7 +41,9 @@ fn owned_then(
 /// `manager` the name of who updates, `new` the whole content. Who updates owns what it changed, and keeps what it owned
 /// and still stands; the others lose what was changed or went. An update has no conflict.
 pub fn update(alloc: Global, live: &Owned, manager: &str, new: Tree) -> Result<Owned, AllocError>
-    ensures { IfOk result (λ o. state_of o ≡ updated (state_of live.now) new (manager_of manager.now update_operation)) }
+    ensures updates { IfOk result (λ o. state_of o ≡ updated (state_of live.now) new (manager_of manager.now update_operation)) }
+    ensures stand { OwnedStand (state_of live.now) → IfOk result (λ o. OwnedStand (state_of o)) }
+    ensures leaves { (s : Shape) → LeavesOwned s (state_of live.now) → IfOk result (λ o. LeavesOwned s (state_of o)) }
 {
     let manager = Manager::new(alloc, manager, Operation::Update)?;
     let changed = new.changed_from(alloc, &live.tree)?;

@@ -3,7 +3,7 @@ use Rattle.ownership.specs.Apply.{State, applied, conflicts, is_refused}
 use Rattle.ownership.specs.Managers.{texts}
 use Rattle.ownership.specs.Owners.{manager_of, apply_operation}
 use Rattle.ownership.specs.Results.{state_of, conflict_of}
-use Rattle.ownership.proofs.Clauses.{keeps_others, keeps_standing, keeps_leaves, settles}
+use Rattle.ownership.proofs.Clauses.{keeps_others, keeps_places, keeps_standing, keeps_leaves, settles}
 use Rattle.ownership.proofs.Dropping.{conflicts_are, state_is}
 use Rattle.ownership.proofs.applying.apply.Goals as goal
 
@@ -14,6 +14,7 @@ returns-then-is_refused c =
     record {
       applies = (ap (λ l. is_refused l c.args.force) (sym cs) ∙ ap (λ l. is_refused (map conflict_of l) c.args.force) (sym c.deref.ensures.value) ∙ sym c.is_refused.ensures ∙ c.if-is_refused.true, cs);
       others = λ gentle. tt;
+      places = λ s places body_places. tt;
       stand = λ before. tt;
       leaves = λ s places body_places before owned. tt;
       again = tt;
@@ -33,6 +34,7 @@ returns c =
     record {
       applies = (free, is);
       others = keeps_others live body m c.args.force new free is;
+      places = keeps_places live body m c.args.force new free is;
       stand = keeps_standing live body m c.args.force new free is;
       leaves = keeps_leaves live body m c.args.force new free is;
       again = settles live body m c.args.force new free is;

@@ -1,10 +1,22 @@
+use Rattle.std.proofs.Common.{◌≡◌}
+use Rattle.ownership.specs.Apply.{State}
 use Rattle.ownership.specs.Managers.{texts}
 use Rattle.ownership.specs.Owners.{manager_of, update_operation}
 use Rattle.ownership.specs.Results.{state_of}
-use Rattle.ownership.proofs.Changing.{updated_is}
+use Rattle.ownership.specs.Update.{updated}
+use Rattle.ownership.proofs.Changing.{updated_is, update_stands, update_leaves}
 use Rattle.ownership.proofs.updating.update.Goals as goal
 
 pub returns : goal.returns
 returns c =
-    updated_is (state_of c.args.live.now) c.args.new (manager_of c.args.manager.now update_operation) (texts c.in_ok-manager.manager) c.in_ok-changed.changed c.in_ok-gone.gone c.in_ok-lost.lost c.in_ok-owned.owned c.in_ok-managers.managers
-    c.in_ok-manager.ensures c.in_ok-changed.ensures c.in_ok-gone.ensures c.in_ok-lost.ensures c.in_ok-owned.ensures c.in_ok-managers.ensures
+    let live = state_of c.args.live.now in
+    let m = manager_of c.args.manager.now update_operation in
+    let after : State = record { content = c.args.new; owners = c.in_ok-managers.managers } in
+    let is : after ≡ updated live c.args.new m =
+    updated_is live c.args.new m (texts c.in_ok-manager.manager) c.in_ok-changed.changed c.in_ok-gone.gone c.in_ok-lost.lost c.in_ok-owned.owned c.in_ok-managers.managers
+    c.in_ok-manager.ensures c.in_ok-changed.ensures c.in_ok-gone.ensures c.in_ok-lost.ensures c.in_ok-owned.ensures c.in_ok-managers.ensures in
+    record {
+      updates = is;
+      stand = update_stands live c.args.new m after is;
+      leaves = update_leaves live c.args.new m after is;
+    }
