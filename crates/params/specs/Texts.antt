@@ -1,5 +1,5 @@
 -- What the text of each kind of parameter says; none where it is no such text.
-use Rattle.std.specs.Prelude.{ℕ, Bool, true, false, not, ◌&&◌, ◌||◌, ◌==◌, if◌then◌else◌, nat_le, List, [], ◌∷◌, length, Option, Some, None, codes}
+use Rattle.std.specs.Prelude.{◌≡◌, ◌<◌, ◌≤◌, ◌++◌, decimal, ℕ, Bool, true, false, not, ◌&&◌, ◌||◌, ◌==◌, if◌then◌else◌, nat_le, List, [], ◌∷◌, length, Option, Some, None, codes}
 use Rattle.std.specs.List.{list_any, list_all, before_first, after_first}
 use Rattle.std.specs.Str.{bytes_eq}
 use Rattle.names.specs.Decimals.{version_of}
@@ -53,3 +53,22 @@ token_cut None = None
 -- version, namespace and name with dots between them, of which the name may have more
 abbrev pub token_of : List ℕ → Option Token
 token_of text = token_cut (cut_at_dot text)
+
+-- ---- the text of a token
+
+abbrev pub token_text : Token → List ℕ
+token_text t = decimal t.revision ++ 46 ∷ (t.namespace ++ 46 ∷ t.name)
+
+abbrev pub is_dotless : List ℕ → Bool
+is_dotless text = list_all (λ b. not (is_dot b)) text
+
+-- a token that can be read: of a version, and of names of which the namespace has no dot
+pub record IsToken (t : Token) : Type 0 where
+  pub revision : t.revision ≤ 9223372036854775807
+  pub dotless : is_dotless t.namespace ≡ true
+  pub namespace : 0 < length t.namespace
+  pub name : 0 < length t.name
+
+-- what is written of a token is read as that token
+abbrev pub ReadsBack : Token → Type 0
+ReadsBack t = IsToken t → token_of (token_text t) ≡ Some t

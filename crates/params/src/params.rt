@@ -1,8 +1,9 @@
 //! The parameters of a request, whole.
 
-ghost use Rattle.std.specs.Prelude.{◌≡◌, option_map};
+ghost use Rattle.std.specs.Prelude.{◌≡◌, IfOk, option_map, string_bytes};
 ghost use Rattle.params.specs.Query.{pairs_in};
 ghost use Rattle.params.specs.Reading.{applied, deleted, got, is_any, listed, listed_or_watched, match_fits, params_of, together, token_fits, watched, written};
+ghost use Rattle.params.specs.Texts.{ReadsBack, token_text};
 ghost use Rattle.params.specs.Values.{no_values};
 ghost use Rattle.params.specs.Views.{Gives, pairs_of, token_view, values_of};
 
@@ -10,7 +11,7 @@ use crate::fault::ParamsFault;
 use crate::parameter::Parameter;
 use crate::query::Query;
 use selector::Selector;
-use std::alloc::Global;
+use std::alloc::{AllocError, Global};
 
 /// The greatest limit, that of a 64-bit signed integer.
 const MAX_LIMIT: u64 = 9223372036854775807;
@@ -42,6 +43,21 @@ pub struct Token {
     pub revision: u64,
     pub namespace: String,
     pub name: String,
+}
+
+impl Token {
+    /// The text that a list's answer gives: `<revision>.<namespace>.<name>`.
+    pub fn text(&self, alloc: Global) -> Result<String, AllocError>
+        ensures text { IfOk result (λ s. string_bytes s ≡ token_text (token_view self.now)) }
+        ensures reads_back { IfOk result (λ _. ReadsBack (token_view self.now)) }
+    {
+        let mut text = self.revision.to_string(alloc)?;
+        text.push('.')?;
+        text.push_str(self.namespace.as_str())?;
+        text.push('.')?;
+        text.push_str(self.name.as_str())?;
+        Ok(text)
+    }
 }
 
 /// How a list is watched.

@@ -1,6 +1,6 @@
 //! Every parameter, what goes together, and which fault comes first.
 
-use super::{Asked, Parameter, Params, ParamsFault, Token, VersionMatch, Watch};
+use super::{Asked, Parameter, Params, ParamsFault, VersionMatch, Watch};
 use std::alloc::{AllocError, Global};
 use std::collections::BTreeMap;
 use std::test::Fail;
@@ -280,19 +280,13 @@ fn values_of_lists(rt: HostRuntime) -> Result<(), Fail> {
     assert_eq!(rt; other.selector.matches(&tier(alloc, "web")?), false);
     assert_eq!(rt; other.selector.matches(&tier(alloc, "db")?), true);
     let paged = Params::read(alloc, Asked::List, b"limit=2&continue=4.default.w1.old")?;
-    let Some(
-        Token {
-            revision,
-            namespace,
-            name,
-        },
-    ) = paged.token
-    else {
+    let Some(token) = paged.token else {
         return Err(Fail::from("no token"));
     };
-    assert_eq!(rt; revision, 4);
-    assert_eq!(rt; namespace.as_str(), "default");
-    assert_eq!(rt; name.as_str(), "w1.old");
+    assert_eq!(rt; token.text(alloc)?.as_str(), "4.default.w1.old");
+    assert_eq!(rt; token.revision, 4);
+    assert_eq!(rt; token.namespace.as_str(), "default");
+    assert_eq!(rt; token.name.as_str(), "w1.old");
     Ok(())
 }
 
