@@ -16,6 +16,7 @@ mod read;
 mod schema;
 mod served;
 mod types;
+mod walk;
 
 pub use fault::TypesFault;
 pub use place::Place;
