@@ -49,6 +49,13 @@ impl Keys {
         }
     }
 
+    /// The fields, in byte order of their names.
+    pub fn fields(&self) -> &[(String, Scalar)]
+        ensures { key_fields result.now ≡ self.now }
+    {
+        &self.fields
+    }
+
     /// The fields as a compact JSON object.
     pub(crate) fn json(&self, alloc: Global) -> Result<String, AllocError>
         ensures { IfOk result (λ s. string_bytes s ≡ compact_text (object (key_members self.now))) }

@@ -16,6 +16,7 @@ mod schema;
 mod served;
 mod type_names;
 mod types;
+mod walk;
 
 pub use fault::TypesFault;
 pub use place::Place;
