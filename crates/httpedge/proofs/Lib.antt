@@ -1,3 +1,4 @@
+pub mod BodyCuts
 pub mod Cuts
 pub mod Heading
 pub mod Numbers

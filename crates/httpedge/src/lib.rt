@@ -17,3 +17,6 @@ pub use head::{Head, Length, read_head};
 pub use refusal::{Front, Refusal};
 pub use reply::reply_bytes;
 pub use target::{judged_media, path_of, query_of};
+
+#[cfg(test)]
+mod tests;
