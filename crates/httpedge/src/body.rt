@@ -1,7 +1,8 @@
 //! The body of a request.
 
-ghost use Rattle.std.specs.Prelude.{◌≡◌, ◌<◌, ◌≤◌, IfOk, MatchOption};
+ghost use Rattle.std.specs.Prelude.{◌≡◌, ◌≢◌, ◌<◌, ◌≤◌, ◌++◌, ℕ, List, IfOk, MatchOption};
 ghost use Rattle.httpedge.specs.Bodies.{max_body, needs_body, may_have_body, number_of, value_in, some_or_refused, body_of, needed_body, optional_body, body_in};
+ghost use Rattle.httpedge.specs.Refusals.{undecided};
 ghost use Rattle.httpedge.specs.Views.{front_of, length_of, request_in, data_of};
 
 use crate::head::{Head, Length};
@@ -92,9 +93,7 @@ fn optional_body(
     }
 }
 
-/// The body of a request, by its head and the bytes that came after it. Only POST, PUT, PATCH and DELETE have
-/// one, and only DELETE may go without.
-pub fn read_body(alloc: Global, head: &Head<'_>) -> Result<Front<Option<Value>>, AllocError>
+fn body_in(alloc: Global, head: &Head<'_>) -> Result<Front<Option<Value>>, AllocError>
     ensures { IfOk result (λ f. front_of data_of f ≡ body_in (request_in head.now) head.now.rest.now) }
 {
     let needs = needs_body(head.method);
@@ -109,4 +108,13 @@ pub fn read_body(alloc: Global, head: &Head<'_>) -> Result<Front<Option<Value>>,
     } else {
         optional_body(alloc, head.length, head.rest)
     }
+}
+
+/// The body of a request, by its head and the bytes that came after it, however they were cut. Only POST,
+/// PUT, PATCH and DELETE have one, and only DELETE may go without.
+pub fn read_body(alloc: Global, head: &Head<'_>) -> Result<Front<Option<Value>>, AllocError>
+    ensures says { IfOk result (λ f. front_of data_of f ≡ body_in (request_in head.now) head.now.rest.now) }
+    ensures stays { (more : List ℕ) → IfOk result (λ f. front_of data_of f ≢ undecided → body_in (request_in head.now) (head.now.rest.now ++ more) ≡ front_of data_of f) }
+{
+    body_in(alloc, head)
 }
