@@ -3,7 +3,8 @@
 //! What a connection asks depends on the bytes that came and on nothing else, however they were cut; a reply
 //! is written byte for byte as the definitions say.
 //!
-//! Stands on `httparse` for the grammar of a head (RFC 9112), on `http` for phrases and on `serde_json`.
+//! Stands on `verbs` for calls and their answers, on `httparse` for the grammar of a head (RFC 9112), on `http`
+//! for phrases and on `serde_json`.
 #![tactic(auto)]
 
 mod answering;
@@ -27,5 +28,7 @@ pub use refusal::{Front, Refusal};
 pub use reply::reply_bytes;
 pub use target::{judged_media, path_of, query_of};
 
+#[cfg(test)]
+mod hub_tests;
 #[cfg(test)]
 mod tests;

@@ -4,13 +4,13 @@ use super::{Front, judged_media, path_of, query_of, read_body, read_head, reply_
 use std::alloc::{AllocError, Global};
 use std::test::Fail;
 
-const HEAD: &str =
+pub(crate) const HEAD: &str =
     "PATCH /apis/demo.example/v1/namespaces/default/widgets/w1?fieldManager=alice HTTP/1.1\r\nHost: localhost\r\nContent-Type: application/apply-patch+yaml\r\nContent-Length: 107\r\n\r\n";
 
-const CONFIG: &str =
+pub(crate) const CONFIG: &str =
     "{\"apiVersion\":\"demo.example/v1\",\"kind\":\"Widget\",\"metadata\":{\"name\":\"w1\"},\"spec\":{\"image\":\"a\",\"replicas\":3}}";
 
-const OBJECT: &str =
+pub(crate) const OBJECT: &str =
     "{\"apiVersion\":\"demo.example/v1\",\"kind\":\"Widget\",\"metadata\":{\"managedFields\":[{\"apiVersion\":\"demo.example/v1\",\"fieldsType\":\"FieldsV1\",\"fieldsV1\":{\"f:spec\":{\"f:image\":{},\"f:replicas\":{}}},\"manager\":\"alice\",\"operation\":\"Apply\"}],\"name\":\"w1\",\"namespace\":\"default\",\"resourceVersion\":\"2\"},\"spec\":{\"image\":\"a\",\"replicas\":3}}";
 
 /// What the bytes say: a refusal's message, the body, or that more are needed.
