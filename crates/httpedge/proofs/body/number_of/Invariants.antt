@@ -1,0 +1,9 @@
+use Rattle.std.proofs.Common.{◌≡◌, ◌≤◌, drop}
+use Rattle.httpedge.specs.Bodies.{number_after, max_body}
+use Rattle.httpedge.proofs.body.number_of.Given as goal
+
+abbrev pub invariant-loop-digit : goal.invariant-loop-digit
+invariant-loop-digit l = record {
+  small : l.number ≤ max_body;
+  told : number_after l.number (drop l.digit-index l.digits) ≡ number_after 0 l.digits;
+}

@@ -1,0 +1,77 @@
+-- The body of a request (RFC 9112, section 6), and the call that the whole makes.
+use Rattle.std.specs.Prelude.{ℕ, ◌+◌, ◌-◌, ◌*◌, Bool, true, false, ◌&&◌, ◌||◌, ◌==◌, not, nat_lt, if◌then◌else◌, List, [], ◌∷◌, length, take, Option, Some, None, codes}
+use Rattle.std.specs.List.{before_first, after_first}
+use Rattle.std.specs.Str.{bytes_eq, is_utf8}
+use Rattle.serde_json.specs.Data.{Data}
+use Rattle.serde_json.specs.Read.{read}
+use Rattle.httpedge.specs.Refusals.{encoded, no_length, bad_length, body_too_large, not_json, Front, undecided, refused, told}
+use Rattle.httpedge.specs.Heads.{Length, missing, malformed, digits, Request}
+
+abbrev pub max_body : ℕ
+max_body = 65536
+
+-- the number that digits write, after those that make n
+abbrev pub number_after : ℕ → List ℕ → ℕ
+number_after n [] = n
+number_after n (b ∷ bytes) = number_after (n * 10 + (b - 48)) bytes
+
+abbrev pub number_of : List ℕ → ℕ
+number_of ds = number_after 0 ds
+
+-- a body is read by POST, PUT, PATCH and DELETE; only DELETE may go without
+abbrev pub needs_body : List ℕ → Bool
+needs_body method = bytes_eq method (codes "POST") || bytes_eq method (codes "PUT") || bytes_eq method (codes "PATCH")
+
+abbrev pub may_have_body : List ℕ → Bool
+may_have_body method = bytes_eq method (codes "DELETE")
+
+-- the value that these bytes are as JSON
+abbrev pub value_in : List ℕ → Option Data
+value_in bytes = if is_utf8 bytes then read bytes else None
+
+abbrev pub some_or_refused : Option Data → Front (Option Data)
+some_or_refused None = refused not_json
+some_or_refused (Some value) = told (Some value)
+
+-- a body of so many bytes, of which these came
+abbrev pub body_of : ℕ → List ℕ → Front (Option Data)
+body_of n rest =
+    if nat_lt max_body n then refused body_too_large
+    else if nat_lt (length rest) n then undecided
+    else some_or_refused (value_in (take n rest))
+
+-- a body that is needed
+abbrev pub needed_body : Length → List ℕ → Front (Option Data)
+needed_body missing rest = refused no_length
+needed_body malformed rest = refused bad_length
+needed_body (digits ds) rest = body_of (number_of ds) rest
+
+-- a body that may be left out; one of no bytes is left out
+abbrev pub optional_body : Length → List ℕ → Front (Option Data)
+optional_body missing rest = told None
+optional_body malformed rest = refused bad_length
+optional_body (digits ds) rest = if number_of ds == 0 then told None else body_of (number_of ds) rest
+
+-- the body by the head and the bytes after it
+abbrev pub body_in : Request → List ℕ → Front (Option Data)
+body_in request rest =
+    if needs_body request.method then (if request.encoded then refused encoded else needed_body request.length rest)
+    else if may_have_body request.method then (if request.encoded then refused encoded else optional_body request.length rest)
+    else told None
+
+-- whether a DELETE has a length other than 0
+abbrev pub has_length : Length → Bool
+has_length missing = false
+has_length malformed = true
+has_length (digits ds) = nat_lt 0 (number_of ds)
+
+-- the media type that is judged: a DELETE without a body has none
+abbrev pub judged_media : Request → Option (List ℕ)
+judged_media request = if may_have_body request.method && not (has_length request.length) then None else request.media
+
+-- the target is cut at its first question mark
+abbrev pub path_of : List ℕ → List ℕ
+path_of target = before_first (λ b. b == 63) target
+
+abbrev pub query_of : List ℕ → List ℕ
+query_of target = after_first (λ b. b == 63) target

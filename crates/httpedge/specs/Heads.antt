@@ -1,0 +1,146 @@
+-- What the head of a request says (RFC 9112, sections 2.2, 3, 5 and 6), and when a front of a connection's bytes has it.
+use Rattle.std.specs.Prelude.{◌≡◌, ◌⊎◌, ℕ, ◌+◌, Bool, ◌&&◌, ◌||◌, ◌==◌, not, nat_lt, if◌then◌else◌, List, [], ◌∷◌, ◌++◌, length, map, take, drop, Option, Some, None, codes, nat_eq}
+use Rattle.std.specs.Char.{is_ascii_digit}
+use Rattle.std.specs.List.{list_all, list_any, starts_with, filter}
+use Rattle.std.specs.Str.{bytes_eq, str_eq_ignore_ascii_case}
+use Rattle.httparse.specs.Grammar.{RequestHead, ReadsRequest}
+use Rattle.httparse.specs.declared.spans.HeaderSpan.{HeaderSpan}
+use Rattle.httparse.specs.declared.spans.RequestSpans.{RequestSpans}
+use Rattle.httparse.specs.Spans.{name_and_value, IsRequestAt}
+use Rattle.httpedge.specs.Refusals.{head_too_large, bad_head, wrong_version, not_one_host, Front, undecided, refused, told}
+
+-- limits
+abbrev pub max_head : ℕ
+max_head = 16384
+
+abbrev pub max_fields : ℕ
+max_fields = 64
+
+-- ---- where a head ends: its first empty line
+
+-- these bytes come after n others, inside a head: how many bytes there are up to an LF that is followed by LF or by CR LF, and with that
+abbrev pub end_inside : ℕ → List ℕ → Option ℕ
+end_inside n [] = None
+end_inside n (b ∷ bytes) =
+    if b == 10 && starts_with nat_eq bytes (10 ∷ []) then Some (n + 2)
+    else if b == 10 && starts_with nat_eq bytes (13 ∷ 10 ∷ []) then Some (n + 3)
+    else end_inside (n + 1) bytes
+
+-- after n bytes, before the first line: CR and LF are passed over
+abbrev pub end_after : ℕ → List ℕ → Option ℕ
+end_after n [] = None
+end_after n (b ∷ bytes) = if b == 13 || b == 10 then end_after (n + 1) bytes else end_inside n (b ∷ bytes)
+
+-- how many bytes the head has, where it ends in these
+abbrev pub head_end : List ℕ → Option ℕ
+head_end bytes = end_after 0 bytes
+
+-- ---- its fields
+
+-- a field's name and its value
+abbrev pub Named : Type 0
+Named = List ℕ × List ℕ
+
+-- a name is compared without regard to ASCII case
+abbrev pub has_name : List ℕ → Named → Bool
+has_name word field = str_eq_ignore_ascii_case field.0 word
+
+abbrev pub is_host : Named → Bool
+is_host field = has_name (codes "host") field
+
+-- the first Content-Type
+abbrev pub media_in : List Named → Option (List ℕ)
+media_in [] = None
+media_in (field ∷ fields) = if has_name (codes "content-type") field then Some field.1 else media_in fields
+
+abbrev pub is_encoded : List Named → Bool
+is_encoded fields = list_any (has_name (codes "transfer-encoding")) fields
+
+-- ---- its length
+
+-- digits without leading zeros: two numbers are equal just where these are
+abbrev pub without_zeros : List ℕ → List ℕ
+without_zeros [] = []
+without_zeros (b ∷ bytes) = if b == 48 then without_zeros bytes else b ∷ bytes
+
+-- what the Content-Length fields say: there is none, they say no one number, or its digits without leading zeros
+pub data Length : Type 0 where
+  missing malformed : Length
+  digits : List ℕ → Length
+
+-- one or more digits
+abbrev pub length_in : List ℕ → Length
+length_in [] = malformed
+length_in (b ∷ bytes) = if list_all is_ascii_digit (b ∷ bytes) then digits (without_zeros (b ∷ bytes)) else malformed
+
+-- several fields have to say one number
+abbrev pub agreed : Length → Length → Length
+agreed missing other = other
+agreed malformed other = malformed
+agreed (digits ds) missing = digits ds
+agreed (digits ds) malformed = malformed
+agreed (digits ds) (digits es) = if bytes_eq ds es then digits ds else malformed
+
+-- after what earlier fields said
+abbrev pub length_after : Length → List Named → Length
+length_after said [] = said
+length_after said (field ∷ fields) = length_after (if has_name (codes "content-length") field then agreed said (length_in field.1) else said) fields
+
+-- ---- the head
+
+-- what the server takes from a head
+pub record Request : Type 0 where
+  pub method : List ℕ
+  pub target : List ℕ
+  pub media : Option (List ℕ)
+  pub encoded : Bool
+  pub length : Length
+
+abbrev pub request_of : List ℕ → List ℕ → List Named → Request
+request_of method target fields = record {
+  method = method;
+  target = target;
+  media = media_in fields;
+  encoded = is_encoded fields;
+  length = length_after missing fields;
+}
+
+-- a head of the grammar is judged in this order; rest is what came after it
+abbrev pub judged : List ℕ → List ℕ → ℕ → List Named → List ℕ → Front (Request × List ℕ)
+judged method target minor fields rest =
+    if nat_lt max_fields (length fields) then refused head_too_large
+    else if not (minor == 1) then refused wrong_version
+    else if not (length (filter is_host fields) == 1) then refused not_one_host
+    else if not (starts_with nat_eq target (codes "/")) then refused bad_head
+    else told (request_of method target fields, rest)
+
+-- the same with more bytes after it
+abbrev pub with_more : List ℕ → Front (Request × List ℕ) → Front (Request × List ℕ)
+with_more more undecided = undecided
+with_more more (refused r) = refused r
+with_more more (told (request, rest)) = told (request, rest ++ more)
+
+abbrev pub judged_head : RequestHead → List ℕ → Front (Request × List ℕ)
+judged_head h rest = judged h.method h.target h.minor (map name_and_value h.fields) rest
+
+-- what can be said of a head: the request, and the bytes after it
+abbrev pub Said : Type 0
+Said = Front (Request × List ℕ)
+
+-- these bytes are the head of a request, or no head, and this is what they say with the rest
+abbrev pub SaysWhole : List ℕ → List ℕ → Front (Request × List ℕ) → Type 0
+SaysWhole bytes rest front =
+    ((h : RequestHead) × ReadsRequest bytes h [] × (front ≡ judged_head h rest))
+    ⊎ (((h : RequestHead) → ¬ (ReadsRequest bytes h [])) × (front ≡ refused bad_head))
+
+-- these bytes are a head, and the offsets are those of its parts
+abbrev pub IsWholeAt : List ℕ → List HeaderSpan → RequestSpans → Type 0
+IsWholeAt bytes headers parts = (h : RequestHead) × ReadsRequest bytes h [] × IsRequestAt bytes headers parts h
+
+abbrev pub SaysAt : List ℕ → Option ℕ → Front (Request × List ℕ) → Type 0
+SaysAt bytes None front = front ≡ (if nat_lt max_head (length bytes) then refused head_too_large else undecided)
+SaysAt bytes (Some n) front = SaysWhole (take n bytes) (drop n bytes) front
+
+-- what the bytes that came on a connection say of the request's head
+abbrev pub Says : List ℕ → Front (Request × List ℕ) → Type 0
+Says bytes front = SaysAt bytes (head_end (take max_head bytes)) front

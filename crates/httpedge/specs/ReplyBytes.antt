@@ -1,0 +1,27 @@
+-- The bytes of a reply (RFC 9112, sections 4 and 6).
+use Rattle.std.specs.Prelude.{ℕ, List, [], ◌∷◌, ◌++◌, length, Option, None, Some, codes, unwrap_or, nat_le, nat_lt, ◌&&◌, if◌then◌else◌}
+use Rattle.std.specs.Fmt.{decimal}
+use Rattle.http.specs.StatusCode.{reason_phrase}
+
+-- the end of a line
+abbrev pub crlf : List ℕ
+crlf = 13 ∷ 10 ∷ []
+
+-- the phrase of a status code, which has three digits (RFC 9110, section 15)
+abbrev pub phrase_of : ℕ → List ℕ
+phrase_of code = if nat_le 100 code && nat_lt code 1000 then unwrap_or (reason_phrase code) [] else []
+
+abbrev pub allow_field : Option (List ℕ) → List ℕ
+allow_field None = []
+allow_field (Some methods) = codes "Allow: " ++ (methods ++ crlf)
+
+-- the status line and the fields of a reply whose body has n bytes, and an empty line
+abbrev pub reply_head : ℕ → Option (List ℕ) → ℕ → List ℕ
+reply_head code allow n =
+    codes "HTTP/1.1 " ++ (decimal code ++ (32 ∷ (phrase_of code ++ (crlf
+    ++ (codes "Content-Type: application/json" ++ (crlf
+    ++ (codes "Content-Length: " ++ (decimal n ++ (crlf
+    ++ (codes "Connection: close" ++ (crlf ++ (allow_field allow ++ crlf))))))))))))
+
+abbrev pub reply : ℕ → Option (List ℕ) → List ℕ → List ℕ
+reply code allow body = reply_head code allow (length body) ++ body

@@ -1,0 +1,52 @@
+-- What the crate's values say, without where they lie in memory.
+use Rattle.std.specs.Prelude.{ℕ, List, Option, option_map}
+use Rattle.serde_json.specs.declared.value.Value.{Value}
+use Rattle.serde_json.specs.View.{view}
+use Rattle.serde_json.specs.Data.{Data}
+use Rattle.httpedge.specs.declared.refusal.Refusal as refusals
+use Rattle.httpedge.specs.declared.refusal.Refusal.TheVariants as refusal
+use Rattle.httpedge.specs.declared.refusal.Front as fronts
+use Rattle.httpedge.specs.declared.refusal.Front.TheVariants as front
+use Rattle.httpedge.specs.declared.head.Length as lengths
+use Rattle.httpedge.specs.declared.head.Length.TheVariants as some_length
+use Rattle.httpedge.specs.declared.head.Head as heads
+use Rattle.httpedge.specs.Refusals.{Refusal, head_too_large, bad_head, wrong_version, not_one_host, encoded, no_length, bad_length, body_too_large, not_json, too_many_connections, Front, undecided, refused, told}
+use Rattle.httpedge.specs.Heads.{Length, missing, malformed, digits, Request}
+
+abbrev pub refusal_of : refusals.Refusal → Refusal
+refusal_of refusal.HeadTooLarge = head_too_large
+refusal_of refusal.BadHead = bad_head
+refusal_of refusal.WrongVersion = wrong_version
+refusal_of refusal.NotOneHost = not_one_host
+refusal_of refusal.Encoded = encoded
+refusal_of refusal.NoLength = no_length
+refusal_of refusal.BadLength = bad_length
+refusal_of refusal.BodyTooLarge = body_too_large
+refusal_of refusal.NotJson = not_json
+refusal_of refusal.TooManyConnections = too_many_connections
+
+abbrev pub front_of : {A B : Type 0} → (A → B) → fronts.Front A → Front B
+front_of view front.Undecided = undecided
+front_of view (front.Refused r) = refused (refusal_of r)
+front_of view (front.Told a) = told (view a)
+
+abbrev pub length_of : lengths.Length → Length
+length_of some_length.Missing = missing
+length_of some_length.Malformed = malformed
+length_of (some_length.Digits ds) = digits ds.now
+
+abbrev pub request_in : heads.Head → Request
+request_in h = record {
+  method = h.method.now;
+  target = h.target.now;
+  media = option_map (λ m. m.now) h.media;
+  encoded = h.is_encoded;
+  length = length_of h.length;
+}
+
+-- the head, and the bytes after it
+abbrev pub head_of : heads.Head → Request × List ℕ
+head_of h = (request_in h, h.rest.now)
+
+abbrev pub data_of : Option Value → Option Data
+data_of o = option_map view o

@@ -1,0 +1,321 @@
+//! What the head of a request says, and when it has come.
+
+ghost use Rattle.std.specs.Prelude.{◌≡◌, ◌≢◌, ◌≤◌, ◌++◌, ℕ, List, Some, None, [], length, take, drop, map, option_map, IfSome, IsUtf8};
+ghost use Rattle.std.specs.List.{All, list_all, list_any, filter};
+ghost use Rattle.std.specs.Char.{is_ascii_digit};
+ghost use Rattle.httparse.specs.Grammar.{RequestHead, ReadsRequest};
+ghost use Rattle.httparse.specs.Spans.{header_bytes, span_bytes, IsHeaderWithin, IsWithin, IsRequestWithin};
+ghost use Rattle.httpedge.specs.Heads.{max_head, end_inside, head_end, has_name, is_host, media_in, is_encoded, without_zeros, length_in, agreed, length_after, missing, digits, judged, IsWholeAt, SaysWhole, SaysAt, Said, Says, with_more};
+ghost use Rattle.httpedge.specs.Refusals.{undecided};
+ghost use Rattle.httpedge.specs.Views.{front_of, head_of, length_of};
+
+use crate::refusal::{Front, Refusal};
+use httparse::Status;
+use httparse::spans::{EMPTY_HEADER_SPAN, HeaderSpan, RequestSpans, parse_request};
+
+const MAX_HEAD: usize = 16_384;
+
+const MAX_FIELDS: usize = 64;
+
+/// More fields than a head of 16,384 bytes can hold.
+const ROOM: usize = 5_462;
+
+/// What the Content-Length fields of a head say.
+#[derive(Clone, Copy, Debug, PartialEq, Eq)]
+pub enum Length<'b> {
+    /// There is none.
+    Missing,
+    /// They say no one number.
+    Malformed,
+    /// The number's digits, without leading zeros.
+    Digits(&'b [u8]),
+}
+
+/// What the server takes from a head (RFC 9112, sections 3, 5 and 6), and the bytes that came after it.
+#[derive(Clone, Copy, Debug)]
+pub struct Head<'b> {
+    pub method: &'b str,
+    pub target: &'b str,
+    /// The value of the first Content-Type.
+    pub media: Option<&'b [u8]>,
+    /// Whether there is a Transfer-Encoding.
+    pub is_encoded: bool,
+    pub length: Length<'b>,
+    pub rest: &'b [u8],
+}
+
+/// How many bytes there are up to the first empty line, and with it, from a byte inside the head.
+fn end_inside(bytes: &[u8], from: usize) -> Option<usize>
+    requires { from ≤ length bytes.now }
+    ensures value { result ≡ end_inside from (drop from bytes.now) }
+    ensures within { IfSome result (λ n. n ≤ length bytes.now) }
+{
+    for i in from..bytes.len() {
+        if bytes[i] == b'\n' {
+            let rest = &bytes[i + 1..];
+            if rest.starts_with(b"\n") {
+                return Some(i + 2);
+            }
+            if rest.starts_with(b"\r\n") {
+                return Some(i + 3);
+            }
+        }
+    }
+    None
+}
+
+/// How many bytes the head has, where it ends in these.
+fn head_end(bytes: &[u8]) -> Option<usize>
+    ensures value { result ≡ head_end bytes.now }
+    ensures within { IfSome result (λ n. n ≤ length bytes.now) }
+{
+    for (i, byte) in bytes.iter().enumerate() {
+        if *byte != b'\r' && *byte != b'\n' {
+            return end_inside(bytes, i);
+        }
+    }
+    None
+}
+
+fn has_name(head: &[u8], field: &HeaderSpan, word: &[u8]) -> bool
+    requires { IsHeaderWithin (length head.now) field.now }
+    ensures { result ≡ has_name word.now (header_bytes head.now field.now) }
+{
+    field.name.of(head).eq_ignore_ascii_case(word)
+}
+
+fn hosts_in(head: &[u8], fields: &[HeaderSpan]) -> usize
+    requires { All (IsHeaderWithin (length head.now)) fields.now }
+    ensures { result ≡ length (filter is_host (map (header_bytes head.now) fields.now)) }
+{
+    let mut hosts = 0;
+    for field in fields {
+        if has_name(head, field, b"host") {
+            hosts += 1;
+        }
+    }
+    hosts
+}
+
+fn media_in<'b>(head: &'b [u8], fields: &[HeaderSpan]) -> Option<&'b [u8]>
+    requires { All (IsHeaderWithin (length head.now)) fields.now }
+    ensures { option_map (λ m. m.now) result ≡ media_in (map (header_bytes head.now) fields.now) }
+{
+    for field in fields {
+        if has_name(head, field, b"content-type") {
+            return Some(field.value.of(head));
+        }
+    }
+    None
+}
+
+fn is_encoded(head: &[u8], fields: &[HeaderSpan]) -> bool
+    requires { All (IsHeaderWithin (length head.now)) fields.now }
+    ensures { result ≡ is_encoded (map (header_bytes head.now) fields.now) }
+{
+    for field in fields {
+        if has_name(head, field, b"transfer-encoding") {
+            return true;
+        }
+    }
+    false
+}
+
+fn without_zeros(digits: &[u8]) -> &[u8]
+    ensures { result.now ≡ without_zeros digits.now }
+{
+    for (i, digit) in digits.iter().enumerate() {
+        if *digit != b'0' {
+            return &digits[i..];
+        }
+    }
+    &digits[digits.len()..]
+}
+
+fn are_digits(value: &[u8]) -> bool
+    ensures { result ≡ list_all is_ascii_digit value.now }
+{
+    for byte in value {
+        if !byte.is_ascii_digit() {
+            return false;
+        }
+    }
+    true
+}
+
+fn length_in(value: &[u8]) -> Length<'_>
+    ensures { length_of result ≡ length_in value.now }
+{
+    if value.is_empty() || !are_digits(value) {
+        return Length::Malformed;
+    }
+    Length::Digits(without_zeros(value))
+}
+
+/// What a field says after one that said these digits.
+fn agreed_with<'b>(said: &'b [u8], other: Length<'b>) -> Length<'b>
+    ensures { length_of result ≡ agreed (digits said.now) (length_of other.entry) }
+{
+    match other {
+        Length::Missing => Length::Digits(said),
+        Length::Malformed => Length::Malformed,
+        Length::Digits(others) => {
+            if said == others {
+                Length::Digits(said)
+            } else {
+                Length::Malformed
+            }
+        }
+    }
+}
+
+/// What two fields say together.
+fn agreed<'b>(said: Length<'b>, other: Length<'b>) -> Length<'b>
+    ensures { length_of result ≡ agreed (length_of said.entry) (length_of other.entry) }
+{
+    match said {
+        Length::Missing => other,
+        Length::Malformed => Length::Malformed,
+        Length::Digits(digits) => agreed_with(digits, other),
+    }
+}
+
+fn length_of<'b>(head: &'b [u8], fields: &[HeaderSpan]) -> Length<'b>
+    requires { All (IsHeaderWithin (length head.now)) fields.now }
+    ensures { length_of result ≡ length_after missing (map (header_bytes head.now) fields.now) }
+{
+    let mut length = Length::Missing;
+    for field in fields {
+        if has_name(head, field, b"content-length") {
+            length = agreed(length, length_in(field.value.of(head)));
+        }
+    }
+    length
+}
+
+fn text_of(bytes: &[u8]) -> &str
+    requires { IsUtf8 bytes.now }
+    ensures { result.now ≡ bytes.now }
+{
+    match str::from_utf8(bytes) {
+        Ok(text) => text,
+        Err(_) => "",
+    }
+}
+
+/// The judgement of a head of the grammar.
+fn judged<'b>(
+    head: &'b [u8],
+    parts: RequestSpans,
+    fields: &[HeaderSpan],
+    rest: &'b [u8],
+) -> Front<Head<'b>>
+    requires method { IsWithin (length head.now) parts.method }
+    requires path { IsWithin (length head.now) parts.path }
+    requires method_text { IsUtf8 (span_bytes head.now parts.method) }
+    requires path_text { IsUtf8 (span_bytes head.now parts.path) }
+    requires fields { All (IsHeaderWithin (length head.now)) fields.now }
+    ensures { front_of head_of result ≡ judged (span_bytes head.now parts.method) (span_bytes head.now parts.path) parts.version (map (header_bytes head.now) fields.now) rest.now }
+{
+    if fields.len() > MAX_FIELDS {
+        return Front::Refused(Refusal::HeadTooLarge);
+    }
+    if parts.version != 1 {
+        return Front::Refused(Refusal::WrongVersion);
+    }
+    if hosts_in(head, fields) != 1 {
+        return Front::Refused(Refusal::NotOneHost);
+    }
+    let target = parts.path.of(head);
+    if !target.starts_with(b"/") {
+        return Front::Refused(Refusal::BadHead);
+    }
+    Front::Told(Head {
+        method: text_of(parts.method.of(head)),
+        target: text_of(target),
+        media: media_in(head, fields),
+        is_encoded: is_encoded(head, fields),
+        length: length_of(head, fields),
+        rest,
+    })
+}
+
+/// The offsets of a head's parts, where these bytes are a head.
+fn parts_of(head: &[u8], spans: &mut [HeaderSpan]) -> Option<RequestSpans>
+    requires short { length head.now ≤ max_head }
+    requires room { ROOM ≤ length spans.old }
+    ensures within { IfSome result (λ parts. IsRequestWithin head.now spans.new parts) }
+    ensures whole { IfSome result (λ parts. IsWholeAt head.now spans.new parts) }
+    ensures none { result ≡ None → (h : RequestHead) → ¬ (ReadsRequest head.now h []) }
+{
+    match parse_request(head, spans) {
+        Ok(Status::Complete(parts)) => {
+            if parts.len == head.len() {
+                Some(parts)
+            } else {
+                None
+            }
+        }
+        Ok(Status::Partial) => None,
+        Err(_) => None,
+    }
+}
+
+/// The judgement of the bytes up to the first empty line.
+fn judge<'b>(head: &'b [u8], rest: &'b [u8]) -> Front<Head<'b>>
+    requires { length head.now ≤ max_head }
+    ensures { SaysWhole head.now rest.now (front_of head_of result) }
+{
+    let mut spans = [EMPTY_HEADER_SPAN; ROOM];
+    match parts_of(head, &mut spans) {
+        Some(parts) => judged(head, parts, &spans[..parts.headers], rest),
+        None => Front::Refused(Refusal::BadHead),
+    }
+}
+
+fn front_of(bytes: &[u8]) -> &[u8]
+    ensures { result.now ≡ take max_head bytes.now }
+{
+    if bytes.len() > MAX_HEAD {
+        &bytes[..MAX_HEAD]
+    } else {
+        bytes
+    }
+}
+
+/// How many bytes the head has, where it ends within the limit.
+fn end_of(bytes: &[u8]) -> Option<usize>
+    ensures value { result ≡ head_end (take max_head bytes.now) }
+    ensures within { IfSome result (λ n. n ≤ length bytes.now) }
+    ensures short { IfSome result (λ n. n ≤ max_head) }
+{
+    head_end(front_of(bytes))
+}
+
+fn judge_at(bytes: &[u8], end: usize) -> Front<Head<'_>>
+    requires within { end ≤ length bytes.now }
+    requires short { end ≤ max_head }
+    ensures { SaysAt bytes.now (Some end) (front_of head_of result) }
+{
+    judge(&bytes[..end], &bytes[end..])
+}
+
+fn read_front(bytes: &[u8]) -> Front<Head<'_>>
+    ensures { Says bytes.now (front_of head_of result) }
+{
+    match end_of(bytes) {
+        Some(end) => judge_at(bytes, end),
+        None if bytes.len() > MAX_HEAD => Front::Refused(Refusal::HeadTooLarge),
+        None => Front::Undecided,
+    }
+}
+
+/// What the bytes that came on a connection say of the request's head, however they were cut: once decided,
+/// bytes that come later change nothing but what stands after the head.
+pub fn read_head(bytes: &[u8]) -> Front<Head<'_>>
+    ensures says { Says bytes.now (front_of head_of result) }
+    ensures alone { (front : Said) → Says bytes.now front → front ≡ front_of head_of result }
+    ensures stays { (more : List ℕ) → front_of head_of result ≢ undecided → Says (bytes.now ++ more) (with_more more (front_of head_of result)) }
+{
+    read_front(bytes)
+}
