@@ -2,4 +2,9 @@ pub mod Refusals
 pub mod Heads
 pub mod Bodies
 pub mod ReplyBytes
+pub mod Asks
+pub mod Answers
+pub mod Hub
 pub mod Views
+pub mod Standing
+pub mod HubSeen

@@ -1,36 +1,26 @@
 -- Requests that are refused before a call is made of them, and what a front of a connection's bytes may say.
-use Rattle.std.specs.Prelude.{ℕ, List, codes}
+use Rattle.std.specs.Prelude.{ℕ, List, None, codes}
+use Rattle.verbs.specs.declared.reason.Reason.{Reason}
+use Rattle.verbs.specs.declared.reason.Reason.TheVariants.{BadRequest, LengthRequired, RequestEntityTooLarge, RequestHeaderFieldsTooLarge, NotImplemented, ServiceUnavailable, HttpVersionNotSupported}
+use Rattle.verbs.specs.Calls.{Denied}
 
 pub data Refusal : Type 0 where
   head_too_large bad_head wrong_version not_one_host : Refusal
   encoded no_length bad_length body_too_large not_json : Refusal
   too_many_connections : Refusal
 
--- the status code (RFC 9110, section 15; RFC 6585, section 5)
-abbrev pub code_of : Refusal → ℕ
-code_of head_too_large = 431
-code_of bad_head = 400
-code_of wrong_version = 505
-code_of not_one_host = 400
-code_of encoded = 501
-code_of no_length = 411
-code_of bad_length = 400
-code_of body_too_large = 413
-code_of not_json = 400
-code_of too_many_connections = 503
-
--- the reason in the Status (Kubernetes API conventions, "Response Status Kind")
-abbrev pub reason_of : Refusal → List ℕ
-reason_of head_too_large = codes "RequestHeaderFieldsTooLarge"
-reason_of bad_head = codes "BadRequest"
-reason_of wrong_version = codes "HTTPVersionNotSupported"
-reason_of not_one_host = codes "BadRequest"
-reason_of encoded = codes "NotImplemented"
-reason_of no_length = codes "LengthRequired"
-reason_of bad_length = codes "BadRequest"
-reason_of body_too_large = codes "RequestEntityTooLarge"
-reason_of not_json = codes "BadRequest"
-reason_of too_many_connections = codes "ServiceUnavailable"
+-- its reason, which has the status code
+abbrev pub reason_of : Refusal → Reason
+reason_of head_too_large = RequestHeaderFieldsTooLarge
+reason_of bad_head = BadRequest
+reason_of wrong_version = HttpVersionNotSupported
+reason_of not_one_host = BadRequest
+reason_of encoded = NotImplemented
+reason_of no_length = LengthRequired
+reason_of bad_length = BadRequest
+reason_of body_too_large = RequestEntityTooLarge
+reason_of not_json = BadRequest
+reason_of too_many_connections = ServiceUnavailable
 
 abbrev pub message_of : Refusal → List ℕ
 message_of head_too_large = codes "request head too large"
@@ -43,6 +33,10 @@ message_of bad_length = codes "bad Content-Length"
 message_of body_too_large = codes "body over 65536 bytes"
 message_of not_json = codes "body is not JSON"
 message_of too_many_connections = codes "too many connections"
+
+-- as a call's route, method or media type is denied
+abbrev pub denied_by : Refusal → Denied
+denied_by r = record { reason = reason_of r; message = message_of r; allow = None }
 
 -- what the bytes that came say: not enough came, a refusal, or this
 pub data Front (A : Type 0) : Type 0 where

@@ -3,17 +3,27 @@
 //! What a connection asks depends on the bytes that came and on nothing else, however they were cut; a reply
 //! is written byte for byte as the definitions say.
 //!
-//! Stands on `httparse` for the grammar of a head (RFC 9112), on `http` for phrases and on `serde_json`.
+//! Stands on `verbs` for what a call answers, on `httparse` for the grammar of a head (RFC 9112), on `http` for
+//! phrases and on `serde_json`.
 #![tactic(auto)]
 
+mod answering;
+mod asking;
 mod body;
+mod connection;
+mod event;
+mod fault;
 mod head;
+mod hub;
 mod refusal;
 mod reply;
 mod target;
 
 pub use body::read_body;
+pub use event::Event;
+pub use fault::HubFault;
 pub use head::{Head, Length, read_head};
+pub use hub::Hub;
 pub use refusal::{Front, Refusal};
 pub use reply::reply_bytes;
 pub use target::{judged_media, path_of, query_of};

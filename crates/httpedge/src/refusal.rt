@@ -1,8 +1,11 @@
 //! Requests that are refused before a call is made of them.
 
 ghost use Rattle.std.specs.Prelude.{◌≡◌};
-ghost use Rattle.httpedge.specs.Refusals.{code_of, reason_of, message_of};
+ghost use Rattle.httpedge.specs.Refusals.{denied_by, reason_of, message_of};
 ghost use Rattle.httpedge.specs.Views.{refusal_of};
+ghost use Rattle.verbs.specs.Seen.{denied_of};
+
+use verbs::{Denied, Reason};
 
 /// Why a request is refused before a call is made of it.
 #[derive(Clone, Copy, Debug, PartialEq, Eq)]
@@ -29,35 +32,20 @@ pub enum Front<A> {
 }
 
 impl Refusal {
-    /// The status code of the reply (RFC 9110, section 15; RFC 6585, section 5).
-    pub fn code(self) -> u16
-        ensures { result ≡ code_of (refusal_of self) }
-    {
-        match self {
-            Refusal::BadHead | Refusal::NotOneHost | Refusal::BadLength | Refusal::NotJson => 400,
-            Refusal::NoLength => 411,
-            Refusal::BodyTooLarge => 413,
-            Refusal::HeadTooLarge => 431,
-            Refusal::Encoded => 501,
-            Refusal::TooManyConnections => 503,
-            Refusal::WrongVersion => 505,
-        }
-    }
-
-    /// The reason in the Status (Kubernetes API conventions, "Response Status Kind").
-    pub fn reason(self) -> &'static str
-        ensures { result.now ≡ reason_of (refusal_of self) }
+    /// The reason in the Status, which has the status code (RFC 9110, section 15; RFC 6585, section 5).
+    pub fn reason(self) -> Reason
+        ensures { result ≡ reason_of (refusal_of self) }
     {
         match self {
             Refusal::BadHead | Refusal::NotOneHost | Refusal::BadLength | Refusal::NotJson => {
-                "BadRequest"
+                Reason::BadRequest
             }
-            Refusal::NoLength => "LengthRequired",
-            Refusal::BodyTooLarge => "RequestEntityTooLarge",
-            Refusal::HeadTooLarge => "RequestHeaderFieldsTooLarge",
-            Refusal::Encoded => "NotImplemented",
-            Refusal::TooManyConnections => "ServiceUnavailable",
-            Refusal::WrongVersion => "HTTPVersionNotSupported",
+            Refusal::NoLength => Reason::LengthRequired,
+            Refusal::BodyTooLarge => Reason::RequestEntityTooLarge,
+            Refusal::HeadTooLarge => Reason::RequestHeaderFieldsTooLarge,
+            Refusal::Encoded => Reason::NotImplemented,
+            Refusal::TooManyConnections => Reason::ServiceUnavailable,
+            Refusal::WrongVersion => Reason::HttpVersionNotSupported,
         }
     }
 
@@ -76,6 +64,17 @@ impl Refusal {
             Refusal::BodyTooLarge => "body over 65536 bytes",
             Refusal::NotJson => "body is not JSON",
             Refusal::TooManyConnections => "too many connections",
+        }
+    }
+
+    /// The refusal as a call is denied.
+    pub fn denied(self) -> Denied
+        ensures { denied_of result ≡ denied_by (refusal_of self) }
+    {
+        Denied {
+            reason: self.reason(),
+            message: self.message(),
+            allow: None,
         }
     }
 }

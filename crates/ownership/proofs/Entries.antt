@@ -75,7 +75,7 @@ module _ (s : PathSet) (m : Manager) (es : List Entry) (i : ℕ) (e : Entry) (lt
       taken ∙ ap (λ b. less s (filter (is_other m) (pairs (take i es))) ++ less s (cond (not b) (pair e ∷ []) [])) same
       ∙ ap (λ b. less s (filter (is_other m) (pairs (take i es))) ++ cond (not b) (((pair e).0, set.difference e.paths s) ∷ []) []) some
 
-not_zero : (n : ℕ) → (suc n == 0) ≡ false
+pub not_zero : (n : ℕ) → (suc n == 0) ≡ false
 not_zero n = grind arith
 
 -- emptiness by its two words

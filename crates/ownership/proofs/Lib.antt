@@ -1,3 +1,10 @@
 pub mod Entries
+pub mod Sameness
+pub mod Taking
 pub mod Dropping
+pub mod Keeping
+pub mod Ends
+pub mod Leaves
+pub mod Clauses
+pub mod Changing
 pub mod Objects

@@ -3,5 +3,7 @@ pub mod Managers
 pub mod Ranks
 pub mod Results
 pub mod Apply
+pub mod Sameness
+pub mod Keeping
 pub mod Update
 pub mod ObjectText

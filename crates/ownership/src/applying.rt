@@ -1,6 +1,8 @@
-ghost use Rattle.std.specs.Prelude.{◌≡◌, IfOk, map};
+ghost use Rattle.std.specs.Prelude.{◌≡◌, IfOk, false, map};
+ghost use Rattle.schema.specs.Shape.{Shape};
 ghost use Rattle.ownership.specs.Owners.{apply_operation, manager_of};
 ghost use Rattle.ownership.specs.Apply.{dropped, is_refused};
+ghost use Rattle.ownership.specs.Keeping.{HasPlaces, IsSettled, LeavesOwned, OthersKeep, OwnedStand};
 ghost use Rattle.ownership.specs.Managers.{texts};
 ghost use Rattle.ownership.specs.Results.{Applies, conflict_of, state_of};
 
@@ -46,7 +48,11 @@ pub fn apply(
     config: &Tree,
     force: bool,
 ) -> Result<Owned, ApplyFault>
-    ensures { Applies (state_of live.now) config.now (manager_of manager.now apply_operation) force result }
+    ensures applies { Applies (state_of live.now) config.now (manager_of manager.now apply_operation) force result }
+    ensures others { force ≡ false → IfOk result (λ o. OthersKeep (state_of live.now) (state_of o) (manager_of manager.now apply_operation)) }
+    ensures stand { OwnedStand (state_of live.now) → IfOk result (λ o. OwnedStand (state_of o)) }
+    ensures leaves { (s : Shape) → HasPlaces s live.now.tree → HasPlaces s config.now → OwnedStand (state_of live.now) → LeavesOwned s (state_of live.now) → IfOk result (λ o. LeavesOwned s (state_of o)) }
+    ensures again { IfOk result (λ o. IsSettled (state_of o) config.now (manager_of manager.now apply_operation)) }
 {
     let manager = Manager::new(alloc, manager, Operation::Apply)?;
     let changed = config.changed_from(alloc, &live.tree)?;

@@ -12,6 +12,7 @@ mod managers;
 mod object;
 mod owned;
 mod same;
+mod updating;
 
 pub use applying::apply;
 pub use conflict::{ApplyFault, Conflict};
@@ -19,3 +20,4 @@ pub use manager::{Manager, Operation};
 pub use managers::{Entry, Managers};
 pub use object::Identity;
 pub use owned::Owned;
+pub use updating::update;

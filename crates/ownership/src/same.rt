@@ -1,40 +1,66 @@
+ghost use Rattle.std.specs.Prelude.{◌≡◌, ◌↔◌, IfOk, IsTrue};
+ghost use Rattle.ownership.specs.Managers.{pair, pairs};
+ghost use Rattle.ownership.specs.Results.{state_of};
+ghost use Rattle.ownership.specs.Sameness.{is_unchanged, is_within, same_content, same_entries, same_entry, same_state};
+
 use crate::managers::Entry;
 use crate::owned::Owned;
 use fieldset::FieldSet;
 use std::alloc::{AllocError, Global};
 use typed::Tree;
 
-fn are_same_paths(alloc: Global, mine: &FieldSet, theirs: &FieldSet) -> Result<bool, AllocError> {
-    let here = mine.minus(alloc, theirs)?;
-    let there = theirs.minus(alloc, mine)?;
-    Ok(here.is_empty() && there.is_empty())
+/// Whether the other set has all these paths.
+fn is_within(alloc: Global, mine: &FieldSet, theirs: &FieldSet) -> Result<bool, AllocError>
+    ensures { IfOk result (λ b. b ≡ is_within mine.now theirs.now) }
+{
+    Ok(mine.minus(alloc, theirs)?.is_empty())
 }
 
-fn are_same_trees(alloc: Global, mine: &Tree, theirs: &Tree) -> Result<bool, AllocError> {
-    let here = mine.changed_from(alloc, theirs)?;
-    let there = theirs.changed_from(alloc, mine)?;
-    Ok(here.is_empty() && there.is_empty())
+fn is_same_entry(alloc: Global, mine: &Entry, theirs: &Entry) -> Result<bool, AllocError>
+    ensures { IfOk result (λ b. b ≡ same_entry (pair mine.now) (pair theirs.now)) }
+{
+    Ok(
+        mine.manager.is_same(&theirs.manager)
+            && is_within(alloc, &mine.paths, &theirs.paths)?
+            && is_within(alloc, &theirs.paths, &mine.paths)?,
+    )
 }
 
-fn are_same_entries(alloc: Global, mine: &[Entry], theirs: &[Entry]) -> Result<bool, AllocError> {
+fn are_same_entries(alloc: Global, mine: &[Entry], theirs: &[Entry]) -> Result<bool, AllocError>
+    ensures { IfOk result (λ b. b ≡ same_entries (pairs mine.now) (pairs theirs.now)) }
+{
     if mine.len() != theirs.len() {
         return Ok(false);
     }
     for (one, other) in mine.iter().zip(theirs.iter()) {
-        if !one.manager.is_same(&other.manager)
-            || !are_same_paths(alloc, &one.paths, &other.paths)?
-        {
+        if !is_same_entry(alloc, one, other)? {
             return Ok(false);
         }
     }
     Ok(true)
 }
 
+/// Whether no path has another value in the other content.
+fn is_unchanged(alloc: Global, mine: &Tree, theirs: &Tree) -> Result<bool, AllocError>
+    ensures { IfOk result (λ b. b ≡ is_unchanged mine.now theirs.now) }
+{
+    Ok(mine.changed_from(alloc, theirs)?.is_empty())
+}
+
+fn is_same_content(alloc: Global, mine: &Tree, theirs: &Tree) -> Result<bool, AllocError>
+    ensures { IfOk result (λ b. b ≡ same_content mine.now theirs.now) }
+{
+    Ok(is_unchanged(alloc, mine, theirs)? && is_unchanged(alloc, theirs, mine)?)
+}
+
 impl Owned {
     /// Whether both have the same content and the same owners.
-    pub fn is_same(&self, alloc: Global, other: &Owned) -> Result<bool, AllocError> {
+    pub fn is_same(&self, alloc: Global, other: &Owned) -> Result<bool, AllocError>
+        ensures value { IfOk result (λ b. b ≡ same_state (state_of self.now) (state_of other.now)) }
+        ensures same { IfOk result (λ b. IsTrue b ↔ (state_of self.now ≡ state_of other.now)) }
+    {
         Ok(
-            are_same_trees(alloc, &self.tree, &other.tree)?
+            is_same_content(alloc, &self.tree, &other.tree)?
                 && are_same_entries(alloc, self.managers.entries(), other.managers.entries())?,
         )
     }

@@ -9,7 +9,8 @@ use Rattle.std.specs.Str.{bytes_eq}
 use Rattle.serde_json.specs.Data.{Data, null, boolean, number, string, array, object, Items, no_items, item, Members, no_members, member}
 use Rattle.serde_json.specs.Find.{get_member, as_object}
 use Rattle.schema.specs.Shape.{Shape, text, struct_of, map_of, list_of, Fields, no_fields, field}
-use Rattle.schema.specs.Names.{is_dns_label, is_dns_subdomain, is_kind_name, is_plural}
+use Rattle.names.specs.Names.{is_dns_label, is_dns_subdomain}
+use Rattle.schema.specs.Names.{is_kind_name, is_plural}
 use Rattle.schema.specs.Refusals.{Refusal, misfit, same_names, not_the_form, and_then, some_or}
 use Rattle.schema.specs.Keywords.{is_in, has, has_only, text_at, members_at, items_at}
 use Rattle.schema.specs.Forms.{Form, object_form, list_form, scalar_form, own_form}

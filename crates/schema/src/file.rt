@@ -3,7 +3,8 @@ ghost use Rattle.std.specs.Prelude.{◌≡◌, false, IfOk, OnOk, string_bytes, 
 ghost use Rattle.serde_json.specs.Find.{as_object};
 ghost use Rattle.serde_json.specs.View.{view, items_view, members_view};
 ghost use Rattle.schema.specs.Shape.{shape, map_of, text, fields_in};
-ghost use Rattle.schema.specs.Names.{is_dns_label, is_dns_subdomain, is_kind_name, is_plural};
+ghost use Rattle.names.specs.Names.{is_dns_label, is_dns_subdomain};
+ghost use Rattle.schema.specs.Names.{is_kind_name, is_plural};
 ghost use Rattle.schema.specs.Keywords.{text_at};
 ghost use Rattle.schema.specs.TypesFile.{text_where, fields_of, is_envelope, own_properties, metadata, put_field, type_shape, type_of, types_of, listed};
 ghost use Rattle.schema.specs.Served.{served};
@@ -12,10 +13,11 @@ ghost use Rattle.schema.specs.Seen.{Gives};
 use crate::fault::TypesFault;
 use crate::forms::{Form, own_form};
 use crate::keywords::{has_only, items_at, member, members_at, text_at};
-use crate::names::{is_dns_label, is_dns_subdomain, is_kind_name, is_plural};
 use crate::read::read_schema;
 use crate::schema::Schema;
 use crate::served::Served;
+use crate::type_names::{is_kind_name, is_plural};
+use names::{is_dns_label, is_dns_subdomain};
 use serde_json::{Map, Value};
 use std::alloc::{AllocError, Global};
 

@@ -2,7 +2,7 @@
 //!
 //! Promises: a types file reads as exactly the types that it declares, or as its first fault;
 //! a schema gives each path at most one place.
-//! Stands on `fieldpath` for elements and on `serde_json` for the file.
+//! Stands on `fieldpath` for elements, on `names` for names and on `serde_json` for the file.
 #![tactic(auto)]
 
 mod fault;
@@ -10,11 +10,11 @@ mod file;
 mod forms;
 mod keywords;
 mod lawful;
-mod names;
 mod place;
 mod read;
 mod schema;
 mod served;
+mod type_names;
 mod types;
 
 pub use fault::TypesFault;

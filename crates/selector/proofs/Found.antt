@@ -3,10 +3,6 @@ use Rattle.std.proofs.Common.{◌≡◌, ℕ, ◌+◌, ◌<◌, Bool, true, fals
 use Rattle.std.specs.List.{list_any, position_or_len}
 use Rattle.std.specs.Prelude.{MatchOption}
 
--- the second of two tests that must both pass, where the first passed
-pub both : {a b : Bool} (r s : Bool) → r ≡ true → r ≡ a → s ≡ b → s ≡ (a && b)
-both {a} {b} r s is first second = let e : a ≡ true = sym first ∙ is in rw e second
-
 pub list_any-none : {X : Type 0} (p : X → Bool) (xs : List X) → position_or_len p xs ≡ length xs → list_any p xs ≡ false
 list_any-none p [] e = refl
 list_any-none p (x ∷ xs) e = go (p x) (list_any-none p xs) e

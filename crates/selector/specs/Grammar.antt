@@ -7,7 +7,7 @@ use Rattle.selector.specs.declared.fault.Fault.{Fault}
 use Rattle.selector.specs.declared.fault.Fault.TheVariants.{EmptyPart, BadKey, BadValue, Bracket}
 use Rattle.selector.specs.declared.fault.ReadError.{ReadError}
 use Rattle.selector.specs.declared.fault.ReadError.TheVariants as errors
-use Rattle.selector.specs.Labels.{is_label_key, is_label_value}
+use Rattle.names.specs.Names.{is_label_key, is_label_value}
 use Rattle.selector.specs.Requirement.{Condition, equals, differs, among, outside, exists, absent, Requirement}
 
 infixl 10 ◌>>=◌

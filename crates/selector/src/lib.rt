@@ -4,11 +4,10 @@
 //! A text is read as its one list of requirements, or refused with its first fault from the left; an object
 //! is selected where its labels meet every requirement.
 //!
-//! Stands on std alone.
+//! Stands on `names` for keys and values of labels.
 #![tactic(auto)]
 
 mod fault;
-mod label;
 mod requirement;
 mod selector;
 mod text;

@@ -7,8 +7,8 @@ ghost use Rattle.selector.specs.Requirement.{meets};
 ghost use Rattle.selector.specs.Views.{condition_of, requirement_of, labels_of};
 
 use crate::fault::{Fault, ReadError};
-use crate::label::{is_label_key, is_label_value};
 use crate::text::{first_part, trimmed};
+use names::{is_label_key, is_label_value};
 use std::alloc::Global;
 use std::collections::BTreeMap;
 

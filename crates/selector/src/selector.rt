@@ -1,6 +1,6 @@
 //! A list of requirements, all of which have to be met.
 
-ghost use Rattle.std.specs.Prelude.{◌≡◌};
+ghost use Rattle.std.specs.Prelude.{◌≡◌, []};
 ghost use Rattle.selector.specs.Grammar.{Gives, parse_selector};
 ghost use Rattle.selector.specs.Requirement.{selects};
 ghost use Rattle.selector.specs.Views.{labels_of};
@@ -30,6 +30,15 @@ impl Model for Selector {
 }
 
 impl Selector {
+    /// Selects every object.
+    pub fn all(alloc: Global) -> Selector
+        ensures { result ≡ [] }
+    {
+        Selector {
+            requirements: Vec::new(alloc),
+        }
+    }
+
     /// Reads `tier in (web, db),!old` and the like. The empty text selects every object; blanks round a part
     /// and round its signs have no meaning (Kubernetes documentation, "Labels and Selectors").
     ///
@@ -39,9 +48,7 @@ impl Selector {
         ensures { Gives (λ s. s) result (parse_selector text.now) }
     {
         if text.is_empty() {
-            return Ok(Selector {
-                requirements: Vec::new(alloc),
-            });
+            return Ok(Selector::all(alloc));
         }
         if !has_paired_brackets(text) {
             return Err(ReadError::Fault(Fault::Bracket));

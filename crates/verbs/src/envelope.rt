@@ -1,5 +1,17 @@
+ghost use Rattle.std.specs.Prelude.{◌≡◌, ◌++◌, IfOk, OnOk, Some, codes, string_bytes, option_map, map};
+ghost use Rattle.schema.specs.Keywords.{is_in};
+ghost use Rattle.serde_json.specs.Find.{get_member};
+ghost use Rattle.serde_json.specs.View.{items_view, members_view, view};
+ghost use Rattle.schema.specs.Served as types;
+ghost use Rattle.verbs.specs.Envelope.{api_version_of, entries_judged, envelope_of, given_judged, is_text, is_text_or_none, kind_judged, kind_message, managers_judged, members_but, must_be, if_filled, member_of, metadata_in, metadata_judged, object_judged, put_metadata, rest_of, text_in, text_of, version_judged, version_or_fault, version_read, with_others};
+ghost use Rattle.verbs.specs.declared.reason.Reason.TheVariants.{BadRequest};
+ghost use Rattle.verbs.specs.Judged.{denial, unless};
+ghost use Rattle.verbs.specs.Seen.{Denies, Gives, envelope_seen, expected_of};
+
 use crate::fault::Stop;
-use crate::status::Reason;
+use crate::reason::Reason;
+use crate::texts::joined;
+use names::version_of;
 use schema::Served;
 use serde_json::{Map, Value};
 use std::alloc::{AllocError, Global};
@@ -36,145 +48,222 @@ const METADATA: [&str; 8] = [
     "selfLink",
 ];
 
-fn wrong_type(alloc: Global, path: &str) -> Stop {
-    match format!(in alloc; "{path}: wrong type") {
+/// A refusal whose message is a path and what is wrong there.
+fn fault_at(alloc: Global, path: &str, what: &str) -> Stop
+    ensures { Denies result BadRequest (path.now ++ what.now) }
+{
+    match joined(alloc, path, what) {
         Ok(message) => Stop::denied(alloc, Reason::BadRequest, message.as_str()),
         Err(_) => Stop::Memory,
     }
 }
 
-fn not_an_object(alloc: Global, path: &str) -> Stop {
-    match format!(in alloc; "{path}: not an object") {
-        Ok(message) => Stop::denied(alloc, Reason::BadRequest, message.as_str()),
-        Err(_) => Stop::Memory,
-    }
+/// `group/version`.
+pub fn api_version_of(alloc: Global, served: &Served) -> Result<String, AllocError>
+    ensures { IfOk result (λ s. string_bytes s ≡ api_version_of (types.served served.now)) }
+{
+    let mut text = joined(alloc, served.group.as_str(), "/")?;
+    text.push_str(served.version.as_str())?;
+    Ok(text)
 }
 
-fn must_be(alloc: Global, path: &str, wanted: &str) -> Stop {
-    match format!(in alloc; "{path} must be {wanted}") {
-        Ok(message) => Stop::denied(alloc, Reason::BadRequest, message.as_str()),
-        Err(_) => Stop::Memory,
-    }
+fn if_filled(text: &str) -> Option<&str>
+    ensures { option_map (λ s. s.now) result ≡ if_filled text.now }
+{
+    if text.is_empty() { None } else { Some(text) }
 }
 
-/// The text of a member; null, absence and the empty text are none.
-fn text_of<'a>(
-    alloc: Global,
-    members: Option<&'a Map<String, Value>>,
-    name: &str,
-    path: &str,
-) -> Result<Option<&'a str>, Stop> {
-    let Some(member) = members.and_then(|all| all.get(name)) else {
-        return Ok(None);
-    };
-    match member {
+fn wrong_type(alloc: Global, path: &str) -> Stop
+    ensures { Denies result BadRequest (path.now ++ codes ": wrong type") }
+{
+    fault_at(alloc, path, ": wrong type")
+}
+
+/// The text that a value is; null and the empty text are none.
+fn text_of<'a>(alloc: Global, value: &'a Value, path: &str) -> Result<Option<&'a str>, Stop>
+    ensures { Gives (option_map (λ s. s.now)) result (text_of path.now (view value.now)) }
+{
+    match value {
         Value::Null => Ok(None),
-        Value::String(text) => Ok(Some(text.as_str()).filter(|text| !text.is_empty())),
+        Value::String(text) => Ok(if_filled(text.as_str())),
         _ => Err(wrong_type(alloc, path)),
     }
 }
 
-/// A version text: a decimal without leading zeros, at most 9223372036854775807.
-pub fn version_of(text: &str) -> Option<u64> {
-    let number = text.parse::<u64>().ok()?;
-    let is_plain = text.bytes().all(|byte| byte.is_ascii_digit())
-        && (text == "0" || !text.starts_with("0"));
-    if is_plain && number <= 9223372036854775807 {
-        Some(number)
-    } else {
-        None
+/// The text of a member, none where it is absent.
+fn text_in<'a>(
+    alloc: Global,
+    member: Option<&'a Value>,
+    path: &str,
+) -> Result<Option<&'a str>, Stop>
+    ensures { Gives (option_map (λ s. s.now)) result (text_in path.now (option_map (λ v. view v.now) member.entry)) }
+{
+    match member {
+        Some(value) => text_of(alloc, value, path),
+        None => Ok(None),
     }
 }
 
-fn judge_kind(alloc: Global, top: &Map<String, Value>, expected: Expected<'_>) -> Result<(), Stop> {
-    let api_version = text_of(alloc, Some(top), "apiVersion", ".apiVersion")?;
-    let kind = text_of(alloc, Some(top), "kind", ".kind")?;
-    let wanted = api_version_of(alloc, expected.served)?;
-    if api_version == Some(wanted.as_str()) && kind == Some(expected.served.kind.as_str()) {
+fn is_text(given: Option<&str>, wanted: &str) -> bool
+    ensures { result ≡ is_text (option_map (λ s. s.now) given.entry) wanted.now }
+{
+    match given {
+        Some(text) => text == wanted,
+        None => false,
+    }
+}
+
+fn is_text_or_none(given: Option<&str>, wanted: &str) -> bool
+    ensures { result ≡ is_text_or_none (option_map (λ s. s.now) given.entry) wanted.now }
+{
+    match given {
+        Some(text) => text == wanted,
+        None => true,
+    }
+}
+
+fn kind_message(alloc: Global, api_version: &str, kind: &str) -> Result<String, AllocError>
+    ensures { IfOk result (λ s. string_bytes s ≡ kind_message api_version.now kind.now) }
+{
+    let mut message = joined(alloc, "apiVersion and kind must be ", api_version)?;
+    message.push_str(" and ")?;
+    message.push_str(kind)?;
+    Ok(message)
+}
+
+fn judge_kind(alloc: Global, served: &Served, top: &Map<String, Value>) -> Result<(), Stop>
+    ensures { Gives (λ u. u) result (kind_judged (types.served served.now) (members_view top.now.entries)) }
+{
+    let given_version = text_in(alloc, member(top, "apiVersion"), ".apiVersion")?;
+    let given_kind = text_in(alloc, member(top, "kind"), ".kind")?;
+    let wanted = api_version_of(alloc, served)?;
+    if is_text(given_version, wanted.as_str()) && is_text(given_kind, served.kind.as_str()) {
         return Ok(());
     }
-    let kind = expected.served.kind.as_str();
-    let message = format!(in alloc; "apiVersion and kind must be {wanted} and {kind}")?;
+    let message = kind_message(alloc, wanted.as_str(), served.kind.as_str())?;
     Err(Stop::denied(alloc, Reason::BadRequest, message.as_str()))
 }
 
-/// `group/version`.
-pub fn api_version_of(alloc: Global, served: &Served) -> Result<String, AllocError> {
-    let group = served.group.as_str();
-    let version = served.version.as_str();
-    format!(in alloc; "{group}/{version}")
-}
-
-fn judge_names(
+/// `metadata`, if it is there.
+fn metadata_in<'a>(
     alloc: Global,
-    metadata: Option<&Map<String, Value>>,
-    expected: Expected<'_>,
-) -> Result<(), Stop> {
-    match text_of(alloc, metadata, "name", ".metadata.name")? {
-        Some(name) if name != expected.name => {
-            return Err(must_be(alloc, "metadata.name", expected.name));
-        }
-        _ => {}
-    }
-    match text_of(alloc, metadata, "namespace", ".metadata.namespace")? {
-        Some(namespace) if namespace != expected.namespace => {
-            Err(must_be(alloc, "metadata.namespace", expected.namespace))
-        }
-        _ => Ok(()),
+    member: Option<&'a Value>,
+) -> Result<Option<&'a Map<String, Value>>, Stop>
+    ensures { Gives (option_map (λ m. members_view m.now.entries)) result (metadata_in (option_map (λ v. view v.now) member.entry)) }
+{
+    let Some(value) = member else {
+        return Ok(None);
+    };
+    match value {
+        Value::Null => Ok(None),
+        Value::Object(members) => Ok(Some(members)),
+        _ => Err(fault_at(alloc, ".metadata", ": not an object")),
     }
 }
 
-fn judge_version(
+/// The member of this name.
+fn member<'a>(members: &'a Map<String, Value>, name: &str) -> Option<&'a Value>
+    ensures { option_map (λ v. view v.now) result ≡ get_member name.now (members_view members.now.entries) }
+{
+    members.get(name)
+}
+
+/// The member of an object that may be absent.
+fn member_of<'a>(metadata: Option<&'a Map<String, Value>>, name: &str) -> Option<&'a Value>
+    ensures { option_map (λ v. view v.now) result ≡ member_of name.now (option_map (λ m. members_view m.now.entries) metadata.entry) }
+{
+    match metadata {
+        Some(members) => member(members, name),
+        None => None,
+    }
+}
+
+fn must_be(alloc: Global, name: &str, wanted: &str) -> Result<String, AllocError>
+    ensures { IfOk result (λ s. string_bytes s ≡ must_be name.now wanted.now) }
+{
+    let mut message = joined(alloc, "metadata.", name)?;
+    message.push_str(" must be ")?;
+    message.push_str(wanted)?;
+    Ok(message)
+}
+
+/// A name that the body gives is that of the path.
+fn judge_given(
     alloc: Global,
     metadata: Option<&Map<String, Value>>,
-) -> Result<Option<u64>, Stop> {
-    match text_of(
+    name: &str,
+    wanted: &str,
+) -> Result<(), Stop>
+    ensures { Gives (λ u. u) result (given_judged name.now wanted.now (option_map (λ m. members_view m.now.entries) metadata.entry)) }
+{
+    let path = joined(alloc, ".metadata.", name)?;
+    let given = text_in(alloc, member_of(metadata, name), path.as_str())?;
+    if is_text_or_none(given, wanted) {
+        return Ok(());
+    }
+    let message = must_be(alloc, name, wanted)?;
+    Err(Stop::denied(alloc, Reason::BadRequest, message.as_str()))
+}
+
+fn read_version(alloc: Global, given: Option<&str>) -> Result<Option<u64>, Stop>
+    ensures { Gives (λ v. v) result (version_read (option_map (λ s. s.now) given.entry)) }
+{
+    let Some(text) = given else {
+        return Ok(None);
+    };
+    match version_of(text) {
+        Some(version) => Ok(Some(version)),
+        None => Err(Stop::denied(
+            alloc,
+            Reason::BadRequest,
+            "metadata.resourceVersion: bad version",
+        )),
+    }
+}
+
+fn judge_version(alloc: Global, metadata: Option<&Map<String, Value>>) -> Result<Option<u64>, Stop>
+    ensures { Gives (λ v. v) result (version_judged (option_map (λ m. members_view m.now.entries) metadata.entry)) }
+{
+    let given = text_in(
         alloc,
-        metadata,
-        "resourceVersion",
+        member_of(metadata, "resourceVersion"),
         ".metadata.resourceVersion",
-    )? {
-        None => Ok(None),
-        Some(text) => match version_of(text) {
-            Some(version) => Ok(Some(version)),
-            None => Err(Stop::denied(
-                alloc,
-                Reason::BadRequest,
-                "metadata.resourceVersion: bad version",
-            )),
-        },
+    )?;
+    read_version(alloc, given)
+}
+
+fn judge_entries(alloc: Global, entries: &[Value]) -> Result<(), Stop>
+    ensures { Gives (λ u. u) result (entries_judged (items_view entries.now)) }
+{
+    if entries.is_empty() {
+        return Ok(());
     }
+    Err(Stop::denied(
+        alloc,
+        Reason::BadRequest,
+        "metadata.managedFields must be empty",
+    ))
 }
 
 /// An apply's body may not say who owns what.
-fn judge_managers(alloc: Global, metadata: Option<&Map<String, Value>>) -> Result<(), Stop> {
-    match metadata.and_then(|all| all.get("managedFields")) {
-        None => Ok(()),
-        Some(Value::Null) => Ok(()),
-        Some(Value::Array(entries)) => {
-            if entries.is_empty() {
-                return Ok(());
-            }
-            Err(Stop::denied(
-                alloc,
-                Reason::BadRequest,
-                "metadata.managedFields must be empty",
-            ))
-        }
-        Some(_) => Err(wrong_type(alloc, ".metadata.managedFields")),
+fn judge_managers(alloc: Global, member: Option<&Value>) -> Result<(), Stop>
+    ensures { Gives (λ u. u) result (managers_judged (option_map (λ v. view v.now) member.entry)) }
+{
+    let Some(value) = member else {
+        return Ok(());
+    };
+    match value {
+        Value::Null => Ok(()),
+        Value::Array(entries) => judge_entries(alloc, entries),
+        _ => Err(wrong_type(alloc, ".metadata.managedFields")),
     }
 }
 
-fn metadata_of<'a>(
-    alloc: Global,
-    top: &'a Map<String, Value>,
-) -> Result<Option<&'a Map<String, Value>>, Stop> {
-    match top.get("metadata") {
-        None => Ok(None),
-        Some(Value::Null) => Ok(None),
-        Some(Value::Object(members)) => Ok(Some(members)),
-        Some(_) => Err(not_an_object(alloc, ".metadata")),
-    }
+/// Whether the name is one of these.
+fn is_among(name: &str, names: &[&str]) -> bool
+    ensures { result ≡ is_in (map (λ n. n.now) names.now) name.now }
+{
+    names.iter().any(|known| *known == name)
 }
 
 /// The members but for those named.
@@ -182,41 +271,80 @@ fn members_but(
     alloc: Global,
     members: &Map<String, Value>,
     names: &[&str],
-) -> Result<Map<String, Value>, AllocError> {
+) -> Result<Map<String, Value>, AllocError>
+    ensures { IfOk result (λ m. members_view m.entries ≡ members_but (map (λ n. n.now) names.now) (members_view members.now.entries)) }
+{
     let mut left = Map::new(alloc);
     for (name, member) in members.iter() {
-        let text = name.as_str();
-        if !names.iter().any(|known| *known == text) {
-            drop(left.insert(name.clone()?, member.clone()?)?);
+        if !is_among(name.as_str(), names) {
+            serde_json::put(&mut left, alloc, name.as_str(), member.clone()?)?;
         }
     }
     Ok(left)
+}
+
+/// Puts what is left of `metadata`, where it is there.
+fn put_metadata(
+    rest: &mut Map<String, Value>,
+    alloc: Global,
+    metadata: Option<&Map<String, Value>>,
+) -> Result<(), AllocError>
+    ensures { OnOk result (members_view rest.new.entries ≡ put_metadata (option_map (λ m. members_view m.now.entries) metadata.entry) (members_view rest.old.entries)) }
+{
+    let Some(members) = metadata else {
+        return Ok(());
+    };
+    let left = members_but(alloc, members, &METADATA)?;
+    serde_json::put(rest, alloc, "metadata", Value::Object(left))
 }
 
 fn rest_of(
     alloc: Global,
     top: &Map<String, Value>,
     metadata: Option<&Map<String, Value>>,
-) -> Result<Value, AllocError> {
+) -> Result<Value, AllocError>
+    ensures { IfOk result (λ v. view v ≡ rest_of (members_view top.now.entries) (option_map (λ m. members_view m.now.entries) metadata.entry)) }
+{
     let mut rest = members_but(alloc, top, &TOP)?;
-    if let Some(members) = metadata {
-        let left = members_but(alloc, members, &METADATA)?;
-        serde_json::put(&mut rest, alloc, "metadata", Value::Object(left))?;
-    }
+    put_metadata(&mut rest, alloc, metadata)?;
     Ok(Value::Object(rest))
+}
+
+fn judge_metadata(
+    alloc: Global,
+    expected: Expected<'_>,
+    top: &Map<String, Value>,
+    metadata: Option<&Map<String, Value>>,
+) -> Result<Envelope, Stop>
+    ensures { Gives envelope_seen result (metadata_judged (expected_of expected.entry) (members_view top.now.entries) (option_map (λ m. members_view m.now.entries) metadata.entry)) }
+{
+    judge_given(alloc, metadata, "name", expected.name)?;
+    judge_given(alloc, metadata, "namespace", expected.namespace)?;
+    let version = judge_version(alloc, metadata)?;
+    judge_managers(alloc, member_of(metadata, "managedFields"))?;
+    let rest = rest_of(alloc, top, metadata)?;
+    Ok(Envelope { version, rest })
+}
+
+fn judge_object(
+    alloc: Global,
+    expected: Expected<'_>,
+    top: &Map<String, Value>,
+) -> Result<Envelope, Stop>
+    ensures { Gives envelope_seen result (object_judged (expected_of expected.entry) (Some (members_view top.now.entries))) }
+{
+    judge_kind(alloc, expected.served, top)?;
+    let metadata = metadata_in(alloc, member(top, "metadata"))?;
+    judge_metadata(alloc, expected, top, metadata)
 }
 
 /// Judges the envelope of an apply's body, in order: the body is an object, `apiVersion` and `kind`,
 /// `metadata`, `name`, `namespace`, `resourceVersion`, `managedFields`.
-pub fn judge(alloc: Global, body: &Value, expected: Expected<'_>) -> Result<Envelope, Stop> {
-    let Some(top) = body.as_object() else {
-        return Err(not_an_object(alloc, "."));
-    };
-    judge_kind(alloc, top, expected)?;
-    let metadata = metadata_of(alloc, top)?;
-    judge_names(alloc, metadata, expected)?;
-    let version = judge_version(alloc, metadata)?;
-    judge_managers(alloc, metadata)?;
-    let rest = rest_of(alloc, top, metadata)?;
-    Ok(Envelope { version, rest })
+pub fn judge(alloc: Global, body: &Value, expected: Expected<'_>) -> Result<Envelope, Stop>
+    ensures { Gives envelope_seen result (envelope_of (expected_of expected.entry) (view body.now)) }
+{
+    match body {
+        Value::Object(top) => judge_object(alloc, expected, top),
+        _ => Err(fault_at(alloc, ".", ": not an object")),
+    }
 }

@@ -1,4 +1,7 @@
-use crate::status::{Denial, Reason};
+ghost use Rattle.verbs.specs.Seen.{Denies};
+
+use crate::reason::Reason;
+use crate::status::Denial;
 use std::alloc::{AllocError, AllocFailed, Global};
 
 /// Why a step has no object to answer.
@@ -10,7 +13,9 @@ pub enum Stop {
 
 impl Stop {
     /// A refusal with this message.
-    pub fn denied(alloc: Global, reason: Reason, message: &str) -> Stop {
+    pub fn denied(alloc: Global, reason: Reason, message: &str) -> Stop
+        ensures { Denies result reason message.now }
+    {
         match Denial::new(alloc, reason, message) {
             Ok(denial) => Stop::Denied(denial),
             Err(_) => Stop::Memory,

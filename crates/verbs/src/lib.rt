@@ -1,11 +1,39 @@
 //! Calls on objects and their answers.
+//!
+//! Promises: what a call answers and changes is the step of the machine, with its checks in their order;
+//! a refused call changes nothing.
+//! Stands on `ownership` for apply, `typed` for reading, `schema` for types, `params` and `names` for parameters and names.
 #![tactic(auto)]
 
+mod admitting;
+mod answering;
 mod api;
+mod applying;
+mod calls;
+mod change;
+mod conflicts;
 mod envelope;
 mod fault;
+mod media;
+mod method;
+mod naming;
+mod objects;
+mod parameters;
+mod place;
+mod reading;
+mod reason;
+mod resource;
 mod route;
+mod size;
 mod status;
+mod texts;
 
-pub use api::{Answer, Api};
+pub use admitting::{Denied, Refusal};
+pub use api::Api;
+pub use calls::{Answer, Call, Plan, Target};
+pub use change::Change;
 pub use fault::Fault;
+pub use method::Method;
+pub use objects::Key;
+pub use reason::Reason;
+pub use status::status_value;

@@ -1,45 +1,47 @@
+ghost use Rattle.std.specs.Prelude.{◌≡◌};
+ghost use Rattle.verbs.specs.Admit.{routes};
+
 use crate::fault::Fault;
-use matchit::{InsertError, Router};
+use crate::place::{Place, place_in};
+use crate::resource::Resource;
+use matchit::Router;
 use schema::Types;
 use std::alloc::Global;
 
-/// The object path (Kubernetes docs, "Kubernetes API Concepts", "Resource URIs").
+/// An object's path.
 const OBJECT: &str = "/apis/{group}/{version}/namespaces/{namespace}/{plural}/{name}";
-
-/// What a path leads to.
-#[derive(Clone, Copy, Debug)]
-pub struct ObjectPath<'p> {
-    /// The number of the type.
-    pub kind: u32,
-    pub namespace: &'p str,
-    pub name: &'p str,
-}
 
 /// The routes of the API.
 #[derive(Drop)]
 pub struct Routes {
-    router: Router<()>,
+    router: Router<Resource>,
+    ghost table: { router ≡ routes },
 }
 
 impl Routes {
+    ghost use Rattle.std.specs.Prelude.{◌≡◌, option_map};
+    ghost use Rattle.schema.specs.Served.{types_view};
+    ghost use Rattle.verbs.specs.Admit.{place_of};
+    ghost use Rattle.verbs.specs.Seen.{place_seen};
+
     pub fn new(alloc: Global) -> Result<Routes, Fault> {
         let mut router = Router::new(alloc);
-        match router.insert(OBJECT, ()) {
+        match router.insert(OBJECT, Resource::Object) {
             Ok(()) => Ok(Routes { router }),
             Err(_) => Err(Fault::Memory),
         }
     }
 
-    /// The object of a type that a path names, if it is an object's path.
-    pub fn object<'p>(&self, types: &Types, path: &'p str) -> Option<ObjectPath<'p>> {
-        let found = self.router.at(path).ok()?;
-        let group = found.params.get("group")?;
-        let version = found.params.get("version")?;
-        let plural = found.params.get("plural")?;
-        Some(ObjectPath {
-            kind: types.find(group, version, plural)?,
-            namespace: found.params.get("namespace")?,
-            name: found.params.get("name")?,
-        })
+    /// What a path leads to; it is of ASCII characters alone, and nothing in it is percent-decoded.
+    pub fn place<'p>(&self, types: &Types, path: &'p str) -> Option<Place<'p>>
+        ensures { option_map place_seen result ≡ place_of (types_view types.now) path.now }
+    {
+        if !path.is_ascii() {
+            return None;
+        }
+        match self.router.at(path) {
+            Ok(found) => place_in(types, *found.value, &found.params),
+            Err(_) => None,
+        }
     }
 }

@@ -1,43 +1,50 @@
+ghost use Rattle.std.specs.Prelude.{◌≡◌, IfOk};
+ghost use Rattle.serde_json.specs.Data.{object};
+ghost use Rattle.serde_json.specs.View.{items_view, view};
+ghost use Rattle.verbs.specs.Judged.{denial};
+ghost use Rattle.verbs.specs.Seen.{denial_of};
+ghost use Rattle.verbs.specs.Status.{denial_value, put_causes, status_members, status_value};
+
+use crate::reason::Reason;
 use serde_json::{Value, json};
 use std::alloc::{AllocError, Global};
 
-/// The reasons of refusals (Kubernetes API conventions, "Response Status Kind").
-#[derive(Clone, Copy, Debug, PartialEq, Eq)]
-pub enum Reason {
-    BadRequest,
-    NotFound,
-    AlreadyExists,
-    Conflict,
-    Invalid,
-    ServiceUnavailable,
+/// The Status object that tells a refusal without causes (Kubernetes API conventions, "Response Status Kind").
+pub fn status_value(alloc: Global, reason: Reason, message: &str) -> Result<Value, AllocError>
+    ensures { IfOk result (λ v. view v ≡ status_value reason message.now) }
+{
+    json!(in alloc; {
+        "apiVersion": "v1",
+        "code": reason.code(),
+        "kind": "Status",
+        "message": message,
+        "metadata": {},
+        "reason": reason.text(),
+        "status": "Failure"
+    })
 }
 
-impl Reason {
-    /// The reason as it stands in a Status.
-    pub fn text(self) -> &'static str {
-        match self {
-            Reason::BadRequest => "BadRequest",
-            Reason::NotFound => "NotFound",
-            Reason::AlreadyExists => "AlreadyExists",
-            Reason::Conflict => "Conflict",
-            Reason::Invalid => "Invalid",
-            Reason::ServiceUnavailable => "ServiceUnavailable",
-        }
-    }
-
-    /// The status code of its replies (RFC 9110, section 15).
-    pub fn code(self) -> u16 {
-        match self {
-            Reason::BadRequest => 400,
-            Reason::NotFound => 404,
-            Reason::AlreadyExists | Reason::Conflict => 409,
-            Reason::Invalid => 422,
-            Reason::ServiceUnavailable => 503,
-        }
-    }
+fn status_with_causes(
+    alloc: Global,
+    reason: Reason,
+    message: &str,
+    causes: Vec<Value>,
+) -> Result<Value, AllocError>
+    ensures { IfOk result (λ v. view v ≡ object (put_causes (items_view causes.items) (status_members reason message.now))) }
+{
+    json!(in alloc; {
+        "apiVersion": "v1",
+        "code": reason.code(),
+        "details": {"causes": causes},
+        "kind": "Status",
+        "message": message,
+        "metadata": {},
+        "reason": reason.text(),
+        "status": "Failure"
+    })
 }
 
-/// Why a request is refused.
+/// Why a call is refused.
 #[derive(Debug, Drop)]
 pub struct Denial {
     pub reason: Reason,
@@ -48,7 +55,9 @@ pub struct Denial {
 
 impl Denial {
     /// A refusal without causes.
-    pub fn new(alloc: Global, reason: Reason, message: &str) -> Result<Denial, AllocError> {
+    pub fn new(alloc: Global, reason: Reason, message: &str) -> Result<Denial, AllocError>
+        ensures { IfOk result (λ d. denial_of d ≡ denial reason message.now) }
+    {
         Ok(Denial {
             reason,
             message: String::from_str(alloc, message)?,
@@ -57,31 +66,17 @@ impl Denial {
     }
 
     /// The Status object that tells the refusal (Kubernetes API conventions, "Response Status Kind").
-    pub fn to_status(self, alloc: Global) -> Result<Value, AllocError> {
+    pub fn into_status(self, alloc: Global) -> Result<Value, AllocError>
+        ensures { IfOk result (λ v. view v ≡ denial_value (denial_of self)) }
+    {
         let Denial {
             reason,
             message,
             causes,
         } = self;
-        let mut status = json!(in alloc; {
-            "apiVersion": "v1",
-            "code": reason.code(),
-            "kind": "Status",
-            "message": message,
-            "metadata": {},
-            "reason": reason.text(),
-            "status": "Failure"
-        })?;
-        if !causes.is_empty() {
-            if let Some(members) = status.as_object_mut() {
-                serde_json::put(
-                    members,
-                    alloc,
-                    "details",
-                    json!(in alloc; {"causes": causes})?,
-                )?;
-            }
+        if causes.is_empty() {
+            return status_value(alloc, reason, message.as_str());
         }
-        Ok(status)
+        status_with_causes(alloc, reason, message.as_str(), causes)
     }
 }

@@ -1,8 +1,9 @@
-use Rattle.std.proofs.Common.{map, sym, ap, ◌∙◌}
-use Rattle.ownership.specs.Apply.{is_refused}
+use Rattle.std.proofs.Common.{◌≡◌, false, map, sym, ap, ◌∙◌}
+use Rattle.ownership.specs.Apply.{State, applied, conflicts, is_refused}
 use Rattle.ownership.specs.Managers.{texts}
 use Rattle.ownership.specs.Owners.{manager_of, apply_operation}
 use Rattle.ownership.specs.Results.{state_of, conflict_of}
+use Rattle.ownership.proofs.Clauses.{keeps_others, keeps_standing, keeps_leaves, settles}
 use Rattle.ownership.proofs.Dropping.{conflicts_are, state_is}
 use Rattle.ownership.proofs.applying.apply.Goals as goal
 
@@ -10,15 +11,29 @@ pub returns-then-is_refused : goal.returns-then-is_refused
 returns-then-is_refused c =
     let cs = conflicts_are (state_of c.args.live.now) c.args.config.now (manager_of c.args.manager.now apply_operation) c.in_ok-changed.changed c.in_ok-changed.ensures
     (map conflict_of c.in_ok-conflicts.conflicts.items) (texts c.in_ok-manager.manager) c.in_ok-manager.ensures c.in_ok-conflicts.ensures in
-    (ap (λ l. is_refused l c.args.force) (sym cs) ∙ ap (λ l. is_refused (map conflict_of l) c.args.force) (sym c.deref.ensures.value) ∙ sym c.is_refused.ensures ∙ c.if-is_refused.true, cs)
+    record {
+      applies = (ap (λ l. is_refused l c.args.force) (sym cs) ∙ ap (λ l. is_refused (map conflict_of l) c.args.force) (sym c.deref.ensures.value) ∙ sym c.is_refused.ensures ∙ c.if-is_refused.true, cs);
+      others = λ gentle. tt;
+      stand = λ before. tt;
+      leaves = λ s places body_places before owned. tt;
+      again = tt;
+    }
 
 pub returns : goal.returns
 returns c =
     let live = state_of c.args.live.now in
+    let body = c.args.config.now in
     let m = manager_of c.args.manager.now apply_operation in
-    let cs = conflicts_are live c.args.config.now m c.in_ok-changed.changed c.in_ok-changed.ensures
-    (map conflict_of c.in_ok-conflicts.conflicts.items) (texts c.in_ok-manager.manager) c.in_ok-manager.ensures c.in_ok-conflicts.ensures in (
-      ap (λ l. is_refused l c.args.force) (sym cs) ∙ ap (λ l. is_refused (map conflict_of l) c.args.force) (sym c.deref.ensures.value) ∙ sym c.is_refused.ensures ∙ c.if-is_refused.false,
-      state_is live c.args.config.now m c.in_ok-changed.changed c.in_ok-changed.ensures (texts c.in_ok-manager.manager) c.without-tree.result c.in_ok-managers.managers c.in_ok-merge.field-0 c.in_ok-dropped.dropped c.in_ok-owned.owned
-          c.in_ok-manager.ensures c.in_ok-merge.ensures c.in_ok-dropped.ensures c.without-tree.ensures c.in_ok-owned.ensures c.in_ok-managers.ensures,
-    )
+    let cs = conflicts_are live body m c.in_ok-changed.changed c.in_ok-changed.ensures
+    (map conflict_of c.in_ok-conflicts.conflicts.items) (texts c.in_ok-manager.manager) c.in_ok-manager.ensures c.in_ok-conflicts.ensures in
+    let free : is_refused (conflicts live body m) c.args.force ≡ false = ap (λ l. is_refused l c.args.force) (sym cs) ∙ ap (λ l. is_refused (map conflict_of l) c.args.force) (sym c.deref.ensures.value) ∙ sym c.is_refused.ensures ∙ c.if-is_refused.false in
+    let new : State = record { content = c.without-tree.result; owners = c.in_ok-managers.managers } in
+    let is : new ≡ applied live body m = state_is live body m c.in_ok-changed.changed c.in_ok-changed.ensures (texts c.in_ok-manager.manager) c.without-tree.result c.in_ok-managers.managers c.in_ok-merge.field-0 c.in_ok-dropped.dropped c.in_ok-owned.owned
+    c.in_ok-manager.ensures c.in_ok-merge.ensures c.in_ok-dropped.ensures c.without-tree.ensures c.in_ok-owned.ensures c.in_ok-managers.ensures in
+    record {
+      applies = (free, is);
+      others = keeps_others live body m c.args.force new free is;
+      stand = keeps_standing live body m c.args.force new free is;
+      leaves = keeps_leaves live body m c.args.force new free is;
+      again = settles live body m c.args.force new free is;
+    }

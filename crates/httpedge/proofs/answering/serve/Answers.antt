@@ -1,0 +1,16 @@
+use Rattle.std.proofs.Common.{subst}
+use Rattle.verbs.specs.Calls.{Plan}
+use Rattle.verbs.specs.Machine.{after}
+use Rattle.verbs.specs.Seen.{Stands}
+use Rattle.httpedge.specs.Answers.{IsAnswerBytes}
+use Rattle.httpedge.proofs.Told.{on_err}
+use Rattle.httpedge.proofs.answering.serve.Goals as goal
+
+pub returns-clause-ok : goal.returns-clause-ok
+returns-clause-ok c = λ types m stands.
+    subst (λ (p : Plan). IsAnswerBytes p.answer c.in_ok-reply.reply.items × Stands c.make.new.api types (after m p.change))
+    (c.in_ok-plan.ensures.planned types m stands)
+    (c.in_ok-reply.ensures, c.in_ok-make.ensures.ok types m stands (c.in_ok-plan.ensures.next types m stands))
+
+pub returns-in_err-make-clause-err : goal.returns-in_err-make-clause-err
+returns-in_err-make-clause-err c = λ types m stands. on_err c.from_residual-in_err-make.result (c.in_err-make.ensures.err types m stands)

@@ -1,0 +1,10 @@
+use Rattle.std.proofs.Common.{subst}
+use Rattle.std.proofs.lemmas.Result.{on_ok_weaker}
+use Rattle.httpedge.specs.Hub.{Event, Steps}
+use Rattle.httpedge.proofs.Pieces.{steps_pieces}
+use Rattle.httpedge.proofs.hub.Hub.on.Goals as goal
+
+pub returns-clause-pieces : goal.returns-clause-pieces
+returns-clause-pieces c = λ types r s id first second is before stands.
+    on_ok_weaker c.step.result (λ after. (after.0, steps_pieces types r s after.0 id first second before (subst (λ (e : Event). Steps types s e after.0) is after.1), after.2))
+    (c.step.ensures.ok types s stands)

@@ -1,0 +1,112 @@
+-- The hub: a machine and its connections, and what an event makes of them.
+use Rattle.std.specs.Prelude.{◌≡◌, ℕ, ◌+◌, Bool, true, false, ◌==◌, nat_le, if◌then◌else◌, List, [], ◌∷◌, ◌++◌, length, slice_get, slice_set, not, Option, Some, None, option_map, option_and_then, unwrap_or}
+use Rattle.std.specs.List.{filter, list_any}
+use Rattle.schema.specs.TypesFile.{ServedShape}
+use Rattle.verbs.specs.Machine.{Machine}
+use Rattle.httpedge.specs.Refusals.{denied_by, too_many_connections}
+use Rattle.httpedge.specs.Answers.{Answers, refusal_bytes}
+
+-- these bytes came and what they ask isn't decided; or it has ended, and this was written
+pub data Connection : Type 0 where
+  waiting : List ℕ → Connection
+  ended : List ℕ → Connection
+
+-- each with its id, in the order in which they were opened
+abbrev pub Connections : Type 0
+Connections = List (ℕ × Connection)
+
+pub record State : Type 0 where
+  pub machine : Machine
+  pub connections : Connections
+
+abbrev pub no_connections : Machine → State
+no_connections m = record { machine = m; connections = [] }
+
+pub data Event : Type 0 where
+  opens : ℕ → Event
+  comes : ℕ → List ℕ → Event
+
+-- ---- connections
+
+abbrev pub is_open : ℕ × Connection → Bool
+is_open (id, waiting front) = true
+is_open (id, ended out) = false
+
+abbrev pub max_open : ℕ
+max_open = 1024
+
+-- a new one; where so many are open it is told so and has ended
+abbrev pub opened : Connections → Connection
+opened all = if nat_le max_open (length (filter is_open all)) then ended (refusal_bytes (denied_by too_many_connections)) else waiting []
+
+-- the place of an id, counted from i
+abbrev pub place_from : ℕ → ℕ → Connections → Option ℕ
+place_from i id [] = None
+place_from i id (c ∷ all) = if c.0 == id then Some i else place_from (i + 1) id all
+
+abbrev pub place_of : ℕ → Connections → Option ℕ
+place_of id all = place_from 0 id all
+
+-- an id is new where it is above all earlier ones
+abbrev pub is_taken : ℕ → Connections → Bool
+is_taken id all = list_any (λ c. nat_le id c.0) all
+
+-- what was written on it
+abbrev pub out_of : Connection → List ℕ
+out_of (waiting front) = []
+out_of (ended out) = out
+
+abbrev pub has_ended : Connection → Bool
+has_ended (waiting front) = false
+has_ended (ended out) = true
+
+-- ---- bytes that come
+
+-- where nothing was written yet, all bytes so far are judged; a reply ends the connection
+abbrev pub left : List ℕ → Option (List ℕ) → Connection
+left front None = waiting front
+left front (Some out) = ended out
+
+abbrev pub Hears : List ServedShape → Machine → Connection → List ℕ → Connection → Machine → Type 0
+Hears types m (ended out) bytes c n = (c ≡ ended out) × (n ≡ m)
+Hears types m (waiting front) bytes c n = (o : Option (List ℕ)) × Answers types m (front ++ bytes) o n × (c ≡ left (front ++ bytes) o)
+
+-- ---- one event
+
+-- why an event is refused, by its number
+abbrev pub refusal_by : Option ℕ → Option ℕ
+refusal_by None = Some 2
+refusal_by (Some i) = None
+
+abbrev pub refusal_of : Connections → Event → Option ℕ
+refusal_of all (opens id) = if is_taken id all then Some 1 else None
+refusal_of all (comes id bytes) = refusal_by (place_of id all)
+
+-- the hub after an event that is not refused
+abbrev pub Steps : List ServedShape → State → Event → State → Type 0
+Steps types s (opens id) t = t ≡ record { machine = s.machine; connections = s.connections ++ (id, opened s.connections) ∷ [] }
+Steps types s (comes id bytes) t =
+    (i : ℕ) × (old : Connection) × (c : Connection) × (n : Machine)
+    × (place_of id s.connections ≡ Some i) × (slice_get s.connections i ≡ Some (id, old)) × Hears types s.machine old bytes c n
+    × (t ≡ record { machine = n; connections = slice_set s.connections i (id, c) })
+
+-- without memory an opening changes nothing, and a connection on which bytes came is dead: no further byte
+abbrev pub Dies : State → Event → State → Type 0
+Dies s (opens id) t = t ≡ s
+Dies s (comes id bytes) t = (i : ℕ) × (place_of id s.connections ≡ Some i) × (t ≡ record { machine = s.machine; connections = slice_set s.connections i (id, ended []) })
+
+-- ---- what a caller sees of a connection
+
+abbrev pub connection_at : ℕ → Connections → Option (ℕ × Connection)
+connection_at id all = option_and_then (slice_get all) (place_of id all)
+
+-- what was written on it; nothing for an unknown id
+abbrev pub written_on : ℕ → Connections → List ℕ
+written_on id all = unwrap_or (option_map (λ c. out_of c.1) (connection_at id all)) []
+
+abbrev pub is_ended : ℕ → Connections → Bool
+is_ended id all = unwrap_or (option_map (λ c. has_ended c.1) (connection_at id all)) false
+
+-- it is open, and what it asks isn't decided
+abbrev pub is_waiting : ℕ → Connections → Bool
+is_waiting id all = unwrap_or (option_map (λ c. not (has_ended c.1)) (connection_at id all)) false

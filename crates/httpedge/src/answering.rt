@@ -1,0 +1,68 @@
+//! What is written on a connection.
+
+ghost use Rattle.std.specs.Prelude.{◌≡◌, List, IfOk, IfSome, OnOk, OnErr, option_map};
+ghost use Rattle.schema.specs.TypesFile.{ServedShape};
+ghost use Rattle.verbs.specs.Machine.{IsNext, Machine, after};
+ghost use Rattle.verbs.specs.Seen.{Stands, answer_of, call_of, change_of, denied_of};
+ghost use Rattle.httpedge.specs.Answers.{IsAnswerBytes, refusal_bytes};
+ghost use Rattle.httpedge.specs.Standing.{Serves, StandsAnswered};
+
+use crate::asking::{Asked, ask};
+use crate::reply::reply_bytes;
+use std::alloc::{AllocError, Global};
+use verbs::{Answer, Api, Call, Change, Denied, Fault, status_value};
+
+/// The reply of a refusal.
+pub(crate) fn refusal_bytes(alloc: Global, denied: Denied) -> Result<Vec<u8>, AllocError>
+    ensures { IfOk result (λ v. v.items ≡ refusal_bytes (denied_of denied)) }
+{
+    let status = status_value(alloc, denied.reason, denied.message)?;
+    let text = status.to_string(alloc)?;
+    reply_bytes(alloc, denied.reason.code(), denied.allow, text.as_str())
+}
+
+fn answer_bytes(alloc: Global, answer: &Answer) -> Result<Vec<u8>, AllocError>
+    ensures { IfOk result (λ v. IsAnswerBytes (answer_of answer.now) v.items) }
+{
+    let text = answer.body.to_string(alloc)?;
+    reply_bytes(alloc, answer.status, None, text.as_str())
+}
+
+fn make(api: &mut Api, change: Option<Change>) -> Result<(), Fault>
+    ensures ok { (types : List ServedShape) (m : Machine) → Stands api.old types m → IfSome change (λ c. IsNext m (change_of c)) → OnOk result (Stands api.new types (after m (option_map change_of change))) }
+    ensures err { (types : List ServedShape) (m : Machine) → Stands api.old types m → OnErr result (Stands api.new types m) }
+{
+    match change {
+        Some(change) => api.commit(change),
+        None => Ok(()),
+    }
+}
+
+/// Makes a call: its reply is there before its change is made.
+fn serve(alloc: Global, api: &mut Api, call: &Call) -> Result<Vec<u8>, Fault>
+    ensures ok { (types : List ServedShape) (m : Machine) → Stands api.old types m → IfOk result (λ v. Serves types m (call_of call.now) v.items api.new) }
+    ensures err { (types : List ServedShape) (m : Machine) → Stands api.old types m → OnErr result (Stands api.new types m) }
+{
+    let plan = api.plan(call)?;
+    let reply = answer_bytes(alloc, &plan.answer)?;
+    make(api, plan.change)?;
+    Ok(reply)
+}
+
+/// The reply to all the bytes that came on a connection, or none while more are needed.
+pub(crate) fn answer(alloc: Global, api: &mut Api, bytes: &[u8]) -> Result<Option<Vec<u8>>, Fault>
+    ensures ok { (types : List ServedShape) (m : Machine) → Stands api.old types m → IfOk result (λ o. StandsAnswered types m bytes.now (option_map (λ v. v.items) o) api.new) }
+    ensures err { (types : List ServedShape) (m : Machine) → Stands api.old types m → OnErr result (Stands api.new types m) }
+{
+    match ask(alloc, api, bytes)? {
+        Asked::Waits => Ok(None),
+        Asked::Refuses(denied) => {
+            let reply = refusal_bytes(alloc, denied)?;
+            Ok(Some(reply))
+        }
+        Asked::Calls(call) => {
+            let reply = serve(alloc, api, &call)?;
+            Ok(Some(reply))
+        }
+    }
+}

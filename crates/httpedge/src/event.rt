@@ -1,0 +1,10 @@
+//! What happens to the hub.
+
+/// An event; the hub takes them in the order in which they are handed in.
+#[derive(Debug, Drop)]
+pub enum Event {
+    /// A connection is opened; its id is above all earlier ones.
+    Open(u64),
+    /// Bytes come on a connection.
+    In(u64, Vec<u8>),
+}

@@ -1,0 +1,181 @@
+-- That two states are one exactly where they are equal.
+use Rattle.std.proofs.Common.{◌≡◌, ℕ, zero, suc, Bool, true, false, not, ◌&&◌, List, [], ◌∷◌, length, Option, Some, None, is_some, refl, sym, ap, ap₂, ◌∙◌, true≢false, ◌↔◌, ◌==◌}
+use Rattle.std.specs.FinMap as fin
+use Rattle.std.specs.FinSet as set
+use Rattle.std.specs.FinMap.{int_cmp-IsAntisymmetric}
+use Rattle.std.specs.Ordering.{int_cmp, is_eq}
+use Rattle.std.specs.Cmp.{Equal-is, tied_itself, int_cmp_total}
+use Rattle.std.specs.Cmp.Lexicographic.{bytes_decides}
+use Rattle.fieldpath.specs.Paths.{PathTexts, path_cmp}
+use Rattle.pathmap.specs.Contents.{Standing, text, whole, truth, plain, mark, Content, PathSet}
+use Rattle.pathmap.specs.Beside.{same_standing, same_value, changed}
+use Rattle.pathmap.proofs.Contents.{path_cmp_total, path_cmp_antisymmetric, same}
+use Rattle.pathmap.proofs.Sets.{same_paths, contains-changed}
+use Rattle.ownership.specs.Owners.{Manager, is_same, is_empty}
+use Rattle.ownership.specs.Apply.{State}
+use Rattle.ownership.specs.Managers.{pairs}
+use Rattle.ownership.specs.declared.managers.Entry.{Entry}
+use Rattle.ownership.proofs.Entries.{not_zero, length-pairs}
+use Rattle.ownership.specs.Sameness.{is_within, same_entry, same_entries, is_unchanged, same_content, same_state}
+
+-- ---- truth values
+pub left_true : (a b : Bool) → (a && b) ≡ true → a ≡ true
+left_true true b e = refl
+left_true false b e = e
+
+pub right_true : (a b : Bool) → (a && b) ≡ true → b ≡ true
+right_true true b e = e
+right_true false b e = absurd (true≢false (sym e))
+
+pub both_true : (a b : Bool) → a ≡ true → b ≡ true → (a && b) ≡ true
+both_true a b p q = ap₂ (λ x y. x && y) p q
+
+pub none_left : (b : Bool) → not b ≡ false → b ≡ true
+none_left true e = refl
+none_left false e = absurd (true≢false e)
+
+-- ---- sets without a path
+pub no_paths : (s : PathSet) → is_empty s ≡ true → s ≡ set.empty
+no_paths s e = by_length (set.len s) refl e
+  where
+    by_length : (n : ℕ) → set.len s ≡ n → (n == 0) ≡ true → s ≡ set.empty
+    by_length zero is e = set.empty_of_len s is
+    by_length (suc n) is e = absurd (true≢false (sym e ∙ not_zero n))
+
+pub empty_is_empty : (s : PathSet) → s ≡ set.empty → is_empty s ≡ true
+empty_is_empty s e = ap (λ t. set.len t == 0) e ∙ ap (λ n. n == 0) (set.len-empty path_cmp)
+
+pub has_no_path : (s : PathSet) → is_empty s ≡ true → (q : PathTexts) → set.contains s q ≡ false
+has_no_path s e q = ap (λ t. set.contains t q) (no_paths s e) ∙ set.contains-empty path_cmp q
+
+pub without_path : (s : PathSet) → ((q : PathTexts) → set.contains s q ≡ false) → is_empty s ≡ true
+without_path s none = empty_is_empty s (same_paths s set.empty (λ q. none q ∙ sym (set.contains-empty path_cmp q)))
+
+-- ---- values
+pub same_standing-is : (v w : Standing) → same_standing v w ≡ true → v ≡ w
+same_standing-is (text s) (text t) e = ap text ((bytes_decides s t).0 e)
+same_standing-is (whole n) (whole m) e = ap whole (int_cmp-IsAntisymmetric n m ((Equal-is (int_cmp n m)).0 e))
+same_standing-is (truth true) (truth true) e = refl
+same_standing-is (truth true) (truth false) e = absurd (true≢false (sym e))
+same_standing-is (truth false) (truth true) e = absurd (true≢false (sym e))
+same_standing-is (truth false) (truth false) e = refl
+same_standing-is (plain s) (plain t) e = ap plain ((bytes_decides s t).0 e)
+same_standing-is mark mark e = refl
+same_standing-is _ _ e = absurd (true≢false (sym e))
+
+pub same_standing-itself : (v : Standing) → same_standing v v ≡ true
+same_standing-itself (text s) = (bytes_decides s s).1 refl
+same_standing-itself (whole n) = ap is_eq (tied_itself int_cmp_total n)
+same_standing-itself (truth true) = refl
+same_standing-itself (truth false) = refl
+same_standing-itself (plain s) = (bytes_decides s s).1 refl
+same_standing-itself mark = refl
+
+pub same_value-is : (a b : Option Standing) → same_value a b ≡ true → a ≡ b
+same_value-is None None e = refl
+same_value-is None (Some w) e = absurd (true≢false (sym e))
+same_value-is (Some v) None e = absurd (true≢false (sym e))
+same_value-is (Some v) (Some w) e = ap Some (same_standing-is v w e)
+
+pub same_value-itself : (a : Option Standing) → same_value a a ≡ true
+same_value-itself None = refl
+same_value-itself (Some v) = same_standing-itself v
+
+-- ---- contents
+unchanged_both : (a b : Option Standing) → (is_some a && not (same_value a b)) ≡ false → (is_some b && not (same_value b a)) ≡ false → a ≡ b
+unchanged_both None None e f = refl
+unchanged_both None (Some w) e f = absurd (true≢false f)
+unchanged_both (Some v) None e f = absurd (true≢false e)
+unchanged_both (Some v) (Some w) e f = ap Some (same_standing-is v w (none_left (same_standing v w) e))
+
+unchanged_at : (c d : Content) → is_unchanged c d ≡ true → (q : PathTexts) → (is_some (fin.get c q) && not (same_value (fin.get c q) (fin.get d q))) ≡ false
+unchanged_at c d e q = sym (contains-changed c d q) ∙ has_no_path (changed c d) e q
+
+pub same_content-is : (c d : Content) → same_content c d ≡ true → c ≡ d
+same_content-is c d e = same c d (λ q. unchanged_both (fin.get c q) (fin.get d q) (unchanged_at c d (left_true (is_unchanged c d) _ e) q) (unchanged_at d c (right_true (is_unchanged c d) _ e) q))
+
+itself_unchanged : (a : Option Standing) → (is_some a && not (same_value a a)) ≡ false
+itself_unchanged None = refl
+itself_unchanged (Some v) = ap not (same_standing-itself v)
+
+pub unchanged-itself : (c : Content) → is_unchanged c c ≡ true
+unchanged-itself c = without_path (changed c c) (λ q. contains-changed c c q ∙ itself_unchanged (fin.get c q))
+
+-- ---- entries
+within_both : (a b : Bool) → (a && not b) ≡ false → (b && not a) ≡ false → a ≡ b
+within_both true true e f = refl
+within_both true false e f = absurd (true≢false e)
+within_both false true e f = absurd (true≢false f)
+within_both false false e f = refl
+
+within_at : (s t : PathSet) → is_within s t ≡ true → (q : PathTexts) → (set.contains s q && not (set.contains t q)) ≡ false
+within_at s t e q = sym (set.contains-difference path_cmp_total s t q) ∙ has_no_path (set.difference s t) e q
+
+pub within_both_ways : (s t : PathSet) → (is_within s t && is_within t s) ≡ true → s ≡ t
+within_both_ways s t e =
+    same_paths s t (λ q. within_both (set.contains s q) (set.contains t q) (within_at s t (left_true (is_within s t) (is_within t s) e) q) (within_at t s (right_true (is_within s t) (is_within t s) e) q))
+
+itself_within : (b : Bool) → (b && not b) ≡ false
+itself_within true = refl
+itself_within false = refl
+
+within-itself : (s : PathSet) → is_within s s ≡ true
+within-itself s = without_path (set.difference s s) (λ q. set.contains-difference path_cmp_total s s q ∙ itself_within (set.contains s q))
+
+pub same_manager-is : (m k : Manager) → is_same m k ≡ true → m ≡ k
+same_manager-is m k e = path_cmp_antisymmetric m k ((Equal-is (path_cmp m k)).0 e)
+
+pub same_manager-itself : (m : Manager) → is_same m m ≡ true
+same_manager-itself m = ap is_eq (tied_itself path_cmp_total m)
+
+pub same_entry-is : (e f : Manager × PathSet) → same_entry e f ≡ true → e ≡ f
+same_entry-is e f h =
+    let managers = same_manager-is e.0 f.0 (left_true (is_same e.0 f.0) _ h) in
+    let paths = within_both_ways e.1 f.1 (right_true (is_same e.0 f.0) _ h) in
+    λ i. (managers i, paths i)
+
+pub same_entries-is : (es fs : List (Manager × PathSet)) → same_entries es fs ≡ true → es ≡ fs
+same_entries-is [] [] h = refl
+same_entries-is [] (f ∷ fs) h = absurd (true≢false (sym h))
+same_entries-is (e ∷ es) [] h = absurd (true≢false (sym h))
+same_entries-is (e ∷ es) (f ∷ fs) h = ap₂ (λ x xs. x ∷ xs) (same_entry-is e f (left_true (same_entry e f) _ h)) (same_entries-is es fs (right_true (same_entry e f) _ h))
+
+pub same_entries-itself : (es : List (Manager × PathSet)) → same_entries es es ≡ true
+same_entries-itself [] = refl
+same_entries-itself (e ∷ es) = both_true _ _ (both_true _ _ (same_manager-itself e.0) (both_true _ _ (within-itself e.1) (within-itself e.1))) (same_entries-itself es)
+
+-- ---- states
+pub same_state-is : (a b : State) → same_state a b ≡ true → a ≡ b
+unfolding same_state
+same_state-is a b h =
+    let contents = same_content-is a.content b.content (left_true (same_content a.content b.content) _ h) in
+    let owners = fin.same_entries_map a.owners b.owners (same_entries-is (fin.entries a.owners) (fin.entries b.owners) (right_true (same_content a.content b.content) _ h)) in
+    λ i. record { content = contents i; owners = owners i }
+
+pub same_state-itself : (a : State) → same_state a a ≡ true
+unfolding same_state
+same_state-itself a = both_true _ _ (both_true _ _ (unchanged-itself a.content) (unchanged-itself a.content)) (same_entries-itself (fin.entries a.owners))
+
+-- the test is true exactly where the states are equal
+pub same_state-decides : (a b : State) → (same_state a b ≡ true) ↔ (a ≡ b)
+same_state-decides a b = (same_state-is a b, λ e. ap (same_state a) (sym e) ∙ same_state-itself a)
+
+-- ---- a test, from what its steps gave
+pub lengths_differ : (es fs : List Entry) → ¬ (length es ≡ length fs) → false ≡ same_entries (pairs es) (pairs fs)
+lengths_differ es fs apart = by_test (same_entries (pairs es) (pairs fs)) refl
+  where
+    by_test : (b : Bool) → same_entries (pairs es) (pairs fs) ≡ b → false ≡ b
+    by_test true is = absurd (apart (sym (length-pairs es) ∙ ap length (same_entries-is (pairs es) (pairs fs) is) ∙ length-pairs fs))
+    by_test false is = refl
+
+module _ (a b : State) (r : Bool) where
+  pub both_same : (es fs : List (Manager × PathSet)) → same_content a.content b.content ≡ true → r ≡ same_entries es fs → es ≡ fin.entries a.owners → fs ≡ fin.entries b.owners → r ≡ same_state a b
+  unfolding same_state
+  both_same es fs contents is mine theirs = is ∙ ap₂ same_entries mine theirs ∙ ap (λ x. x && same_entries (fin.entries a.owners) (fin.entries b.owners)) (sym contents)
+
+  pub contents_differ : r ≡ same_content a.content b.content → r ≡ false → r ≡ same_state a b
+  unfolding same_state
+  contents_differ is other = other ∙ ap (λ x. x && same_entries (fin.entries a.owners) (fin.entries b.owners)) (sym other ∙ is)
+
+  pub decided : r ≡ same_state a b → (r ≡ true) ↔ (a ≡ b)
+  decided is = (λ t. (same_state-decides a b).0 (sym is ∙ t), λ e. is ∙ (same_state-decides a b).1 e)

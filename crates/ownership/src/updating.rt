@@ -1,0 +1,54 @@
+ghost use Rattle.std.specs.Prelude.{◌≡◌, IfOk};
+ghost use Rattle.std.specs.FinSet as set;
+ghost use Rattle.ownership.specs.Owners.{manager_of, owned_by, update_operation};
+ghost use Rattle.ownership.specs.Managers.{texts};
+ghost use Rattle.ownership.specs.Results.{state_of};
+ghost use Rattle.ownership.specs.Update.{removed, updated};
+
+use crate::manager::{Manager, Operation};
+use crate::managers::Managers;
+use crate::owned::Owned;
+use fieldset::FieldSet;
+use std::alloc::{AllocError, Global};
+use typed::Tree;
+
+/// The paths that were there and are no more.
+fn removed(alloc: Global, live: &Tree, new: &Tree) -> Result<FieldSet, AllocError>
+    ensures { IfOk result (λ s. s ≡ removed live.now new.now) }
+{
+    live.paths(alloc)?.minus(alloc, &new.paths(alloc)?)
+}
+
+/// What the manager owned and is not gone, and what it changed.
+fn owned_then(
+    managers: &Managers,
+    alloc: Global,
+    manager: &Manager,
+    gone: &FieldSet,
+    changed: &FieldSet,
+) -> Result<FieldSet, AllocError>
+    ensures { IfOk result (λ s. s ≡ set.union (set.difference (owned_by managers.now (texts manager.now)) gone.now) changed.now) }
+{
+    match managers.get(manager) {
+        Some(owned) => owned.minus(alloc, gone)?.union(alloc, changed),
+        None => changed.try_copy(alloc),
+    }
+}
+
+/// Replaces the content (Server-Side Apply, "Field management"): `live` is the object before, empty where there is none,
+/// `manager` the name of who updates, `new` the whole content. Who updates owns what it changed, and keeps what it owned
+/// and still stands; the others lose what was changed or went. An update has no conflict.
+pub fn update(alloc: Global, live: &Owned, manager: &str, new: Tree) -> Result<Owned, AllocError>
+    ensures { IfOk result (λ o. state_of o ≡ updated (state_of live.now) new (manager_of manager.now update_operation)) }
+{
+    let manager = Manager::new(alloc, manager, Operation::Update)?;
+    let changed = new.changed_from(alloc, &live.tree)?;
+    let gone = removed(alloc, &live.tree, &new)?;
+    let lost = changed.union(alloc, &gone)?;
+    let owned = owned_then(&live.managers, alloc, &manager, &gone, &changed)?;
+    let managers = live.managers.taken_over(alloc, manager, &lost, owned)?;
+    Ok(Owned {
+        tree: new,
+        managers,
+    })
+}

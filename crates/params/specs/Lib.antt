@@ -1,0 +1,6 @@
+pub mod Parameters
+pub mod Query
+pub mod Values
+pub mod Texts
+pub mod Reading
+pub mod Views

@@ -1,0 +1,40 @@
+//! Why a query's parameters were refused.
+
+ghost use Rattle.std.specs.Prelude.{◌≡◌};
+ghost use Rattle.params.specs.declared.fault.ParamsFault.TheVariants.{Memory};
+
+use crate::parameter::Parameter;
+use std::alloc::AllocError;
+use std::error::Error;
+use std::fmt;
+
+/// Why a query gave no parameters.
+#[derive(Clone, Copy, Debug, PartialEq, Eq)]
+pub enum ParamsFault {
+    /// The first parameter at fault.
+    Bad(Parameter),
+    /// There was no memory.
+    Memory,
+}
+
+impl fmt::Display for ParamsFault {
+    fn fmt<W: fmt::Write>(&self, f: &mut fmt::Formatter<W>) -> fmt::Result {
+        match self {
+            ParamsFault::Bad(parameter) => {
+                let name = parameter.name();
+                write!(f, "bad parameter: {name}")
+            }
+            ParamsFault::Memory => write!(f, "out of memory"),
+        }
+    }
+}
+
+impl Error for ParamsFault {}
+
+impl From<AllocError> for ParamsFault {
+    ghost from_gives = { λ _ e. e ≡ Memory };
+
+    fn from(_e: AllocError) -> ParamsFault {
+        ParamsFault::Memory
+    }
+}

@@ -1,0 +1,21 @@
+//! The parameters of a request's query (Kubernetes documentation, "Kubernetes API Concepts").
+//!
+//! A query is read as exactly the values that its verb knows, or refused with the first parameter at fault.
+//! A parameter that the verb doesn't know is read past; given twice it counts at its first place; an empty
+//! value is absence.
+//!
+//! Stands on `names` for versions, `selector` for label selectors, `form_urlencoded` for the query's pairs.
+#![tactic(auto)]
+
+mod fault;
+mod parameter;
+mod params;
+mod query;
+mod texts;
+
+pub use fault::ParamsFault;
+pub use parameter::Parameter;
+pub use params::{Asked, Params, Token, VersionMatch, Watch};
+
+#[cfg(test)]
+mod tests;

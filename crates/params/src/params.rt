@@ -1,0 +1,244 @@
+//! The parameters of a request, whole.
+
+ghost use Rattle.std.specs.Prelude.{◌≡◌, option_map};
+ghost use Rattle.params.specs.Query.{pairs_in};
+ghost use Rattle.params.specs.Reading.{applied, deleted, got, is_any, listed, listed_or_watched, match_fits, params_of, together, token_fits, watched, written};
+ghost use Rattle.params.specs.Values.{no_values};
+ghost use Rattle.params.specs.Views.{Gives, pairs_of, token_view, values_of};
+
+use crate::fault::ParamsFault;
+use crate::parameter::Parameter;
+use crate::query::Query;
+use selector::Selector;
+use std::alloc::Global;
+
+/// The greatest limit, that of a 64-bit signed integer.
+const MAX_LIMIT: u64 = 9223372036854775807;
+
+/// The greatest number of seconds, that of a 32-bit signed integer.
+const MAX_TIMEOUT: u64 = 2147483647;
+
+/// What a request asks; a list may turn out to be a watch.
+#[derive(Clone, Copy, Debug, PartialEq, Eq)]
+pub enum Asked {
+    Get,
+    List,
+    Post,
+    Put,
+    Apply,
+    Delete,
+}
+
+/// How a list's revision is to match the version that is given ("Resource versions").
+#[derive(Clone, Copy, Debug, PartialEq, Eq)]
+pub enum VersionMatch {
+    Exact,
+    NotOlderThan,
+}
+
+/// Where a list goes on: the revision that it is of, and the last object that was listed.
+#[derive(Debug, Drop)]
+pub struct Token {
+    pub revision: u64,
+    pub namespace: String,
+    pub name: String,
+}
+
+/// How a list is watched.
+#[derive(Clone, Copy, Debug, PartialEq, Eq)]
+pub struct Watch {
+    pub has_bookmarks: bool,
+    /// In seconds; 0 is none.
+    pub timeout: u64,
+}
+
+/// What a request's parameters say; what its verb doesn't know is as in a query without parameters.
+#[derive(Debug, Drop)]
+pub struct Params {
+    /// The manager's name; `unknown` where a POST or PUT gives none, empty for the verbs that have none.
+    pub manager: String,
+    pub is_forced: bool,
+    pub version: Option<u64>,
+    pub version_match: Option<VersionMatch>,
+    /// 0 is none.
+    pub limit: u64,
+    pub token: Option<Token>,
+    pub selector: Selector,
+    /// None for a list.
+    pub watch: Option<Watch>,
+}
+
+/// No version is asked for, or any.
+fn is_any(version: Option<u64>) -> bool
+    ensures { result ≡ is_any version }
+{
+    match version {
+        None => true,
+        Some(version) => version == 0,
+    }
+}
+
+/// Whether a match has the version that it needs: an exact one needs a version above 0.
+fn match_fits(version_match: Option<VersionMatch>, version: Option<u64>) -> bool
+    ensures { result ≡ match_fits version_match version }
+{
+    match version_match {
+        None => true,
+        Some(VersionMatch::Exact) => !is_any(version),
+        Some(VersionMatch::NotOlderThan) => version.is_some(),
+    }
+}
+
+/// Whether a list that goes on asks for no revision but its token's.
+fn token_fits(
+    token: &Option<Token>,
+    version_match: Option<VersionMatch>,
+    version: Option<u64>,
+) -> bool
+    ensures { result ≡ token_fits (option_map token_view token.now) version_match version }
+{
+    token.is_none() || version_match.is_none() && is_any(version)
+}
+
+fn got(alloc: Global, query: &Query) -> Result<Params, ParamsFault>
+    ensures { Gives values_of result (got (pairs_of query.now.pairs.items)) }
+{
+    let version = query.version()?;
+    Ok(Params {
+        version,
+        ..Params::none(alloc)
+    })
+}
+
+/// The parameters of a list, if they go together.
+fn together(params: Params) -> Result<Params, ParamsFault>
+    ensures { Gives values_of result (together (values_of params)) }
+{
+    if !match_fits(params.version_match, params.version) {
+        Err(ParamsFault::Bad(Parameter::ResourceVersionMatch))
+    } else if !token_fits(&params.token, params.version_match, params.version) {
+        Err(ParamsFault::Bad(Parameter::Continue))
+    } else {
+        Ok(params)
+    }
+}
+
+fn listed(alloc: Global, query: &Query) -> Result<Params, ParamsFault>
+    ensures { Gives values_of result (listed (pairs_of query.now.pairs.items)) }
+{
+    let token = query.token(alloc)?;
+    query.absent(Parameter::FieldSelector)?;
+    let selector = query.selector(alloc)?;
+    let limit = query.number(Parameter::Limit, MAX_LIMIT)?;
+    let version = query.version()?;
+    let version_match = query.version_match()?;
+    query.absent(Parameter::SendInitialEvents)?;
+    together(Params {
+        version,
+        version_match,
+        limit,
+        token,
+        selector,
+        ..Params::none(alloc)
+    })
+}
+
+fn watched(alloc: Global, query: &Query) -> Result<Params, ParamsFault>
+    ensures { Gives values_of result (watched (pairs_of query.now.pairs.items)) }
+{
+    let has_bookmarks = query.truth(Parameter::AllowWatchBookmarks)?;
+    query.absent(Parameter::FieldSelector)?;
+    let selector = query.selector(alloc)?;
+    let version = query.version()?;
+    query.absent(Parameter::ResourceVersionMatch)?;
+    query.absent(Parameter::SendInitialEvents)?;
+    let timeout = query.number(Parameter::TimeoutSeconds, MAX_TIMEOUT)?;
+    Ok(Params {
+        version,
+        selector,
+        watch: Some(Watch {
+            has_bookmarks,
+            timeout,
+        }),
+        ..Params::none(alloc)
+    })
+}
+
+fn listed_or_watched(alloc: Global, query: &Query) -> Result<Params, ParamsFault>
+    ensures { Gives values_of result (listed_or_watched (pairs_of query.now.pairs.items)) }
+{
+    if query.truth(Parameter::Watch)? {
+        watched(alloc, query)
+    } else {
+        listed(alloc, query)
+    }
+}
+
+fn written(alloc: Global, query: &Query) -> Result<Params, ParamsFault>
+    ensures { Gives values_of result (written (pairs_of query.now.pairs.items)) }
+{
+    query.absent(Parameter::DryRun)?;
+    let manager = query.manager_or(alloc, "unknown")?;
+    query.strict()?;
+    Ok(Params {
+        manager,
+        ..Params::none(alloc)
+    })
+}
+
+fn applied(alloc: Global, query: &Query) -> Result<Params, ParamsFault>
+    ensures { Gives values_of result (applied (pairs_of query.now.pairs.items)) }
+{
+    query.absent(Parameter::DryRun)?;
+    let manager = query.manager(alloc)?;
+    query.strict()?;
+    let is_forced = query.truth(Parameter::Force)?;
+    Ok(Params {
+        manager,
+        is_forced,
+        ..Params::none(alloc)
+    })
+}
+
+fn deleted(alloc: Global, query: &Query) -> Result<Params, ParamsFault>
+    ensures { Gives values_of result (deleted (pairs_of query.now.pairs.items)) }
+{
+    query.absent(Parameter::DryRun)?;
+    Ok(Params::none(alloc))
+}
+
+impl Params {
+    /// What a query without parameters says.
+    fn none(alloc: Global) -> Params
+        ensures { values_of result ≡ no_values }
+    {
+        Params {
+            manager: String::new(alloc),
+            is_forced: false,
+            version: None,
+            version_match: None,
+            limit: 0,
+            token: None,
+            selector: Selector::all(alloc),
+            watch: None,
+        }
+    }
+
+    /// Reads the parameters that what is asked knows; the others are read past. A parameter that is given
+    /// twice counts at its first place, and an empty value is absence.
+    ///
+    /// Refused with the first parameter at fault: of a list `watch` itself, then single ones in byte order of
+    /// their names, then a match that the version doesn't fit, then a token beside a match or a version.
+    pub fn read(alloc: Global, asked: Asked, query: &[u8]) -> Result<Params, ParamsFault>
+        ensures { Gives values_of result (params_of asked (pairs_in query.now)) }
+    {
+        let query = Query::read(alloc, query)?;
+        match asked {
+            Asked::Get => got(alloc, &query),
+            Asked::List => listed_or_watched(alloc, &query),
+            Asked::Post | Asked::Put => written(alloc, &query),
+            Asked::Apply => applied(alloc, &query),
+            Asked::Delete => deleted(alloc, &query),
+        }
+    }
+}

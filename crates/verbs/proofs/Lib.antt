@@ -1,0 +1,13 @@
+pub mod Ascii
+pub mod Blanks
+pub mod Changes
+pub mod Causes
+pub mod Counts
+pub mod Entries
+pub mod Found
+pub mod Held
+pub mod Keys
+pub mod Places
+pub mod Planning
+pub mod Refusals
+pub mod Statuses

@@ -1,0 +1,155 @@
+-- Which calls are served: the route of a path, its methods, the media type of its body
+-- (Kubernetes docs, "Kubernetes API Concepts", "Resource URIs"; RFC 9110, sections 8.3 and 10.2.1).
+use Rattle.std.specs.Prelude.{ℕ, Bool, true, false, not, ◌||◌, ◌==◌, List, [], ◌∷◌, Option, Some, None, option_map, option_and_then, if◌then◌else◌, codes}
+use Rattle.std.specs.declared.result.Result.{Result}
+use Rattle.std.specs.declared.result.Result.TheVariants.{Ok, Err}
+use Rattle.std.specs.Char.{is_ascii}
+use Rattle.std.specs.List.{list_all, before_first}
+use Rattle.std.specs.Str.{bytes_eq, str_eq_ignore_ascii_case}
+use Rattle.matchit.specs.Rows.{RowsOf}
+use Rattle.matchit.specs.Router.{RouteOf, route_from}
+use Rattle.matchit.specs.Order.{placed}
+use Rattle.matchit.specs.Route.{Scan, parse_route}
+use Rattle.matchit.specs.Seek.{first}
+use Rattle.matchit.specs.Params.{walk, named}
+use Rattle.schema.specs.TypesFile.{ServedShape, type_number}
+use Rattle.verbs.specs.declared.method.Method.{Method}
+use Rattle.verbs.specs.declared.method.Method.TheVariants.{Get, Post, Put, Patch, Delete}
+use Rattle.verbs.specs.declared.reason.Reason.{Reason}
+use Rattle.verbs.specs.declared.reason.Reason.TheVariants.{NotFound, MethodNotAllowed, UnsupportedMediaType}
+use Rattle.verbs.specs.declared.resource.Resource.{Resource}
+use Rattle.verbs.specs.declared.resource.Resource.TheVariants.{Object}
+use Rattle.verbs.specs.Calls.{Target, Denied}
+
+-- ---- methods (RFC 9110, section 9.1: they are told by their bytes)
+
+abbrev pub method_named : List ℕ → Option Method
+method_named s =
+    if bytes_eq s (codes "GET") then Some Get
+    else (if bytes_eq s (codes "POST") then Some Post
+    else (if bytes_eq s (codes "PUT") then Some Put
+    else (if bytes_eq s (codes "PATCH") then Some Patch
+    else (if bytes_eq s (codes "DELETE") then Some Delete else None))))
+
+-- the methods that are served on what a path leads to
+abbrev pub serves : Resource → Method → Bool
+serves Object Patch = true
+serves Object Get = false
+serves Object Post = false
+serves Object Put = false
+serves Object Delete = false
+
+-- as they stand in `Allow`
+abbrev pub allowed : Resource → List ℕ
+allowed Object = codes "PATCH"
+
+-- ---- routes
+
+abbrev pub object_path : List ℕ
+object_path = codes "/apis/{group}/{version}/namespaces/{namespace}/{plural}/{name}"
+
+abbrev pub Rows : Type 0
+Rows = RowsOf (RouteOf Resource)
+
+abbrev pub with_scan : {E : Type 0} → Result Scan E → Resource → Rows → Rows
+with_scan (Ok s) r rows = placed (s.pattern, route_from s r) rows
+with_scan (Err e) r rows = rows
+
+abbrev pub with_route : List ℕ → Resource → Rows → Rows
+with_route path r rows = with_scan (parse_route path) r rows
+
+-- the table
+unfoldable pub routes : Rows
+routes = with_route object_path Object []
+
+-- the parts of a path by the names in its route
+abbrev pub Parts : Type 0
+Parts = List (List ℕ × List ℕ)
+
+abbrev pub parts_by : List ℕ → RouteOf Resource → Parts
+parts_by path r = walk r.pattern r.text path r.names 0 0
+
+-- what a path leads to: a type's number, a namespace and a name
+pub record Place : Type 0 where
+  pub resource : Resource
+  pub kind : ℕ
+  pub namespace : Option (List ℕ)
+  pub name : Option (List ℕ)
+
+abbrev pub kind_in : List ServedShape → Parts → Option ℕ
+kind_in types parts =
+    option_and_then (λ group. option_and_then (λ version. option_and_then (λ plural. type_number group version plural types)
+    (named (codes "plural") parts)) (named (codes "version") parts)) (named (codes "group") parts)
+
+abbrev pub place_in : List ServedShape → Resource → Parts → Option Place
+place_in types resource parts =
+    option_map (λ kind. record { resource = resource; kind = kind; namespace = named (codes "namespace") parts; name = named (codes "name") parts }) (kind_in types parts)
+
+abbrev pub place_by : List ServedShape → List ℕ → RouteOf Resource → Option Place
+place_by types path r = place_in types r.value (parts_by path r)
+
+-- nothing in a path is percent-decoded, and it is of ASCII characters alone
+abbrev pub place_of : List ServedShape → List ℕ → Option Place
+place_of types path = if list_all is_ascii path then option_and_then (place_by types path) (first routes path) else None
+
+-- ---- media types
+
+abbrev pub is_blank : ℕ → Bool
+is_blank b = b == 32 || b == 9
+
+abbrev pub without_leading : List ℕ → List ℕ
+without_leading [] = []
+without_leading (b ∷ bs) = if is_blank b then without_leading bs else b ∷ bs
+
+-- a byte before what is left of those after it
+abbrev pub unless_last_blank : ℕ → List ℕ → List ℕ
+unless_last_blank b [] = if is_blank b then [] else b ∷ []
+unless_last_blank b (c ∷ cs) = b ∷ c ∷ cs
+
+abbrev pub without_trailing : List ℕ → List ℕ
+without_trailing [] = []
+without_trailing (b ∷ bs) = unless_last_blank b (without_trailing bs)
+
+-- what stands before the parameters, without the blanks round it
+abbrev pub media_type : List ℕ → List ℕ
+media_type field = without_trailing (without_leading (before_first (λ b. b == 59) field))
+
+abbrev pub apply_type : List ℕ
+apply_type = codes "application/apply-patch+yaml"
+
+-- whether a body of this media type is taken; none is no apply
+abbrev pub takes : Method → Option (List ℕ) → Bool
+takes Patch None = false
+takes Patch (Some field) = str_eq_ignore_ascii_case (media_type field) apply_type
+takes Get field = true
+takes Post field = true
+takes Put field = true
+takes Delete field = true
+
+-- ---- the three in turn
+
+abbrev pub denied_by : Reason → List ℕ → Option (List ℕ) → Result Target Denied
+denied_by r message allow = Err (record { reason = r; message = message; allow = allow })
+
+abbrev pub target_at : Place → Method → Target
+target_at place method = record { kind = place.kind; namespace = place.namespace; name = place.name; method = method }
+
+abbrev pub media_admitted : Place → Method → Option (List ℕ) → Result Target Denied
+media_admitted place method media =
+    if takes method media then Ok (target_at place method) else denied_by UnsupportedMediaType (codes "media type not served") None
+
+abbrev pub method_served : Resource → Option Method → Option Method
+method_served r None = None
+method_served r (Some m) = if serves r m then Some m else None
+
+abbrev pub method_admitted : Place → Option Method → Option (List ℕ) → Result Target Denied
+method_admitted place None media = denied_by MethodNotAllowed (codes "method not served here") (Some (allowed place.resource))
+method_admitted place (Some m) media = media_admitted place m media
+
+abbrev pub place_admitted : Option Place → List ℕ → Option (List ℕ) → Result Target Denied
+place_admitted None method media = denied_by NotFound (codes "no such path") None
+place_admitted (Some place) method media = method_admitted place (method_served place.resource (method_named method)) media
+
+-- what a request asks, by its method, its path and its `Content-Type`, or why it is refused
+abbrev pub admitted : List ServedShape → List ℕ → List ℕ → Option (List ℕ) → Result Target Denied
+admitted types method path media = place_admitted (place_of types path) method media

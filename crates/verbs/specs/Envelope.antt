@@ -1,0 +1,165 @@
+-- What stands round an object's fields (Kubernetes API conventions, "Types (Kinds)", "Metadata"; ObjectMeta v1), judged in this order:
+-- the body is an object, `apiVersion` and `kind`, `metadata`, `name`, `namespace`, `resourceVersion`, `managedFields`.
+use Rattle.std.specs.Prelude.{ℕ, Bool, true, false, not, ◌&&◌, List, [], ◌∷◌, ◌++◌, Option, Some, None, option_and_then, if◌then◌else◌, codes}
+use Rattle.std.specs.declared.result.Result.TheVariants.{Ok, Err}
+use Rattle.std.specs.Str.{bytes_eq}
+use Rattle.serde_json.specs.Data.{Data, null, boolean, number, string, array, object, Items, no_items, item, Members, no_members, member, put}
+use Rattle.serde_json.specs.Find.{get_member, as_object}
+use Rattle.names.specs.Decimals.{version_of}
+use Rattle.schema.specs.Keywords.{is_in}
+use Rattle.schema.specs.TypesFile.{ServedShape}
+use Rattle.verbs.specs.declared.reason.Reason.TheVariants.{BadRequest}
+use Rattle.verbs.specs.Judged.{Judged, and_then, denied, unless}
+
+-- what a body has to name
+pub record Expected : Type 0 where
+  pub served : ServedShape
+  pub namespace : List ℕ
+  pub name : List ℕ
+
+-- the version that the body names, if any, and the body less its envelope, which is read under the type's schema
+pub record Envelope : Type 0 where
+  pub version : Option ℕ
+  pub rest : Data
+
+-- `group/version`
+abbrev pub api_version_of : ServedShape → List ℕ
+api_version_of t = t.group ++ codes "/" ++ t.version
+
+abbrev pub wrong_type : {X : Type 0} → List ℕ → Judged X
+wrong_type path = denied BadRequest (path ++ codes ": wrong type")
+
+abbrev pub not_an_object : {X : Type 0} → List ℕ → Judged X
+not_an_object path = denied BadRequest (path ++ codes ": not an object")
+
+-- ---- texts
+
+abbrev pub if_filled : List ℕ → Option (List ℕ)
+if_filled [] = None
+if_filled (b ∷ bs) = Some (b ∷ bs)
+
+-- the text that a value is; null and the empty text are none
+abbrev pub text_of : List ℕ → Data → Judged (Option (List ℕ))
+text_of path null = Ok None
+text_of path (string s) = Ok (if_filled s)
+text_of path (boolean b) = wrong_type path
+text_of path (number n) = wrong_type path
+text_of path (array ds) = wrong_type path
+text_of path (object ms) = wrong_type path
+
+-- the text of a member, none where it is absent
+abbrev pub text_in : List ℕ → Option Data → Judged (Option (List ℕ))
+text_in path None = Ok None
+text_in path (Some d) = text_of path d
+
+-- the member of an object that may be absent
+abbrev pub member_of : List ℕ → Option Members → Option Data
+member_of k ms = option_and_then (get_member k) ms
+
+abbrev pub is_text : Option (List ℕ) → List ℕ → Bool
+is_text None s = false
+is_text (Some t) s = bytes_eq t s
+
+abbrev pub is_text_or_none : Option (List ℕ) → List ℕ → Bool
+is_text_or_none None s = true
+is_text_or_none (Some t) s = bytes_eq t s
+
+-- ---- the steps
+
+abbrev pub kind_message : List ℕ → List ℕ → List ℕ
+kind_message api_version kind = codes "apiVersion and kind must be " ++ api_version ++ codes " and " ++ kind
+
+abbrev pub kind_judged : ServedShape → Members → Judged (Unit {0})
+kind_judged t top =
+    and_then (text_in (codes ".apiVersion") (get_member (codes "apiVersion") top)) (λ v.
+    and_then (text_in (codes ".kind") (get_member (codes "kind") top)) (λ k.
+    unless (is_text v (api_version_of t) && is_text k t.kind) BadRequest (kind_message (api_version_of t) t.kind)))
+
+-- `metadata`, if it is there
+abbrev pub metadata_in : Option Data → Judged (Option Members)
+metadata_in None = Ok None
+metadata_in (Some null) = Ok None
+metadata_in (Some (object ms)) = Ok (Some ms)
+metadata_in (Some (boolean b)) = not_an_object (codes ".metadata")
+metadata_in (Some (number n)) = not_an_object (codes ".metadata")
+metadata_in (Some (string s)) = not_an_object (codes ".metadata")
+metadata_in (Some (array ds)) = not_an_object (codes ".metadata")
+
+abbrev pub must_be : List ℕ → List ℕ → List ℕ
+must_be k wanted = codes "metadata." ++ k ++ codes " must be " ++ wanted
+
+-- where it is given, it is that of the path
+abbrev pub given_judged : List ℕ → List ℕ → Option Members → Judged (Unit {0})
+given_judged k wanted metadata =
+    and_then (text_in (codes ".metadata." ++ k) (member_of k metadata)) (λ given.
+    unless (is_text_or_none given wanted) BadRequest (must_be k wanted))
+
+abbrev pub version_or_fault : Option ℕ → Judged (Option ℕ)
+version_or_fault None = denied BadRequest (codes "metadata.resourceVersion: bad version")
+version_or_fault (Some v) = Ok (Some v)
+
+abbrev pub version_read : Option (List ℕ) → Judged (Option ℕ)
+version_read None = Ok None
+version_read (Some s) = version_or_fault (version_of s)
+
+abbrev pub version_judged : Option Members → Judged (Option ℕ)
+version_judged metadata = and_then (text_in (codes ".metadata.resourceVersion") (member_of (codes "resourceVersion") metadata)) version_read
+
+-- an apply doesn't say who owns what (Server-Side Apply, "Managers")
+abbrev pub entries_judged : Items → Judged (Unit {0})
+entries_judged no_items = Ok tt
+entries_judged (item d ds) = denied BadRequest (codes "metadata.managedFields must be empty")
+
+abbrev pub managers_judged : Option Data → Judged (Unit {0})
+managers_judged None = Ok tt
+managers_judged (Some null) = Ok tt
+managers_judged (Some (array ds)) = entries_judged ds
+managers_judged (Some (boolean b)) = wrong_type (codes ".metadata.managedFields")
+managers_judged (Some (number n)) = wrong_type (codes ".metadata.managedFields")
+managers_judged (Some (string s)) = wrong_type (codes ".metadata.managedFields")
+managers_judged (Some (object ms)) = wrong_type (codes ".metadata.managedFields")
+
+-- ---- the body less its envelope
+
+abbrev pub top_names : List (List ℕ)
+top_names = codes "apiVersion" ∷ codes "kind" ∷ []
+
+-- the last four are read past
+abbrev pub metadata_names : List (List ℕ)
+metadata_names =
+    codes "name" ∷ codes "namespace" ∷ codes "resourceVersion" ∷ codes "managedFields"
+    ∷ codes "uid" ∷ codes "generation" ∷ codes "creationTimestamp" ∷ codes "selfLink" ∷ []
+
+-- these members, and those of an object whose names are not among the given ones
+abbrev pub with_others : List (List ℕ) → Members → Members → Members
+with_others names no_members ms = ms
+with_others names (member k d more) ms = with_others names more (if is_in names k then ms else put k d ms)
+
+abbrev pub members_but : List (List ℕ) → Members → Members
+members_but names ms = with_others names ms no_members
+
+abbrev pub put_metadata : Option Members → Members → Members
+put_metadata None rest = rest
+put_metadata (Some ms) rest = put (codes "metadata") (object (members_but metadata_names ms)) rest
+
+abbrev pub rest_of : Members → Option Members → Data
+rest_of top metadata = object (put_metadata metadata (members_but top_names top))
+
+abbrev pub metadata_judged : Expected → Members → Option Members → Judged Envelope
+metadata_judged of top metadata =
+    and_then (given_judged (codes "name") of.name metadata) (λ u.
+    and_then (given_judged (codes "namespace") of.namespace metadata) (λ u.
+    and_then (version_judged metadata) (λ version.
+    and_then (managers_judged (member_of (codes "managedFields") metadata)) (λ u.
+    Ok (record { version = version; rest = rest_of top metadata })))))
+
+abbrev pub object_judged : Expected → Option Members → Judged Envelope
+object_judged of None = not_an_object (codes ".")
+object_judged of (Some top) =
+    and_then (kind_judged of.served top) (λ u.
+    and_then (metadata_in (get_member (codes "metadata") top)) (λ metadata.
+    metadata_judged of top metadata))
+
+-- the envelope of an apply's body, or its first fault
+abbrev pub envelope_of : Expected → Data → Judged Envelope
+envelope_of of body = object_judged of (as_object body)

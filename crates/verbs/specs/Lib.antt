@@ -1,0 +1,12 @@
+pub mod Reasons
+pub mod Status
+pub mod Judged
+pub mod Machine
+pub mod Calls
+pub mod Admit
+pub mod Envelope
+pub mod Parameters
+pub mod Naming
+pub mod Size
+pub mod Step
+pub mod Seen

@@ -1,0 +1,41 @@
+-- The parameters of an apply (Kubernetes docs, "Server-Side Apply", "Using Server-Side Apply with `kubectl`").
+use Rattle.std.specs.Prelude.{ℕ, List, ◌++◌, codes}
+use Rattle.std.specs.declared.result.Result.{Result}
+use Rattle.std.specs.declared.result.Result.TheVariants.{Ok, Err}
+use Rattle.params.specs.declared.parameter.Parameter.{Parameter}
+use Rattle.params.specs.declared.parameter.Parameter.TheVariants.{AllowWatchBookmarks, Continue, DryRun, FieldManager, FieldSelector, FieldValidation, Force, LabelSelector, Limit, ResourceVersion, ResourceVersionMatch, SendInitialEvents, TimeoutSeconds, Watch}
+use Rattle.params.specs.declared.params.Asked.TheVariants.{Apply}
+use Rattle.params.specs.Parameters.{name_of}
+use Rattle.params.specs.Query.{pairs_in}
+use Rattle.params.specs.Reading.{params_of}
+use Rattle.params.specs.Values.{Values}
+use Rattle.verbs.specs.declared.reason.Reason.TheVariants.{BadRequest, Invalid}
+use Rattle.verbs.specs.Status.{Denial}
+use Rattle.verbs.specs.Judged.{Judged, denial}
+
+abbrev pub named_bad : Parameter → Denial
+named_bad p = denial BadRequest (codes "bad parameter: " ++ name_of p)
+
+-- a manager's name has a refusal of its own
+abbrev pub bad_parameter : Parameter → Denial
+bad_parameter FieldManager = denial Invalid (codes "fieldManager: 1 to 128 printable characters")
+bad_parameter AllowWatchBookmarks = named_bad AllowWatchBookmarks
+bad_parameter Continue = named_bad Continue
+bad_parameter DryRun = named_bad DryRun
+bad_parameter FieldSelector = named_bad FieldSelector
+bad_parameter FieldValidation = named_bad FieldValidation
+bad_parameter Force = named_bad Force
+bad_parameter LabelSelector = named_bad LabelSelector
+bad_parameter Limit = named_bad Limit
+bad_parameter ResourceVersion = named_bad ResourceVersion
+bad_parameter ResourceVersionMatch = named_bad ResourceVersionMatch
+bad_parameter SendInitialEvents = named_bad SendInitialEvents
+bad_parameter TimeoutSeconds = named_bad TimeoutSeconds
+bad_parameter Watch = named_bad Watch
+
+abbrev pub read_or_denied : Result Values Parameter → Judged Values
+read_or_denied (Ok values) = Ok values
+read_or_denied (Err p) = Err (bad_parameter p)
+
+abbrev pub parameters_judged : List ℕ → Judged Values
+parameters_judged query = read_or_denied (params_of Apply (pairs_in query))

@@ -1,0 +1,126 @@
+-- What the crate's values stand for.
+use Rattle.std.specs.Prelude.{◌≡◌, ℕ, List, map, Option, option_map, string_bytes, String}
+use Rattle.std.specs.declared.alloc.Global.{Global}
+use Rattle.std.specs.declared.result.Result.{Result}
+use Rattle.std.specs.declared.result.Result.TheVariants.{Ok, Err}
+use Rattle.std.specs.BTreeMap.{BTreeMap}
+use Rattle.std.specs.FinMap as fin
+use Rattle.serde_json.specs.View.{view, items_view}
+use Rattle.schema.specs.Served.{served, types_view}
+use Rattle.schema.specs.TypesFile.{ServedShape}
+use Rattle.ownership.specs.Results.{state_of}
+use Rattle.verbs.specs.declared.calls.Target.{Target as TheTarget}
+use Rattle.verbs.specs.declared.calls.Call.{Call as TheCall}
+use Rattle.verbs.specs.declared.calls.Answer.{Answer as TheAnswer}
+use Rattle.verbs.specs.declared.calls.Plan.{Plan as ThePlan}
+use Rattle.verbs.specs.declared.objects.Key.{Key as TheKey}
+use Rattle.verbs.specs.declared.change.Change.{Change as TheChange}
+use Rattle.verbs.specs.declared.objects.Stored.{Stored}
+use Rattle.verbs.specs.declared.admitting.Denied.{Denied as TheDenied}
+use Rattle.verbs.specs.declared.admitting.Refusal.{Refusal}
+use Rattle.verbs.specs.declared.admitting.Refusal.TheVariants as refusal
+use Rattle.verbs.specs.declared.status.Denial.{Denial as TheDenial}
+use Rattle.verbs.specs.declared.fault.Stop.{Stop}
+use Rattle.verbs.specs.declared.fault.Stop.TheVariants as stop
+use Rattle.verbs.specs.declared.api.Api.{Api}
+use Rattle.verbs.specs.declared.envelope.Expected.{Expected as TheExpected}
+use Rattle.verbs.specs.declared.envelope.Envelope.{Envelope as TheEnvelope}
+use Rattle.verbs.specs.declared.applying.Intent.{Intent as TheIntent}
+use Rattle.verbs.specs.declared.place.Place.{Place as ThePlace}
+use Rattle.verbs.specs.Envelope.{Expected, Envelope}
+use Rattle.verbs.specs.Step.{Intent}
+use Rattle.verbs.specs.Admit.{Parts, Place}
+use Rattle.matchit.specs.Params.{walk}
+use Rattle.matchit.specs.declared.params.Params.{Params}
+use Rattle.verbs.specs.Status.{Denial}
+use Rattle.verbs.specs.Judged.{Judged, denial}
+use Rattle.verbs.specs.declared.reason.Reason.{Reason}
+use Rattle.verbs.specs.Machine.{Key, Change, Object, Objects, Machine, IsMachine, standing}
+use Rattle.verbs.specs.Calls.{Target, Call, Answer, Plan, Denied}
+
+-- ---- calls and answers
+
+abbrev pub target_of : TheTarget → Target
+target_of t = record { kind = t.kind; namespace = option_map string_bytes t.namespace; name = option_map string_bytes t.name; method = t.method }
+
+abbrev pub call_of : TheCall → Call
+call_of c = record { target = target_of c.target; query = c.query.items; body = option_map view c.body }
+
+abbrev pub answer_of : TheAnswer → Answer
+answer_of a = record { status = a.status; body = view a.body }
+
+abbrev pub key_of : TheKey → Key
+key_of k = record { kind = k.kind; namespace = string_bytes k.namespace; name = string_bytes k.name }
+
+abbrev pub change_of : TheChange → Change
+change_of c = record { revision = c.revision; key = key_of c.key; object = option_map state_of c.object }
+
+abbrev pub plan_of : ThePlan → Plan
+plan_of p = record { answer = answer_of p.answer; change = option_map change_of p.change }
+
+-- ---- refusals
+
+abbrev pub denial_of : TheDenial → Denial
+denial_of d = record { reason = d.reason; message = string_bytes d.message; causes = items_view d.causes.items }
+
+abbrev pub Refuses : Stop → Denial → Type 0
+Refuses stop.Memory d = Unit {0}
+Refuses (stop.Denied e) d = denial_of e ≡ d
+
+-- the refusal is of this reason and message, without causes, unless memory ran out
+abbrev pub Denies : Stop → Reason → List ℕ → Type 0
+Denies e r message = Refuses e (denial r message)
+
+-- what a check answered, seen by see, is what is judged, unless memory ran out
+abbrev pub Fails : {Y : Type 0} → Stop → Judged Y → Type 0
+Fails stop.Memory judged = Unit {0}
+Fails (stop.Denied d) judged = judged ≡ Err (denial_of d)
+
+abbrev pub Gives : {X Y : Type 0} → (X → Y) → Result X Stop → Judged Y → Type 0
+Gives see (Ok x) judged = judged ≡ Ok (see x)
+Gives see (Err e) judged = Fails e judged
+
+abbrev pub denied_of : TheDenied → Denied
+denied_of d = record { reason = d.reason; message = d.message.now; allow = option_map (λ s. s.now) d.allow }
+
+-- what `admit` answered is what is admitted, unless memory ran out
+abbrev pub Admits : Result TheTarget Refusal → Result Target Denied → Type 0
+Admits (Ok t) answer = answer ≡ Ok (target_of t)
+Admits (Err (refusal.Denied d)) answer = answer ≡ Err (denied_of d)
+Admits (Err refusal.Memory) answer = Unit {0}
+
+-- ---- what checks find
+
+abbrev pub expected_of : TheExpected → Expected
+expected_of e = record { served = served e.served.now; namespace = e.namespace.now; name = e.name.now }
+
+abbrev pub envelope_seen : TheEnvelope → Envelope
+envelope_seen e = record { version = e.version; rest = view e.rest }
+
+abbrev pub intent_seen : TheIntent → Intent
+intent_seen i = record { version = i.version; content = i.content; manager = string_bytes i.manager; is_forced = i.is_forced }
+
+abbrev pub parts_of : Params → Parts
+parts_of p = walk p.pattern.now p.text.now p.path.now p.names.now 0 0
+
+abbrev pub place_seen : ThePlace → Place
+place_seen p = record { resource = p.resource; kind = p.kind; namespace = option_map (λ s. s.now) p.namespace; name = option_map (λ s. s.now) p.name }
+
+-- ---- the API
+
+abbrev pub object_of : Stored → Object
+object_of s = record { revision = s.revision; state = state_of s.owned }
+
+abbrev pub objects_in : BTreeMap TheKey Stored → Objects
+objects_in m = fin.from_entries (map (λ e. (key_of e.0, object_of e.1)) m.entries)
+
+-- the types that it serves
+abbrev pub types_of : Api → List ServedShape
+types_of api = types_view api.types
+
+-- the API serves these types, and its revision and objects are those of the machine
+pub record Stands (api : Api) (types : List ServedShape) (m : Machine) : Type 0 where
+  pub is_machine : IsMachine m
+  pub serves : types_of api ≡ types
+  pub current : api.current ≡ m.current
+  pub objects : objects_in api.objects ≡ standing m

@@ -1,0 +1,103 @@
+ghost use Rattle.std.specs.Prelude.{◌≡◌, IfOk, Err, option_map, string_bytes};
+ghost use Rattle.verbs.specs.Admit.{denied_by, method_served, place_admitted, target_at};
+ghost use Rattle.verbs.specs.Seen.{Admits, place_seen, target_of};
+
+use crate::calls::Target;
+use crate::media::takes;
+use crate::method::Method;
+use crate::place::Place;
+use crate::reason::Reason;
+use crate::resource::Resource;
+use std::alloc::{AllocError, Global};
+
+/// Why a request is refused by its route, method or media type.
+#[derive(Clone, Copy, Debug, PartialEq, Eq)]
+pub struct Denied {
+    pub reason: Reason,
+    pub message: &'static str,
+    /// The value of the field `Allow`, where the method is not served (RFC 9110, section 10.2.1).
+    pub allow: Option<&'static str>,
+}
+
+/// Why a request was not admitted.
+#[derive(Clone, Copy, Debug, PartialEq, Eq)]
+pub enum Refusal {
+    Denied(Denied),
+    Memory,
+}
+
+impl From<AllocError> for Refusal {
+    ghost use Rattle.std.specs.Prelude.{◌≡◌};
+    ghost use Rattle.verbs.specs.declared.admitting.Refusal.TheVariants.{Memory};
+
+    ghost from_gives = { λ _ e. e ≡ Memory };
+
+    fn from(_: AllocError) -> Refusal {
+        Refusal::Memory
+    }
+}
+
+fn refused(reason: Reason, message: &'static str, allow: Option<&'static str>) -> Refusal
+    ensures { Admits (Err result) (denied_by reason message.now (option_map (λ s. s.now) allow.entry)) }
+{
+    Refusal::Denied(Denied {
+        reason,
+        message,
+        allow,
+    })
+}
+
+fn copied(alloc: Global, text: Option<&str>) -> Result<Option<String>, AllocError>
+    ensures { IfOk result (λ o. option_map string_bytes o ≡ option_map (λ s. s.now) text.entry) }
+{
+    match text {
+        Some(text) => Ok(Some(String::from_str(alloc, text)?)),
+        None => Ok(None),
+    }
+}
+
+fn target_at(alloc: Global, place: Place<'_>, method: Method) -> Result<Target, AllocError>
+    ensures { IfOk result (λ t. target_of t ≡ target_at (place_seen place.entry) method) }
+{
+    Ok(Target {
+        kind: place.kind,
+        namespace: copied(alloc, place.namespace)?,
+        name: copied(alloc, place.name)?,
+        method,
+    })
+}
+
+fn method_served(resource: Resource, method: Option<Method>) -> Option<Method>
+    ensures { result ≡ method_served resource method }
+{
+    match method {
+        Some(method) if resource.serves(method) => Some(method),
+        _ => None,
+    }
+}
+
+/// What a request asks, by the place that its path leads to, its method and its media type.
+pub fn admitted(
+    alloc: Global,
+    place: Option<Place<'_>>,
+    method: &str,
+    media: Option<&[u8]>,
+) -> Result<Target, Refusal>
+    ensures { Admits result (place_admitted (option_map place_seen place.entry) method.now (option_map (λ b. b.now) media.entry)) }
+{
+    let Some(place) = place else {
+        return Err(refused(Reason::NotFound, "no such path", None));
+    };
+    let Some(method) = method_served(place.resource, Method::named(method)) else {
+        let allowed = place.resource.allowed();
+        return Err(refused(
+            Reason::MethodNotAllowed,
+            "method not served here",
+            Some(allowed),
+        ));
+    };
+    if !takes(method, media) {
+        return Err(refused(Reason::UnsupportedMediaType, "media type not served", None));
+    }
+    Ok(target_at(alloc, place, method)?)
+}

@@ -1,0 +1,38 @@
+use crate::change::Change;
+use crate::method::Method;
+use serde_json::Value;
+
+/// What a call is of (Kubernetes docs, "Kubernetes API Concepts", "Resource URIs").
+#[derive(Debug, Drop)]
+pub struct Target {
+    /// The number of the type.
+    pub kind: u32,
+    /// None over all namespaces.
+    pub namespace: Option<String>,
+    /// None for a collection.
+    pub name: Option<String>,
+    pub method: Method,
+}
+
+/// A whole request.
+#[derive(Debug, Drop)]
+pub struct Call {
+    pub target: Target,
+    /// The query as it stands in the request, without the `?`.
+    pub query: Vec<u8>,
+    pub body: Option<Value>,
+}
+
+/// A reply: status and body.
+#[derive(Debug, Drop)]
+pub struct Answer {
+    pub status: u16,
+    pub body: Value,
+}
+
+/// What a call comes to: the answer, and the change that it makes, if any.
+#[derive(Drop)]
+pub struct Plan {
+    pub answer: Answer,
+    pub change: Option<Change>,
+}

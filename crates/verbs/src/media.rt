@@ -1,0 +1,62 @@
+ghost use Rattle.std.specs.Prelude.{◌≡◌, ◌==◌, option_map};
+ghost use Rattle.std.specs.List.{before_first};
+ghost use Rattle.verbs.specs.Admit.{media_type, takes, without_leading, without_trailing, is_blank};
+
+use crate::method::Method;
+
+/// The media type of an apply (Kubernetes docs, "Server-Side Apply", "Serialization").
+const APPLY: &[u8] = b"application/apply-patch+yaml";
+
+fn is_blank(byte: u8) -> bool
+    ensures { result ≡ is_blank byte }
+{
+    byte == b' ' || byte == b'\t'
+}
+
+/// The bytes before the first `;`, or all.
+fn before_parameters(field: &[u8]) -> &[u8]
+    ensures { result.now ≡ before_first (λ b. b == 59) field.now }
+{
+    match field.iter().position(|byte| *byte == b';') {
+        Some(place) => &field[..place],
+        None => field,
+    }
+}
+
+fn without_leading(field: &[u8]) -> &[u8]
+    ensures { result.now ≡ without_leading field.now }
+{
+    match field {
+        [first, rest @ ..] if is_blank(*first) => without_leading(rest),
+        _ => field,
+    }
+}
+
+fn without_trailing(field: &[u8]) -> &[u8]
+    ensures { result.now ≡ without_trailing field.now }
+{
+    match field {
+        [front @ .., last] if is_blank(*last) => without_trailing(front),
+        _ => field,
+    }
+}
+
+/// What stands before the parameters, without the blanks round it (RFC 9110, section 8.3.1).
+fn media_type(field: &[u8]) -> &[u8]
+    ensures { result.now ≡ media_type field.now }
+{
+    without_trailing(without_leading(before_parameters(field)))
+}
+
+/// Whether a body of this media type is taken.
+pub fn takes(method: Method, field: Option<&[u8]>) -> bool
+    ensures { result ≡ takes method (option_map (λ b. b.now) field.entry) }
+{
+    match method {
+        Method::Patch => match field {
+            Some(field) => media_type(field).eq_ignore_ascii_case(APPLY),
+            None => false,
+        },
+        _ => true,
+    }
+}

@@ -1,0 +1,39 @@
+ghost use Rattle.std.specs.Prelude.{◌≡◌, ◌++◌, IfOk, codes, string_bytes};
+ghost use Rattle.params.specs.Parameters.{name_of};
+ghost use Rattle.params.specs.Views.{values_of};
+ghost use Rattle.verbs.specs.Parameters.{bad_parameter, parameters_judged};
+ghost use Rattle.verbs.specs.Seen.{Gives, Refuses};
+
+use crate::fault::Stop;
+use crate::reason::Reason;
+use crate::texts::joined;
+use params::{Asked, Parameter, Params, ParamsFault};
+use std::alloc::Global;
+
+/// The refusal of a parameter at fault.
+fn bad_parameter(alloc: Global, parameter: Parameter) -> Stop
+    ensures { Refuses result (bad_parameter parameter) }
+{
+    match parameter {
+        Parameter::FieldManager => Stop::denied(
+            alloc,
+            Reason::Invalid,
+            "fieldManager: 1 to 128 printable characters",
+        ),
+        other => match joined(alloc, "bad parameter: ", other.name()) {
+            Ok(message) => Stop::denied(alloc, Reason::BadRequest, message.as_str()),
+            Err(_) => Stop::Memory,
+        },
+    }
+}
+
+/// The parameters of an apply.
+pub fn read_parameters(alloc: Global, query: &[u8]) -> Result<Params, Stop>
+    ensures { Gives values_of result (parameters_judged query.now) }
+{
+    match Params::read(alloc, Asked::Apply, query) {
+        Ok(params) => Ok(params),
+        Err(ParamsFault::Bad(parameter)) => Err(bad_parameter(alloc, parameter)),
+        Err(ParamsFault::Memory) => Err(Stop::Memory),
+    }
+}

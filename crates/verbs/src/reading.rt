@@ -1,0 +1,52 @@
+ghost use Rattle.std.specs.Prelude.{◌≡◌, ◌++◌, IfOk, codes, string_bytes};
+ghost use Rattle.serde_json.specs.View.{view};
+ghost use Rattle.schema.specs.Served as types;
+ghost use Rattle.typed.specs.Faults.{cause_text};
+ghost use Rattle.typed.specs.Reading.{content_of};
+ghost use Rattle.verbs.specs.Seen.{Denies, Gives};
+ghost use Rattle.verbs.specs.Step.{fault_reason, shape_judged};
+
+use crate::fault::Stop;
+use crate::reason::Reason;
+use crate::texts::joined;
+use schema::Served;
+use serde_json::Value;
+use std::alloc::{AllocError, Global};
+use typed::{Cause, ReadFault, Tree};
+
+fn fault_reason(cause: Cause) -> Reason
+    ensures { result ≡ fault_reason cause }
+{
+    match cause {
+        Cause::NotAnObject | Cause::UnknownField | Cause::WrongType => Reason::BadRequest,
+        Cause::DuplicateItem | Cause::KeyFieldMissing => Reason::Invalid,
+    }
+}
+
+fn fault_message(alloc: Global, cause: Cause, path: &str) -> Result<String, AllocError>
+    ensures { IfOk result (λ s. string_bytes s ≡ path.now ++ codes ": " ++ cause_text cause) }
+{
+    let mut message = joined(alloc, path, ": ")?;
+    message.push_str(cause.to_string(alloc)?.as_str())?;
+    Ok(message)
+}
+
+fn shape_fault(alloc: Global, cause: Cause, path: &str) -> Stop
+    ensures { Denies result (fault_reason cause) (path.now ++ codes ": " ++ cause_text cause) }
+{
+    match fault_message(alloc, cause, path) {
+        Ok(message) => Stop::denied(alloc, fault_reason(cause), message.as_str()),
+        Err(_) => Stop::Memory,
+    }
+}
+
+/// The content of a body under the type's schema, or the first fault in its shape.
+pub fn read_config(alloc: Global, served: &Served, rest: &Value) -> Result<Tree, Stop>
+    ensures { Gives (λ t. t) result (shape_judged (content_of (types.served served.now).shape (view rest.now))) }
+{
+    match Tree::read(&served.schema, alloc, rest) {
+        Ok(tree) => Ok(tree),
+        Err(ReadFault::Shape(cause, path)) => Err(shape_fault(alloc, cause, path.as_str())),
+        Err(ReadFault::Memory) => Err(Stop::Memory),
+    }
+}

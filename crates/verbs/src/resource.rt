@@ -1,0 +1,31 @@
+ghost use Rattle.std.specs.Prelude.{◌≡◌};
+ghost use Rattle.verbs.specs.Admit.{allowed, serves};
+
+use crate::method::Method;
+
+/// What a path leads to (Kubernetes docs, "Kubernetes API Concepts", "Resource URIs").
+#[derive(Clone, Copy, Debug, PartialEq, Eq)]
+pub enum Resource {
+    /// An object in a namespace.
+    Object,
+}
+
+impl Resource {
+    /// Whether the method is served on it.
+    pub fn serves(self, method: Method) -> bool
+        ensures { result ≡ serves self method }
+    {
+        match self {
+            Resource::Object => method == Method::Patch,
+        }
+    }
+
+    /// The methods that are served on it, as they stand in `Allow`.
+    pub fn allowed(self) -> &'static str
+        ensures { result.now ≡ allowed self }
+    {
+        match self {
+            Resource::Object => "PATCH",
+        }
+    }
+}
