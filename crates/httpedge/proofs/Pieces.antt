@@ -6,9 +6,8 @@ use Rattle.verbs.specs.Calls.{Denied, Target}
 use Rattle.verbs.specs.Machine.{Machine}
 use Rattle.httpedge.specs.Refusals.{undecided, refused, told}
 use Rattle.httpedge.specs.Heads.{Request, Said, with_more}
-use Rattle.httpedge.specs.Bodies.{body_in}
 use Rattle.httpedge.specs.Asks.{Asked, waits, refuses, calls, Asks, with_body, with_target, with_head}
-use Rattle.httpedge.specs.Answers.{Answers, Replies}
+use Rattle.httpedge.specs.Answers.{Answers}
 use Rattle.httpedge.specs.Hub.{Connection, Connections, State, Steps, Hears, waiting, ended, left, comes, place_from, place_of}
 use Rattle.httpedge.proofs.Cuts.{says_more, says_one}
 use Rattle.httpedge.proofs.BodyCuts.{body_more}

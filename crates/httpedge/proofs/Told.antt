@@ -1,5 +1,5 @@
 -- What is asked and told, and connections by their ids.
-use Rattle.std.proofs.Common.{arith, ◌≡◌, ℕ, zero, suc, ◌+◌, ◌-◌, ◌≤◌, ◌<◌, Bool, true, false, cond, eqb, List, [], ◌∷◌, ◌++◌, length, map, get_or, Result, Ok, Err, Option, Some, None, refl, sym, ap, subst, ◌∙◌}
+use Rattle.std.proofs.Common.{arith, ◌≡◌, ℕ, zero, suc, ◌+◌, ◌-◌, ◌≤◌, ◌<◌, Bool, true, false, cond, eqb, List, [], ◌∷◌, ◌++◌, length, get_or, Result, Ok, Err, Option, Some, refl, sym, ap, subst, ◌∙◌}
 use Rattle.std.specs.Prelude.{slice_get, slice_set, OnErr}
 use Rattle.std.proofs.lemmas.Bool.{eqb-true}
 use Rattle.std.proofs.lemmas.List.{map-set}
@@ -12,7 +12,6 @@ use Rattle.verbs.specs.Seen.{Stands, types_of}
 use Rattle.verbs.specs.Status.{status_value}
 use Rattle.httpedge.specs.declared.asking.Asked as askings
 use Rattle.httpedge.specs.declared.connection.Connection as conns
-use Rattle.httpedge.specs.declared.connection.Connection.TheVariants as conn
 use Rattle.httpedge.specs.Asks.{Asks}
 use Rattle.httpedge.specs.Answers.{Answers}
 use Rattle.httpedge.specs.Hub.{Connection, Connections, State, Steps, Dies, Hears, waiting, ended, left, opened, opens, comes, place_from, place_of}

@@ -3,8 +3,8 @@
 //! What a connection asks depends on the bytes that came and on nothing else, however they were cut; a reply
 //! is written byte for byte as the definitions say.
 //!
-//! Stands on `verbs` for calls and their answers, on `httparse` for the grammar of a head (RFC 9112), on `http`
-//! for phrases and on `serde_json`.
+//! Stands on `verbs` for what a call answers, on `httparse` for the grammar of a head (RFC 9112), on `http` for
+//! phrases and on `serde_json`.
 #![tactic(auto)]
 
 mod answering;

@@ -1,4 +1,4 @@
-use Rattle.std.proofs.Common.{Some, refl, ap, subst}
+use Rattle.std.proofs.Common.{Some, refl, ap}
 use Rattle.verbs.specs.Machine.{after}
 use Rattle.verbs.specs.Seen.{call_of, denied_of}
 use Rattle.verbs.specs.Step.{planned}
