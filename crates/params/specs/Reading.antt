@@ -16,7 +16,7 @@ use Rattle.params.specs.declared.params.VersionMatch.{VersionMatch}
 use Rattle.params.specs.declared.params.VersionMatch.TheVariants.{Exact, NotOlderThan}
 use Rattle.params.specs.Query.{Pairs, value_of}
 use Rattle.params.specs.Texts.{truth_of, match_of, manager_of, token_of}
-use Rattle.params.specs.Values.{Token, Watch, Values, no_values}
+use Rattle.params.specs.Values.{Token, Values, no_values}
 
 -- the parameter that is at fault, or what was read
 abbrev pub Read : Type 0 → Type 0

@@ -1,5 +1,5 @@
 -- What the crate's values say, without where they lie in memory.
-use Rattle.std.specs.Prelude.{◌≡◌, ℕ, List, map, Option, option_map, string_bytes, String}
+use Rattle.std.specs.Prelude.{◌≡◌, ℕ, List, map, option_map, string_bytes, String}
 use Rattle.std.specs.declared.alloc.Global.{Global}
 use Rattle.std.specs.declared.result.Result.{Result}
 use Rattle.std.specs.declared.result.Result.TheVariants.{Ok, Err}

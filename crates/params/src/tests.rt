@@ -280,7 +280,7 @@ fn values_of_lists(rt: HostRuntime) -> Result<(), Fail> {
     assert_eq!(rt; other.selector.matches(&tier(alloc, "web")?), false);
     assert_eq!(rt; other.selector.matches(&tier(alloc, "db")?), true);
     let paged = Params::read(alloc, Asked::List, b"limit=2&continue=4.default.w1.old")?;
-    let Some(token) = paged.token else {
+    let Some(token) = &paged.token else {
         return Err(Fail::from("no token"));
     };
     assert_eq!(rt; token.text(alloc)?.as_str(), "4.default.w1.old");
