@@ -115,3 +115,47 @@ fn two_indexes_with_one_name(rt: HostRuntime) -> Result<(), Fail> {
     assert!(rt; matches!(made, Err(NewError::SameName)));
     Ok(())
 }
+
+fn revision_at(indexer: &Indexer, key: &ObjectKey) -> u64 {
+    indexer.get(key).map_or(0, |now| now.revision)
+}
+
+/// How many objects have the name, and stand under each key of the second index.
+fn counts(indexer: &Indexer) -> (usize, usize, usize) {
+    (
+        count(indexer, "namespace", "default"),
+        count(indexer, "text", "x"),
+        count(indexer, "text", "y"),
+    )
+}
+
+/// Run with each allocation refused in turn, a refused put and a refused replace leave the objects and both
+/// indexes as they were.
+#[test]
+fn a_refused_growth_changes_nothing(rt: HostRuntime) -> Result<(), Fail> {
+    let alloc = rt.alloc();
+    let mut indexes: Vec<Box<dyn IndexBy>> = Vec::new(alloc);
+    indexes.push(Box::new(alloc, Namespace)?)?;
+    indexes.push(Box::new(alloc, Text)?)?;
+    let mut indexer = Indexer::new(alloc, indexes)?;
+    let a = key(alloc, "a")?;
+    indexer.put(object(alloc, "a", 2, "x")?)?;
+    let second = object(alloc, "a", 4, "y")?;
+    if indexer.put(second).is_ok() {
+        assert_eq!(rt; revision_at(&indexer, &a), 4);
+        assert_eq!(rt; counts(&indexer), (1, 0, 1));
+    } else {
+        assert_eq!(rt; revision_at(&indexer, &a), 2);
+        assert_eq!(rt; counts(&indexer), (1, 1, 0));
+    }
+    let (revision, before) = (revision_at(&indexer, &a), counts(&indexer));
+    let others = vec![in alloc; object(alloc, "c", 5, "x")?, object(alloc, "d", 5, "x")?]?;
+    if indexer.replace(others).is_ok() {
+        assert_eq!(rt; revision_at(&indexer, &a), 0);
+        assert_eq!(rt; counts(&indexer), (2, 2, 0));
+    } else {
+        assert_eq!(rt; revision_at(&indexer, &a), revision);
+        assert_eq!(rt; counts(&indexer), before);
+    }
+    Ok(())
+}

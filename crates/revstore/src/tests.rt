@@ -274,3 +274,60 @@ fn a_refused_growth_changes_nothing(rt: HostRuntime) -> Result<(), Fail> {
     assert_eq!(rt; list_at(&mut store, 2)?, 1);
     Ok(())
 }
+
+fn answers(store: &mut Store, alloc: Global, calls: &[Call]) -> Result<Vec<Answer>, Fault> {
+    run(alloc, store, calls)
+}
+
+fn word_of(answer: &Answer) -> &str {
+    match answer {
+        Answer::Written(_) => "written ",
+        Answer::Exhausted => "exhausted ",
+        Answer::Absent => "absent ",
+        Answer::Compacted => "compacted ",
+        Answer::Expired => "expired ",
+        Answer::TooLarge => "too large ",
+        Answer::Found(Some(_)) => "found ",
+        Answer::Found(None) => "nothing ",
+        Answer::Listed(_) => "listed ",
+        Answer::Changed(_) => "changed ",
+    }
+}
+
+fn show(alloc: Global, answers: &[Answer]) -> Result<String, Fault> {
+    let mut text = String::new(alloc);
+    for answer in answers {
+        text.push_str(word_of(answer))?;
+    }
+    Ok(text)
+}
+
+fn calls(alloc: Global) -> Result<Vec<Call>, Fault> {
+    let mut calls = Vec::new(alloc);
+    calls.push(Call::Delete(key(alloc, "default", "w1")?))?;
+    for body in ["a", "b"] {
+        calls.push(Call::Put(key(alloc, "default", "w1")?, String::from_str(alloc, body)?))?;
+    }
+    calls.push(Call::Get(key(alloc, "default", "w1")?))?;
+    calls.push(Call::Delete(key(alloc, "default", "w1")?))?;
+    calls.push(Call::Get(key(alloc, "default", "w1")?))?;
+    calls.push(Call::Compact(3))?;
+    calls.push(Call::Before(key(alloc, "default", "w1")?, 3))?;
+    calls.push(Call::Before(key(alloc, "default", "w1")?, 4))?;
+    calls.push(Call::Compact(5))?;
+    Ok(calls)
+}
+
+/// Writes, a deletion, a compaction and reads, one after the other, and what each is answered.
+#[test]
+fn calls_are_answered_in_turn(rt: HostRuntime) -> Result<(), Fail> {
+    let mut store = store_at(rt.alloc(), 1)?;
+    let calls = calls(rt.alloc())?;
+    let all = answers(&mut store, rt.alloc(), &calls)?;
+    assert_eq!(rt;
+        show(rt.alloc(), &all)?.as_str(),
+        "absent written written found written nothing compacted expired found too large "
+    );
+    assert_eq!(rt; numbers(&store), (4, 3));
+    Ok(())
+}

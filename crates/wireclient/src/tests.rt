@@ -49,6 +49,18 @@ fn told(alloc: Global, reply: &str, cut: usize) -> Result<String, AllocError> {
     Ok(text)
 }
 
+/// What a reader tells of the reply, which comes in pieces of this size.
+fn told_in_pieces(alloc: Global, reply: &str, size: usize) -> Result<String, AllocError> {
+    let mut reader = ReplyReader::new(alloc);
+    let mut text = String::new(alloc);
+    for piece in reply.as_bytes().chunks(size.max(1)) {
+        if let Ok(items) = reader.feed(piece) {
+            show(alloc, &items, &mut text)?;
+        }
+    }
+    Ok(text)
+}
+
 #[test]
 fn a_reply_is_told_the_same_however_it_is_cut(rt: HostRuntime) -> Result<(), Fail> {
     let alloc = rt.alloc();
@@ -73,6 +85,8 @@ fn a_reply_is_told_the_same_however_it_is_cut(rt: HostRuntime) -> Result<(), Fai
             let text = told(alloc, &reply, cut)?;
             assert_eq!(rt; text.as_str(), expected, "{rest}, {cut}");
         }
+        let text = told_in_pieces(alloc, &reply, 1)?;
+        assert_eq!(rt; text.as_str(), expected, "{rest}, byte by byte");
     }
     Ok(())
 }
@@ -92,6 +106,17 @@ fn a_bad_byte_is_told_when_it_comes(rt: HostRuntime) -> Result<(), Fail> {
         (LENGTH, "1073741825\r\n\r", ""),
         (LENGTH, "\r\n\r\n", " malformed"),
         (LENGTH, "+1\r\n\r\n", " malformed"),
+        (LENGTH, "1 1\r\n\r\n", " malformed"),
+        (
+            "HTTP/2.0 200 OK\r\n",
+            "Content-Length: 1\r\n\r\n",
+            " malformed",
+        ),
+        (
+            "HTTP/1.1 20 OK\r\n",
+            "Content-Length: 1\r\n\r\n",
+            " malformed",
+        ),
         ("HTTP/1.1 200 OK\r\n", "\r\n", " malformed"),
         (
             "HTTP/1.1 200 OK\r\n",
@@ -103,6 +128,9 @@ fn a_bad_byte_is_told_when_it_comes(rt: HostRuntime) -> Result<(), Fail> {
         (CHUNKED, "0000000000000001\r\na\r\n", "200"),
         (CHUNKED, "00000000000000001", "200 malformed"),
         (CHUNKED, "1\n", "200 malformed"),
+        (CHUNKED, "g", "200 malformed"),
+        (CHUNKED, "1 \r\n", "200 malformed"),
+        (CHUNKED, "1;a=b\r\n", "200 malformed"),
         (CHUNKED, "1\r\nab", "200 malformed"),
         (CHUNKED, "0\r\nx", "200 malformed"),
         (CHUNKED, "1\r\na\r\n0\r\n\r", "200"),
@@ -141,6 +169,34 @@ fn a_head_has_16384_bytes_and_64_fields(rt: HostRuntime) -> Result<(), Fail> {
         reply.push_str("\r\n\r\n")?;
         let text = told(alloc, &reply, 1)?;
         assert_eq!(rt; text.as_str(), expected, "{more}");
+    }
+    Ok(())
+}
+
+/// A chunk of so many bytes in one line, its line feed the last.
+fn long_line(alloc: Global, length: usize) -> Result<String, AllocError> {
+    let mut reply = String::from_str(alloc, CHUNKED)?;
+    reply.push_str(&format!(in alloc; "{length:x}\r\n")?)?;
+    for _ in 1..length {
+        reply.push('a')?;
+    }
+    reply.push_str("\n\r\n0\r\n\r\n")?;
+    Ok(reply)
+}
+
+#[test]
+fn a_line_has_2097152_bytes(rt: HostRuntime) -> Result<(), Fail> {
+    let alloc = rt.alloc();
+    for (length, lines, ends) in [(2_097_152, 1, true), (2_097_153, 0, false)] {
+        let reply = long_line(alloc, length)?;
+        let items = ReplyReader::new(alloc).feed(reply.as_bytes()).ok();
+        let Some(items) = items else {
+            return Err(AllocError.into());
+        };
+        let told = items.iter().filter(|item| matches!(item, Item::Line(_)));
+        assert_eq!(rt; told.count(), lines, "{length}");
+        assert_eq!(rt; items.contains(&Item::End), ends, "{length}");
+        assert_eq!(rt; items.contains(&Item::Malformed), !ends, "{length}");
     }
     Ok(())
 }

@@ -1,0 +1,44 @@
+//! `bench WORD..` times the layers: a number sets the size, and `selectors`, `indexer`, `reader`, `tables` or
+//! `lookups` runs that layer at it. What was done goes to standard output, the processor times to standard error.
+#![tactic(auto)]
+
+mod indexing;
+mod lookups;
+mod reading;
+mod selecting;
+mod storing;
+mod timing;
+
+use anyhow::bail;
+use std::alloc::Global;
+use std::env;
+use std::time::CpuClock;
+
+fn run_layer(
+    rt: &(impl Print + Eprint + CpuClock),
+    alloc: Global,
+    layer: &str,
+    size: u32,
+) -> anyhow::Result<()> {
+    let count = u64::from(size);
+    match layer {
+        "selectors" => selecting::run(rt, alloc, count),
+        "indexer" => indexing::run(rt, alloc, count),
+        "reader" => reading::run(rt, alloc, count),
+        "tables" => storing::run(rt, alloc, count),
+        "lookups" => lookups::run(rt, alloc, size),
+        _ => bail!("no such layer: {layer}"),
+    }
+}
+
+fn main(rt: HostRuntime) -> anyhow::Result<()> {
+    let words: Vec<String> = env::args(&rt)?.collect(rt.alloc())?;
+    let mut size = 1_000;
+    for word in words.iter().skip(1) {
+        match word.parse::<u32>() {
+            Ok(number) => size = number,
+            Err(_) => run_layer(&rt, rt.alloc(), word, size)?,
+        }
+    }
+    Ok(())
+}

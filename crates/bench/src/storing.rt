@@ -1,0 +1,135 @@
+//! The revisioned store over tables.
+
+use crate::timing::{spent, tell};
+use revstore::{ChangesFault, CompactFault, ListFault, Store, WriteFault};
+use revtable::{Fault, Key, Object, Table};
+use std::alloc::{AllocError, Global};
+use std::time::CpuClock;
+
+/// How many entries a page has.
+const PAGE: u64 = 500;
+
+fn key(alloc: Global, i: u64) -> Result<Key, AllocError> {
+    Ok(Key {
+        kind: 1,
+        namespace: String::from_str(alloc, "default")?,
+        name: format!(in alloc; "object-{i:08}")?,
+    })
+}
+
+fn body(alloc: Global) -> Result<String, AllocError> {
+    let mut text = String::new(alloc);
+    for _ in 0..64 {
+        text.push_str("0123456789abcdef")?;
+    }
+    Ok(text)
+}
+
+fn keys(alloc: Global, size: u64) -> Result<Vec<Key>, AllocError> {
+    let mut all = Vec::new(alloc);
+    for i in 0..size {
+        all.push(key(alloc, i)?)?;
+    }
+    Ok(all)
+}
+
+fn open(alloc: Global) -> Result<Store, Fault> {
+    Ok(Store::new(Table::open(alloc)?))
+}
+
+fn write(store: &mut Store, key: &Key, body: &str) -> Result<u64, WriteFault> {
+    store.write(key, Some(body))
+}
+
+fn write_all(store: &mut Store, keys: &[Key], body: &str) -> Result<(), WriteFault> {
+    for key in keys {
+        write(store, key, body)?;
+    }
+    Ok(())
+}
+
+fn get(store: &mut Store, key: &Key) -> Result<Option<Object>, Fault> {
+    store.get(key)
+}
+
+fn count_found(store: &mut Store, keys: &[Key]) -> Result<u64, Fault> {
+    let mut count: u64 = 0;
+    for key in keys {
+        if get(store, key)?.is_some() {
+            count = count.saturating_add(1);
+        }
+    }
+    Ok(count)
+}
+
+fn page_after(store: &mut Store, name: &str) -> Result<usize, ListFault> {
+    let revision = store.current();
+    Ok(
+        store
+            .list_at(1, None, revision, Some(("default", name)), PAGE)?
+            .len(),
+    )
+}
+
+fn changes_after(store: &mut Store, revision: u64) -> Result<usize, ChangesFault> {
+    Ok(store.changes(1, None, revision, PAGE)?.len())
+}
+
+fn compact(store: &mut Store) -> Result<(), CompactFault> {
+    let revision = store.current();
+    store.compact(revision)
+}
+
+fn pages(
+    rt: &(impl Print + Eprint + CpuClock),
+    alloc: Global,
+    store: &mut Store,
+    size: u64,
+) -> anyhow::Result<()> {
+    for (what, first) in [
+        ("a page from the front", 0),
+        ("a page from the middle", size / 2),
+        ("a page to the end", size.saturating_sub(PAGE)),
+    ] {
+        let name = format!(in alloc; "object-{first:08}")?;
+        let start = spent(rt)?;
+        let found = page_after(store, &name)?;
+        tell(rt, what, 1, start)?;
+        println!(rt; "tables: {what} has {found}")?;
+    }
+    Ok(())
+}
+
+/// Writes so many objects of 1 KB twice, reads single ones, pages and changes, and compacts half of the changes.
+pub(crate) fn run(
+    rt: &(impl Print + Eprint + CpuClock),
+    alloc: Global,
+    size: u64,
+) -> anyhow::Result<()> {
+    let keys = keys(alloc, size)?;
+    let body = body(alloc)?;
+    let mut store = open(alloc)?;
+    let start = spent(rt)?;
+    write_all(&mut store, &keys, &body)?;
+    tell(rt, "first write", size, start)?;
+    let start = spent(rt)?;
+    write_all(&mut store, &keys, &body)?;
+    tell(rt, "second write", size, start)?;
+
+    let (some, _) = keys.split_at(keys.len().min(1_000));
+    let start = spent(rt)?;
+    let found = count_found(&mut store, some)?;
+    tell(rt, "get", some.len() as u64, start)?;
+    println!(rt; "tables: {found} found")?;
+
+    pages(rt, alloc, &mut store, size)?;
+    let start = spent(rt)?;
+    let changed = changes_after(&mut store, size)?;
+    tell(rt, "500 changes", 1, start)?;
+    println!(rt; "tables: {changed} changes")?;
+
+    let start = spent(rt)?;
+    compact(&mut store)?;
+    tell(rt, "compaction of half of the changes", 1, start)?;
+    Ok(())
+}
