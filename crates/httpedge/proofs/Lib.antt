@@ -3,6 +3,7 @@ pub mod Cuts
 pub mod Heading
 pub mod Numbers
 pub mod Pieces
+pub mod Running
 pub mod Targets
 pub mod Told
 pub mod Whole

@@ -8,7 +8,7 @@ use Rattle.httpedge.specs.Refusals.{undecided, refused, told}
 use Rattle.httpedge.specs.Heads.{Request, Said, with_more}
 use Rattle.httpedge.specs.Asks.{Asked, waits, refuses, calls, Asks, with_body, with_target, with_head}
 use Rattle.httpedge.specs.Answers.{Answers}
-use Rattle.httpedge.specs.Hub.{Connection, Connections, State, Steps, Hears, waiting, ended, left, comes, place_from, place_of}
+use Rattle.httpedge.specs.Hub.{Connection, Connections, State, Steps, Hears, waiting, ended, connection_after, comes, place_from, place_of}
 use Rattle.httpedge.proofs.Cuts.{says_more, says_one}
 use Rattle.httpedge.proofs.BodyCuts.{body_more}
 
@@ -50,13 +50,13 @@ waits_still types m n bytes (refuses denied, asks, replies) = absurd (none_some 
 waits_still types m n bytes (calls call, asks, replies) = absurd (none_some refl replies.2)
 
 two_pieces : (types : List ServedShape) (m n k : Machine) (front first second : List ℕ) (o : Option (List ℕ)) (new : Connection)
-    → Answers types m (front ++ first) o n → Hears types n (left (front ++ first) o) second new k → Hears types m (waiting front) (first ++ second) new k
+    → Answers types m (front ++ first) o n → Hears types n (connection_after (front ++ first) o) second new k → Hears types m (waiting front) (first ++ second) new k
 two_pieces types m n k front first second None new answers (o, later, is) =
     let whole = append_assoc front first second in (
       o,
       subst (λ (start : Machine). Answers types start (front ++ (first ++ second)) o k) (waits_still types m n (front ++ first) answers)
           (subst (λ (bytes : List ℕ). Answers types n bytes o k) whole later),
-      is ∙ ap (λ (bytes : List ℕ). left bytes o) whole,
+      is ∙ ap (λ (bytes : List ℕ). connection_after bytes o) whole,
     )
 two_pieces types m n k front first second (Some out) new answers (same, still) = (
   Some out,

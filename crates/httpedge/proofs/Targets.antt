@@ -12,7 +12,7 @@ use Rattle.httparse.specs.declared.spans.HeaderSpan.{HeaderSpan}
 use Rattle.httparse.specs.declared.spans.RequestSpans.{RequestSpans}
 use Rattle.httparse.specs.Spans.{span_bytes}
 use Rattle.httpedge.specs.Bodies.{path_of, query_of}
-use Rattle.httpedge.specs.Heads.{IsWholeAt}
+use Rattle.httpedge.specs.Views.{IsWholeAt}
 
 pub whole_before : (target : List ℕ) → position_or_len (λ b. eqb b 63) target ≡ length target → target ≡ path_of target
 whole_before target none = sym (take_all (position_or_len (λ b. eqb b 63) target) target (omega (arith, none)))

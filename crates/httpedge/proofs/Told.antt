@@ -14,8 +14,8 @@ use Rattle.httpedge.specs.declared.asking.Asked as askings
 use Rattle.httpedge.specs.declared.connection.Connection as conns
 use Rattle.httpedge.specs.Asks.{Asks}
 use Rattle.httpedge.specs.Answers.{Answers}
-use Rattle.httpedge.specs.Hub.{Connection, Connections, State, Steps, Dies, Hears, waiting, ended, left, opened, opens, comes, place_from, place_of}
-use Rattle.httpedge.specs.Standing.{asked_of, connection_of, connections_of, StandsAnswered, StandsHeard, StandsHeardAt, IsDeadAt}
+use Rattle.httpedge.specs.Hub.{Connection, Connections, State, Steps, Dies, Hears, waiting, ended, connection_after, opened, opens, comes, place_from, place_of}
+use Rattle.httpedge.specs.Standing.{asked_of, connection_of, connections_of, StandsAnswered, StandsHeard, StandsHeardAt, Waited, IsDeadAt}
 
 pub on_err : {A E P : Type 0} (r : Result A E) → P → OnErr r P
 on_err (Ok a) p = tt {0}
@@ -29,9 +29,9 @@ asks_by api types bytes a b serves is asks =
     subst (λ (ts : List ServedShape). Asks ts bytes (asked_of b)) serves (subst (λ (x : askings.Asked). Asks (types_of api) bytes (asked_of x)) is asks)
 
 pub heard_more : (types : List ServedShape) (m : Machine) (front bytes whole : List ℕ) (o : Option (List ℕ)) (api : Api) (c : Connection) → whole ≡ front ++ bytes
-    → StandsAnswered types m whole o api → c ≡ left whole o → StandsHeard types m (waiting front) bytes c api
+    → StandsAnswered types m whole o api → c ≡ connection_after whole o → StandsHeard types m (waiting front) bytes c api
 heard_more types m front bytes whole o api c is (n, answers, stands) same =
-    (n, (o, subst (λ (w : List ℕ). Answers types m w o n) is answers, same ∙ ap (λ (w : List ℕ). left w o) is), stands)
+    (n, (o, subst (λ (w : List ℕ). Answers types m w o n) is answers, same ∙ ap (λ (w : List ℕ). connection_after w o) is), stands)
 
 -- ---- an opening
 
@@ -61,13 +61,13 @@ set_twice [] i d d' first second lt = absurd (omega (arith, lt))
 set_twice (e ∷ all) zero d d' first second lt = refl
 set_twice (e ∷ all) (suc i) d d' first second lt = ap (λ (rest : Connections). seen e ∷ rest) (set_twice all i d d' first second (omega (arith, lt)))
 
-pub dead_at : {A E : Type 0} (r : Result A E) (all : List Entry) (i : ℕ) (d : Entry) (now dead : conns.Connection) (out : List ℕ) → i < length all → now ≡ dead → connection_of dead ≡ ended out → out ≡ []
-    → OnErr r (IsDeadAt i (connections_of all) (connections_of (slice_set all i ((get_or all i d).0, now))))
-dead_at (Ok a) all i d now dead out lt is says none = tt {0}
-dead_at (Err e) all i d now dead out lt is says none = (
+pub dead_at : {A E : Type 0} (r : Result A E) (all : List Entry) (i : ℕ) (d : Entry) (old now dead : conns.Connection) (out : List ℕ) → i < length all → now ≡ dead → connection_of dead ≡ ended out → out ≡ []
+    → old ≡ (get_or all i d).1 → Waited (connection_of old) → OnErr r (IsDeadAt i (connections_of all) (connections_of (slice_set all i ((get_or all i d).0, now))))
+dead_at (Ok a) all i d old now dead out lt is says none was waited = tt {0}
+dead_at (Err e) all i d old now dead out lt is says none was (front, waited) = (
   (get_or all i d).0,
-  connection_of (get_or all i d).1,
-  got all i d lt,
+  front,
+  got all i d lt ∙ ap (λ (c : Connection). Some ((get_or all i d).0, c)) (ap connection_of (sym was) ∙ waited),
   map-set seen all i ((get_or all i d).0, now) ∙ ap (λ (c : Connection). slice_set (connections_of all) i ((get_or all i d).0, c)) (ap connection_of is ∙ says ∙ ap ended none),
 )
 
@@ -126,9 +126,9 @@ comes_well types s id i heard bytes olds news api said same at (k, old, c, is, (
 
 pub dies_well : (types : List ServedShape) (s : State) (id i : ℕ) (bytes : List ℕ) (olds news : Connections) (api : Api) → olds ≡ s.connections → place_of id olds ≡ Some i
     → Stands api types s.machine → IsDeadAt i olds news → (t : State) × Dies s (comes id bytes) t × (Stands api types t.machine × (news ≡ t.connections))
-dies_well types s id i bytes olds news api same at stands (k, old, is, now) =
-    let named : k ≡ id = id_at olds id i k old at is in (
+dies_well types s id i bytes olds news api same at stands (k, front, is, now) =
+    let named : k ≡ id = id_at olds id i k (waiting front) at is in (
       record { machine = s.machine; connections = slice_set s.connections i (id, ended []) },
-      (i, ap (place_of id) (sym same) ∙ at, refl),
+      (i, front, ap (place_of id) (sym same) ∙ at, ap (λ (all : Connections). slice_get all i) (sym same) ∙ is ∙ ap (λ (x : ℕ). Some (x, waiting front)) named, refl),
       (stands, now ∙ ap (λ (x : ℕ). slice_set olds i (x, ended [])) named ∙ ap (λ (all : Connections). slice_set all i (id, ended [])) same),
     )

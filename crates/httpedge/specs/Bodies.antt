@@ -1,4 +1,5 @@
--- The body of a request (RFC 9112, section 6), and the call that the whole makes.
+-- The body of a request by its length (RFC 9112, section 6.3), and the parts of its target (section 3.2.1).
+-- A length is needed where a body is (RFC 9110, section 15.5.12), and no transfer coding is served (RFC 9112, section 6.1).
 use Rattle.std.specs.Prelude.{ℕ, ◌+◌, ◌-◌, ◌*◌, Bool, true, false, ◌&&◌, ◌||◌, ◌==◌, not, nat_lt, if◌then◌else◌, List, [], ◌∷◌, length, take, Option, Some, None, codes}
 use Rattle.std.specs.List.{before_first, after_first}
 use Rattle.std.specs.Str.{bytes_eq, is_utf8}
@@ -7,6 +8,7 @@ use Rattle.serde_json.specs.Read.{read}
 use Rattle.httpedge.specs.Refusals.{encoded, no_length, bad_length, body_too_large, not_json, Front, undecided, refused, told}
 use Rattle.httpedge.specs.Heads.{Length, missing, malformed, digits, Request}
 
+-- this server's own limit (its refusal: RFC 9110, section 15.5.14)
 abbrev pub max_body : ℕ
 max_body = 65536
 

@@ -4,12 +4,10 @@ use Rattle.std.specs.Char.{is_ascii_digit}
 use Rattle.std.specs.List.{list_all, list_any, starts_with, filter}
 use Rattle.std.specs.Str.{bytes_eq, str_eq_ignore_ascii_case}
 use Rattle.httparse.specs.Grammar.{RequestHead, ReadsRequest}
-use Rattle.httparse.specs.declared.spans.HeaderSpan.{HeaderSpan}
-use Rattle.httparse.specs.declared.spans.RequestSpans.{RequestSpans}
-use Rattle.httparse.specs.Spans.{name_and_value, IsRequestAt}
+use Rattle.httparse.specs.Spans.{name_and_value}
 use Rattle.httpedge.specs.Refusals.{head_too_large, bad_head, wrong_version, not_one_host, Front, undecided, refused, told}
 
--- limits
+-- this server's own limits (their refusal: RFC 6585, section 5)
 abbrev pub max_head : ℕ
 max_head = 16384
 
@@ -18,7 +16,7 @@ max_fields = 64
 
 -- ---- where a head ends: its first empty line
 
--- these bytes come after n others, inside a head: how many bytes there are up to an LF that is followed by LF or by CR LF, and with that
+-- the length of the head, counted from n: up to and with its first empty line, an LF that is followed by LF or by CR LF
 abbrev pub end_inside : ℕ → List ℕ → Option ℕ
 end_inside n [] = None
 end_inside n (b ∷ bytes) =
@@ -73,7 +71,7 @@ abbrev pub length_in : List ℕ → Length
 length_in [] = malformed
 length_in (b ∷ bytes) = if list_all is_ascii_digit (b ∷ bytes) then digits (without_zeros (b ∷ bytes)) else malformed
 
--- several fields have to say one number
+-- several fields have to say one number; a list in one field, which RFC 9112, section 6.3, lets a server take, is refused here
 abbrev pub agreed : Length → Length → Length
 agreed missing other = other
 agreed malformed other = malformed
@@ -105,7 +103,8 @@ request_of method target fields = record {
   length = length_after missing fields;
 }
 
--- a head of the grammar is judged in this order; rest is what came after it
+-- a head of the grammar is judged in this order: the version (RFC 9110, section 15.6.6), one Host (RFC 9112, section 3.2), a target that is a path
+-- (section 3.2.1); rest is what came after it
 abbrev pub judged : List ℕ → List ℕ → ℕ → List Named → List ℕ → Front (Request × List ℕ)
 judged method target minor fields rest =
     if nat_lt max_fields (length fields) then refused head_too_large
@@ -132,10 +131,6 @@ abbrev pub SaysWhole : List ℕ → List ℕ → Front (Request × List ℕ) →
 SaysWhole bytes rest front =
     ((h : RequestHead) × ReadsRequest bytes h [] × (front ≡ judged_head h rest))
     ⊎ (((h : RequestHead) → ¬ (ReadsRequest bytes h [])) × (front ≡ refused bad_head))
-
--- these bytes are a head, and the offsets are those of its parts
-abbrev pub IsWholeAt : List ℕ → List HeaderSpan → RequestSpans → Type 0
-IsWholeAt bytes headers parts = (h : RequestHead) × ReadsRequest bytes h [] × IsRequestAt bytes headers parts h
 
 abbrev pub SaysAt : List ℕ → Option ℕ → Front (Request × List ℕ) → Type 0
 SaysAt bytes None front = front ≡ (if nat_lt max_head (length bytes) then refused head_too_large else undecided)

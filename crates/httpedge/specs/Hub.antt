@@ -1,5 +1,5 @@
 -- The hub: a machine and its connections, and what an event makes of them.
-use Rattle.std.specs.Prelude.{◌≡◌, ℕ, ◌+◌, Bool, true, false, ◌==◌, nat_le, if◌then◌else◌, List, [], ◌∷◌, ◌++◌, length, slice_get, slice_set, not, Option, Some, None, option_map, option_and_then, unwrap_or}
+use Rattle.std.specs.Prelude.{◌≡◌, ◌⊎◌, ℕ, ◌+◌, Bool, true, false, ◌==◌, nat_le, if◌then◌else◌, List, [], ◌∷◌, ◌++◌, length, slice_get, slice_set, not, Option, Some, None, option_map, option_and_then, unwrap_or}
 use Rattle.std.specs.List.{filter, list_any}
 use Rattle.schema.specs.TypesFile.{ServedShape}
 use Rattle.verbs.specs.Machine.{Machine}
@@ -28,10 +28,19 @@ pub data Event : Type 0 where
 
 -- ---- connections
 
-abbrev pub is_open : ℕ × Connection → Bool
-is_open (id, waiting front) = true
-is_open (id, ended out) = false
+-- what was written on it
+abbrev pub out_of : Connection → List ℕ
+out_of (waiting front) = []
+out_of (ended out) = out
 
+abbrev pub has_ended : Connection → Bool
+has_ended (waiting front) = false
+has_ended (ended out) = true
+
+abbrev pub is_open : ℕ × Connection → Bool
+is_open c = not (has_ended c.1)
+
+-- how many may be open, by this server's own limit
 abbrev pub max_open : ℕ
 max_open = 1024
 
@@ -51,25 +60,16 @@ place_of id all = place_from 0 id all
 abbrev pub is_taken : ℕ → Connections → Bool
 is_taken id all = list_any (λ c. nat_le id c.0) all
 
--- what was written on it
-abbrev pub out_of : Connection → List ℕ
-out_of (waiting front) = []
-out_of (ended out) = out
-
-abbrev pub has_ended : Connection → Bool
-has_ended (waiting front) = false
-has_ended (ended out) = true
-
 -- ---- bytes that come
 
 -- where nothing was written yet, all bytes so far are judged; a reply ends the connection
-abbrev pub left : List ℕ → Option (List ℕ) → Connection
-left front None = waiting front
-left front (Some out) = ended out
+abbrev pub connection_after : List ℕ → Option (List ℕ) → Connection
+connection_after front None = waiting front
+connection_after front (Some out) = ended out
 
 abbrev pub Hears : List ServedShape → Machine → Connection → List ℕ → Connection → Machine → Type 0
 Hears types m (ended out) bytes c n = (c ≡ ended out) × (n ≡ m)
-Hears types m (waiting front) bytes c n = (o : Option (List ℕ)) × Answers types m (front ++ bytes) o n × (c ≡ left (front ++ bytes) o)
+Hears types m (waiting front) bytes c n = (o : Option (List ℕ)) × Answers types m (front ++ bytes) o n × (c ≡ connection_after (front ++ bytes) o)
 
 -- ---- one event
 
@@ -90,10 +90,22 @@ Steps types s (comes id bytes) t =
     × (place_of id s.connections ≡ Some i) × (slice_get s.connections i ≡ Some (id, old)) × Hears types s.machine old bytes c n
     × (t ≡ record { machine = n; connections = slice_set s.connections i (id, c) })
 
--- without memory an opening changes nothing, and a connection on which bytes came is dead: no further byte
+-- one event: refused, it changes nothing; else the hub steps
+abbrev pub Takes : List ServedShape → State → Event → State → Type 0
+Takes types s e t = ((refusal_of s.connections e ≡ None) × Steps types s e t) ⊎ ((n : ℕ) × (refusal_of s.connections e ≡ Some n) × (t ≡ s))
+
+-- events in turn
+abbrev pub Runs : List ServedShape → State → List Event → State → Type 0
+Runs types s [] t = t ≡ s
+Runs types s (e ∷ events) t = (mid : State) × Takes types s e mid × Runs types mid events t
+
+-- without memory an opening changes nothing, and a connection that waits is dead: no further byte; bytes on one that has ended want no memory
 abbrev pub Dies : State → Event → State → Type 0
 Dies s (opens id) t = t ≡ s
-Dies s (comes id bytes) t = (i : ℕ) × (place_of id s.connections ≡ Some i) × (t ≡ record { machine = s.machine; connections = slice_set s.connections i (id, ended []) })
+Dies s (comes id bytes) t =
+    (i : ℕ) × (front : List ℕ)
+    × (place_of id s.connections ≡ Some i) × (slice_get s.connections i ≡ Some (id, waiting front))
+    × (t ≡ record { machine = s.machine; connections = slice_set s.connections i (id, ended []) })
 
 -- ---- what a caller sees of a connection
 

@@ -1,4 +1,5 @@
--- The bytes of a reply (RFC 9112, sections 4 and 6).
+-- The bytes of a reply: status line (RFC 9112, section 4), fields (section 5), body (section 6). Of the fields `Connection: close` is section 9.6;
+-- `Content-Type`, `Content-Length` and `Allow` are RFC 9110, sections 8.3, 8.6 and 10.2.1.
 use Rattle.std.specs.Prelude.{ℕ, List, [], ◌∷◌, ◌++◌, length, Option, None, Some, codes, unwrap_or, nat_le, nat_lt, ◌&&◌, if◌then◌else◌}
 use Rattle.std.specs.Fmt.{decimal}
 use Rattle.http.specs.StatusCode.{reason_phrase}

@@ -45,6 +45,9 @@ abbrev pub StandsHeardAt : List ServedShape → Machine → ℕ → List ℕ →
 StandsHeardAt types m at bytes olds news api =
     (id : ℕ) × (old : Connection) × (c : Connection) × (slice_get olds at ≡ Some (id, old)) × StandsHeard types m old bytes c api × (news ≡ slice_set olds at (id, c))
 
--- no further byte is written on it
+-- one that waited is dead: no further byte is written on it
 abbrev pub IsDeadAt : ℕ → Connections → Connections → Type 0
-IsDeadAt at olds news = (id : ℕ) × (old : Connection) × (slice_get olds at ≡ Some (id, old)) × (news ≡ slice_set olds at (id, ended []))
+IsDeadAt at olds news = (id : ℕ) × (front : List ℕ) × (slice_get olds at ≡ Some (id, waiting front)) × (news ≡ slice_set olds at (id, ended []))
+
+abbrev pub Waited : Connection → Type 0
+Waited c = (front : List ℕ) × (c ≡ waiting front)

@@ -1,5 +1,9 @@
 -- What the crate's values say, without where they lie in memory.
-use Rattle.std.specs.Prelude.{ℕ, List, Option, option_map}
+use Rattle.std.specs.Prelude.{ℕ, List, [], Option, option_map}
+use Rattle.httparse.specs.Grammar.{RequestHead, ReadsRequest}
+use Rattle.httparse.specs.declared.spans.HeaderSpan.{HeaderSpan}
+use Rattle.httparse.specs.declared.spans.RequestSpans.{RequestSpans}
+use Rattle.httparse.specs.Spans.{IsRequestAt}
 use Rattle.serde_json.specs.declared.value.Value.{Value}
 use Rattle.serde_json.specs.View.{view}
 use Rattle.serde_json.specs.Data.{Data}
@@ -43,6 +47,10 @@ request_in h = record {
   encoded = h.is_encoded;
   length = length_of h.length;
 }
+
+-- these bytes are a head, and the offsets are those of its parts
+abbrev pub IsWholeAt : List ℕ → List HeaderSpan → RequestSpans → Type 0
+IsWholeAt bytes headers parts = (h : RequestHead) × ReadsRequest bytes h [] × IsRequestAt bytes headers parts h
 
 -- the head, and the bytes after it
 abbrev pub head_of : heads.Head → Request × List ℕ

@@ -7,7 +7,7 @@ ghost use Rattle.verbs.specs.Machine.{Machine};
 ghost use Rattle.verbs.specs.Seen.{Stands};
 ghost use Rattle.httpedge.specs.Hub.{waiting, is_open, is_taken, opened, place_of, out_of, has_ended};
 ghost use Rattle.httpedge.specs.HubSeen.{number_of};
-ghost use Rattle.httpedge.specs.Standing.{connection_of, connections_of, StandsHeard, StandsHeardAt, IsDeadAt};
+ghost use Rattle.httpedge.specs.Standing.{connection_of, connections_of, StandsHeard, StandsHeardAt, Waited, IsDeadAt};
 
 use crate::answering::{answer, refusal_bytes};
 use crate::fault::HubFault;
@@ -107,6 +107,7 @@ fn hear(
 ) -> Result<Connection, Fault>
     ensures ok { (types : List ServedShape) (m : Machine) → Stands api.old types m → IfOk result (λ c. StandsHeard types m (connection_of connection) bytes.now (connection_of c) api.new) }
     ensures err { (types : List ServedShape) (m : Machine) → Stands api.old types m → OnErr result (Stands api.new types m) }
+    ensures waited { OnErr result (Waited (connection_of connection)) }
 {
     match connection {
         Connection::Ended(out) => Ok(Connection::Ended(out)),
@@ -130,7 +131,7 @@ fn hear_more(
     }
 }
 
-/// Hands bytes to the connection at a place; without memory it is dead.
+/// Hands bytes to the connection at a place; without memory it is dead. One that has ended wants none.
 pub(crate) fn hear_at(
     alloc: Global,
     api: &mut Api,

@@ -5,9 +5,9 @@ ghost use Rattle.std.specs.List.{All, list_all, list_any, filter};
 ghost use Rattle.std.specs.Char.{is_ascii_digit};
 ghost use Rattle.httparse.specs.Grammar.{RequestHead, ReadsRequest};
 ghost use Rattle.httparse.specs.Spans.{header_bytes, span_bytes, IsHeaderWithin, IsWithin, IsRequestWithin};
-ghost use Rattle.httpedge.specs.Heads.{max_head, end_inside, head_end, has_name, is_host, media_in, is_encoded, without_zeros, length_in, agreed, length_after, missing, digits, judged, IsWholeAt, SaysWhole, SaysAt, Said, Says, with_more};
+ghost use Rattle.httpedge.specs.Heads.{max_head, end_inside, head_end, has_name, is_host, media_in, is_encoded, without_zeros, length_in, agreed, length_after, missing, digits, judged, SaysWhole, SaysAt, Said, Says, with_more};
 ghost use Rattle.httpedge.specs.Refusals.{undecided};
-ghost use Rattle.httpedge.specs.Views.{front_of, head_of, length_of};
+ghost use Rattle.httpedge.specs.Views.{front_of, head_of, length_of, IsWholeAt};
 
 use crate::refusal::{Front, Refusal};
 use httparse::Status;

@@ -4,7 +4,8 @@ use Rattle.httpedge.proofs.connection.hear_at.Goals as goal
 
 pub returns-in_err-all-clause-dead : goal.returns-in_err-all-clause-dead
 returns-in_err-all-clause-dead c =
-    dead_at c.from_residual.result c.args.all.now c.args.at c.index-all-at.result c.replace-connection.new.dest _ c.new.result.items c.requires c.replace-connection.ensures.after refl c.new.ensures.items
+    dead_at c.from_residual.result c.args.all.now c.args.at c.index-all-at.result c.replace-connection.result c.replace-connection.new.dest _ c.new.result.items c.requires c.replace-connection.ensures.after refl c.new.ensures.items
+    c.replace-connection.ensures.value c.in_err-all.ensures.waited
 
 pub returns-clause-ok : goal.returns-clause-ok
 returns-clause-ok c = λ types m stands.
