@@ -98,11 +98,11 @@ span_plain = (refl, refl)
 
 -- the standing changes of a type, and perhaps a namespace, at a revision and after a place
 abbrev pub page_text : List ℕ
-page_text = codes "SELECT revision, kind, namespace, name, body FROM change WHERE kind = ?1 AND namespace >= ?2 AND (?3 IS NULL OR namespace = ?3) AND (?4 IS NULL OR namespace > ?2 OR name > ?4) AND revision <= ?5 AND body IS NOT NULL AND NOT EXISTS (SELECT 1 FROM change AS later WHERE change.kind = later.kind AND change.namespace = later.namespace AND change.name = later.name AND later.revision > change.revision AND later.revision <= ?5) ORDER BY namespace, name LIMIT ?6"
+page_text = codes "SELECT revision, kind, namespace, name, body FROM change WHERE kind = ?1 AND namespace >= ?2 AND (?3 IS NULL OR namespace = ?3) AND (?4 IS NULL OR namespace > ?2 OR name > ?4) AND revision <= ?5 AND body IS NOT NULL AND NOT EXISTS (SELECT 1 FROM change AS later WHERE change.kind = later.kind AND change.namespace = later.namespace AND change.name = later.name AND later.revision > change.revision AND NOT later.revision > ?5) ORDER BY namespace, name LIMIT ?6"
 
 abbrev pub later_tests : Term → List Term
 later_tests to = op2 (Compare Eq Binary) (col 1 2) (col 2 2) ∷ op2 (Compare Eq Binary) (col 1 3) (col 2 3) ∷ op2 (Compare Eq Binary) (col 1 4) (col 2 4)
-    ∷ op2 (Compare Gt Binary) (col 2 0) (col 1 0) ∷ op2 (Compare Le Binary) (col 2 0) to ∷ []
+    ∷ op2 (Compare Gt Binary) (col 2 0) (col 1 0) ∷ op1 Not (op2 (Compare Gt Binary) (col 2 0) to) ∷ []
 
 abbrev pub page_query : Query
 page_query = record {
@@ -129,7 +129,7 @@ unfolding understood everything
 page_plain = (refl, refl)
 
 abbrev pub prune_text : List ℕ
-prune_text = codes "DELETE FROM change WHERE revision <= ?1 AND (body IS NULL OR EXISTS (SELECT 1 FROM change AS later WHERE change.kind = later.kind AND change.namespace = later.namespace AND change.name = later.name AND later.revision > change.revision AND later.revision <= ?1))"
+prune_text = codes "DELETE FROM change WHERE revision <= ?1 AND (body IS NULL OR EXISTS (SELECT 1 FROM change AS later WHERE change.kind = later.kind AND change.namespace = later.namespace AND change.name = later.name AND later.revision > change.revision AND NOT later.revision > ?1))"
 
 abbrev pub prune_query : Query
 prune_query = record {

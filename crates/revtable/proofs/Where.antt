@@ -72,9 +72,16 @@ last_tests k r c =
 
 -- ---- the changes that replace one
 
+not_back : (b : Bool) → unwrap_or (truth (from_truth (not3 (truth (from_truth (Some b)))))) false ≡ not b
+not_back true = refl
+not_back false = refl
+
+not_above : (a b : ℕ) → not (is_gt (int_cmp (pos a) (pos b))) ≡ nat_le a b
+not_above a b = grind (arith, ints, nat_tests)
+
 pub later_are : (params : Row) (c : ℕ) (it later : Change) (to : Rattle.sqlite.specs.Term.Term) → Rattle.sqlite_sql.specs.Term.eval to (params ∷ row_of it ∷ row_of later ∷ []) ≡ Int (pos c)
     → list_all (holds (params ∷ row_of it ∷ row_of later ∷ [])) (later_tests to) ≡ replaces c it later
-unfolding binary
+unfolding binary unary
 later_are params c it later to is =
     rw (is, value_cmp-Int (pos it.key.kind) (pos later.key.kind), value_cmp-Text it.key.namespace later.key.namespace, value_cmp-Text it.key.name later.key.name, value_cmp-Int (pos later.revision) (pos it.revision), value_cmp-Int (pos later.revision) (pos c)) (
     rw (
@@ -82,10 +89,10 @@ later_are params c it later to is =
       truth_back (is_eq (text_cmp it.key.namespace later.key.namespace)),
       truth_back (is_eq (text_cmp it.key.name later.key.name)),
       truth_back (is_gt (int_cmp (pos later.revision) (pos it.revision))),
-      truth_back (is_le (int_cmp (pos later.revision) (pos c))),
+      not_back (is_gt (int_cmp (pos later.revision) (pos c))),
       eq_is it.key.kind later.key.kind,
       gt_is later.revision it.revision,
-      le_is later.revision c,
+      not_above later.revision c,
       with_true (nat_le later.revision c),
     ) (three (nat_cmp it.key.kind later.key.kind) (text_cmp it.key.namespace later.key.namespace) (text_cmp it.key.name later.key.name) (nat_lt it.revision later.revision && nat_le later.revision c)))
 

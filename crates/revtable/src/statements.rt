@@ -67,7 +67,8 @@ pub(crate) fn newest(
     )
 }
 
-/// Takes out all but the kept changes.
+/// Takes out all but the kept changes. `NOT later.revision > ?1` says `<=`, but as two bounds of the rowid would be
+/// preferred to the index by key, which finds the next change of the key at once, it is kept from being one.
 pub(crate) fn delete_old(conn: &mut Connection<MemStore>, revision: u64) -> Result<usize, Error>
     requires fits { revision < 2 ^ 63 }
     requires was { IsKept (state over_memory conn.old) }
@@ -77,7 +78,7 @@ pub(crate) fn delete_old(conn: &mut Connection<MemStore>, revision: u64) -> Resu
     ensures err { OnErr result (changes_in (state over_memory conn.new) ≡ changes_in (state over_memory conn.old)) }
 {
     conn.execute(
-        "DELETE FROM change WHERE revision <= ?1 AND (body IS NULL OR EXISTS (SELECT 1 FROM change AS later WHERE change.kind = later.kind AND change.namespace = later.namespace AND change.name = later.name AND later.revision > change.revision AND later.revision <= ?1))",
+        "DELETE FROM change WHERE revision <= ?1 AND (body IS NULL OR EXISTS (SELECT 1 FROM change AS later WHERE change.kind = later.kind AND change.namespace = later.namespace AND change.name = later.name AND later.revision > change.revision AND NOT later.revision > ?1))",
         params![revision as i64],
     )
 }
@@ -147,7 +148,7 @@ pub(crate) fn listed(
     let low = lowest(namespace, after);
     let name = name_after(after);
     conn.query_all(
-        "SELECT revision, kind, namespace, name, body FROM change WHERE kind = ?1 AND namespace >= ?2 AND (?3 IS NULL OR namespace = ?3) AND (?4 IS NULL OR namespace > ?2 OR name > ?4) AND revision <= ?5 AND body IS NOT NULL AND NOT EXISTS (SELECT 1 FROM change AS later WHERE change.kind = later.kind AND change.namespace = later.namespace AND change.name = later.name AND later.revision > change.revision AND later.revision <= ?5) ORDER BY namespace, name LIMIT ?6",
+        "SELECT revision, kind, namespace, name, body FROM change WHERE kind = ?1 AND namespace >= ?2 AND (?3 IS NULL OR namespace = ?3) AND (?4 IS NULL OR namespace > ?2 OR name > ?4) AND revision <= ?5 AND body IS NOT NULL AND NOT EXISTS (SELECT 1 FROM change AS later WHERE change.kind = later.kind AND change.namespace = later.namespace AND change.name = later.name AND later.revision > change.revision AND NOT later.revision > ?5) ORDER BY namespace, name LIMIT ?6",
         params![kind, low, namespace, name, revision as i64, max as i64],
     )
 }
