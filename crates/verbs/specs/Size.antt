@@ -1,7 +1,7 @@
 -- Limits of an object: 64 labels, and 262,144 bytes of its text.
-use Rattle.std.specs.Prelude.{ℕ, suc, Bool, not, ◌&&◌, List, length, nat_le, nat_lt, Option, Some, None, codes}
+use Rattle.std.specs.Prelude.{ℕ, suc, min, ◌^◌, ◌-◌, Bool, not, List, length, nat_le, nat_lt, Option, Some, None, codes}
 use Rattle.serde_json.specs.Data.{Data, Members, no_members, member}
-use Rattle.serde_json.specs.Written.{compact_text, has_float}
+use Rattle.serde_json.specs.Written.{compact_text}
 use Rattle.verbs.specs.declared.reason.Reason.TheVariants.{Invalid}
 use Rattle.verbs.specs.Judged.{Judged, and_then, unless}
 use Rattle.verbs.specs.Naming.{metadata_object}
@@ -20,12 +20,16 @@ abbrev pub count_if_there : Option Members → ℕ
 count_if_there None = 0
 count_if_there (Some ms) = count ms
 
--- No object has a float, since reading refuses it; `compact_text` has no text for one.
+-- No object has a float, since reading refuses it: `compact_text` has no text for one.
 abbrev pub is_over : Data → Bool
-is_over d = not (has_float d) && nat_lt max_bytes (length (compact_text d))
+is_over d = nat_lt max_bytes (length (compact_text d))
 
 -- the object as it is printed
 abbrev pub size_judged : Data → Judged (Unit {0})
 size_judged d =
     and_then (unless (nat_le (count_if_there (metadata_object (codes "labels") d)) max_labels) Invalid (codes "metadata.labels: more than 64")) (λ u.
     unless (not (is_over d)) Invalid (codes "object over 262144 bytes"))
+
+-- for private clauses: a number of bytes, or the most that a count holds
+abbrev pub capped : ℕ → ℕ
+capped n = min n (2 ^ 64 - 1)

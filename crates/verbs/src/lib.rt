@@ -9,6 +9,7 @@ mod admitting;
 mod answering;
 mod api;
 mod applying;
+mod bytes;
 mod calls;
 mod change;
 mod conflicts;

@@ -1,13 +1,13 @@
 ghost use Rattle.std.specs.Prelude.{◌≡◌, IfOk, codes};
-ghost use Rattle.serde_json.specs.View.{items_view, members_view, view};
-ghost use Rattle.serde_json.specs.Written.{has_float, items_have_float, members_have_float};
+ghost use Rattle.serde_json.specs.View.{view};
 ghost use Rattle.verbs.specs.Naming.{metadata_object};
 ghost use Rattle.verbs.specs.Seen.{Gives};
 ghost use Rattle.verbs.specs.Size.{count_if_there, is_over, size_judged};
 
+use crate::bytes::text_len;
 use crate::fault::Stop;
 use crate::naming::{metadata_object, unless};
-use serde_json::{Map, Value};
+use serde_json::Value;
 use std::alloc::{AllocError, Global};
 
 /// The most labels of an object.
@@ -25,50 +25,10 @@ fn label_count(object: &Value) -> usize
     }
 }
 
-#[cycle(floats)]
-fn items_have_float(items: &[Value]) -> bool
-    ensures { result ≡ items_have_float (items_view items.now) }
-{
-    for item in items {
-        if has_float(item) {
-            return true;
-        }
-    }
-    false
-}
-
-#[cycle(floats)]
-fn members_have_float(members: &Map<String, Value>) -> bool
-    ensures { result ≡ members_have_float (members_view members.now.entries) }
-{
-    for (_, member) in members.iter() {
-        if has_float(member) {
-            return true;
-        }
-    }
-    false
-}
-
-/// Whether a number in the value is none of 64 bits.
-#[cycle(floats)]
-fn has_float(value: &Value) -> bool
-    ensures { result ≡ has_float (view value.now) }
-{
-    match value {
-        Value::Number(number) => number.is_f64(),
-        Value::Array(items) => items_have_float(items),
-        Value::Object(members) => members_have_float(members),
-        _ => false,
-    }
-}
-
 fn is_over(alloc: Global, object: &Value) -> Result<bool, AllocError>
     ensures { IfOk result (λ b. b ≡ is_over (view object.now)) }
 {
-    if has_float(object) {
-        return Ok(false);
-    }
-    Ok(object.to_string(alloc)?.len() > MAX_BYTES)
+    Ok(text_len(alloc, object)? > MAX_BYTES)
 }
 
 /// The limits of an object as it is printed.
