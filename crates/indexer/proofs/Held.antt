@@ -125,8 +125,11 @@ held_remove old new key is none = fin.same_map place_total place_antisymmetric _
         ap (λ (es : List (ObjectKey × Entry)). find place_cmp q (map shown es)) is ∙ find_removed q key old.entries e
         ∙ sym (fin.get-from_entries place_total (map shown old.entries) q)
 
-pub place_copy : (object : Object) (key copy : ObjectKey) → IsKeyOf object key → IsCopyOf key copy → place_of copy ≡ place_of_object object
-place_copy object key copy of is = ap₂ (λ (a b : List ℕ). (a, b)) (is.namespace ∙ of.namespace) (is.name ∙ of.name)
+-- the same entries are the same objects
+pub held_same : (old new : BTreeMap ObjectKey Entry) → new.entries ≡ old.entries → held_in new ≡ held_in old
+held_same old new is = fin.same_map place_total place_antisymmetric _ _ (λ q.
+    fin.get-from_entries place_total (map shown new.entries) q ∙ ap (λ (es : List (ObjectKey × Entry)). find place_cmp q (map shown es)) is
+    ∙ sym (fin.get-from_entries place_total (map shown old.entries) q))
 
 -- ---- under the keys of an index
 

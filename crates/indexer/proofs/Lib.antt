@@ -7,3 +7,4 @@ pub mod Rows
 pub mod Same
 pub mod Shown
 pub mod Under
+pub mod Written

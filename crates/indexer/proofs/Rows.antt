@@ -5,6 +5,7 @@ use Rattle.std.proofs.lemmas.Bool.Decides.{eqb_tells}
 use Rattle.indexer.specs.declared.object.ObjectKey.{ObjectKey}
 use Rattle.indexer.specs.Objects.{is_among, texts_at, under_at}
 use Rattle.indexer.specs.Postings.{Postings, under, under_in}
+use Rattle.indexer.proofs.Flags.{some_of}
 
 pub under_at-is : (ps : List Postings) (i : ℕ) (d : Postings) (k : List ℕ) (q : ObjectKey) → i < length ps → under_at ps i k q ≡ under (get_or ps i d) k q
 under_at-is [] i d k q lt = absurd (omega arith)
@@ -84,44 +85,46 @@ among_first (x ∷ keys) (suc i) (suc j) k = among_first keys i j k
 
 -- ---- one index after another
 
-pub added_some : (old ps : List Postings) (i : ℕ) (keys : List (Vec (String Global) Global)) (s : ObjectKey → Bool)
-    → ((j : ℕ) (k : List ℕ) (q : ObjectKey) → under_at ps j k q ≡ (under_at old j k q || (is_among (texts_at (take i keys) j) k && s q)))
-    → (j : ℕ) (k : List ℕ) (q : ObjectKey) → under_at ps j k q ≡ (under_at old j k q || ((is_among (texts_at keys j) k && is_among (texts_at (take i keys) j) k) && s q))
-added_some old ps i keys s so j k q = so j k q ∙ ap (λ b. under_at old j k q || (b && s q)) (among_first keys i j k)
+-- n says which keys are to be added in each index
+pub added_some : (old ps : List Postings) (i : ℕ) (keys : List (Vec (String Global) Global)) (n : ℕ → List ℕ → Bool) (s : ObjectKey → Bool)
+    → ((j : ℕ) (k : List ℕ) (q : ObjectKey) → under_at ps j k q ≡ (under_at old j k q || ((is_among (texts_at (take i keys) j) k && n j k) && s q)))
+    → (j : ℕ) (k : List ℕ) (q : ObjectKey) → under_at ps j k q ≡ (under_at old j k q || (((is_among (texts_at keys j) k && n j k) && is_among (texts_at (take i keys) j) k) && s q))
+added_some old ps i keys n s so j k q =
+    so j k q ∙ ap (λ b. under_at old j k q || (b && s q)) (some_of (is_among (texts_at keys j) k) (is_among (texts_at (take i keys) j) k) (n j k) (among_first keys i j k))
 
-module _ (old ps : List Postings) (i : ℕ) (before after : Postings) (keys : List (Vec (String Global) Global)) (v : Vec (String Global) Global) (s : ObjectKey → Bool) where
+module _ (old ps : List Postings) (i : ℕ) (before after : Postings) (keys : List (Vec (String Global) Global)) (v : Vec (String Global) Global) (n : ℕ → List ℕ → Bool) (s : ObjectKey → Bool) where
   abbrev pub AddedSo : Type 0
-  AddedSo = (j : ℕ) (k : List ℕ) (q : ObjectKey) → under_at ps j k q ≡ (under_at old j k q || (is_among (texts_at (take i keys) j) k && s q))
+  AddedSo = (j : ℕ) (k : List ℕ) (q : ObjectKey) → under_at ps j k q ≡ (under_at old j k q || ((is_among (texts_at (take i keys) j) k && n j k) && s q))
 
   -- at index number i nothing was added yet
   not_yet : AddedSo → i < length ps → before ≡ get_or ps i before → (k : List ℕ) (q : ObjectKey) → under before k q ≡ under_at old i k q
   not_yet so lt is k q =
       ap (λ (p : Postings). under p k q) is ∙ sym (under_at-is ps i before k q lt) ∙ so i k q
-      ∙ ap (λ (t : List (List ℕ)). under_at old i k q || (is_among t k && s q)) (texts_at-take_here keys i) ∙ none (under_at old i k q)
+      ∙ ap (λ (t : List (List ℕ)). under_at old i k q || ((is_among t k && n i k) && s q)) (texts_at-take_here keys i) ∙ none (under_at old i k q)
     where
       none : (b : Bool) → (b || false) ≡ b
       none true = refl
       none false = refl
 
   pub added : AddedSo → i < length ps → before ≡ get_or ps i before → i < length keys → v ≡ get_or keys i v
-      → ((k : List ℕ) (q : ObjectKey) → under after k q ≡ (under before k q || (is_among (map string_bytes v.items) k && s q)))
-      → (j : ℕ) (k : List ℕ) (q : ObjectKey) → under_at (set ps i after) j k q ≡ (under_at old j k q || (is_among (texts_at (take (i + 1) keys) j) k && s q))
+      → ((k : List ℕ) (q : ObjectKey) → under after k q ≡ (under before k q || ((is_among (map string_bytes v.items) k && n i k) && s q)))
+      → (j : ℕ) (k : List ℕ) (q : ObjectKey) → under_at (set ps i after) j k q ≡ (under_at old j k q || ((is_among (texts_at (take (i + 1) keys) j) k && n j k) && s q))
   added so lt is within v-is adds j k q =
       rw add-one (elim (eqb_tells j i) [
-        | inl e ↦ rw e.1 (under_at-set_same ps i after k q lt ∙ adds k q ∙ ap₂ (λ b (t : List (List ℕ)). b || (is_among t k && s q)) (not_yet so lt is k q) (texts_at-take_same keys i v within v-is))
-        | inr e ↦ under_at-set_other ps i j after k q e.1 ∙ so j k q ∙ ap (λ (t : List (List ℕ)). under_at old j k q || (is_among t k && s q)) (texts_at-take_other keys i j e.1)
+        | inl e ↦ rw e.1 (under_at-set_same ps i after k q lt ∙ adds k q ∙ ap₂ (λ b (t : List (List ℕ)). b || ((is_among t k && n i k) && s q)) (not_yet so lt is k q) (texts_at-take_same keys i v within v-is))
+        | inr e ↦ under_at-set_other ps i j after k q e.1 ∙ so j k q ∙ ap (λ (t : List (List ℕ)). under_at old j k q || ((is_among t k && n j k) && s q)) (texts_at-take_other keys i j e.1)
       ])
 
   pub failed : AddedSo → i < length ps → before ≡ get_or ps i before → i < length keys → v ≡ get_or keys i v
-      → ((k : List ℕ) (q : ObjectKey) → (part : Bool) × (under after k q ≡ (under before k q || ((is_among (map string_bytes v.items) k && part) && s q))))
-      → (j : ℕ) (k : List ℕ) (q : ObjectKey) → (part : Bool) × (under_at (set ps i after) j k q ≡ (under_at old j k q || ((is_among (texts_at keys j) k && part) && s q)))
+      → ((k : List ℕ) (q : ObjectKey) → (part : Bool) × (under after k q ≡ (under before k q || (((is_among (map string_bytes v.items) k && n i k) && part) && s q))))
+      → (j : ℕ) (k : List ℕ) (q : ObjectKey) → (part : Bool) × (under_at (set ps i after) j k q ≡ (under_at old j k q || (((is_among (texts_at keys j) k && n j k) && part) && s q)))
   failed so lt is within v-is adds j k q =
       elim (eqb_tells j i) [
         | inl e ↦ (
           (adds k q).0,
-          rw e.1 (under_at-set_same ps i after k q lt ∙ (adds k q).1 ∙ ap₂ (λ b (t : List (List ℕ)). b || ((is_among t k && (adds k q).0) && s q)) (not_yet so lt is k q) (texts_at-some keys i v within v-is)),
+          rw e.1 (under_at-set_same ps i after k q lt ∙ (adds k q).1 ∙ ap₂ (λ b (t : List (List ℕ)). b || (((is_among t k && n i k) && (adds k q).0) && s q)) (not_yet so lt is k q) (texts_at-some keys i v within v-is)),
         )
-        | inr e ↦ (is_among (texts_at (take i keys) j) k, under_at-set_other ps i j after k q e.1 ∙ added_some old ps i keys s so j k q)
+        | inr e ↦ (is_among (texts_at (take i keys) j) k, under_at-set_other ps i j after k q e.1 ∙ added_some old ps i keys n s so j k q)
       ]
 
 -- what `get` finds of the postings

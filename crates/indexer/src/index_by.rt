@@ -44,7 +44,7 @@ pub(crate) fn keys_by_each(
 ) -> Result<Vec<Vec<String>>, AllocError>
     ensures { IfOk result (λ v. map (λ w. map string_bytes w.items) v.items ≡ map (λ b. keys b (stored_of object.now)) indexes.now) }
 {
-    let mut all = Vec::new(alloc);
+    let mut all = Vec::with_capacity(alloc, indexes.len())?;
     for index in indexes {
         all.push(keys_by(alloc, index, object)?)?;
     }

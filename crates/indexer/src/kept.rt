@@ -1,6 +1,6 @@
 //! The objects and the postings of every index, changed together.
 
-ghost use Rattle.std.specs.Prelude.{◌≡◌, ℕ, List, cond, IfOk, OnOk, OnErr, option_map};
+ghost use Rattle.std.specs.Prelude.{◌≡◌, true, ℕ, List, cond, IfOk, OnOk, OnErr, option_map};
 ghost use Rattle.std.specs.BTreeMap.{get};
 ghost use Rattle.std.specs.FinMap as map;
 ghost use Rattle.indexer.specs.Keys.{key_cmp, is_same};
@@ -12,36 +12,25 @@ use crate::entry::Entry;
 use crate::object::{Object, ObjectKey};
 use crate::postings::{Postings, add_all, remove_all};
 use std::alloc::{AllocError, Global};
-use std::collections::BTreeMap;
-
-/// The keys with which an object is kept; none if it isn't.
-fn keys_of<'a>(objects: &'a BTreeMap<ObjectKey, Entry>, key: &ObjectKey) -> &'a [Vec<String>]
-    ensures { (i : ℕ) (k : List ℕ) → is_among (texts_at result.now i) k ≡ has_key (get key_cmp objects.now key.now) i k }
-{
-    match objects.get(key) {
-        Some(entry) => &entry.keys,
-        None => &[],
-    }
-}
+use std::collections::{BTreeMap, btree_map};
 
 /// Moves the object from the keys that it had to these.
 fn move_to(
     alloc: Global,
-    objects: &BTreeMap<ObjectKey, Entry>,
     postings: &mut Vec<Postings>,
+    had: &[Vec<String>],
     keys: &[Vec<String>],
     key: &ObjectKey,
 ) -> Result<(), AllocError>
-    requires { HoldsPostings objects.now postings.old.items }
-    ensures ok { OnOk result ((i : ℕ) (k : List ℕ) (q : ObjectKey) → under_at postings.new.items i k q ≡ cond (is_same key.now q) (is_among (texts_at keys.now i) k) (has_key (get key_cmp objects.now q) i k)) }
-    ensures err { OnErr result (HoldsPostings objects.now postings.new.items) }
+    requires { (i : ℕ) (k : List ℕ) (q : ObjectKey) → is_same key.now q ≡ true → under_at postings.old.items i k q ≡ is_among (texts_at had.now i) k }
+    ensures ok { OnOk result ((i : ℕ) (k : List ℕ) (q : ObjectKey) → under_at postings.new.items i k q ≡ cond (is_same key.now q) (is_among (texts_at keys.now i) k) (under_at postings.old.items i k q)) }
+    ensures err { OnErr result ((i : ℕ) (k : List ℕ) (q : ObjectKey) → under_at postings.new.items i k q ≡ under_at postings.old.items i k q) }
 {
-    let old = keys_of(objects, key);
-    if let Err(refused) = add_all(alloc, postings, keys, key) {
-        remove_all(postings, keys, old, key);
+    if let Err(refused) = add_all(alloc, postings, keys, had, key) {
+        remove_all(postings, keys, had, key);
         return Err(refused);
     }
-    remove_all(postings, old, keys, key);
+    remove_all(postings, had, keys, key);
     Ok(())
 }
 
@@ -59,14 +48,18 @@ pub(crate) fn put(
     ensures was { IfOk result (λ o. option_map seen_of o ≡ map.get (held_in objects.old) (place_of_object object)) }
     ensures err { OnErr result (held_in objects.new ≡ held_in objects.old) }
 {
-    let key = ObjectKey::of(&object)?;
-    let copy = key.try_copy()?;
-    move_to(alloc, objects, postings, &keys, &key)?;
-    match objects.insert(copy, Entry { object, keys }) {
-        Ok(was) => Ok(was),
-        Err(refused) => {
-            remove_all(postings, &refused.value.1.keys, &[], &key);
-            Err(AllocError::from(refused))
+    match objects.entry(ObjectKey::of(&object)?)? {
+        btree_map::Entry::Occupied(mut held) => {
+            move_to(alloc, postings, &held.get().keys, &keys, held.key())?;
+            Ok(Some(held.insert(Entry { object, keys })))
+        }
+        btree_map::Entry::Vacant(room) => {
+            let held = room.insert_entry(Entry { object, keys });
+            if let Err(refused) = move_to(alloc, postings, &[], &held.get().keys, held.key()) {
+                held.remove();
+                return Err(refused);
+            }
+            Ok(None)
         }
     }
 }

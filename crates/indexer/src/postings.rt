@@ -52,18 +52,22 @@ pub(crate) fn remove(postings: &mut Postings, text: &str, key: &ObjectKey)
     }
 }
 
-/// Puts the object under each of these keys. Refused, some of them may have been added.
+/// Puts the object under each of these keys that isn't one of those that it had. Refused, some of them may have
+/// been added.
 pub(crate) fn add_each(
     alloc: Global,
     postings: &mut Postings,
     texts: &[String],
+    had: &[String],
     key: &ObjectKey,
 ) -> Result<(), AllocError>
-    ensures ok { OnOk result ((k : List ℕ) (q : ObjectKey) → under postings.new k q ≡ (under postings.old k q || (is_among (map string_bytes texts.now) k && is_same key.now q))) }
-    ensures err { OnErr result ((k : List ℕ) (q : ObjectKey) → (part : Bool) × (under postings.new k q ≡ (under postings.old k q || ((is_among (map string_bytes texts.now) k && part) && is_same key.now q)))) }
+    ensures ok { OnOk result ((k : List ℕ) (q : ObjectKey) → under postings.new k q ≡ (under postings.old k q || ((is_among (map string_bytes texts.now) k && not (is_among (map string_bytes had.now) k)) && is_same key.now q))) }
+    ensures err { OnErr result ((k : List ℕ) (q : ObjectKey) → (part : Bool) × (under postings.new k q ≡ (under postings.old k q || (((is_among (map string_bytes texts.now) k && not (is_among (map string_bytes had.now) k)) && part) && is_same key.now q)))) }
 {
     for text in texts {
-        add(alloc, postings, text, key)?;
+        if !had.contains(text) {
+            add(alloc, postings, text, key)?;
+        }
     }
     Ok(())
 }
@@ -106,20 +110,21 @@ fn make_room(alloc: Global, postings: &mut Vec<Postings>, i: usize) -> Result<()
     Ok(())
 }
 
-/// Puts the object under its keys in each index; an index that has none yet begins empty. Refused, some may
-/// have been added.
+/// Puts the object under its keys in each index, but for those that it had; an index that has none yet begins
+/// empty. Refused, some may have been added.
 pub(crate) fn add_all(
     alloc: Global,
     postings: &mut Vec<Postings>,
     keys: &[Vec<String>],
+    had: &[Vec<String>],
     key: &ObjectKey,
 ) -> Result<(), AllocError>
-    ensures ok { OnOk result ((i : ℕ) (k : List ℕ) (q : ObjectKey) → under_at postings.new.items i k q ≡ (under_at postings.old.items i k q || (is_among (texts_at keys.now i) k && is_same key.now q))) }
-    ensures err { OnErr result ((i : ℕ) (k : List ℕ) (q : ObjectKey) → (part : Bool) × (under_at postings.new.items i k q ≡ (under_at postings.old.items i k q || ((is_among (texts_at keys.now i) k && part) && is_same key.now q)))) }
+    ensures ok { OnOk result ((i : ℕ) (k : List ℕ) (q : ObjectKey) → under_at postings.new.items i k q ≡ (under_at postings.old.items i k q || ((is_among (texts_at keys.now i) k && not (is_among (texts_at had.now i) k)) && is_same key.now q))) }
+    ensures err { OnErr result ((i : ℕ) (k : List ℕ) (q : ObjectKey) → (part : Bool) × (under_at postings.new.items i k q ≡ (under_at postings.old.items i k q || (((is_among (texts_at keys.now i) k && not (is_among (texts_at had.now i) k)) && part) && is_same key.now q)))) }
 {
     for (i, texts) in keys.iter().enumerate() {
         make_room(alloc, postings, i)?;
-        add_each(alloc, &mut postings[i], texts, key)?;
+        add_each(alloc, &mut postings[i], texts, keys_at(had, i), key)?;
     }
     Ok(())
 }
