@@ -5,7 +5,7 @@
 
 use super::*;
 use revtable::{Change, Entry, Fault, Key, Marks, Object, Table};
-use std::alloc::Global;
+use std::alloc::{AllocError, Global};
 use std::test::Fail;
 
 const LAST_REVISION: u64 = i64::MAX as u64;
@@ -252,26 +252,165 @@ fn revisions_are_used_up(rt: HostRuntime) -> Result<(), Fail> {
     Ok(())
 }
 
-/// Run with each allocation refused in turn, this ends in a fault, or finds the store as it was or as it became.
+/// Where the calls that `bench/failing_memory.py` refuses memory begin and end.
+fn mark(alloc: Global) -> Result<(), AllocError> {
+    Vec::<u8>::with_capacity(alloc, 1_000_003)?;
+    Ok(())
+}
+
+fn push_line(
+    text: &mut String,
+    alloc: Global,
+    key: &Key,
+    body: &str,
+    revision: u64,
+) -> Result<(), AllocError> {
+    let namespace = &key.namespace;
+    let name = &key.name;
+    text.push_str(format!(in alloc; " {namespace}/{name} {body} {revision}")?.as_str())
+}
+
+fn push_page(text: &mut String, alloc: Global, page: &[Entry]) -> Result<(), AllocError> {
+    text.push_str(";")?;
+    for entry in page {
+        push_line(
+            text,
+            alloc,
+            &entry.key,
+            &entry.object.body,
+            entry.object.revision,
+        )?;
+    }
+    Ok(())
+}
+
+fn push_changes(text: &mut String, alloc: Global, changes: &[Change]) -> Result<(), AllocError> {
+    text.push_str(";")?;
+    for change in changes {
+        let body = match &change.body {
+            Some(body) => body.as_str(),
+            None => "gone",
+        };
+        push_line(text, alloc, &change.key, body, change.revision)?;
+    }
+    Ok(())
+}
+
+/// All that there is to be seen: the numbers, the rows, what stood at the first and at the last of the two, and the
+/// changes between them.
+fn seen_of_table(table: &mut Table, alloc: Global) -> Result<String, Fault> {
+    let (current, compacted) = marks(table);
+    let rows = table.rows()?;
+    let mut text = format!(in alloc; "{compacted} to {current} in {rows}")?;
+    for revision in [compacted, current] {
+        let page = page(table, None, revision, None, 10)?;
+        push_page(&mut text, alloc, &page)?;
+    }
+    let changes = span(table, None, compacted, current, 10)?;
+    push_changes(&mut text, alloc, &changes)?;
+    Ok(text)
+}
+
+fn page_of(store: &mut Store, revision: u64) -> Result<Vec<Entry>, ListFault> {
+    store.list_at(7, None, revision, None, 10)
+}
+
+fn seen_of_store(store: &mut Store, alloc: Global) -> Result<String, Fail> {
+    let (current, compacted) = numbers(store);
+    let mut text = format!(in alloc; "{compacted} to {current}")?;
+    for revision in [compacted, current] {
+        let page = page_of(store, revision)?;
+        push_page(&mut text, alloc, &page)?;
+    }
+    let changes = store.changes(7, None, compacted, 10)?;
+    push_changes(&mut text, alloc, &changes)?;
+    Ok(text)
+}
+
+/// Refused memory anywhere in the call, the table shows what it did, and the same call then succeeds.
 #[test]
-fn a_refused_growth_changes_nothing(rt: HostRuntime) -> Result<(), Fail> {
-    let mut store = store_at(rt.alloc(), 1)?;
-    let only = key(rt.alloc(), "default", "w1")?;
-    write(&mut store, &only, "a")?;
-    let revision = match write(&mut store, &only, "b") {
-        Ok(revision) => revision,
-        Err(_) => 2,
-    };
-    let compacted = match compact(&mut store, 2) {
-        Ok(()) => 2,
-        Err(_) => 1,
-    };
-    assert_eq!(rt; numbers(&store), (revision, compacted));
-    let Some(found) = get(&mut store, &only)? else {
-        return Err(Fault::Store.into());
-    };
-    assert_eq!(rt; found.revision, revision);
-    assert_eq!(rt; list_at(&mut store, 2)?, 1);
+fn a_put_that_is_refused_memory(rt: HostRuntime) -> Result<(), Fail> {
+    let mut table = two_namespaces(rt.alloc())?;
+    let only = key(rt.alloc(), "default", "b")?;
+    let old = seen_of_table(&mut table, rt.alloc())?;
+    mark(rt.alloc())?;
+    let done = add(&mut table, &only, "b7");
+    mark(rt.alloc())?;
+    if done.is_err() {
+        assert_eq!(rt;
+            seen_of_table(&mut table, rt.alloc())?.as_str(),
+            old.as_str()
+        );
+        add(&mut table, &only, "b7")?;
+    }
+    assert_eq!(rt;
+        seen_of_table(&mut table, rt.alloc())?.as_str(),
+        "1 to 7 in 5;; default/a a6 6 default/b b7 7 other/a o4 4; default/b b2 2 default/a a3 3 other/a o4 4 default/b gone 5 default/a a6 6 default/b b7 7"
+    );
+    Ok(())
+}
+
+#[test]
+fn a_prune_that_is_refused_memory(rt: HostRuntime) -> Result<(), Fail> {
+    let mut table = two_namespaces(rt.alloc())?;
+    let old = seen_of_table(&mut table, rt.alloc())?;
+    mark(rt.alloc())?;
+    let done = prune(&mut table, 5);
+    mark(rt.alloc())?;
+    if done.is_err() {
+        assert_eq!(rt;
+            seen_of_table(&mut table, rt.alloc())?.as_str(),
+            old.as_str()
+        );
+        prune(&mut table, 5)?;
+    }
+    assert_eq!(rt;
+        seen_of_table(&mut table, rt.alloc())?.as_str(),
+        "5 to 6 in 3; default/a a3 3 other/a o4 4; default/a a6 6 other/a o4 4; default/a a6 6"
+    );
+    Ok(())
+}
+
+#[test]
+fn a_write_that_is_refused_memory(rt: HostRuntime) -> Result<(), Fail> {
+    let mut store = Store::new(two_namespaces(rt.alloc())?);
+    let only = key(rt.alloc(), "default", "b")?;
+    let old = seen_of_store(&mut store, rt.alloc())?;
+    mark(rt.alloc())?;
+    let done = write(&mut store, &only, "b7");
+    mark(rt.alloc())?;
+    if done.is_err() {
+        assert_eq!(rt;
+            seen_of_store(&mut store, rt.alloc())?.as_str(),
+            old.as_str()
+        );
+        write(&mut store, &only, "b7")?;
+    }
+    assert_eq!(rt;
+        seen_of_store(&mut store, rt.alloc())?.as_str(),
+        "1 to 7;; default/a a6 6 default/b b7 7 other/a o4 4; default/b b2 2 default/a a3 3 other/a o4 4 default/b gone 5 default/a a6 6 default/b b7 7"
+    );
+    Ok(())
+}
+
+#[test]
+fn a_compaction_that_is_refused_memory(rt: HostRuntime) -> Result<(), Fail> {
+    let mut store = Store::new(two_namespaces(rt.alloc())?);
+    let old = seen_of_store(&mut store, rt.alloc())?;
+    mark(rt.alloc())?;
+    let done = compact(&mut store, 5);
+    mark(rt.alloc())?;
+    if done.is_err() {
+        assert_eq!(rt;
+            seen_of_store(&mut store, rt.alloc())?.as_str(),
+            old.as_str()
+        );
+        compact(&mut store, 5)?;
+    }
+    assert_eq!(rt;
+        seen_of_store(&mut store, rt.alloc())?.as_str(),
+        "5 to 6; default/a a3 3 other/a o4 4; default/a a6 6 other/a o4 4; default/a a6 6"
+    );
     Ok(())
 }
 
