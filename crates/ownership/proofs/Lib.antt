@@ -2,6 +2,7 @@ pub mod Entries
 pub mod Sameness
 pub mod Taking
 pub mod Dropping
+pub mod Clearing
 pub mod Keeping
 pub mod Ends
 pub mod Leaves

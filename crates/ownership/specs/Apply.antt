@@ -28,6 +28,11 @@ abbrev pub all_paths : PathSet → List (Manager × PathSet) → PathSet
 all_paths s [] = s
 all_paths s (e ∷ es) = all_paths (set.union e.1 s) es
 
+-- those of these paths at or below which no entry has one
+abbrev pub clear_of_all : PathSet → List (Manager × PathSet) → PathSet
+clear_of_all s [] = s
+clear_of_all s (e ∷ es) = clear_of_all (clear_of s e.1) es
+
 -- the paths that the manager owned, at or below which neither another manager nor the body has one
 unfoldable pub dropped : State → Content → Manager → PathSet
 dropped live body m = clear_of (owned_by live.owners m) (all_paths (dom body) (others live.owners m))

@@ -1,5 +1,6 @@
 ghost use Rattle.std.specs.Prelude.{◌≡◌, IfOk, false, map};
 ghost use Rattle.schema.specs.Shape.{Shape};
+ghost use Rattle.pathmap.specs.Contents.{Content, dom};
 ghost use Rattle.ownership.specs.Owners.{apply_operation, manager_of};
 ghost use Rattle.ownership.specs.Apply.{dropped, is_refused};
 ghost use Rattle.ownership.specs.Keeping.{HasPlaces, IsSettled, LeavesOwned, OthersKeep, OwnedStand};
@@ -18,16 +19,14 @@ fn dropped(
     alloc: Global,
     live: &Owned,
     manager: &Manager,
-    config: &Tree,
+    body: &FieldSet,
 ) -> Result<FieldSet, AllocError>
-    ensures { IfOk result (λ s. s ≡ dropped (state_of live.now) config.now (texts manager.now)) }
+    ensures { (config : Content) → body.now ≡ dom config → IfOk result (λ s. s ≡ dropped (state_of live.now) config (texts manager.now)) }
 {
     match live.managers.get(manager) {
         Some(owned) => {
-            let wanted = live
-                .managers
-                .with_others(alloc, manager, config.paths(alloc)?)?;
-            owned.clear_of(alloc, &wanted)
+            let left = owned.clear_of(alloc, body)?;
+            live.managers.clear_of_others(alloc, manager, left)
         }
         None => Ok(FieldSet::new(alloc)),
     }
@@ -61,9 +60,9 @@ pub fn apply(
     if is_refused(&conflicts, force) {
         return Err(ApplyFault::Conflicts(conflicts));
     }
-    let dropped = dropped(alloc, live, &manager, config)?;
-    let tree = live.tree.merge(alloc, config)?.without(&dropped);
     let owned = config.paths(alloc)?;
+    let dropped = dropped(alloc, live, &manager, &owned)?;
+    let tree = live.tree.merge(alloc, config)?.without(&dropped);
     let managers = live.managers.taken_over(alloc, manager, &changed, owned)?;
     Ok(Owned { tree, managers })
 }

@@ -6,7 +6,7 @@ ghost use Rattle.std.specs.FinMap.{find};
 ghost use Rattle.std.specs.FinMap as fin;
 ghost use Rattle.fieldpath.specs.Paths.{path_cmp};
 ghost use Rattle.pathmap.specs.Contents.{in_order};
-ghost use Rattle.ownership.specs.Apply.{all_paths, conflicts_with};
+ghost use Rattle.ownership.specs.Apply.{clear_of_all, conflicts_with};
 ghost use Rattle.ownership.specs.Owners.{is_same, less, others, taken_over};
 ghost use Rattle.ownership.specs.Managers.{pairs, texts};
 ghost use Rattle.ownership.specs.Ranks.{rank};
@@ -85,22 +85,22 @@ fn less_others(
     Ok(left)
 }
 
-/// The paths of some entries but the manager's, beside others.
-fn with_others(
+/// The paths at or below which no entry but the manager's has one.
+fn clear_of_others(
     entries: &[Entry],
     alloc: Global,
     manager: &Manager,
     paths: FieldSet,
 ) -> Result<FieldSet, AllocError>
-    ensures { IfOk result (λ s. s ≡ all_paths paths (filter (λ e. not (is_same (texts manager.now) e.0)) (pairs entries.now))) }
+    ensures { IfOk result (λ s. s ≡ clear_of_all paths (filter (λ e. not (is_same (texts manager.now) e.0)) (pairs entries.now))) }
 {
-    let mut all = paths;
+    let mut clear = paths;
     for entry in entries {
         if !manager.is_same(&entry.manager) {
-            all = entry.paths.union(alloc, &all)?;
+            clear = clear.clear_of(alloc, &entry.paths)?;
         }
     }
-    Ok(all)
+    Ok(clear)
 }
 
 fn paths_of<'a>(entries: &'a [Entry], manager: &Manager) -> Option<&'a FieldSet>
@@ -189,16 +189,16 @@ impl Managers {
         paths_of(&self.entries, manager)
     }
 
-    /// Some paths, beside those of all other managers.
-    pub fn with_others(
+    /// The paths at or below which no other manager owns one.
+    pub fn clear_of_others(
         &self,
         alloc: Global,
         manager: &Manager,
         paths: FieldSet,
     ) -> Result<FieldSet, AllocError>
-        ensures { IfOk result (λ s. s ≡ all_paths paths (others self.now (texts manager.now))) }
+        ensures { IfOk result (λ s. s ≡ clear_of_all paths (others self.now (texts manager.now))) }
     {
-        with_others(&self.entries, alloc, manager, paths)
+        clear_of_others(&self.entries, alloc, manager, paths)
     }
 
     /// The owners after the others have lost some paths; the manager then owns just the given ones.

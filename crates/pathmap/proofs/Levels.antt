@@ -109,3 +109,6 @@ bare_level n top none = content_below n top ∙ none
 
 pub held_rolled : (h : Option Held) (below : BTreeMap (String Global) PathMap) → (out-PathMap (roll-PathMap record { held = h; below = below })).held ≡ h
 held_rolled h below = search (rules, the_lemmas)
+
+pub below_rolled : (h : Option Held) (below : BTreeMap (String Global) PathMap) → (out-PathMap (roll-PathMap record { held = h; below = below })).below ≡ below
+below_rolled h below = search (rules, the_lemmas)

@@ -1,4 +1,5 @@
 pub mod Contents
+pub mod Copies
 pub mod Trees
 pub mod Merging
 pub mod Sets

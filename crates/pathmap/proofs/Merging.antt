@@ -38,27 +38,18 @@ removed g k (e ∷ es) apart = by_test (removed g k es apart) (is_eq (slice_cmp 
     by_test later true tie = sym (ap (λ b. cond b (Some e.1) (at_name g es)) (ap (λ f. is_eq (slice_cmp nat_cmp g f)) (sym (ties k (string_bytes e.0) tie)) ∙ apart))
     by_test later false other = ap (cond (is_eq (slice_cmp nat_cmp g (string_bytes e.0))) (Some e.1)) later
 
-step : (b : Bool) (t made : PathMap) (l o p : Option PathMap) (old : Content) → (b ≡ true → l ≡ None) → (b ≡ true → content_or_nothing o ≡ old) → (b ≡ false → p ≡ o) → content made ≡ over (content t) old
-    → over (content_or_nothing l) (content_or_nothing (cond b (Some made) p)) ≡ over (content_or_nothing (cond b (Some t) l)) (content_or_nothing o)
-step true t made l o p old none was same is = ap (λ m. over (content_or_nothing m) (content made)) (none refl) ∙ nothing-over (content made) ∙ is ∙ ap (over (content t)) (sym (was refl))
-step false t made l o p old none was same is = ap (λ m. over (content_or_nothing l) (content_or_nothing m)) (same refl)
-
--- one more child put over
-pub put_one : (it left : List (String Global × PathMap)) (e : String Global × PathMap) (es fs ms : List (String Global × PathMap)) (k : String Global) (old made : PathMap) → it ≡ e ∷ left
-    → IsStrictlySortedBy string_cmp (keys_of it) → string_bytes k ≡ string_bytes e.0
-    → content_at (string_bytes e.0) es ≡ content old → fs ≡ remove_entry (is_at (λ x. slice_cmp nat_cmp (string_bytes e.0) (string_bytes x))) es
-    → content made ≡ over (content e.1) (content old) → ms ≡ insert_entry string_cmp fs k made
-    → (g : List ℕ) → over (content_at g left) (content_at g ms) ≡ over (content_at g it) (content_at g es)
-put_one it left e es fs ms k old made steps sorted named was taken is put g =
-    let h = subst (λ l. IsStrictlySortedBy string_cmp (keys_of l)) steps sorted in
-    ap (λ l. over (content_at g left) (content_at g l)) put
-    ∙ ap (λ o. over (content_at g left) (content_or_nothing o)) (at_name-insert_entry g fs k made ∙ ap (λ f. cond (is_eq (slice_cmp nat_cmp g f)) (Some made) (at_name g fs)) named)
-    ∙ step (is_eq (slice_cmp nat_cmp g (string_bytes e.0))) e.1 made (at_name g left) (at_name g es) (at_name g fs) (content old)
-    (λ t. past e.0 g left (ties g (string_bytes e.0) t) (sorted_head string_cmp e.0 (keys_of left) h))
-    (λ t. ap (λ f. content_at f es) (ties g (string_bytes e.0) t) ∙ was)
-    (λ n. ap (at_name g) taken ∙ removed g (string_bytes e.0) es n)
-    is
-    ∙ ap (λ l. over (content_at g l) (content_at g es)) (sym steps)
+-- one more child put over what stands under its name
+pub put_one : (e : String Global × PathMap) (left : List (String Global × PathMap)) → IsStrictlySortedBy string_cmp (keys_of (e ∷ left)) → (es fs : List (String Global × PathMap))
+    → content_at (string_bytes e.0) fs ≡ over (content e.1) (content_at (string_bytes e.0) es) → ((g : List ℕ) → is_eq (slice_cmp nat_cmp g (string_bytes e.0)) ≡ false → at_name g fs ≡ at_name g es)
+    → (g : List ℕ) → over (content_at g left) (content_at g fs) ≡ over (content_at g (e ∷ left)) (content_at g es)
+put_one e left sorted es fs here others g = by_tie (is_eq (slice_cmp nat_cmp g (string_bytes e.0))) refl
+  where
+    by_tie : (b : Bool) → is_eq (slice_cmp nat_cmp g (string_bytes e.0)) ≡ b → over (content_at g left) (content_at g fs) ≡ over (content_or_nothing (cond b (Some e.1) (at_name g left))) (content_at g es)
+    by_tie true tie =
+        let is = ties g (string_bytes e.0) tie in
+        ap (λ m. over (content_or_nothing m) (content_at g fs)) (past e.0 g left is (sorted_head string_cmp e.0 (keys_of left) sorted)) ∙ nothing-over (content_at g fs) ∙ ap (λ k. content_at k fs) is ∙ here
+        ∙ ap (λ k. over (content e.1) (content_at k es)) (sym is)
+    by_tie false apart = ap (λ m. over (content_at g left) (content_or_nothing m)) (others g apart)
 
 pub put_none : (it ts es ms : List (String Global × PathMap)) → it ≡ [] → ((g : List ℕ) → over (content_at g it) (content_at g es) ≡ over (content_at g ts) (content_at g ms)) → (g : List ℕ) → content_at g es ≡ over (content_at g ts) (content_at g ms)
 put_none it ts es ms none kept g = sym (nothing-over (content_at g es)) ∙ ap (λ l. over (content_at g l) (content_at g es)) (sym none) ∙ kept g

@@ -4,6 +4,7 @@
 //! Stands on `fieldpath` for paths and their order.
 #![tactic(auto)]
 
+mod copying;
 mod find;
 mod held;
 mod insert;

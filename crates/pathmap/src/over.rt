@@ -1,68 +1,89 @@
-ghost use Rattle.std.specs.Prelude.{◌≡◌, IfOk, string_bytes};
-ghost use Rattle.std.specs.Ordering.{nat_cmp};
+ghost use Rattle.std.specs.Prelude.{◌≡◌, true, false, List, ℕ, IfOk, OnOk, string_bytes};
+ghost use Rattle.std.specs.String.{string_cmp};
+ghost use Rattle.std.specs.Ordering.{is_eq, nat_cmp};
 ghost use Rattle.std.specs.Cmp.Lexicographic.{slice_cmp};
-ghost use Rattle.std.specs.Map.{remove_entry};
-ghost use Rattle.std.specs.BTreeMap.{is_at};
-ghost use Rattle.pathmap.specs.Contents.{gather, over};
-ghost use Rattle.pathmap.specs.Maps.{at_top, content, content_at, contents_in, either_top};
+ghost use Rattle.std.specs.BTreeMap.{IsOrdered};
+ghost use Rattle.pathmap.specs.Contents.{gather, here, over};
+ghost use Rattle.pathmap.specs.Maps.{at_name, at_top, content, content_at, contents_in, either_top, standing};
 
+use crate::copying::copy_below;
 use crate::held::Held;
 use crate::pathmap::PathMap;
 use std::alloc::{AllocError, Global};
 use std::collections::BTreeMap;
 
-fn held_over(theirs: &Option<Held>, mine: Option<Held>) -> Result<Option<Held>, AllocError>
-    ensures { IfOk result (λ h. at_top h ≡ either_top theirs.now mine) }
+/// Whether this stands there already.
+fn stands(mine: &Option<Held>, theirs: &Held) -> bool
+    ensures { result ≡ true → at_top mine.now ≡ here (standing theirs.now) }
 {
-    match theirs {
-        Some(held) => Ok(Some(held.try_copy()?)),
-        None => Ok(mine),
+    match mine {
+        Some(held) => held.same(theirs),
+        None => false,
     }
 }
 
-fn take_out(below: &mut BTreeMap<String, PathMap>, alloc: Global, name: &String) -> PathMap
-    ensures map { content result ≡ content_at (string_bytes name.now) below.old.entries }
-    ensures others { below.new.entries ≡ remove_entry (is_at (λ k. slice_cmp nat_cmp (string_bytes name.now) (string_bytes k))) below.old.entries }
+fn put_held(theirs: &Option<Held>, mine: &mut Option<Held>) -> Result<(), AllocError>
+    ensures { OnOk result (at_top mine.new ≡ either_top theirs.now mine.old) }
 {
-    match below.remove(name) {
-        Some(map) => map,
-        None => PathMap::empty(alloc),
+    let Some(held) = theirs else {
+        return Ok(());
+    };
+    if !stands(mine, held) {
+        *mine = Some(held.try_copy()?);
     }
+    Ok(())
+}
+
+#[cycle(put)]
+fn put_at(
+    theirs: &PathMap,
+    alloc: Global,
+    below: &mut BTreeMap<String, PathMap>,
+    name: &String,
+) -> Result<(), AllocError>
+    ensures here { OnOk result (content_at (string_bytes name.now) below.new.entries ≡ over (content theirs.now) (content_at (string_bytes name.now) below.old.entries)) }
+    ensures others { (g : List ℕ) → is_eq (slice_cmp nat_cmp g (string_bytes name.now)) ≡ false → at_name g below.new.entries ≡ at_name g below.old.entries }
+    ensures ordered { IsOrdered string_cmp below.new }
+{
+    if let Some(child) = below.get_mut(name) {
+        return put_into(theirs, alloc, child);
+    }
+    let made = theirs.try_copy(alloc)?;
+    drop(below.insert(name.clone()?, made)?);
+    Ok(())
 }
 
 #[cycle(put)]
 fn put_all(
     theirs: &BTreeMap<String, PathMap>,
     alloc: Global,
-    mine: BTreeMap<String, PathMap>,
-) -> Result<BTreeMap<String, PathMap>, AllocError>
-    ensures { IfOk result (λ m. gather (contents_in m.entries) ≡ over (gather (contents_in theirs.now.entries)) (gather (contents_in mine.entries))) }
+    below: &mut BTreeMap<String, PathMap>,
+) -> Result<(), AllocError>
+    ensures { OnOk result (gather (contents_in below.new.entries) ≡ over (gather (contents_in theirs.now.entries)) (gather (contents_in below.old.entries))) }
 {
-    let mut below = mine;
-    for (name, inner) in theirs.iter() {
-        let old = take_out(&mut below, alloc, name);
-        let made = put_over(inner, alloc, old)?;
-        drop(below.insert(name.clone()?, made)?);
+    if below.len() == 0 {
+        *below = copy_below(theirs, alloc)?;
+        return Ok(());
     }
-    Ok(below)
+    for (name, inner) in theirs.iter() {
+        put_at(inner, alloc, below, name)?;
+    }
+    Ok(())
+}
+
+#[cycle(put)]
+fn put_into(theirs: &PathMap, alloc: Global, mine: &mut PathMap) -> Result<(), AllocError>
+    ensures { OnOk result (content mine.new ≡ over (content theirs.now) (content mine.old)) }
+{
+    put_held(&theirs.held, &mut mine.held)?;
+    put_all(&theirs.below, alloc, &mut mine.below)
 }
 
 /// What `mine` holds, overridden by what `theirs` holds.
-#[cycle(put)]
 pub fn put_over(theirs: &PathMap, alloc: Global, mine: PathMap) -> Result<PathMap, AllocError>
     ensures { IfOk result (λ n. content n ≡ over (content theirs.now) (content mine)) }
 {
-    let PathMap { held, below } = mine;
-    let held = held_over(&theirs.held, held)?;
-    let below = put_all(&theirs.below, alloc, below)?;
-    Ok(PathMap { held, below })
-}
-
-impl PathMap {
-    /// A copy with texts of its own.
-    pub fn try_copy(&self, alloc: Global) -> Result<PathMap, AllocError>
-        ensures { IfOk result (λ n. content n ≡ content self.now) }
-    {
-        put_over(self, alloc, PathMap::empty(alloc))
-    }
+    let mut map = mine;
+    put_into(theirs, alloc, &mut map)?;
+    Ok(map)
 }

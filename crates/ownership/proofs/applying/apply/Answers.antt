@@ -30,7 +30,7 @@ returns c =
     let free : is_refused (conflicts live body m) c.args.force ≡ false = ap (λ l. is_refused l c.args.force) (sym cs) ∙ ap (λ l. is_refused (map conflict_of l) c.args.force) (sym c.deref.ensures.value) ∙ sym c.is_refused.ensures ∙ c.if-is_refused.false in
     let new : State = record { content = c.without-tree.result; owners = c.in_ok-managers.managers } in
     let is : new ≡ applied live body m = state_is live body m c.in_ok-changed.changed c.in_ok-changed.ensures (texts c.in_ok-manager.manager) c.without-tree.result c.in_ok-managers.managers c.in_ok-merge.field-0 c.in_ok-dropped.dropped c.in_ok-owned.owned
-    c.in_ok-manager.ensures c.in_ok-merge.ensures c.in_ok-dropped.ensures c.without-tree.ensures c.in_ok-owned.ensures c.in_ok-managers.ensures in
+    c.in_ok-manager.ensures c.in_ok-merge.ensures (c.in_ok-dropped.ensures body c.in_ok-owned.ensures) c.without-tree.ensures c.in_ok-owned.ensures c.in_ok-managers.ensures in
     record {
       applies = (free, is);
       others = keeps_others live body m c.args.force new free is;

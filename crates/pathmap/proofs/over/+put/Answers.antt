@@ -1,38 +1,70 @@
-use Rattle.std.proofs.Common.{ℕ, List, String, Global, string_cmp, sym, ap₂, ◌∙◌, subst}
+use Rattle.std.proofs.Common.{◌≡◌, ap, ap₂, sym, subst, ◌∙◌, cond, Some, is_eq, nat_cmp, string_bytes, string_cmp, String, Global}
+use Rattle.std.specs.Cmp.Lexicographic.{slice_cmp}
+use Rattle.std.specs.Cmp.{tied_itself}
 use Rattle.std.specs.List.Sorted.{IsStrictlySortedBy}
 use Rattle.std.specs.Map.{keys_of}
+use Rattle.std.proofs.lemmas.Cmp.{nat_list_cmp_total}
 use Rattle.std.proofs.lemmas.Map.Keys.{sorted_tail}
-use Rattle.pathmap.specs.declared.pathmap.PathMap.{PathMap}
-use Rattle.pathmap.specs.Contents.{over}
-use Rattle.pathmap.specs.declared.pathmap.PathMap.{out-PathMap}
-use Rattle.pathmap.proofs.Trees.{content-map}
-use Rattle.pathmap.proofs.Merging.{put_one, put_none, gather_over, level, content-out}
+use Rattle.pathmap.specs.Contents.{gather, over}
+use Rattle.pathmap.specs.Maps.{at_name, content, content_at, content_or_nothing, contents_in}
+use Rattle.pathmap.specs.declared.pathmap.PathMap.{PathMap, out-PathMap}
+use Rattle.pathmap.specs.declared.pathmap.PathMap.TheViews.{roll-PathMap}
+use Rattle.pathmap.proofs.Contents.{over-nothing}
+use Rattle.pathmap.proofs.Inserting.{on_ok}
+use Rattle.pathmap.proofs.Levels.{below_rolled, held_rolled, no_entries}
+use Rattle.pathmap.proofs.Merging.{content-out, gather_over, level, put_none, put_one, written}
+use Rattle.pathmap.proofs.Trees.{at_name-insert_entry, content-map, untouched}
 use Rattle.pathmap.proofs.over.+put.Goals as goal
+
+pub put_at-returns-in-Some-clause-others : goal.put_at-returns-in-Some-clause-others
+put_at-returns-in-Some-clause-others t c = λ g apart. ap (at_name g) (c.get_mut.follows.holds c.put_into.new.mine).0 ∙ written g (string_bytes c.args.name.now) c.args.below.now.entries c.put_into.new.mine apart
+
+pub put_at-returns-clause-here : goal.put_at-returns-clause-here
+put_at-returns-clause-here t c =
+    let name = string_bytes c.args.name.now in
+    let theirs = content c.args.theirs.now in
+    let es = c.get_mut.follows.lender-at-none.entries in
+    let made = c.in_ok-made.made in
+    let found = at_name-insert_entry name es c.in_ok-clone.field-0 made ∙ ap (λ s. cond (is_eq (slice_cmp nat_cmp name s)) (Some made) (at_name name es)) c.in_ok-clone.ensures.cases
+    ∙ ap (λ b. cond b (Some made) (at_name name es)) (ap is_eq (tied_itself nat_list_cmp_total name)) in
+    ap (content_at name) c.in_ok-insert.ensures.entries ∙ ap content_or_nothing found ∙ c.in_ok-made.ensures
+    ∙ sym (ap (over theirs) (ap content_or_nothing (sym c.in_default.ensures.value)) ∙ over-nothing theirs)
+
+pub put_at-returns-clause-others : goal.put_at-returns-clause-others
+put_at-returns-clause-others t c = λ g apart.
+    ap (at_name g) c.in_ok-insert.ensures.entries ∙ untouched g c.get_mut.follows.lender-at-none.entries c.in_ok-clone.field-0 c.in_ok-made.made (ap (λ f. is_eq (slice_cmp nat_cmp g f)) c.in_ok-clone.ensures.cases ∙ apart)
+    ∙ ap (λ m. at_name g m.entries) c.get_mut.follows.holds-at-none
+
+pub put_all-returns-then-len-eq0 : goal.put_all-returns-then-len-eq0
+put_all-returns-then-len-eq0 t c =
+    let theirs = gather (contents_in c.args.theirs.now.entries) in
+    c.in_ok-below.ensures ∙ sym (over-nothing theirs) ∙ ap (λ es. over theirs (gather (contents_in es))) (sym (no_entries c.args.below.now.entries (sym c.len.ensures.len ∙ c.if-len-eq0.true)))
 
 pub put_all-loop-name-preserved : goal.put_all-loop-name-preserved
 put_all-loop-name-preserved t c =
     let e : String Global × PathMap = (c.in-Some.name.now, c.in-Some.inner.now) in
-    let it = c.loop-name.name-iterator in
     let left = c.next.new.self in
-    let sorted = c.loop-name.invariant.1 in
-    let kept = λ (g : List ℕ).
-    put_one it left e c.loop-name.below.entries c.take_out-old.new.below.entries c.insert.new.self.entries c.in_ok-clone.field-0 c.take_out-old.result c.in_ok-made.made c.in-Some.ensures.steps sorted
-    c.in_ok-clone.ensures.cases (sym c.take_out-old.ensures.map) c.take_out-old.ensures.others c.in_ok-made.ensures c.in_ok-insert.ensures.entries g ∙ c.loop-name.invariant.0 g in (
-      kept,
-      sorted_tail string_cmp e.0 (keys_of left) (subst (λ l. IsStrictlySortedBy string_cmp (keys_of l)) c.in-Some.ensures.steps sorted),
-      c.in_ok-insert.ensures.ordered,
-      c.loop-name.invariant.3,
+    let es = c.loop-name.below.entries in
+    let fs = c.put_at.new.below.entries in
+    let sorted = subst (λ l. IsStrictlySortedBy string_cmp (keys_of l)) c.in-Some.ensures.steps c.loop-name.invariant.1 in (
+      (λ g. put_one e left sorted es fs c.in_ok-put_at.ensures.here c.put_at.ensures.others g ∙ ap (λ l. over (content_at g l) (content_at g es)) (sym c.in-Some.ensures.steps) ∙ c.loop-name.invariant.0 g),
+      sorted_tail string_cmp e.0 (keys_of left) sorted,
+      c.put_at.ensures.ordered,
     )
 
 pub put_all-returns : goal.put_all-returns
 put_all-returns t c =
-    gather_over c.loop-name.below.entries c.args.theirs.now.entries c.args.mine.entries c.loop-name.invariant.2 c.iter-name-items.ensures.ordered c.loop-name.invariant.3
-    (put_none c.loop-name.name-iterator c.args.theirs.now.entries c.loop-name.below.entries c.args.mine.entries c.in-None.ensures.steps.0 c.loop-name.invariant.0)
+    let ts = c.args.theirs.now.entries in
+    let es = c.loop-name.below.entries in
+    let ms = c.args.below.now.entries in
+    gather_over es ts ms c.loop-name.invariant.2 c.iter-name-items.ensures.ordered c.len.ensures.ordered (put_none c.loop-name.name-iterator ts es ms c.in-None.ensures.steps.0 c.loop-name.invariant.0)
 
-pub put_over-returns : goal.put_over-returns
-put_over-returns t c =
+pub put_into-returns : goal.put_into-returns
+put_into-returns t c =
     let theirs = out-PathMap c.args.theirs.now in
-    let mine = out-PathMap c.args.mine in
-    content-map c.in_ok-held.held c.in_ok-below.below ∙ ap₂ over c.in_ok-held.ensures c.in_ok-below.ensures
-    ∙ level theirs.held mine.held theirs.below.entries mine.below.entries
-    ∙ sym (ap₂ over (content-out c.args.theirs.now) (content-out c.args.mine))
+    let mine = out-PathMap c.args.mine.now in
+    on_ok c.put_all.result _ _ (λ did.
+    ap (λ h. content (roll-PathMap record { held = h; below = c.put_all.new.below })) (held_rolled c.put_held.new.mine mine.below)
+    ∙ content-map c.put_held.new.mine c.put_all.new.below ∙ ap₂ over c.in_ok-put_held.ensures
+    (did ∙ ap (λ m. over (gather (contents_in theirs.below.entries)) (gather (contents_in m.entries))) (below_rolled c.put_held.new.mine mine.below)) ∙ level theirs.held mine.held theirs.below.entries mine.below.entries
+    ∙ sym (ap₂ over (content-out c.args.theirs.now) (content-out c.args.mine.now))) c.put_all.ensures

@@ -8,5 +8,5 @@ use Rattle.pathmap.proofs.over.+put.Given as goal
 -- what is left over what is there gives what all give over what was there
 abbrev pub invariant-put_all-loop-name : goal.invariant-put_all-loop-name
 invariant-put_all-loop-name l =
-    ((g : List ℕ) → over (content_at g l.name-iterator) (content_at g l.below.entries) ≡ over (content_at g l.theirs.entries) (content_at g l.fn.mine.entries))
-    × IsStrictlySortedBy string_cmp (keys_of l.name-iterator) × IsStrictlySortedBy string_cmp (keys_of l.below.entries) × IsStrictlySortedBy string_cmp (keys_of l.fn.mine.entries)
+    ((g : List ℕ) → over (content_at g l.name-iterator) (content_at g l.below.entries) ≡ over (content_at g l.theirs.entries) (content_at g l.fn.below.entries))
+    × IsStrictlySortedBy string_cmp (keys_of l.name-iterator) × IsStrictlySortedBy string_cmp (keys_of l.below.entries)
