@@ -1,57 +1,62 @@
 -- The objects of a page: what the query finds.
-use Rattle.std.proofs.Common.{◌≡◌, ℕ, pos, List, [], ◌∷◌, map, Bool, true, false, cond, T, ◌&&◌, Option, refl, sym, ap, subst, ◌∙◌, take, length, min, Less, Equal, Greater, Ordering, IsPermutation, filter, ◌==◌}
+use Rattle.std.proofs.Common.{◌≡◌, ℕ, List, [], ◌∷◌, map, Bool, true, false, cond, ◌&&◌, Option, refl, sym, ap, subst, ◌∙◌, take, Less, Equal, Greater, Ordering, IsPermutation, filter, ◌==◌}
 use Rattle.std.proofs.Common.{eqb-true}
-use Rattle.std.specs.Ordering.{nat_cmp, ordering_then}
-use Rattle.std.specs.List.{flat_map, AllByRecursion}
+use Rattle.std.specs.Ordering.{is_eq, nat_cmp, ordering_then}
+use Rattle.std.specs.List.{flat_map, list_all, AllByRecursion}
 use Rattle.std.specs.Cmp.{nat_cmp_total}
 use Rattle.std.specs.FinMap as fin
 use Rattle.std.proofs.lemmas.Cmp.{tied_itself}
 use Rattle.std.proofs.lemmas.List.Sorted.{IsPermutation-sym, IsPermutation-trans, IsPermutation-map}
 use Rattle.sqlite.specs.declared.types.Value.{Value}
-use Rattle.sqlite.specs.declared.types.Value.TheVariants.{Null, Int, Text as Words}
+use Rattle.sqlite.specs.declared.types.Value.TheVariants.{Null, Text as Words}
 use Rattle.sqlite.specs.Order.{Row}
-use Rattle.sqlite.specs.Term.{col}
+use Rattle.sqlite.specs.Term.{Term, col}
 use Rattle.sqlite.specs.Tree.{Trees, IsAscending}
 use Rattle.sqlite.specs.Query.{output, Output, matches_as, inner, counted, end, IsAnswerAs, output_cmp}
 use Rattle.sqlite.specs.Program.{overlay}
 use Rattle.sqlite.specs.State.{State, Shown}
-use Rattle.sqlite.proofs.Callers.{reads_as}
-use Rattle.sqlite_sql.specs.Term.{Env}
+use Rattle.sqlite.proofs.Callers.{reads_as, IsPlain, command_of}
+use Rattle.sqlite.specs.Listing.{understood, reads_listing}
+use Rattle.sqlite.specs.Command.TheVariants.{Select}
+use Rattle.sqlite_sql.specs.Term.{Env, holds}
 use Rattle.sqlite_sql.proofs.QueryLemmas.{output_cmp_total}
 use Rattle.sqlite_value.proofs.OrderLemmas.{value_cmp-Text}
 use Rattle.sqlite_keyed.proofs.SortLemmas.{sorted_unique}
 use Rattle.sqlite_keyed.proofs.ListLemmas.{map-map, ascending-map, ascending-filter, ascending_weaker, filter-map, all_both, IsPermutation-filter}
 use Rattle.revtable.specs.History.{Key, Change, text_cmp, key_cmp, state_at, IsRising}
-use Rattle.revtable.specs.Asked.{as_change, low_of, name_in}
-use Rattle.revtable.specs.Kept.{replaces, stands}
-use Rattle.revtable.specs.Page.{is_within, is_in_namespace, is_past, listed, page}
+use Rattle.revtable.specs.Asked.{as_change, is_in_one, is_in_later, in_one, in_later}
+use Rattle.revtable.specs.Kept.{stands}
 use Rattle.revtable.specs.Rows.{change_schema, row_of, shown, IsKept, changes_in}
 use Rattle.revtable.proofs.Entries.{Entry, entries_ascend, standing_entries}
 use Rattle.revtable.proofs.Last.{kept_if}
 use Rattle.revtable.proofs.Prune.{counted_are}
 use Rattle.revtable.proofs.Pruning.{filter_both}
 use Rattle.revtable.proofs.Span.{take-map}
-use Rattle.revtable.proofs.Where.{bound_page, is_on_page, page_tests}
-use Rattle.revtable.proofs.Texts.{page_text, page_query, page_is, page_plain, later_tests}
+use Rattle.revtable.proofs.Where.{bound_page, bound_in, bound_past, beside, in_tests_are, past_tests_are}
+use Rattle.revtable.proofs.Texts.{page_query, names, later_tests, in_text, in_tests, in_is, in_plain, past_text, past_tests, past_is, past_plain}
 
-module _ (kind : ℕ) (ns : Option (List ℕ)) (after : Option (List ℕ × List ℕ)) (r max : ℕ) where
-  abbrev params : Row
-  params = bound_page kind (low_of ns after) ns (name_in after) r max
-
+-- what the query of a page finds: the standing changes whose keys are wanted
+module _ (asked : List Term) (rest : Row) (wanted : Key → Bool) (r max : ℕ) where
   abbrev env_of : List Change → Change → Env
-  env_of all it = bound_page kind (low_of ns after) ns (name_in after) r max ∷ row_of it ∷ (Int (pos (min 1 (length (filter (replaces r it) all)))) ∷ []) ∷ []
+  env_of all it = bound_page r max rest ∷ row_of it ∷ beside r all it ∷ []
 
-  matched : (lost : Value) (trees : Trees) (all : List Change) → trees 0 ≡ map row_of all
-      → matches_as lost trees page_query.filter page_query.from (bound_page kind (low_of ns after) ns (name_in after) r max ∷ []) ≡ map (env_of all) (filter (is_on_page kind ns after r all) all)
-  matched lost trees all is = ap (flat_map (λ row. matches_as lost trees page_query.filter (counted 1 (inner 0 end) (later_tests (col 0 4)) end) (bound_page kind (low_of ns after) ns (name_in after) r max ∷ row ∷ []))) is ∙ go all
+  abbrev pub AreTests : Type 0
+  AreTests = (all : List Change) (it : Change) → list_all (holds (env_of all it)) asked ≡ (stands r all it && wanted it.key)
+
+  abbrev is_on_page : List Change → Change → Bool
+  is_on_page all it = stands r all it && wanted it.key
+
+  matched : AreTests → (lost : Value) (trees : Trees) (all : List Change) → trees 0 ≡ map row_of all
+      → matches_as lost trees (page_query asked).filter (page_query asked).from (bound_page r max rest ∷ []) ≡ map (env_of all) (filter (is_on_page all) all)
+  matched tests lost trees all is = ap (flat_map (λ row. matches_as lost trees asked (counted 1 (inner 0 end) (later_tests (col 0 0)) end) (bound_page r max rest ∷ row ∷ []))) is ∙ go all
     where
       go : (cs : List Change)
-          → flat_map (λ row. matches_as lost trees page_query.filter (counted 1 (inner 0 end) (later_tests (col 0 4)) end) (bound_page kind (low_of ns after) ns (name_in after) r max ∷ row ∷ [])) (map row_of cs)
-          ≡ map (env_of all) (filter (is_on_page kind ns after r all) cs)
+          → flat_map (λ row. matches_as lost trees asked (counted 1 (inner 0 end) (later_tests (col 0 0)) end) (bound_page r max rest ∷ row ∷ [])) (map row_of cs)
+          ≡ map (env_of all) (filter (is_on_page all) cs)
       go [] = refl
       go (x ∷ cs) =
-          rw (is, counted_are lost trees (bound_page kind (low_of ns after) ns (name_in after) r max) (col 0 4) r x all (λ l. refl), page_tests kind ns after r max all x)
-          (kept_if (is_on_page kind ns after r all x) (env_of all) x _ (filter (is_on_page kind ns after r all) cs) (go cs))
+          rw (is, counted_are lost trees (bound_page r max rest) (col 0 0) r x all (λ l. refl), tests all x)
+          (kept_if (is_on_page all x) (env_of all) x _ (filter (is_on_page all) cs) (go cs))
 
 abbrev shows : Change → Output
 shows it = (Words it.key.namespace ∷ Words it.key.name ∷ [], shown it)
@@ -70,13 +75,6 @@ ascending_with : {X : Type 0} (R : X → X → Type 0) (P : X → Type 0) (xs : 
 ascending_with R P [] up all = tt
 ascending_with R P (x ∷ xs) up all = (all_both (R x) P (λ y. P x × (P y × R x y)) (λ y lt p. (all.0, (p, lt))) xs up.0 all.1, ascending_with R P xs up.1 all.1)
 
-kind_is : (kind : ℕ) (a b : Bool) (k : ℕ) → (((k == kind) && a) && b) ≡ true → k ≡ kind
-kind_is kind a b k e = go (k == kind) refl e
-  where
-    go : (t : Bool) → (k == kind) ≡ t → ((t && a) && b) ≡ true → k ≡ kind
-    go true is e = eqb-true _ _ is
-    go false is e = absurd (subst T (sym e) tt)
-
 less_by_name : (a b : Ordering) → ordering_then a b ≡ Less → ordering_then a (ordering_then b Equal) ≡ Less
 less_by_name Less b e = refl
 less_by_name Equal Less e = refl
@@ -84,34 +82,58 @@ less_by_name Equal Equal e = e
 less_by_name Equal Greater e = e
 less_by_name Greater b e = e
 
-same_kind : (a b : Key) → a.kind ≡ b.kind → key_cmp a b ≡ ordering_then (text_cmp a.namespace b.namespace) (text_cmp a.name b.name)
+pub same_kind : (a b : Key) → a.kind ≡ b.kind → key_cmp a b ≡ ordering_then (text_cmp a.namespace b.namespace) (text_cmp a.name b.name)
 same_kind a b e = ap (λ o. ordering_then o (ordering_then (text_cmp a.namespace b.namespace) (text_cmp a.name b.name))) (ap (λ n. nat_cmp a.kind n) (sym e) ∙ tied_itself nat_cmp_total a.kind)
 
-lesser_first : (e f : Entry) → e.0.kind ≡ f.0.kind → key_cmp e.0 f.0 ≡ Less → output_cmp page_query (shows (as_change e)) (shows (as_change f)) ≡ Less
-lesser_first e f is lt = rw (value_cmp-Text e.0.namespace f.0.namespace, value_cmp-Text e.0.name f.0.name) (less_by_name _ _ (sym (same_kind e.0 f.0 is) ∙ lt))
+lesser_first : (asked : List Term) (e f : Entry) → e.0.kind ≡ f.0.kind → key_cmp e.0 f.0 ≡ Less → output_cmp (page_query asked) (shows (as_change e)) (shows (as_change f)) ≡ Less
+lesser_first asked e f is lt = rw (value_cmp-Text e.0.namespace f.0.namespace, value_cmp-Text e.0.name f.0.name) (less_by_name _ _ (sym (same_kind e.0 f.0 is) ∙ lt))
 
-pub finds_page : (old new : State) (kind : ℕ) (ns : Option (List ℕ)) (after : Option (List ℕ × List ℕ)) (r max top : ℕ) (rows : List Row) → IsKept old → IsRising 0 (changes_in old) top
-    → Shown page_text (bound_page kind (low_of ns after) ns (name_in after) r max) old new rows → rows ≡ map (λ e. shown (as_change e)) (page kind ns after max (state_at (changes_in old) r))
-finds_page old new kind ns after r max top rows was rising h =
+pub finds_page : (text : List ℕ) (asked : List Term) (rest : Row) (wanted : Key → Bool) (kind : ℕ) (old new : State) (r max top : ℕ) (rows : List Row)
+    → (command_of (understood change_schema text) ≡ Select (record { lets = []; body = page_query asked }) names) × (reads_listing change_schema text ≡ false) → IsPlain (understood change_schema text)
+    → AreTests asked rest wanted r max → ((k : Key) → wanted k ≡ true → k.kind ≡ kind) → IsKept old → IsRising 0 (changes_in old) top
+    → Shown text (bound_page r max rest) old new rows → rows ≡ map (λ e. shown (as_change e)) (take max (filter (λ e. wanted e.0) (fin.entries (state_at (changes_in old) r))))
+finds_page text asked rest wanted kind old new r max top rows is plain tests of_kind was rising h =
     let changes = changes_in old in
-    let params = bound_page kind (low_of ns after) ns (name_in after) r max in
-    let got = reads_as page_text params old new change_schema was.schema _ page_is.0 page_plain page_is.1 rows h in
-    let a : IsAnswerAs Null page_query (overlay old.now.trees []) params rows = got.answer Null in
-    let mine = filter (is_on_page kind ns after r changes) changes in
-    let staged : a.staged ≡ map (env_of kind ns after r max changes) mine = a.grouped ∙ matched kind ns after r max Null old.now.trees changes was.rows in
-    let kept : a.kept ≡ map shows mine = a.distinct ∙ ap (map (output page_query)) staged ∙ map-map (output page_query) (env_of kind ns after r max changes) mine in
+    let params = bound_page r max rest in
+    let got = reads_as text params old new change_schema was.schema _ is.0 plain is.1 rows h in
+    let a : IsAnswerAs Null (page_query asked) (overlay old.now.trees []) params rows = got.answer Null in
+    let mine = filter (is_on_page asked rest wanted r max changes) changes in
+    let staged : a.staged ≡ map (env_of asked rest wanted r max changes) mine = a.grouped ∙ matched asked rest wanted r max tests Null old.now.trees changes was.rows in
+    let kept : a.kept ≡ map shows mine = a.distinct ∙ ap (map (output (page_query asked))) staged ∙ map-map (output (page_query asked)) (env_of asked rest wanted r max changes) mine in
     let es = fin.entries (state_at changes r) in
-    let there = listed kind ns after (state_at changes r) in
+    let there = filter (λ (e : Entry). wanted e.0) es in
     let show : Entry → Output = λ e. shows (as_change e) in
     let same : IsPermutation mine (map as_change there) =
-    subst (λ l. IsPermutation l (map as_change there)) (filter_both (λ c. is_within kind ns c.key && is_past after c.key) (stands r changes) changes)
-    (subst (IsPermutation (filter (λ c. is_within kind ns c.key && is_past after c.key) (filter (stands r changes) changes))) (filter-map (λ c. is_within kind ns c.key && is_past after c.key) as_change es)
-    (IsPermutation-filter (λ c. is_within kind ns c.key && is_past after c.key) _ _ (standing_entries r 0 top changes rising))) in
-    let facts = ascending_with (λ e f. key_cmp e.0 f.0 ≡ Less) (λ e. (is_within kind ns e.0 && is_past after e.0) ≡ true) there
-    (ascending-filter _ (λ e. is_within kind ns e.0 && is_past after e.0) es (entries_ascend es (fin.entries_sorted (state_at changes r)))) (all_pass (λ e. is_within kind ns e.0 && is_past after e.0) es) in
-    let up : IsAscending (λ x y. output_cmp page_query x y ≡ Less) (map show there) =
-    ascending-map (λ x y. output_cmp page_query x y ≡ Less) show there (ascending_weaker _ _ (λ e f (both : ((is_within kind ns e.0 && is_past after e.0) ≡ true) × (((is_within kind ns f.0 && is_past after f.0) ≡ true) × (key_cmp e.0 f.0 ≡ Less))).
-    lesser_first e f (kind_is kind (is_in_namespace ns e.0) (is_past after e.0) e.0.kind both.0 ∙ sym (kind_is kind (is_in_namespace ns f.0) (is_past after f.0) f.0.kind both.1.0)) both.1.1) there facts) in
+    subst (λ l. IsPermutation l (map as_change there)) (filter_both (λ (c : Change). wanted c.key) (stands r changes) changes)
+    (subst (IsPermutation (filter (λ (c : Change). wanted c.key) (filter (stands r changes) changes))) (filter-map (λ (c : Change). wanted c.key) as_change es)
+    (IsPermutation-filter (λ (c : Change). wanted c.key) _ _ (standing_entries r 0 top changes rising))) in
+    let facts = ascending_with (λ e f. key_cmp e.0 f.0 ≡ Less) (λ e. wanted e.0 ≡ true) there
+    (ascending-filter _ (λ (e : Entry). wanted e.0) es (entries_ascend es (fin.entries_sorted (state_at changes r)))) (all_pass (λ (e : Entry). wanted e.0) es) in
+    let up : IsAscending (λ x y. output_cmp (page_query asked) x y ≡ Less) (map show there) =
+    ascending-map (λ x y. output_cmp (page_query asked) x y ≡ Less) show there (ascending_weaker _ _ (λ e f (both : (wanted e.0 ≡ true) × ((wanted f.0 ≡ true) × (key_cmp e.0 f.0 ≡ Less))).
+    lesser_first asked e f (of_kind e.0 both.0 ∙ sym (of_kind f.0 both.1.0)) both.1.1) there facts) in
     let all : IsPermutation (map show there) (map shows mine) = subst (λ l. IsPermutation l (map shows mine)) (map-map shows as_change there) (IsPermutation-map shows _ _ (IsPermutation-sym _ _ same)) in
-    let order : a.ordered ≡ map show there = sorted_unique (output_cmp page_query) (output_cmp_total page_query) _ a.ordered up (IsPermutation-trans _ _ _ all (subst (λ l. IsPermutation l a.ordered) kept a.same)) a.sorted in
+    let order : a.ordered ≡ map show there = sorted_unique (output_cmp (page_query asked)) (output_cmp_total (page_query asked)) _ a.ordered up (IsPermutation-trans _ _ _ all (subst (λ l. IsPermutation l a.ordered) kept a.same)) a.sorted in
     a.shown ∙ ap (λ os. take max (map (λ (o : Output). o.1) os)) order ∙ ap (take max) (map-map (λ (o : Output). o.1) show there) ∙ take-map (λ e. shown (as_change e)) max there
+
+-- ---- of one namespace, and of those after it
+
+pub and_left : (a b : Bool) → (a && b) ≡ true → a ≡ true
+and_left true b e = refl
+and_left false b e = e
+
+pub one_kind : (kind : ℕ) (ns : List ℕ) (name : Option (List ℕ)) (k : Key) → is_in_one kind ns name k ≡ true → k.kind ≡ kind
+one_kind kind ns name k e = eqb-true _ _ (and_left (k.kind == kind) _ (and_left ((k.kind == kind) && is_eq (text_cmp k.namespace ns)) _ e))
+
+pub later_kind : (kind : ℕ) (ns : List ℕ) (k : Key) → is_in_later kind ns k ≡ true → k.kind ≡ kind
+later_kind kind ns k e = eqb-true _ _ (and_left (k.kind == kind) _ e)
+
+pub finds_in : (old new : State) (kind : ℕ) (ns : List ℕ) (name : Option (List ℕ)) (r max top : ℕ) (rows : List Row) → IsKept old → IsRising 0 (changes_in old) top
+    → Shown in_text (bound_page r max (bound_in kind ns name)) old new rows → rows ≡ map (λ e. shown (as_change e)) (take max (in_one kind ns name (state_at (changes_in old) r)))
+finds_in old new kind ns name r max top rows was rising h =
+    finds_page in_text in_tests (bound_in kind ns name) (is_in_one kind ns name) kind old new r max top rows in_is in_plain (in_tests_are kind ns name r max) (one_kind kind ns name) was rising h
+
+pub finds_past : (old new : State) (kind : ℕ) (ns : List ℕ) (r max top : ℕ) (rows : List Row) → IsKept old → IsRising 0 (changes_in old) top
+    → Shown past_text (bound_page r max (bound_past kind ns)) old new rows → rows ≡ map (λ e. shown (as_change e)) (take max (in_later kind ns (state_at (changes_in old) r)))
+finds_past old new kind ns r max top rows was rising h =
+    finds_page past_text past_tests (bound_past kind ns) (is_in_later kind ns) kind old new r max top rows past_is past_plain (past_tests_are kind ns r max) (later_kind kind ns) was rising h

@@ -96,37 +96,58 @@ pub span_plain : IsPlain (understood change_schema span_text)
 unfolding understood everything
 span_plain = (refl, refl)
 
--- the standing changes of a type, and perhaps a namespace, at a revision and after a place
-abbrev pub page_text : List ℕ
-page_text = codes "SELECT revision, kind, namespace, name, body FROM change WHERE kind = ?1 AND namespace >= ?2 AND (?3 IS NULL OR namespace = ?3) AND (?4 IS NULL OR namespace > ?2 OR name > ?4) AND revision <= ?5 AND body IS NOT NULL AND NOT EXISTS (SELECT 1 FROM change AS later WHERE change.kind = later.kind AND change.namespace = later.namespace AND change.name = later.name AND later.revision > change.revision AND NOT later.revision > ?5) ORDER BY namespace, name LIMIT ?6"
-
+-- the tests of a later change of the same key
 abbrev pub later_tests : Term → List Term
 later_tests to = op2 (Compare Eq Binary) (col 1 2) (col 2 2) ∷ op2 (Compare Eq Binary) (col 1 3) (col 2 3) ∷ op2 (Compare Eq Binary) (col 1 4) (col 2 4)
     ∷ op2 (Compare Gt Binary) (col 2 0) (col 1 0) ∷ op1 Not (op2 (Compare Gt Binary) (col 2 0) to) ∷ []
 
-abbrev pub page_query : Query
-page_query = record {
-  from = inner 0 (counted 1 (inner 0 end) (later_tests (col 0 4)) end);
-  filter = op2 (Compare Eq Binary) (col 1 2) (col 0 0) ∷ op2 (Compare Ge Binary) (col 1 3) (col 0 1)
-      ∷ op2 Or (op2 (Is Binary) (col 0 2) (lit Null)) (op2 (Compare Eq Binary) (col 1 3) (col 0 2))
-      ∷ op2 Or (op2 Or (op2 (Is Binary) (col 0 3) (lit Null)) (op2 (Compare Gt Binary) (col 1 3) (col 0 1))) (op2 (Compare Gt Binary) (col 1 4) (col 0 3))
-      ∷ op2 (Compare Le Binary) (col 1 0) (col 0 4) ∷ op1 Not (op2 (Is Binary) (col 1 5) (lit Null)) ∷ op1 Not (col 2 0) ∷ [];
+-- the standing changes at a revision that pass further tests, in the order of keys
+abbrev pub page_query : List Term → Query
+page_query asked = record {
+  from = inner 0 (counted 1 (inner 0 end) (later_tests (col 0 0)) end);
+  filter = asked;
   group = None;
   project = col 1 0 ∷ col 1 2 ∷ col 1 3 ∷ col 1 4 ∷ col 1 5 ∷ [];
   distinct = false;
   collations = [];
   order = (col 1 3, record { collation = Binary; descending = false }) ∷ (col 1 4, record { collation = Binary; descending = false }) ∷ [];
-  limit = col 0 5;
+  limit = col 0 1;
   offset = lit (Int (pos 0));
 }
 
-pub page_is : (command_of (understood change_schema page_text) ≡ Select (record { lets = []; body = page_query }) names) × (reads_listing change_schema page_text ≡ false)
-unfolding understood everything
-page_is = (refl, refl)
+abbrev pub standing_tests : List Term
+standing_tests = op2 (Compare Le Binary) (col 1 0) (col 0 0) ∷ op1 Not (op2 (Is Binary) (col 1 5) (lit Null)) ∷ op1 Not (col 2 0) ∷ []
 
-pub page_plain : IsPlain (understood change_schema page_text)
+-- of a type, in one namespace, perhaps after a name
+abbrev pub in_text : List ℕ
+in_text = codes "SELECT revision, kind, namespace, name, body FROM change WHERE kind = ?3 AND namespace = ?4 AND name >= ?5 AND (?6 IS NULL OR name > ?6) AND revision <= ?1 AND body IS NOT NULL AND NOT EXISTS (SELECT 1 FROM change AS later WHERE change.kind = later.kind AND change.namespace = later.namespace AND change.name = later.name AND later.revision > change.revision AND NOT later.revision > ?1) ORDER BY namespace, name LIMIT ?2"
+
+abbrev pub in_tests : List Term
+in_tests = op2 (Compare Eq Binary) (col 1 2) (col 0 2) ∷ op2 (Compare Eq Binary) (col 1 3) (col 0 3) ∷ op2 (Compare Ge Binary) (col 1 4) (col 0 4)
+    ∷ op2 Or (op2 (Is Binary) (col 0 5) (lit Null)) (op2 (Compare Gt Binary) (col 1 4) (col 0 5)) ∷ standing_tests
+
+pub in_is : (command_of (understood change_schema in_text) ≡ Select (record { lets = []; body = page_query in_tests }) names) × (reads_listing change_schema in_text ≡ false)
 unfolding understood everything
-page_plain = (refl, refl)
+in_is = (refl, refl)
+
+pub in_plain : IsPlain (understood change_schema in_text)
+unfolding understood everything
+in_plain = (refl, refl)
+
+-- of a type, in the namespaces after one
+abbrev pub past_text : List ℕ
+past_text = codes "SELECT revision, kind, namespace, name, body FROM change WHERE kind = ?3 AND namespace > ?4 AND revision <= ?1 AND body IS NOT NULL AND NOT EXISTS (SELECT 1 FROM change AS later WHERE change.kind = later.kind AND change.namespace = later.namespace AND change.name = later.name AND later.revision > change.revision AND NOT later.revision > ?1) ORDER BY namespace, name LIMIT ?2"
+
+abbrev pub past_tests : List Term
+past_tests = op2 (Compare Eq Binary) (col 1 2) (col 0 2) ∷ op2 (Compare Gt Binary) (col 1 3) (col 0 3) ∷ standing_tests
+
+pub past_is : (command_of (understood change_schema past_text) ≡ Select (record { lets = []; body = page_query past_tests }) names) × (reads_listing change_schema past_text ≡ false)
+unfolding understood everything
+past_is = (refl, refl)
+
+pub past_plain : IsPlain (understood change_schema past_text)
+unfolding understood everything
+past_plain = (refl, refl)
 
 abbrev pub prune_text : List ℕ
 prune_text = codes "DELETE FROM change WHERE revision <= ?1 AND (body IS NULL OR EXISTS (SELECT 1 FROM change AS later WHERE change.kind = later.kind AND change.namespace = later.namespace AND change.name = later.name AND later.revision > change.revision AND NOT later.revision > ?1))"

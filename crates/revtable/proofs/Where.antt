@@ -18,12 +18,12 @@ use Rattle.sqlite_sql.specs.Ops.{binary, unary, truth, from_truth, or3, not3}
 use Rattle.sqlite_value.proofs.OrderLemmas.{value_cmp-Int, value_cmp-Text, value_cmp_total, value_cmp-apart}
 use Rattle.sqlite_value.specs.Order.{value_cmp, Row}
 use Rattle.revtable.specs.History.{Key, Change, text_cmp, is_same_key}
-use Rattle.revtable.specs.Asked.{is_last_of, low_of, name_in}
+use Rattle.revtable.specs.Asked.{is_last_of, is_past_name, is_in_one, is_in_later, low_of}
 use Rattle.revtable.specs.Kept.{replaces, stands}
-use Rattle.revtable.specs.Page.{is_in_namespace, is_within, is_past}
+use Rattle.revtable.specs.Page.{is_within}
 use Rattle.revtable.specs.Rows.{row_of, body_value}
 use Rattle.revtable.proofs.Keys.{key_cmp_total}
-use Rattle.revtable.proofs.Texts.{last_query, span_query, page_query, prune_query, count_query, later_tests}
+use Rattle.revtable.proofs.Texts.{last_query, span_query, prune_query, count_query, later_tests, in_tests, past_tests}
 
 pub truth_back : (b : Bool) → unwrap_or (truth (from_truth (Some b))) false ≡ b
 truth_back true = refl
@@ -175,20 +175,15 @@ span_tests from to kind (Some ns) max c =
 
 -- ---- a page
 
-abbrev pub bound_page : ℕ → List ℕ → Option (List ℕ) → Option (List ℕ) → ℕ → ℕ → Row
-bound_page kind low ns name r max = Int (pos kind) ∷ Words low ∷ body_value ns ∷ body_value name ∷ Int (pos r) ∷ Int (pos max) ∷ []
+-- the parameters of a page: the revision, how many, and what else is asked
+abbrev pub bound_page : ℕ → ℕ → Row → Row
+bound_page r max rest = Int (pos r) ∷ Int (pos max) ∷ rest
 
-abbrev ns_is : Option (List ℕ) → List ℕ → Bool
-ns_is None n = true
-ns_is (Some ns) n = is_eq (text_cmp n ns)
+abbrev pub bound_in : ℕ → List ℕ → Option (List ℕ) → Row
+bound_in kind ns name = Int (pos kind) ∷ Words ns ∷ Words (low_of name) ∷ body_value name ∷ []
 
-abbrev name_is : List ℕ → Option (List ℕ) → Key → Bool
-name_is low None k = true
-name_is low (Some name) k = is_gt (text_cmp k.namespace low) || is_gt (text_cmp k.name name)
-
-abbrev tests_of : ℕ → List ℕ → Option (List ℕ) → Option (List ℕ) → ℕ → Bool → Change → Bool
-tests_of kind low ns name r found it =
-    (it.key.kind == kind) && (is_ge (text_cmp it.key.namespace low) && (ns_is ns it.key.namespace && (name_is low name it.key && (nat_le it.revision r && (is_some it.body && not found)))))
+abbrev pub bound_past : ℕ → List ℕ → Row
+bound_past kind ns = Int (pos kind) ∷ Words ns ∷ []
 
 abbrev or_value : Value → Value → Value
 or_value a b = from_truth (or3 (truth a) (truth b))
@@ -209,26 +204,18 @@ from_low : (a b : List ℕ) → passes (binary (Compare Ge Binary) (Words a) (Wo
 unfolding binary
 from_low a b = rw (value_cmp-Text a b) (truth_back (is_ge (text_cmp a b)))
 
-of_namespace : (ns : Option (List ℕ)) (n : List ℕ) → passes (binary Or (binary (Is Binary) (body_value ns) Null) (binary (Compare Eq Binary) (Words n) (body_value ns))) ≡ ns_is ns n
+same_text : (a b : List ℕ) → passes (binary (Compare Eq Binary) (Words a) (Words b)) ≡ is_eq (text_cmp a b)
 unfolding binary
-of_namespace None n = rw null_null refl
-of_namespace (Some ns) n = rw (value_cmp-Text n ns, null_text ns) (or_both false (is_eq (text_cmp n ns)))
+same_text a b = rw (value_cmp-Text a b) (truth_back (is_eq (text_cmp a b)))
 
-or_more : (a b : Bool) → passes (or_value (or_value (from_truth (Some false)) (from_truth (Some a))) (from_truth (Some b))) ≡ (a || b)
-or_more true true = refl
-or_more true false = refl
-or_more false true = refl
-or_more false false = refl
-
-or_first : (a : Bool) → passes (or_value (or_value (from_truth (Some true)) (from_truth (Some a))) Null) ≡ true
-or_first true = refl
-or_first false = refl
-
-after_name : (low : List ℕ) (name : Option (List ℕ)) (k : Key)
-    → passes (binary Or (binary Or (binary (Is Binary) (body_value name) Null) (binary (Compare Gt Binary) (Words k.namespace) (Words low))) (binary (Compare Gt Binary) (Words k.name) (body_value name))) ≡ name_is low name k
+past_text_is : (a b : List ℕ) → passes (binary (Compare Gt Binary) (Words a) (Words b)) ≡ is_gt (text_cmp a b)
 unfolding binary
-after_name low None k = rw (value_cmp-Text k.namespace low) (rw null_null (or_first (is_gt (text_cmp k.namespace low))))
-after_name low (Some name) k = rw (value_cmp-Text k.namespace low, value_cmp-Text k.name name) (rw (null_text name) (or_more (is_gt (text_cmp k.namespace low)) (is_gt (text_cmp k.name name))))
+past_text_is a b = rw (value_cmp-Text a b) (truth_back (is_gt (text_cmp a b)))
+
+after_name : (name : Option (List ℕ)) (n : List ℕ) → passes (binary Or (binary (Is Binary) (body_value name) Null) (binary (Compare Gt Binary) (Words n) (body_value name))) ≡ is_past_name name n
+unfolding binary
+after_name None n = rw null_null refl
+after_name (Some name) n = rw (value_cmp-Text n name, null_text name) (or_both false (is_gt (text_cmp n name)))
 
 not_is : (b : Bool) → passes (from_truth (not3 (truth (from_truth (Some b))))) ≡ not b
 not_is true = refl
@@ -250,34 +237,24 @@ not_counted n = not_number (not (int_eq (pos (min 1 n)) (pos 0))) ∙ ap not (no
     not_number true = refl
     not_number false = refl
 
-raw_page : (kind : ℕ) (low : List ℕ) (ns name : Option (List ℕ)) (r max n : ℕ) (it : Change)
-    → list_all (holds (bound_page kind low ns name r max ∷ row_of it ∷ (Int (pos (min 1 n)) ∷ []) ∷ [])) page_query.filter ≡ tests_of kind low ns name r (nat_lt 0 n) it
-raw_page kind low ns name r max n it =
-    rw (of_kind it.key.kind kind, from_low it.key.namespace low, of_namespace ns it.key.namespace, after_name low name it.key, up_to_revision it.revision r, has_body it.body, not_counted n, with_true (not (nat_lt 0 n))) refl
-
 -- ---- the place of a page
 
 from_empty : (n : List ℕ) → is_ge (text_cmp n []) ≡ true
 from_empty [] = refl
 from_empty (x ∷ n) = refl
 
-in_one : (o : Ordering) (rest : Bool) → (is_ge o && (is_eq o && (true && rest))) ≡ (is_eq o && (true && rest))
-in_one Less rest = refl
-in_one Equal rest = refl
-in_one Greater rest = refl
+from_name : (name : Option (List ℕ)) (n : List ℕ) → (is_ge (text_cmp n (low_of name)) && is_past_name name n) ≡ is_past_name name n
+from_name None n = rw (from_empty n) refl
+from_name (Some name) n = go (text_cmp n name)
+  where
+    go : (o : Ordering) → (is_ge o && is_gt o) ≡ is_gt o
+    go Less = refl
+    go Equal = refl
+    go Greater = refl
 
-after_both : (o p : Ordering) (b rest : Bool) → (is_ge o && (b && ((is_gt o || is_gt p) && rest))) ≡ (b && (is_gt (ordering_then o p) && rest))
-after_both Less p true rest = refl
-after_both Less p false rest = refl
-after_both Equal p b rest = refl
-after_both Greater p b rest = refl
-
-place_is : (ns : Option (List ℕ)) (after : Option (List ℕ × List ℕ)) (k : Key) (rest : Bool)
-    → (is_ge (text_cmp k.namespace (low_of ns after)) && (ns_is ns k.namespace && (name_is (low_of ns after) (name_in after) k && rest))) ≡ (is_in_namespace ns k && (is_past after k && rest))
-place_is None None k rest = rw (from_empty k.namespace) refl
-place_is (Some ns) None k rest = in_one (text_cmp k.namespace ns) rest
-place_is None (Some after) k rest = after_both (text_cmp k.namespace after.0) (text_cmp k.name after.1) true rest
-place_is (Some ns) (Some after) k rest = after_both (text_cmp k.namespace after.0) (text_cmp k.name after.1) (is_eq (text_cmp k.namespace ns)) rest
+grouped : (k n g p s : Bool) → (k && (n && (g && (p && s)))) ≡ (k && (n && ((g && p) && s)))
+grouped k n true p s = refl
+grouped k n false p s = refl
 
 in_turn : (k n a s : Bool) → (k && (n && (a && s))) ≡ (s && ((k && n) && a))
 in_turn true true true true = refl
@@ -289,17 +266,36 @@ in_turn true false a false = refl
 in_turn false n a true = refl
 in_turn false n a false = refl
 
--- what a page's query picks: the standing changes of the type and namespace after the place
-abbrev pub is_on_page : ℕ → Option (List ℕ) → Option (List ℕ × List ℕ) → ℕ → List Change → Change → Bool
-is_on_page kind ns after r cs it = stands r cs it && (is_within kind ns it.key && is_past after it.key)
+later_turn : (k n s : Bool) → (k && (n && s)) ≡ (s && (k && n))
+later_turn true true true = refl
+later_turn true true false = refl
+later_turn true false true = refl
+later_turn true false false = refl
+later_turn false n true = refl
+later_turn false n false = refl
 
-pub page_tests : (kind : ℕ) (ns : Option (List ℕ)) (after : Option (List ℕ × List ℕ)) (r max : ℕ) (cs : List Change) (it : Change)
-    → list_all (holds (bound_page kind (low_of ns after) ns (name_in after) r max ∷ row_of it ∷ (Int (pos (min 1 (length (filter (replaces r it) cs)))) ∷ []) ∷ [])) page_query.filter ≡ is_on_page kind ns after r cs it
-page_tests kind ns after r max cs it =
-    raw_page kind (low_of ns after) ns (name_in after) r max (length (filter (replaces r it) cs)) it
-    ∙ ap (λ b. tests_of kind (low_of ns after) ns (name_in after) r b it) (some_counted (replaces r it) cs)
-    ∙ ap (λ b. (it.key.kind == kind) && b) (place_is ns after it.key (stands r cs it))
-    ∙ in_turn (it.key.kind == kind) (is_in_namespace ns it.key) (is_past after it.key) (stands r cs it)
+-- what stands beside a change: the row of how many replace it
+abbrev pub beside : ℕ → List Change → Change → Row
+beside r all it = Int (pos (min 1 (length (filter (replaces r it) all)))) ∷ []
+
+pub in_tests_are : (kind : ℕ) (ns : List ℕ) (name : Option (List ℕ)) (r max : ℕ) (all : List Change) (it : Change)
+    → list_all (holds (bound_page r max (bound_in kind ns name) ∷ row_of it ∷ beside r all it ∷ [])) in_tests ≡ (stands r all it && is_in_one kind ns name it.key)
+in_tests_are kind ns name r max all it =
+    let n = length (filter (replaces r it) all) in
+    let same = it.key.kind == kind in
+    let here = is_eq (text_cmp it.key.namespace ns) in
+    let past = is_past_name name it.key.name in
+    rw (of_kind it.key.kind kind, same_text it.key.namespace ns, from_low it.key.name (low_of name), after_name name it.key.name, up_to_revision it.revision r, has_body it.body, not_counted n, with_true (not (nat_lt 0 n)), some_counted (replaces r it) all)
+    (grouped same here (is_ge (text_cmp it.key.name (low_of name))) past (stands r all it)
+    ∙ ap (λ b. same && (here && (b && stands r all it))) (from_name name it.key.name)
+    ∙ in_turn same here past (stands r all it))
+
+pub past_tests_are : (kind : ℕ) (ns : List ℕ) (r max : ℕ) (all : List Change) (it : Change)
+    → list_all (holds (bound_page r max (bound_past kind ns) ∷ row_of it ∷ beside r all it ∷ [])) past_tests ≡ (stands r all it && is_in_later kind ns it.key)
+past_tests_are kind ns r max all it =
+    let n = length (filter (replaces r it) all) in
+    rw (of_kind it.key.kind kind, past_text_is it.key.namespace ns, up_to_revision it.revision r, has_body it.body, not_counted n, with_true (not (nat_lt 0 n)), some_counted (replaces r it) all)
+    (later_turn (it.key.kind == kind) (is_gt (text_cmp it.key.namespace ns)) (stands r all it))
 
 pub count_tests : (c : Change) → list_all (holds ([] ∷ row_of c ∷ [])) count_query.filter ≡ is_some c.body
 count_tests c = rw (has_body c.body) (with_true (is_some c.body))

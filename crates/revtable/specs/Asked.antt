@@ -1,6 +1,11 @@
 -- What the statements find among the changes that the rows keep.
-use Rattle.std.specs.Prelude.{ℕ, Bool, List, [], Option, Some, None, ◌&&◌, nat_le, filter, reverse, slice_get}
-use Rattle.revtable.specs.History.{Key, Change, Object, is_same_key}
+use Rattle.std.specs.Prelude.{ℕ, Bool, true, List, [], Option, Some, None, ◌&&◌, ◌==◌, nat_le, filter, reverse, slice_get}
+use Rattle.std.specs.Ordering.{is_gt}
+use Rattle.std.specs.declared.cmp.Ordering.{Ordering}
+use Rattle.std.specs.declared.cmp.Ordering.TheVariants.{Less, Equal, Greater}
+use Rattle.std.specs.FinMap as fin
+use Rattle.revtable.specs.History.{Key, Change, Object, Objects, is_same_key, text_cmp}
+use Rattle.revtable.specs.Page.{is_within}
 
 abbrev pub is_last_of : Key → ℕ → Change → Bool
 is_last_of k r c = is_same_key c.key k && nat_le c.revision r
@@ -13,12 +18,39 @@ last_change k r cs = slice_get (reverse (filter (is_last_of k r) cs)) 0
 abbrev pub as_change : Key × Object → Change
 as_change e = record { revision = e.1.revision; key = e.0; body = Some e.1.body }
 
--- the text that the namespaces of a page begin from, and the name that its names follow
-abbrev pub low_of : Option (List ℕ) → Option (List ℕ × List ℕ) → List ℕ
-low_of ns (Some after) = after.0
-low_of None None = []
-low_of (Some ns) None = ns
+-- ---- a page, read from one namespace and from those after it
 
-abbrev pub name_in : Option (List ℕ × List ℕ) → Option (List ℕ)
-name_in None = None
-name_in (Some after) = Some after.1
+-- after this name, if one is given
+abbrev pub is_past_name : Option (List ℕ) → List ℕ → Bool
+is_past_name None n = true
+is_past_name (Some name) n = is_gt (text_cmp n name)
+
+abbrev pub is_in_one : ℕ → List ℕ → Option (List ℕ) → Key → Bool
+is_in_one kind ns name k = is_within kind (Some ns) k && is_past_name name k.name
+
+abbrev pub is_in_later : ℕ → List ℕ → Key → Bool
+is_in_later kind ns k = (k.kind == kind) && is_gt (text_cmp k.namespace ns)
+
+-- the objects of the type in one namespace, after a name if one is given, and those in the namespaces after it
+abbrev pub in_one : ℕ → List ℕ → Option (List ℕ) → Objects → List (Key × Object)
+in_one kind ns name s = filter (λ e. is_in_one kind ns name e.0) (fin.entries s)
+
+abbrev pub in_later : ℕ → List ℕ → Objects → List (Key × Object)
+in_later kind ns s = filter (λ e. is_in_later kind ns e.0) (fin.entries s)
+
+-- the text that the names of a page begin from
+abbrev pub low_of : Option (List ℕ) → List ℕ
+low_of None = []
+low_of (Some name) = name
+
+-- the namespace that a page begins in, and the name there after which it does; a place past the asked namespace leaves nothing
+abbrev pub begins_by : Ordering → List ℕ → List ℕ → Option (List ℕ × Option (List ℕ))
+begins_by Less ns name = None
+begins_by Equal ns name = Some (ns, Some name)
+begins_by Greater ns name = Some (ns, None)
+
+abbrev pub begins : Option (List ℕ) → Option (List ℕ × List ℕ) → Option (List ℕ × Option (List ℕ))
+begins None None = Some ([], None)
+begins None (Some after) = Some (after.0, Some after.1)
+begins (Some ns) None = Some (ns, None)
+begins (Some ns) (Some after) = begins_by (text_cmp ns after.0) ns after.1

@@ -7,6 +7,7 @@
 
 mod fault;
 mod laws;
+mod paging;
 mod reading;
 mod row;
 mod statements;

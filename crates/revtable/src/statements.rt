@@ -1,12 +1,12 @@
 //! The statements, each with what it does to the changes that the rows keep.
 
-ghost use Rattle.std.specs.Prelude.{◌≡◌, [], ◌∷◌, ◌++◌, ℕ, ◌^◌, ◌<◌, pos, min, length, map, IfOk, OnOk, OnErr, option_map};
+ghost use Rattle.std.specs.Prelude.{◌≡◌, [], ◌∷◌, ◌++◌, ℕ, ◌^◌, ◌<◌, pos, min, length, map, take, IfOk, OnOk, OnErr, option_map};
 ghost use Rattle.revtable.specs.Read.{key_of};
 ghost use Rattle.std.specs.Option.{option_to_list};
-ghost use Rattle.revtable.specs.Asked.{as_change, last_change, low_of, name_in};
+ghost use Rattle.revtable.specs.Asked.{as_change, in_later, in_one, last_change, low_of};
 ghost use Rattle.revtable.specs.History.{IsRising, last_revision, later, state_at, up_to};
 ghost use Rattle.revtable.specs.Kept.{kept, with_body};
-ghost use Rattle.revtable.specs.Page.{changes_within, page};
+ghost use Rattle.revtable.specs.Page.{changes_within};
 ghost use Rattle.revtable.specs.Rows.{changes_in, shown, AreBelow, IsKept, IsOrdered};
 ghost use Rattle.sqlite.specs.declared.types.Value.TheVariants.{Int};
 ghost use Rattle.sqlite.specs.Held.{state};
@@ -107,33 +107,24 @@ pub(crate) fn spanned(
     )
 }
 
-/// The text that the namespaces of a page begin from.
-fn lowest<'a>(namespace: Option<&'a str>, after: Option<(&'a str, &'a str)>) -> &'a str
-    ensures { result.now ≡ low_of (option_map (λ b. b.now) namespace.entry) (option_map (λ p. (p.0.now, p.1.now)) after.entry) }
-{
-    match (after, namespace) {
-        (Some((first, _)), _) => first,
-        (None, Some(only)) => only,
-        (None, None) => "",
-    }
-}
-
-fn name_after<'a>(after: Option<(&'a str, &'a str)>) -> Option<&'a str>
-    ensures { option_map (λ b. b.now) result ≡ name_in (option_map (λ p. (p.0.now, p.1.now)) after.entry) }
+/// The text that the names of a page begin from.
+fn lowest(after: Option<&str>) -> &str
+    ensures { result.now ≡ low_of (option_map (λ b. b.now) after.entry) }
 {
     match after {
-        Some((_, name)) => Some(name),
-        None => None,
+        Some(name) => name,
+        None => "",
     }
 }
 
-/// The first objects of a type, and of a namespace if one is named, at a revision and after a namespace and name.
-pub(crate) fn listed(
+/// The first objects of a type in one namespace at a revision, after a name if one is given. The index by key
+/// begins at the name and ends with the namespace, or where there are enough.
+pub(crate) fn listed_in(
     conn: &mut Connection<MemStore>,
     kind: u32,
-    namespace: Option<&str>,
+    namespace: &str,
+    after: Option<&str>,
     revision: u64,
-    after: Option<(&str, &str)>,
     max: u64,
 ) -> Result<Vec<Row>, Error>
     requires fits { revision < 2 ^ 63 }
@@ -143,13 +134,35 @@ pub(crate) fn listed(
     ensures kept { IsKept (state over_memory conn.new) }
     ensures same { changes_in (state over_memory conn.new) ≡ changes_in (state over_memory conn.old) }
     ensures ok { IfOk result (λ rows. rows.items ≡ map (λ e. shown (as_change e))
-        (page kind (option_map (λ b. b.now) namespace.entry) (option_map (λ p. (p.0.now, p.1.now)) after.entry) max (state_at (changes_in (state over_memory conn.old)) revision))) }
+        (take max (in_one kind namespace.now (option_map (λ b. b.now) after.entry) (state_at (changes_in (state over_memory conn.old)) revision)))) }
 {
-    let low = lowest(namespace, after);
-    let name = name_after(after);
+    let low = lowest(after);
     conn.query_all(
-        "SELECT revision, kind, namespace, name, body FROM change WHERE kind = ?1 AND namespace >= ?2 AND (?3 IS NULL OR namespace = ?3) AND (?4 IS NULL OR namespace > ?2 OR name > ?4) AND revision <= ?5 AND body IS NOT NULL AND NOT EXISTS (SELECT 1 FROM change AS later WHERE change.kind = later.kind AND change.namespace = later.namespace AND change.name = later.name AND later.revision > change.revision AND NOT later.revision > ?5) ORDER BY namespace, name LIMIT ?6",
-        params![kind, low, namespace, name, revision as i64, max as i64],
+        "SELECT revision, kind, namespace, name, body FROM change WHERE kind = ?3 AND namespace = ?4 AND name >= ?5 AND (?6 IS NULL OR name > ?6) AND revision <= ?1 AND body IS NOT NULL AND NOT EXISTS (SELECT 1 FROM change AS later WHERE change.kind = later.kind AND change.namespace = later.namespace AND change.name = later.name AND later.revision > change.revision AND NOT later.revision > ?1) ORDER BY namespace, name LIMIT ?2",
+        params![revision as i64, max as i64, kind, namespace, low, after],
+    )
+}
+
+/// The first objects of a type in the namespaces after one at a revision.
+pub(crate) fn listed_past(
+    conn: &mut Connection<MemStore>,
+    kind: u32,
+    namespace: &str,
+    revision: u64,
+    max: u64,
+) -> Result<Vec<Row>, Error>
+    requires fits { revision < 2 ^ 63 }
+    requires max { max < 2 ^ 63 }
+    requires kept { IsKept (state over_memory conn.old) }
+    requires rising { (top : ℕ) × IsRising 0 (changes_in (state over_memory conn.old)) top }
+    ensures kept { IsKept (state over_memory conn.new) }
+    ensures same { changes_in (state over_memory conn.new) ≡ changes_in (state over_memory conn.old) }
+    ensures ok { IfOk result (λ rows. rows.items ≡ map (λ e. shown (as_change e))
+        (take max (in_later kind namespace.now (state_at (changes_in (state over_memory conn.old)) revision)))) }
+{
+    conn.query_all(
+        "SELECT revision, kind, namespace, name, body FROM change WHERE kind = ?3 AND namespace > ?4 AND revision <= ?1 AND body IS NOT NULL AND NOT EXISTS (SELECT 1 FROM change AS later WHERE change.kind = later.kind AND change.namespace = later.namespace AND change.name = later.name AND later.revision > change.revision AND NOT later.revision > ?1) ORDER BY namespace, name LIMIT ?2",
+        params![revision as i64, max as i64, kind, namespace],
     )
 }
 

@@ -8,7 +8,7 @@ ghost use Rattle.revtable.specs.Read.{change_of, entry_of, key_of, object_of};
 use crate::fault::Fault;
 use crate::reading::{read_changes, read_entries, read_left};
 use crate::row::{Change, Entry, Key, Marks, Object};
-use crate::statements;
+use crate::{paging, statements};
 use sqlite::{Connection, MemStore};
 use std::alloc::Global;
 use std::marker::Model;
@@ -127,7 +127,15 @@ impl Table {
     {
         let revision = revision.min(self.current);
         let max = max.min(LAST_REVISION);
-        let rows = statements::listed(&mut self.conn, kind, namespace, revision, after, max)?;
+        let rows = paging::listed(
+            self.alloc,
+            &mut self.conn,
+            kind,
+            namespace,
+            revision,
+            after,
+            max,
+        )?;
         read_entries(self.alloc, &rows)
     }
 

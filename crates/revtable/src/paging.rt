@@ -1,0 +1,90 @@
+//! Pages of objects: what is left of one namespace, and then what the namespaces after it have.
+
+ghost use Rattle.std.specs.Prelude.{◌≡◌, ◌++◌, ℕ, ◌^◌, ◌<◌, List, Option, Some, map, take, IfOk, option_map};
+ghost use Rattle.revtable.specs.Asked.{as_change, begins as place_of, in_later, in_one};
+ghost use Rattle.revtable.specs.History.{IsRising, state_at};
+ghost use Rattle.revtable.specs.Page.{page};
+ghost use Rattle.revtable.specs.Rows.{changes_in, shown, IsKept};
+ghost use Rattle.sqlite.specs.Held.{state};
+ghost use Rattle.sqlite.specs.Steps.{over_memory};
+
+use crate::fault::Fault;
+use crate::statements;
+use sqlite::{Connection, MemStore, Row};
+use std::alloc::Global;
+use std::cmp::Ordering;
+
+/// The namespace that a page begins in, and the name there after which it does: nowhere, if the place is past the
+/// namespace that is asked for.
+fn begins<'a>(
+    namespace: Option<&'a str>,
+    after: Option<(&'a str, &'a str)>,
+) -> Option<(&'a str, Option<&'a str>)>
+    ensures { option_map {U = List ℕ × Option (List ℕ)} (λ p. (p.0.now, option_map (λ b. b.now) p.1)) result ≡ place_of (option_map (λ b. b.now) namespace.entry) (option_map {U = List ℕ × List ℕ} (λ p. (p.0.now, p.1.now)) after.entry) }
+{
+    match (namespace, after) {
+        (None, None) => Some(("", None)),
+        (None, Some((first, name))) => Some((first, Some(name))),
+        (Some(only), None) => Some((only, None)),
+        (Some(only), Some((first, name))) => match only.cmp(first) {
+            Ordering::Less => None,
+            Ordering::Equal => Some((only, Some(name))),
+            Ordering::Greater => Some((only, None)),
+        },
+    }
+}
+
+/// The first objects of a type at a revision: what is left of a namespace, and then of those after it.
+fn listed_on(
+    conn: &mut Connection<MemStore>,
+    kind: u32,
+    first: &str,
+    name: Option<&str>,
+    revision: u64,
+    max: u64,
+) -> Result<Vec<Row>, Fault>
+    requires fits { revision < 2 ^ 63 }
+    requires max { max < 2 ^ 63 }
+    requires kept { IsKept (state over_memory conn.old) }
+    requires rising { (top : ℕ) × IsRising 0 (changes_in (state over_memory conn.old)) top }
+    ensures kept { IsKept (state over_memory conn.new) }
+    ensures same { changes_in (state over_memory conn.new) ≡ changes_in (state over_memory conn.old) }
+    ensures ok { IfOk result (λ rows. rows.items ≡ map (λ e. shown (as_change e))
+        (take max (in_one kind first.now (option_map (λ b. b.now) name.entry) (state_at (changes_in (state over_memory conn.old)) revision)
+        ++ in_later kind first.now (state_at (changes_in (state over_memory conn.old)) revision)))) }
+{
+    let mut rows = statements::listed_in(conn, kind, first, name, revision, max)?;
+    let left = max.saturating_sub(rows.len() as u64);
+    let mut more = statements::listed_past(conn, kind, first, revision, left)?;
+    rows.append(&mut more)?;
+    Ok(rows)
+}
+
+/// The first objects of a type, and of a namespace if one is named, at a revision and after a namespace and name.
+pub(crate) fn listed(
+    alloc: Global,
+    conn: &mut Connection<MemStore>,
+    kind: u32,
+    namespace: Option<&str>,
+    revision: u64,
+    after: Option<(&str, &str)>,
+    max: u64,
+) -> Result<Vec<Row>, Fault>
+    requires fits { revision < 2 ^ 63 }
+    requires max { max < 2 ^ 63 }
+    requires kept { IsKept (state over_memory conn.old) }
+    requires rising { (top : ℕ) × IsRising 0 (changes_in (state over_memory conn.old)) top }
+    ensures kept { IsKept (state over_memory conn.new) }
+    ensures same { changes_in (state over_memory conn.new) ≡ changes_in (state over_memory conn.old) }
+    ensures ok { IfOk result (λ rows. rows.items ≡ map (λ e. shown (as_change e))
+        (page kind (option_map (λ b. b.now) namespace.entry) (option_map (λ p. (p.0.now, p.1.now)) after.entry) max (state_at (changes_in (state over_memory conn.old)) revision))) }
+{
+    let Some((first, name)) = begins(namespace, after) else {
+        return Ok(Vec::new(alloc));
+    };
+    if namespace.is_some() {
+        Ok(statements::listed_in(conn, kind, first, name, revision, max)?)
+    } else {
+        listed_on(conn, kind, first, name, revision, max)
+    }
+}
