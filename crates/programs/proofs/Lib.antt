@@ -1,3 +1,4 @@
 mod ReplayWords
+mod RunLemmas
 mod ScriptLemmas
 mod TypesText

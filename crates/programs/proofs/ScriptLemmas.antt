@@ -1,5 +1,5 @@
 -- Lines and their events.
-use Rattle.std.proofs.Common.{◌≡◌, ◌≢◌, ◌∙◌, ◌<◌, ◌+◌, ◌&&◌, ◌≤◌, ◌==◌, ℕ, suc, Bool, true, false, not, nat_le, ap, ap₂, refl, sym, subst, arith, inl, inr, List, [], ◌∷◌, ◌++◌, length, map, take, drop, Option, Some, None, option_map, codes}
+use Rattle.std.proofs.Common.{◌≡◌, ◌≢◌, ◌∙◌, ◌<◌, ◌+◌, ◌&&◌, ◌≤◌, ◌==◌, ℕ, suc, Bool, true, false, cond, not, nat_le, ap, ap₂, refl, sym, subst, arith, inl, inr, List, [], ◌∷◌, ◌++◌, length, map, take, drop, Option, Some, None, option_map, codes}
 use Rattle.std.specs.Prelude.{option_and_then, slice_index_or}
 use Rattle.std.specs.Borrow.{Bor}
 use Rattle.std.specs.List.{AllZip, filter}
@@ -11,11 +11,11 @@ use Rattle.std.proofs.Common.{drop-cons, append-nil}
 use Rattle.std.proofs.lemmas.List.Elements.{filter-append}
 use Rattle.std.proofs.lemmas.List.Sums.{AllPass-from_list_all, list_all-from_AllPass}
 use Rattle.std.proofs.lemmas.Slice.Eq.{bytes_eq-Decides}
-use Rattle.serde_json.specs.Data.{Data, null, boolean, number, string, array, object, Members, no_members, member}
-use Rattle.serde_json.specs.Find.{as_bool, as_object, as_str}
+use Rattle.serde_json.specs.Data.{unsigned, negative, float, Data, null, boolean, number, string, array, object, Items, no_items, item, Members, no_members, member}
+use Rattle.serde_json.specs.Find.{as_array, as_bool, as_object, as_str}
 use Rattle.serde_json.specs.Read.{read as read_json}
-use Rattle.programs.specs.Script.{Apply, AreEvents, IsFirstBad, IsTarget, Says, is_filled, object_of}
-use Rattle.programs.specs.ScriptSteps.{apply_in, event_in, event_of, if_target, is_last, is_target, next_named, only_apply, with_rest}
+use Rattle.programs.specs.Script.{Apply, AreEvents, Event, apply, opens, comes, HasTarget, IsFirstBad, IsTarget, Says, is_filled, object_of}
+use Rattle.programs.specs.ScriptSteps.{apply_in, comes_in, event_in, event_named, event_of, if_target, is_last, is_last_item, is_target, next_item, next_named, number_in, only_member, with_items, with_rest}
 
 some≢none : {X : Type 0} (x : X) → Some x ≡ None → ⊥
 some≢none x e = cc
@@ -125,7 +125,10 @@ checked a b e = go (is_target a.target) refl
         let bad : None ≡ Some b = rw t at e in
         cc
 
-apply_is : (ms : Members) (a : Apply) → apply_in ms ≡ Some a → (object (member (codes "apply") (object ms) no_members) ≡ object_of a) × IsTarget a.target
+abbrev members_of_apply : Apply → Members
+members_of_apply a = member (codes "body") a.body (member (codes "force") (boolean a.force) (member (codes "manager") (string a.manager) (member (codes "target") (string a.target) no_members)))
+
+apply_is : (ms : Members) (a : Apply) → apply_in ms ≡ Some a → (ms ≡ members_of_apply a) × IsTarget a.target
 apply_is ms a e =
     let b = and_then-Some _ _ a e in
     let body = named (codes "body") ms b.0 b.1 in
@@ -144,32 +147,95 @@ apply_is ms a e =
     body ∙ ap (member (codes "body") b.0.0) (force.1 ∙ ap₂ (member (codes "force")) (truth force.0 f.0.0 force.2)
     (manager.1 ∙ ap₂ (member (codes "manager")) (text manager.0 m.0.0 manager.2)
     (target.1 ∙ ap₂ (member (codes "target")) (text target.0 t.0.0 target.2) tail))) in
-    (ap (λ xs. object (member (codes "apply") (object xs) no_members)) all ∙ ap object_of is, fit.1)
+    (all ∙ ap members_of_apply is, fit.1)
 
-event_is : (d : Data) (a : Apply) → event_in d ≡ Some a → (d ≡ object_of a) × IsTarget a.target
-event_is d a e =
-    let only = and_then-Some apply_in _ a e in
-    let whole = and_then-Some only_apply _ only.0 only.1 in
-    let p = and_then-Some _ _ only.0 whole.2 in
-    let first = found as_object (codes "apply") whole.0 p.0 p.1 in
-    let end = last _ only.0 p.0.1 p.2 in
-    let said = apply_is only.0 a only.2 in
-    let all : whole.0 ≡ member (codes "apply") (object only.0) no_members =
-    first.1 ∙ ap₂ (member (codes "apply")) (inner first.0 p.0.0 first.2 ∙ ap object end.1) end.0 in
-    (inner d whole.0 whole.1 ∙ ap object all ∙ said.0, said.1)
+counted : (d : Data) (n : ℕ) → number_in d ≡ Some n → d ≡ number (unsigned n)
+counted null n e = cc
+counted (boolean c) n e = cc
+counted (number (unsigned m)) n e = cc
+counted (number (negative z)) n e = cc
+counted (number (float x)) n e = cc
+counted (string t) n e = cc
+counted (array ds) n e = cc
+counted (object ms) n e = cc
 
-pub says_event : (line : List ℕ) (a : Apply) → event_of line ≡ Some a → Says line a
-says_event line a e =
-    let d = and_then-Some event_in (read_json line) a e in
-    let is = event_is d.0 a d.2 in
-    (d.1 ∙ ap Some is.0, is.1)
+listed : (d : Data) (ds : Items) → as_array d ≡ Some ds → d ≡ array ds
+listed null ds e = cc
+listed (boolean c) ds e = cc
+listed (number n) ds e = cc
+listed (string t) ds e = cc
+listed (array es) ds e = cc
+listed (object ms) ds e = cc
 
-event_said : (line : List ℕ) (a : Apply) → Says line a → event_of line ≡ Some a
-event_said line a says = rw (says.0, is_target_of a.target says.1) refl
+-- the first item, whose data show x, and the items after it
+leading : {X : Type 0} (f : Data → Option X) (ds : Items) (q : X × Items) → with_items f (next_item ds) ≡ Some q → (d : Data) × (ds ≡ item d q.1) × (f d ≡ Some q.0)
+leading f no_items q e = cc
+leading f (item d ds) q e = let x = map-Some (λ x. (x, ds)) (f d) q e in (d, ap (item d) (ap (λ y. y.1) x.2), x.1 ∙ ap (λ y. Some y.0) x.2)
+
+last_item : {X : Type 0} (x y : X) (ds : Items) → is_last_item x ds ≡ Some y → (ds ≡ no_items) × (x ≡ y)
+last_item x y no_items e = (refl, cc)
+last_item x y (item d ds) e = cc
+
+comes_is : (ds : Items) (e : Event) → comes_in ds ≡ Some e → (k : ℕ) × (s : List ℕ) × (e ≡ comes k s) × (ds ≡ item (number (unsigned k)) (item (string s) no_items))
+comes_is ds e is =
+    let k = and_then-Some _ _ e is in
+    let first = leading number_in ds k.0 k.1 in
+    let t = and_then-Some _ _ e k.2 in
+    let second = leading as_str k.0.1 t.0 t.1 in
+    let end = last_item _ e t.0.1 t.2 in
+    (k.0.0, t.0.0, sym end.1, first.1 ∙ ap₂ item (counted first.0 k.0.0 first.2) (second.1 ∙ ap₂ item (text second.0 t.0.0 second.2) end.0))
+
+only : (ms : Members) (p : List ℕ × Data) → only_member ms ≡ Some p → ms ≡ member p.0 p.1 no_members
+only no_members p e = cc
+only (member k d ms) p e = let l = last (k, d) p ms e in ap₂ (λ (q : List ℕ × Data) r. member q.0 q.1 r) l.1 l.0
+
+named_is : (name : List ℕ) (d : Data) (e : Event) → event_named name d ≡ Some e → (object (member name d no_members) ≡ object_of e) × HasTarget e
+named_is name d e is = go (bytes_eq name (codes "apply")) (bytes_eq name (codes "open")) (bytes_eq name (codes "in")) refl refl refl is
+  where
+    whole : (k : List ℕ) (x : Data) → name ≡ k → d ≡ x → object (member name d no_members) ≡ object (member k x no_members)
+    whole k x n v = ap₂ (λ m y. object (member m y no_members)) n v
+
+    go : (a o i : Bool) → bytes_eq name (codes "apply") ≡ a → bytes_eq name (codes "open") ≡ o → bytes_eq name (codes "in") ≡ i
+        → cond a (option_map apply (option_and_then apply_in (as_object d))) (cond o (option_map opens (number_in d)) (cond i (option_and_then comes_in (as_array d)) None)) ≡ Some e
+        → (object (member name d no_members) ≡ object_of e) × HasTarget e
+    go true o i at ot it h =
+        let a = map-Some apply _ e h in
+        let ms = and_then-Some apply_in _ a.0 a.1 in
+        let said = apply_is ms.0 a.0 ms.2 in
+        subst (λ (x : Event). (object (member name d no_members) ≡ object_of x) × HasTarget x) a.2
+        (whole (codes "apply") _ ((bytes_eq-Decides name (codes "apply")).0 at) (inner d ms.0 ms.1 ∙ ap object said.0), said.1)
+    go false true i at ot it h =
+        let k = map-Some opens _ e h in
+        subst (λ (x : Event). (object (member name d no_members) ≡ object_of x) × HasTarget x) k.2
+        (whole (codes "open") _ ((bytes_eq-Decides name (codes "open")).0 ot) (counted d k.0 k.1), tt)
+    go false false true at ot it h =
+        let ds = and_then-Some comes_in _ e h in
+        let said = comes_is ds.0 e ds.2 in
+        subst (λ (x : Event). (object (member name d no_members) ≡ object_of x) × HasTarget x) (sym said.2)
+        (whole (codes "in") _ ((bytes_eq-Decides name (codes "in")).0 it) (listed d ds.0 ds.1 ∙ ap array said.3), tt)
+    go false false false at ot it h = cc
+
+event_is : (d : Data) (e : Event) → event_in d ≡ Some e → (d ≡ object_of e) × HasTarget e
+event_is d e is =
+    let p = and_then-Some _ _ e is in
+    let ms = and_then-Some only_member _ p.0 p.1 in
+    let said = named_is p.0.0 p.0.1 e p.2 in
+    (inner d ms.0 ms.1 ∙ ap object (only ms.0 p.0 ms.2) ∙ said.0, said.1)
+
+pub says_event : (line : List ℕ) (e : Event) → event_of line ≡ Some e → Says line e
+says_event line e is =
+    let d = and_then-Some event_in (read_json line) e is in
+    let said = event_is d.0 e d.2 in
+    (d.1 ∙ ap Some said.0, said.1)
+
+event_said : (line : List ℕ) (e : Event) → Says line e → event_of line ≡ Some e
+event_said line (apply a) says = rw (says.0, is_target_of a.target says.1) refl
+event_said line (opens k) says = rw says.0 refl
+event_said line (comes k text) says = rw says.0 refl
 
 -- ---- lists of lines
 
-zip_push : (xs : List (List ℕ)) (ys : List Apply) (x : List ℕ) (y : Apply) → AllZip Says xs ys → Says x y → AllZip Says (xs ++ x ∷ []) (ys ++ y ∷ [])
+zip_push : (xs : List (List ℕ)) (ys : List Event) (x : List ℕ) (y : Event) → AllZip Says xs ys → Says x y → AllZip Says (xs ++ x ∷ []) (ys ++ y ∷ [])
 zip_push [] [] x y h r = (r, tt)
 zip_push [] (z ∷ ys) x y h r = absurd h
 zip_push (w ∷ xs) [] x y h r = absurd h
@@ -182,7 +248,7 @@ one_more : (lines : List (Bor (List ℕ))) (i : ℕ) (d : Bor (List ℕ)) → i 
 one_more lines i d lt = ap texts (take_more lines i d lt) ∙ map-append (λ (l : Bor (List ℕ)). l.now) (take i lines) (slice_index_or lines i d ∷ [])
 
 -- an empty line is read past
-pub past_empty : (lines : List (Bor (List ℕ))) (i : ℕ) (d : Bor (List ℕ)) (events : List Apply) → i < length lines → is_filled (slice_index_or lines i d).now ≡ false
+pub past_empty : (lines : List (Bor (List ℕ))) (i : ℕ) (d : Bor (List ℕ)) (events : List Event) → i < length lines → is_filled (slice_index_or lines i d).now ≡ false
     → AreEvents (texts (take i lines)) events → AreEvents (texts (take (i + 1) lines)) events
 past_empty lines i d events lt empty before =
     let line = (slice_index_or lines i d).now in
@@ -192,7 +258,7 @@ past_empty lines i d events lt empty before =
     subst (λ xs. AllZip Says xs events) (sym same) before
 
 -- a line that says an event adds it
-pub with_event : (lines : List (Bor (List ℕ))) (i : ℕ) (d : Bor (List ℕ)) (events : List Apply) (a : Apply) → i < length lines → is_filled (slice_index_or lines i d).now ≡ true
+pub with_event : (lines : List (Bor (List ℕ))) (i : ℕ) (d : Bor (List ℕ)) (events : List Event) (a : Event) → i < length lines → is_filled (slice_index_or lines i d).now ≡ true
     → event_of (slice_index_or lines i d).now ≡ Some a → AreEvents (texts (take i lines)) events → AreEvents (texts (take (i + 1) lines)) (events ++ a ∷ [])
 with_event lines i d events a lt full says before =
     let line = (slice_index_or lines i d).now in
@@ -202,7 +268,7 @@ with_event lines i d events a lt full says before =
     subst (λ xs. AllZip Says xs (events ++ a ∷ [])) (sym same) (zip_push _ events line a before (says_event line a says))
 
 -- a line that isn't empty and says no event is the first bad one
-pub first_bad : (lines : List (Bor (List ℕ))) (i : ℕ) (d : Bor (List ℕ)) (events : List Apply) (n : ℕ) → i < length lines → is_filled (slice_index_or lines i d).now ≡ true
+pub first_bad : (lines : List (Bor (List ℕ))) (i : ℕ) (d : Bor (List ℕ)) (events : List Event) (n : ℕ) → i < length lines → is_filled (slice_index_or lines i d).now ≡ true
     → event_of (slice_index_or lines i d).now ≡ None → AreEvents (texts (take i lines)) events → n ≡ i + 1 → IsFirstBad (texts lines) n
 first_bad lines i d events n lt full none before counted = record {
   before = texts (take i lines);

@@ -1,7 +1,7 @@
 -- Scripts: the events of a text, one JSON object (RFC 8259) a line.
 use Rattle.std.specs.Prelude.{◌≡◌, ◌≢◌, ◌≤◌, ◌+◌, ◌==◌, ℕ, Bool, not, List, [], ◌∷◌, ◌++◌, length, Some, codes}
 use Rattle.std.specs.List.{All, AllZip, filter, slice_split}
-use Rattle.serde_json.specs.Data.{Data, boolean, string, object, no_members, member}
+use Rattle.serde_json.specs.Data.{Data, unsigned, boolean, number, string, array, object, no_items, item, no_members, member}
 use Rattle.serde_json.specs.Read.{read as read_json}
 
 -- the lines of a text, which line feeds part
@@ -15,27 +15,40 @@ pub record Apply : Type 0 where
   pub manager : List ℕ
   pub target : List ℕ
 
+-- what happens: an apply, a connection that opens, a text's bytes that come on a connection
+pub data Event : Type 0 where
+  apply : Apply → Event
+  opens : ℕ → Event
+  comes : ℕ → List ℕ → Event
+
 -- the JSON object of an event
-abbrev pub object_of : Apply → Data
-object_of a = object (member (codes "apply") (object
+abbrev pub object_of : Event → Data
+object_of (apply a) = object (member (codes "apply") (object
     (member (codes "body") a.body
     (member (codes "force") (boolean a.force)
     (member (codes "manager") (string a.manager)
     (member (codes "target") (string a.target) no_members))))) no_members)
+object_of (opens k) = object (member (codes "open") (number (unsigned k)) no_members)
+object_of (comes k text) = object (member (codes "in") (array (item (number (unsigned k)) (item (string text) no_items))) no_members)
 
 -- a target is of printable ASCII characters, without blanks and `?`
 abbrev pub IsTarget : List ℕ → Type 0
 IsTarget = All (λ b. (33 ≤ b) × (b ≤ 126) × (b ≢ 63))
 
+abbrev pub HasTarget : Event → Type 0
+HasTarget (apply a) = IsTarget a.target
+HasTarget (opens k) = Unit {0}
+HasTarget (comes k text) = Unit {0}
+
 -- the line says the event: it is the JSON text of the event's object
-abbrev pub Says : List ℕ → Apply → Type 0
-Says line a = (read_json line ≡ Some (object_of a)) × IsTarget a.target
+abbrev pub Says : List ℕ → Event → Type 0
+Says line e = (read_json line ≡ Some (object_of e)) × HasTarget e
 
 abbrev pub is_filled : List ℕ → Bool
 is_filled line = not (length line == 0)
 
 -- each line that isn't empty says an event: these, in order
-abbrev pub AreEvents : List (List ℕ) → List Apply → Type 0
+abbrev pub AreEvents : List (List ℕ) → List Event → Type 0
 AreEvents lines events = AllZip Says (filter is_filled lines) events
 
 -- line n, counted from 1, is the first that isn't empty and says no event
@@ -43,9 +56,9 @@ pub record IsFirstBad (lines : List (List ℕ)) (n : ℕ) : Type 0 where
   pub before : List (List ℕ)
   pub line : List ℕ
   pub after : List (List ℕ)
-  pub events : List Apply
+  pub events : List Event
   pub cut : lines ≡ before ++ line ∷ after
   pub good : AreEvents before events
   pub place : n ≡ length before + 1
   pub filled : line ≢ []
-  pub bad : (a : Apply) → Says line a → ⊥
+  pub bad : (e : Event) → Says line e → ⊥

@@ -2,10 +2,10 @@
 use Rattle.std.specs.Prelude.{◌&&◌, ◌==◌, ℕ, Bool, not, nat_le, List, Option, Some, None, option_and_then, option_map, if◌then◌else◌, codes}
 use Rattle.std.specs.List.{list_all}
 use Rattle.std.specs.Str.{bytes_eq}
-use Rattle.serde_json.specs.Data.{Data, Members, no_members, member}
-use Rattle.serde_json.specs.Find.{as_bool, as_str, as_object}
+use Rattle.serde_json.specs.Data.{Data, Items, no_items, item, Members, no_members, member}
+use Rattle.serde_json.specs.Find.{as_array, as_bool, as_number, as_object, as_str, as_u64}
 use Rattle.serde_json.specs.Read.{read as read_json}
-use Rattle.programs.specs.Script.{Apply}
+use Rattle.programs.specs.Script.{Apply, Event, apply, opens, comes}
 
 -- the first member's value, if the member has the name, and the members after it
 abbrev pub next_named : List ℕ → Members → Option (Data × Members)
@@ -34,11 +34,41 @@ apply_in ms =
     (with_rest as_bool (next_named (codes "force") b.1)))
     (next_named (codes "body") ms)
 
-abbrev pub only_apply : Members → Option Members
-only_apply ms = option_and_then (λ p. is_last p.0 p.1) (with_rest as_object (next_named (codes "apply") ms))
+-- the name and the value of the only member
+abbrev pub only_member : Members → Option (List ℕ × Data)
+only_member no_members = None
+only_member (member k d ms) = is_last (k, d) ms
 
-abbrev pub event_in : Data → Option Apply
-event_in d = option_and_then apply_in (option_and_then only_apply (as_object d))
+abbrev pub number_in : Data → Option ℕ
+number_in d = option_and_then as_u64 (as_number d)
 
-abbrev pub event_of : List ℕ → Option Apply
+-- the first item, and the items after it
+abbrev pub next_item : Items → Option (Data × Items)
+next_item no_items = None
+next_item (item d ds) = Some (d, ds)
+
+abbrev pub with_items : {X : Type 0} → (Data → Option X) → Option (Data × Items) → Option (X × Items)
+with_items f found = option_and_then (λ p. option_map (λ x. (x, p.1)) (f p.0)) found
+
+abbrev pub is_last_item : {X : Type 0} → X → Items → Option X
+is_last_item x no_items = Some x
+is_last_item x (item d ds) = None
+
+abbrev pub comes_in : Items → Option Event
+comes_in ds =
+    option_and_then (λ k. option_and_then (λ t. is_last_item (comes k.0 t.0) t.1)
+    (with_items as_str (next_item k.1)))
+    (with_items number_in (next_item ds))
+
+abbrev pub event_named : List ℕ → Data → Option Event
+event_named name d =
+    if bytes_eq name (codes "apply") then option_map apply (option_and_then apply_in (as_object d))
+    else if bytes_eq name (codes "open") then option_map opens (number_in d)
+    else if bytes_eq name (codes "in") then option_and_then comes_in (as_array d)
+    else None
+
+abbrev pub event_in : Data → Option Event
+event_in d = option_and_then (λ p. event_named p.0 p.1) (option_and_then only_member (as_object d))
+
+abbrev pub event_of : List ℕ → Option Event
 event_of line = option_and_then event_in (read_json line)

@@ -7,7 +7,7 @@ ghost use Rattle.programs.specs.ReplayProgram.{IsRefusal, Tells, status_of};
 
 use crate::replay_options::options;
 use crate::replaying::{ReplayFault, replay};
-use crate::script::{ApplyLine, ScriptFault, read_script};
+use crate::script::{Event, ScriptFault, read_script};
 use clap::error::ErrorKind;
 use schema::{Types, TypesFault};
 use serde_json::Value;
@@ -136,7 +136,7 @@ fn read_types<R: Files + AllocGlobal>(rt: &R, path: &str) -> Result<Types, RunFa
     }
 }
 
-fn read_lines<R: Files + AllocGlobal>(rt: &R, path: &str) -> Result<Vec<ApplyLine>, RunFault> {
+fn read_events<R: Files + AllocGlobal>(rt: &R, path: &str) -> Result<Vec<Event>, RunFault> {
     match fs::read_to_string(rt, path) {
         Ok(text) => Ok(read_script(rt.alloc(), text.as_str())?),
         Err(error) if is_memory(&error) => Err(RunFault::Memory),
@@ -148,13 +148,13 @@ fn print_replies<P: Print>(
     alloc: Global,
     rt: &P,
     types: Types,
-    lines: &[ApplyLine],
+    events: &[Event],
 ) -> Result<(), RunFault> {
     let mut writer = match BufWriter::new(alloc, io::writer(rt)) {
         Ok(writer) => writer,
         Err(_) => return Err(RunFault::Memory),
     };
-    let done = replay(alloc, types, lines, &mut writer);
+    let done = replay(alloc, types, events, &mut writer);
     writer.flush().map_err(RunFault::Output)?;
     Ok(done?)
 }
@@ -166,8 +166,8 @@ pub(crate) fn run<R: Files + Print + AllocGlobal>(
     let alloc = rt.alloc();
     let options = options(alloc, words)?;
     let types = read_types(rt, options.types)?;
-    let lines = read_lines(rt, options.script)?;
-    print_replies(alloc, rt, types, &lines)
+    let events = read_events(rt, options.script)?;
+    print_replies(alloc, rt, types, &events)
 }
 
 /// Runs `ssa-replay` on its words, the program's name first: reads both files, runs the script's lines and prints their

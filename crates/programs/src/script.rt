@@ -1,14 +1,16 @@
 //! Scripts: the events of a text, one JSON object a line.
-ghost use Rattle.std.specs.Prelude.{◌≡◌, ℕ, IfOk, IsErrOf, map, option_map, string_bytes};
-ghost use Rattle.serde_json.specs.View.{view, members_view};
-ghost use Rattle.serde_json.specs.Find.{as_bool, as_object, as_str};
-ghost use Rattle.programs.specs.ApplyLine.{apply_of};
-ghost use Rattle.programs.specs.Script.{Apply, AreEvents, IsFirstBad, Says, lines_of};
-ghost use Rattle.programs.specs.ScriptSteps.{apply_in, event_in, event_of, is_target, next_named, only_apply, with_rest};
+ghost use Rattle.std.specs.Prelude.{◌≡◌, ℕ, IfOk, IsErrOf, map, option_and_then, option_map, string_bytes};
+ghost use Rattle.std.specs.Vec.Iter.{into_iter_items};
+ghost use Rattle.serde_json.specs.View.{items_view, members_view, view};
+ghost use Rattle.serde_json.specs.Find.{as_array, as_bool, as_object, as_str};
+ghost use Rattle.programs.specs.ApplyLine.{apply_of, event_view};
+ghost use Rattle.programs.specs.Script.{AreEvents, IsFirstBad, apply, lines_of};
+ghost use Rattle.programs.specs.ScriptSteps.{apply_in, comes_in, event_in, event_named, event_of, is_target, next_item, next_named, number_in, only_member, with_items, with_rest};
 
 use serde_json::{Map, Value};
 use std::alloc::{AllocError, AllocFailed, Global};
 use std::collections::btree_map::IntoIter;
+use std::vec;
 use thiserror::Error;
 
 /// One apply of a body.
@@ -22,6 +24,17 @@ pub struct ApplyLine {
     pub manager: String,
     /// The object's path, as it stands in a request.
     pub target: String,
+}
+
+/// One event of a script.
+#[derive(Debug, Drop)]
+pub enum Event {
+    /// An apply of a body.
+    Apply(ApplyLine),
+    /// A connection opens.
+    Open(u64),
+    /// The bytes of a text come on a connection.
+    In(u64, String),
 }
 
 fn into_text(value: Value) -> Option<String>
@@ -38,6 +51,15 @@ fn into_object(value: Value) -> Option<Map<String, Value>>
 {
     match value {
         Value::Object(members) => Some(members),
+        _ => None,
+    }
+}
+
+fn into_items(value: Value) -> Option<Vec<Value>>
+    ensures { option_map (λ v. items_view v.items) result ≡ as_array (view value) }
+{
+    match value {
+        Value::Array(items) => Some(items),
         _ => None,
     }
 }
@@ -98,26 +120,77 @@ fn apply_in(members: Map<String, Value>) -> Option<ApplyLine>
     })
 }
 
-fn only_apply(members: Map<String, Value>) -> Option<Map<String, Value>>
-    ensures { option_map (λ m. members_view m.entries) result ≡ only_apply (members_view members.entries) }
+/// The name and the value of an object's only member.
+fn only_member(members: Map<String, Value>) -> Option<(String, Value)>
+    ensures { option_map (λ m. (string_bytes m.0, view m.1)) result ≡ only_member (members_view members.entries) }
 {
     let mut members = members.into_iter();
-    let apply = next_object(&mut members, "apply")?;
+    let member = members.next()?;
     if members.next().is_some() {
         return None;
     }
-    Some(apply)
+    Some(member)
 }
 
-fn event_in(value: Value) -> Option<ApplyLine>
-    ensures { option_map apply_of result ≡ event_in (view value) }
+/// The next item's value.
+fn next_item(items: &mut vec::IntoIter<Value>) -> Option<Value>
+    ensures { option_map (λ v. (view v, items_view (into_iter_items items.new))) result ≡ next_item (items_view (into_iter_items items.old)) }
 {
-    apply_in(only_apply(into_object(value)?)?)
+    items.next()
+}
+
+fn next_number(items: &mut vec::IntoIter<Value>) -> Option<u64>
+    ensures { option_map (λ n. (n, items_view (into_iter_items items.new))) result ≡ with_items number_in (next_item (items_view (into_iter_items items.old))) }
+{
+    next_item(items)?.as_u64()
+}
+
+fn next_words(items: &mut vec::IntoIter<Value>) -> Option<String>
+    ensures { option_map (λ s. (string_bytes s, items_view (into_iter_items items.new))) result ≡ with_items as_str (next_item (items_view (into_iter_items items.old))) }
+{
+    into_text(next_item(items)?)
+}
+
+/// The bytes that come on a connection.
+fn comes_in(items: Vec<Value>) -> Option<Event>
+    ensures { option_map event_view result ≡ comes_in (items_view items.items) }
+{
+    let mut items = items.into_iter();
+    let connection = next_number(&mut items)?;
+    let text = next_words(&mut items)?;
+    if items.next().is_some() {
+        return None;
+    }
+    Some(Event::In(connection, text))
+}
+
+fn apply_of(value: Value) -> Option<Event>
+    ensures { option_map event_view result ≡ option_map apply (option_and_then apply_in (as_object (view value))) }
+{
+    Some(Event::Apply(apply_in(into_object(value)?)?))
+}
+
+fn event_named(name: &str, value: Value) -> Option<Event>
+    ensures { option_map event_view result ≡ event_named name.now (view value) }
+{
+    match name {
+        "apply" => apply_of(value),
+        "open" => Some(Event::Open(value.as_u64()?)),
+        "in" => comes_in(into_items(value)?),
+        _ => None,
+    }
+}
+
+fn event_in(value: Value) -> Option<Event>
+    ensures { option_map event_view result ≡ event_in (view value) }
+{
+    let (name, value) = only_member(into_object(value)?)?;
+    event_named(name.as_str(), value)
 }
 
 /// The event that a line says, or None where it says none.
-fn read_line(alloc: Global, line: &str) -> Result<Option<ApplyLine>, AllocError>
-    ensures { IfOk result (λ o. option_map apply_of o ≡ event_of line.now) }
+fn read_line(alloc: Global, line: &str) -> Result<Option<Event>, AllocError>
+    ensures { IfOk result (λ o. option_map event_view o ≡ event_of line.now) }
 {
     match Value::from_str(alloc, line) {
         Ok(value) => Ok(event_in(value)),
@@ -159,8 +232,8 @@ impl<T: Drop> From<AllocFailed<T>> for ScriptFault {
     }
 }
 
-fn read_lines(alloc: Global, lines: &[&str]) -> Result<Vec<ApplyLine>, ScriptFault>
-    ensures ok { IfOk result (λ v. AreEvents (map (λ l. l.now) lines.now) (map apply_of v.items)) }
+fn read_lines(alloc: Global, lines: &[&str]) -> Result<Vec<Event>, ScriptFault>
+    ensures ok { IfOk result (λ v. AreEvents (map (λ l. l.now) lines.now) (map event_view v.items)) }
     ensures bad { (n : ℕ) → IsErrOf result (ScriptFault.BadEvent n) → IsFirstBad (map (λ l. l.now) lines.now) n }
 {
     let mut events = Vec::new(alloc);
@@ -177,8 +250,8 @@ fn read_lines(alloc: Global, lines: &[&str]) -> Result<Vec<ApplyLine>, ScriptFau
 }
 
 /// Reads a script: the events of its lines in order, or its first bad line.
-pub fn read_script(alloc: Global, text: &str) -> Result<Vec<ApplyLine>, ScriptFault>
-    ensures ok { IfOk result (λ v. AreEvents (lines_of text.now) (map apply_of v.items)) }
+pub fn read_script(alloc: Global, text: &str) -> Result<Vec<Event>, ScriptFault>
+    ensures ok { IfOk result (λ v. AreEvents (lines_of text.now) (map event_view v.items)) }
     ensures bad { (n : ℕ) → IsErrOf result (ScriptFault.BadEvent n) → IsFirstBad (lines_of text.now) n }
 {
     let lines: Vec<&str> = text.split('\n').collect(alloc)?;

@@ -1,0 +1,87 @@
+-- The run of a script: its events are handed in order to one hub, at first without connections and objects, and what is printed of them.
+use Rattle.std.specs.Prelude.{◌≡◌, ◌≢◌, ℕ, ◌+◌, Bool, true, false, nat_lt, if◌then◌else◌, List, [], ◌∷◌, ◌++◌, length, Option, Some, None, codes}
+use Rattle.std.specs.List.{flat_map}
+use Rattle.std.specs.Fmt.{decimal}
+use Rattle.schema.specs.TypesFile.{ServedShape}
+use Rattle.verbs.specs.Machine.{fresh}
+use Rattle.httpedge.specs.Hub as edge
+use Rattle.wireclient.specs.Reads as reads
+use Rattle.wireclient.specs.Reply as reply
+use Rattle.programs.specs.Script.{Apply, Event, apply, opens, comes}
+use Rattle.programs.specs.Requests.{IsRequestOf}
+
+-- ---- what is printed
+
+-- of a reply's head the status and a blank, the body, and at its end a line feed
+abbrev pub words_of : reply.Told → List ℕ
+words_of (reply.head status) = decimal status ++ 32 ∷ []
+words_of (reply.whole body) = body
+words_of reply.end = 10 ∷ []
+words_of (reply.line text) = []
+words_of reply.malformed = []
+
+-- the text tells the reply that these bytes are, as a client reads it
+abbrev pub TellsReply : List ℕ → List ℕ → Type 0
+TellsReply bytes text = (reader : Option reply.State) × (items : List reply.Told) × reads.Stands reader bytes items × (text ≡ flat_map words_of items)
+
+-- a connection's id, how many bytes were written on it, and these
+abbrev pub connection_text : ℕ → List ℕ → List ℕ
+connection_text id bytes = codes "connection " ++ (decimal id ++ (32 ∷ (decimal (length bytes) ++ (10 ∷ (bytes ++ 10 ∷ [])))))
+
+-- ---- one event
+
+-- the hub, the highest id so far, and the connections that are not of an apply, in the order of their ids
+pub record Run : Type 0 where
+  pub hub : edge.State
+  pub highest : ℕ
+  pub others : List ℕ
+
+abbrev pub start : Run
+start = record { hub = edge.no_connections (fresh 1); highest = 0; others = [] }
+
+-- the hub takes an event, or refuses it and stays as it is
+abbrev pub Takes : List ServedShape → edge.State → edge.Event → Bool → edge.State → Type 0
+Takes types s e true t = (edge.refusal_of s.connections e ≡ None) × edge.Steps types s e t
+Takes types s e false t = (edge.refusal_of s.connections e ≢ None) × (t ≡ s)
+
+abbrev pub Follows : List ServedShape → edge.State → edge.Event → edge.State → Type 0
+Follows types s e t = (taken : Bool) × Takes types s e taken t
+
+-- the connection of an apply is the next one, if there is one
+abbrev pub next_id : ℕ → Option ℕ
+next_id highest = if nat_lt highest 18446744073709551615 then Some (highest + 1) else None
+
+-- it opens, the request comes on it, and the text tells its reply
+abbrev pub Answers : List ServedShape → edge.State → ℕ → Apply → List ℕ → edge.State → Type 0
+Answers types s id a text t =
+    (opened : edge.State) × (bytes : List ℕ) × Follows types s (edge.opens id) opened × IsRequestOf a bytes × Follows types opened (edge.comes id bytes) t
+    × TellsReply (edge.written_on id t.connections) text
+
+abbrev pub Applies : List ServedShape → Run → Apply → Option ℕ → List ℕ → Run → Type 0
+Applies types r a None text q = (text ≡ []) × (q ≡ r)
+Applies types r a (Some id) text q = (t : edge.State) × Answers types r.hub id a text t × (q ≡ record { hub = t; highest = id; others = r.others })
+
+-- a connection that opened is one of the others
+abbrev pub noted : Run → ℕ → Bool → edge.State → Run
+noted r id true t = record { hub = t; highest = id; others = r.others ++ id ∷ [] }
+noted r id false t = record { hub = t; highest = r.highest; others = r.others }
+
+-- the event leads from a run to another, and prints the text
+abbrev pub Does : List ServedShape → Run → Event → List ℕ → Run → Type 0
+Does types r (apply a) text q = Applies types r a (next_id r.highest) text q
+Does types r (opens id) text q = (text ≡ []) × ((taken : Bool) × (t : edge.State) × Takes types r.hub (edge.opens id) taken t × (q ≡ noted r id taken t))
+Does types r (comes id bytes) text q = (text ≡ []) × ((t : edge.State) × Follows types r.hub (edge.comes id bytes) t × (q ≡ record { hub = t; highest = r.highest; others = r.others }))
+
+-- ---- all events
+
+abbrev pub Runs : List ServedShape → Run → List Event → List ℕ → Run → Type 0
+Runs types r [] text q = (text ≡ []) × (q ≡ r)
+Runs types r (e ∷ es) text q = (p : Run) × (first : List ℕ) × (rest : List ℕ) × Does types r e first p × Runs types p es rest q × (text ≡ first ++ rest)
+
+-- what was written on these connections
+abbrev pub connections_text : edge.State → List ℕ → List ℕ
+connections_text s ids = flat_map (λ id. connection_text id (edge.written_on id s.connections)) ids
+
+-- what the events print: the replies to the applies, then what was written on the other connections
+abbrev pub Prints : List ServedShape → List Event → List ℕ → Type 0
+Prints types events text = (q : Run) × (replies : List ℕ) × Runs types start events replies q × (text ≡ replies ++ connections_text q.hub q.others)
