@@ -3,16 +3,16 @@ use Rattle.std.specs.Cmp.Lexicographic.{slice_cmp}
 use Rattle.std.specs.FinMap as fin
 use Rattle.std.specs.List.Sorted.{IsStrictlySortedBy}
 use Rattle.std.specs.Map.{keys_of, remove_entry, set_value}
-use Rattle.std.specs.BTreeMap.{insert_entry, is_at}
+use Rattle.std.specs.BTreeMap.{is_at}
 use Rattle.std.proofs.lemmas.Map.Keys.{sorted_head}
-use Rattle.std.proofs.Common.{◌≡◌, ℕ, Bool, true, false, cond, is_eq, nat_cmp, string_cmp, ap₂, List, [], ◌∷◌, Option, Some, None, String, Global, string_bytes, sym, ap, ◌∙◌, subst, refl, rules}
+use Rattle.std.proofs.Common.{◌≡◌, ℕ, Bool, true, false, cond, is_eq, nat_cmp, string_cmp, ap₂, List, [], ◌∷◌, Option, Some, None, String, Global, string_bytes, sym, ap, ◌∙◌, refl, rules}
 use Rattle.fieldpath.specs.Paths.{PathTexts}
-use Rattle.pathmap.specs.Contents.{Standing, Content, nothing, here, over, gather}
+use Rattle.pathmap.specs.Contents.{Standing, nothing, here, over, gather}
 use Rattle.pathmap.specs.Maps.{content, contents_in, at_top, standing, at_name, either_top, content_or_nothing, content_at}
 use Rattle.pathmap.specs.declared.held.Held.{Held}
 use Rattle.pathmap.specs.declared.pathmap.PathMap.{PathMap, out-PathMap, the_lemmas}
 use Rattle.pathmap.proofs.Contents.{path_cmp_total, same, either, either-None, get-nothing, get-here-below, get-over, nothing-over}
-use Rattle.pathmap.proofs.Trees.{get_in, past, ties, get-gather, get-gather-top, same_gather, at_name-insert_entry}
+use Rattle.pathmap.proofs.Trees.{get_in, past, ties, get-gather, get-gather-top, same_gather}
 
 pub get_in-content : (m : Option PathMap) (rest : PathTexts) → get_in m rest ≡ fin.get (content_or_nothing m) rest
 get_in-content None rest = sym (get-nothing rest)

@@ -3,7 +3,7 @@ use Rattle.std.specs.List.Sorted.{IsStrictlySortedBy}
 use Rattle.std.specs.Map.{keys_of}
 use Rattle.std.proofs.lemmas.Map.Keys.{sorted_tail}
 use Rattle.pathmap.specs.Contents.{over}
-use Rattle.pathmap.specs.declared.pathmap.PathMap.{PathMap, out-PathMap}
+use Rattle.pathmap.specs.declared.pathmap.PathMap.{PathMap}
 use Rattle.pathmap.proofs.Copies.{Copies, copies_first, copies_more, copies_all}
 use Rattle.pathmap.proofs.Merging.{content-out}
 use Rattle.pathmap.proofs.Trees.{content-map}

@@ -1,4 +1,4 @@
-use Rattle.std.proofs.Common.{◌≡◌, ap, ap₂, sym, subst, ◌∙◌, cond, Some, is_eq, nat_cmp, string_bytes, string_cmp, String, Global}
+use Rattle.std.proofs.Common.{ap, ap₂, sym, subst, ◌∙◌, cond, Some, is_eq, nat_cmp, string_bytes, string_cmp, String, Global}
 use Rattle.std.specs.Cmp.Lexicographic.{slice_cmp}
 use Rattle.std.specs.Cmp.{tied_itself}
 use Rattle.std.specs.List.Sorted.{IsStrictlySortedBy}
