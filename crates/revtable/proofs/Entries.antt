@@ -13,7 +13,7 @@ use Rattle.revtable.specs.History.{Key, Change, Object, Objects, key_cmp, is_sam
 use Rattle.revtable.specs.Asked.{as_change}
 use Rattle.revtable.specs.Kept.{stands}
 use Rattle.revtable.proofs.Keys.{key_cmp_total, key_cmp_antisymmetric, same}
-use Rattle.revtable.proofs.Pruning.{filter_both}
+use Rattle.revtable.proofs.Filters.{filter_both}
 use Rattle.revtable.proofs.Standing.{standing_by, standing_is, has_later}
 use Rattle.revtable.proofs.Where.{same_key_symm}
 

@@ -10,8 +10,8 @@ pub mod Lists
 pub mod Numbers
 pub mod Outcomes
 pub mod Pages
-pub mod Prune
-pub mod Pruning
+pub mod Keeping
+pub mod Filters
 pub mod Revisions
 pub mod Span
 pub mod Standing

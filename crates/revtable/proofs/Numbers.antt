@@ -1,5 +1,5 @@
 -- The two numbers beside the rows.
-use Rattle.std.proofs.Common.{◌≡◌, ℕ, zero, suc, ◌<◌, ◌≤◌, Bool, true, false, cond, List, [], ◌∷◌, ◌++◌, map, slice_get, refl, sym, ap, ap₂, subst, ◌∙◌, Option, Some, None, arith, option_and_then, min, max, pos, is_some, unwrap_or}
+use Rattle.std.proofs.Common.{◌≡◌, ℕ, zero, suc, ◌<◌, ◌≤◌, ◌^◌, Bool, true, false, cond, List, [], ◌∷◌, ◌++◌, map, slice_get, refl, sym, ap, ap₂, subst, ◌∙◌, Option, Some, None, arith, option_and_then, min, max, pos, is_some, unwrap_or}
 use Rattle.std.proofs.Common.{leb-true, leb-false, le-leb, ltb-true, ltb-false, lt-ltb, le-ltb, zero-le}
 use Rattle.std.proofs.lemmas.Bool.{lt-leb}
 use Rattle.std.specs.Prelude.{nat_le, nat_lt, take, ◌+◌, ◌-◌, length}
@@ -23,6 +23,11 @@ use Rattle.revtable.proofs.Standing.{filter_same_on}
 
 pub ordered : (h : History) → IsPruned h → IsOrdered h.changes
 ordered h p = ascending 0 h.current h.changes p.is.rising
+
+pub rises : (h : History) → IsPruned h → (top : ℕ) × IsRising 0 h.changes top × (top < 2 ^ 63)
+rises h p =
+    let high : h.current ≤ last_revision = p.is.high in
+    (h.current, p.is.rising, omega arith)
 
 below_next : (h : History) → IsPruned h → AreBelow (suc h.current) h.changes
 below_next h p = all_weaker (λ c. c.revision ≤ h.current) (λ c. c.revision < suc h.current) (λ c (le : c.revision ≤ h.current). omega arith) h.changes (all_within 0 h.current h.changes p.is.rising)

@@ -4,13 +4,13 @@ use Rattle.sqlite.specs.declared.types.Value.TheVariants.{Null, Int}
 use Rattle.sqlite.specs.Term.{Term, lit, col, op1, op2}
 use Rattle.sqlite.specs.Collation.TheVariants.{Binary}
 use Rattle.sqlite_sql.specs.declared.ops.CompareOp.TheVariants.{Eq, Gt, Ge, Le}
-use Rattle.sqlite_sql.specs.declared.ops.BinaryOp.TheVariants.{Compare, Or, Is}
+use Rattle.sqlite_sql.specs.declared.ops.BinaryOp.TheVariants.{Compare, And, Or, Is}
 use Rattle.sqlite_sql.specs.declared.ops.UnaryOp.TheVariants.{Not}
 use Rattle.sqlite_sql.specs.declared.aggregate.AggregateOp.TheVariants.{CountRows as Count}
 use Rattle.sqlite_sql.specs.Group.{Aggregate, Grouping}
 use Rattle.sqlite.specs.Query.{Query, inner, counted, end}
 use Rattle.sqlite.specs.Source.TheVariants.{Values}
-use Rattle.sqlite.specs.Command.TheVariants.{Insert, Select, Delete, CreateTable}
+use Rattle.sqlite.specs.Command.TheVariants.{Insert, Select, CreateTable}
 use Rattle.sqlite.specs.Compile.{table_defined_by}
 use Rattle.sqlite_tied.specs.Compute.{everything}
 use Rattle.sqlite.specs.Listing.{understood, reads_listing}
@@ -149,29 +149,30 @@ pub past_plain : IsPlain (understood change_schema past_text)
 unfolding understood everything
 past_plain = (refl, refl)
 
-abbrev pub prune_text : List ℕ
-prune_text = codes "DELETE FROM change WHERE revision <= ?1 AND (body IS NULL OR EXISTS (SELECT 1 FROM change AS later WHERE change.kind = later.kind AND change.namespace = later.namespace AND change.name = later.name AND later.revision > change.revision AND NOT later.revision > ?1))"
+-- the kept changes
+abbrev pub kept_text : List ℕ
+kept_text = codes "SELECT revision, kind, namespace, name, body FROM change WHERE revision > ?1 OR body IS NOT NULL AND NOT EXISTS (SELECT 1 FROM change AS later WHERE change.kind = later.kind AND change.namespace = later.namespace AND change.name = later.name AND later.revision > change.revision AND NOT later.revision > ?1) ORDER BY revision"
 
-abbrev pub prune_query : Query
-prune_query = record {
+abbrev pub kept_query : Query
+kept_query = record {
   from = inner 0 (counted 1 (inner 0 end) (later_tests (col 0 0)) end);
-  filter = op2 (Compare Le Binary) (col 1 0) (col 0 0) ∷ op2 Or (op2 (Is Binary) (col 1 5) (lit Null)) (col 2 0) ∷ [];
+  filter = op2 Or (op2 (Compare Gt Binary) (col 1 0) (col 0 0)) (op2 And (op1 Not (op2 (Is Binary) (col 1 5) (lit Null))) (op1 Not (col 2 0))) ∷ [];
   group = None;
-  project = col 1 0 ∷ [];
+  project = col 1 0 ∷ col 1 2 ∷ col 1 3 ∷ col 1 4 ∷ col 1 5 ∷ [];
   distinct = false;
   collations = [];
-  order = [];
+  order = (col 1 0, record { collation = Binary; descending = false }) ∷ [];
   limit = lit (Int (negsuc 0));
   offset = lit (Int (pos 0));
 }
 
-pub prune_is : command_of (understood change_schema prune_text) ≡ Delete 0 (record { lets = []; body = prune_query })
+pub kept_is : (command_of (understood change_schema kept_text) ≡ Select (record { lets = []; body = kept_query }) names) × (reads_listing change_schema kept_text ≡ false)
 unfolding understood everything
-prune_is = refl
+kept_is = (refl, refl)
 
-pub prune_plain : IsPlain (understood change_schema prune_text)
+pub kept_plain : IsPlain (understood change_schema kept_text)
 unfolding understood everything
-prune_plain = (refl, refl)
+kept_plain = (refl, refl)
 
 abbrev pub count_text : List ℕ
 count_text = codes "SELECT COUNT(*) FROM change WHERE body IS NOT NULL"

@@ -14,7 +14,7 @@ use Rattle.sqlite_sql.specs.declared.ops.CompareOp.TheVariants.{Eq, Gt, Ge, Le}
 use Rattle.sqlite_sql.specs.declared.ops.BinaryOp.TheVariants.{Compare, Or, Is}
 use Rattle.sqlite_sql.specs.declared.ops.UnaryOp.TheVariants.{Not}
 use Rattle.sqlite_sql.specs.Term.{Env, holds}
-use Rattle.sqlite_sql.specs.Ops.{binary, unary, truth, from_truth, or3, not3}
+use Rattle.sqlite_sql.specs.Ops.{binary, unary, truth, from_truth, and3, or3, not3}
 use Rattle.sqlite_value.proofs.OrderLemmas.{value_cmp-Int, value_cmp-Text, value_cmp_total, value_cmp-apart}
 use Rattle.sqlite_value.specs.Order.{value_cmp, Row}
 use Rattle.revtable.specs.History.{Key, Change, text_cmp, is_same_key}
@@ -23,7 +23,7 @@ use Rattle.revtable.specs.Kept.{replaces, stands}
 use Rattle.revtable.specs.Page.{is_within}
 use Rattle.revtable.specs.Rows.{row_of, body_value}
 use Rattle.revtable.proofs.Keys.{key_cmp_total}
-use Rattle.revtable.proofs.Texts.{last_query, span_query, prune_query, count_query, later_tests, in_tests, past_tests}
+use Rattle.revtable.proofs.Texts.{last_query, span_query, kept_query, count_query, later_tests, in_tests, past_tests}
 
 pub truth_back : (b : Bool) → unwrap_or (truth (from_truth (Some b))) false ≡ b
 truth_back true = refl
@@ -111,19 +111,6 @@ some_counted p (c ∷ cs) = go (p c) (some_counted p cs)
 null_is : (b : Option (List ℕ)) → is_eq (value_cmp (body_value b) Null) ≡ is_none b
 null_is None = ap is_eq (tied_itself value_cmp_total Null)
 null_is (Some t) = ap is_eq (value_cmp-apart (Words t) Null (λ e. absurd (omega (arith, e))))
-
-or_is : (a b : Bool) → unwrap_or (truth (from_truth (or3 (truth (from_truth (Some a))) (Some b)))) false ≡ (a || b)
-or_is true true = refl
-or_is true false = refl
-or_is false true = refl
-or_is false false = refl
-
-pub prune_tests : (c n : ℕ) (it : Change)
-    → list_all (holds ((Int (pos c) ∷ []) ∷ row_of it ∷ (Int (pos (min 1 n)) ∷ []) ∷ [])) prune_query.filter ≡ (nat_le it.revision c && (is_none it.body || nat_lt 0 n))
-unfolding binary
-prune_tests c n it =
-    rw (value_cmp-Int (pos it.revision) (pos c)) (rw (null_is it.body) (
-    rw (truth_back (is_le (int_cmp (pos it.revision) (pos c))), or_is (is_none it.body) (not (int_eq (pos (min 1 n)) (pos 0))), le_is it.revision c, nonzero n, with_true (is_none it.body || nat_lt 0 n)) refl))
 
 -- ---- a type, a namespace, a place and a revision
 
@@ -296,6 +283,41 @@ past_tests_are kind ns r max all it =
     let n = length (filter (replaces r it) all) in
     rw (of_kind it.key.kind kind, past_text_is it.key.namespace ns, up_to_revision it.revision r, has_body it.body, not_counted n, with_true (not (nat_lt 0 n)), some_counted (replaces r it) all)
     (later_turn (it.key.kind == kind) (is_gt (text_cmp it.key.namespace ns)) (stands r all it))
+
+-- ---- what is kept
+
+kept_by : (a b c : Bool) → passes (or_value (from_truth (Some a)) (from_truth (and3 (truth (from_truth (not3 (truth (from_truth (Some b)))))) (truth (from_truth (not3 (Some c))))))) ≡ (a || (not b && not c))
+kept_by true true true = refl
+kept_by true true false = refl
+kept_by true false true = refl
+kept_by true false false = refl
+kept_by false true true = refl
+kept_by false true false = refl
+kept_by false false true = refl
+kept_by false false false = refl
+
+not_below : (n c : ℕ) → nat_lt c n ≡ not (nat_le n c)
+not_below n c = grind (arith, nat_tests)
+
+or_up_to : (l s : Bool) → (not l || s) ≡ (not l || (l && s))
+or_up_to true s = refl
+or_up_to false s = refl
+
+pub kept_tests_are : (c : ℕ) (all : List Change) (it : Change)
+    → list_all (holds ((Int (pos c) ∷ []) ∷ row_of it ∷ beside c all it ∷ [])) kept_query.filter ≡ (nat_lt c it.revision || stands c all it)
+unfolding binary unary
+kept_tests_are c all it =
+    let n = length (filter (replaces c it) all) in
+    rw (value_cmp-Int (pos it.revision) (pos c)) (rw (null_is it.body) (
+    rw (
+      kept_by (is_gt (int_cmp (pos it.revision) (pos c))) (is_none it.body) (not (int_eq (pos (min 1 n)) (pos 0))),
+      gt_is it.revision c,
+      not_null it.body,
+      nonzero n,
+      some_counted (replaces c it) all,
+      with_true (nat_lt c it.revision || (is_some it.body && not (list_any (replaces c it) all))),
+      not_below it.revision c,
+    ) (or_up_to (nat_le it.revision c) (is_some it.body && not (list_any (replaces c it) all)))))
 
 pub count_tests : (c : Change) → list_all (holds ([] ∷ row_of c ∷ [])) count_query.filter ≡ is_some c.body
 count_tests c = rw (has_body c.body) (with_true (is_some c.body))

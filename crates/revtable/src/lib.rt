@@ -5,6 +5,7 @@
 //! that fails leaves it as it was. It stands on `sqlite` and on that crate's promises over its memory store.
 #![tactic(auto)]
 
+mod copying;
 mod fault;
 mod laws;
 mod paging;

@@ -20,7 +20,7 @@ fn read_key(row: &Row) -> Result<Key, Error>
     })
 }
 
-fn read_change(row: &Row) -> Result<Change, Error>
+pub(crate) fn read_change(row: &Row) -> Result<Change, Error>
     ensures { IfOk result (λ c. change_of c ≡ change_shown row.now) }
 {
     Ok(Change {

@@ -67,18 +67,18 @@ pub(crate) fn newest(
     )
 }
 
-/// Takes out all but the kept changes. `NOT later.revision > ?1` says `<=`, but as two bounds of the rowid would be
-/// preferred to the index by key, which finds the next change of the key at once, it is kept from being one.
-pub(crate) fn delete_old(conn: &mut Connection<MemStore>, revision: u64) -> Result<usize, Error>
+/// The kept changes. `NOT later.revision > ?1` says `<=`, but as two bounds of the rowid would be preferred to the
+/// index by key, which finds the next change of the key at once, it is kept from being one.
+pub(crate) fn unpruned(conn: &mut Connection<MemStore>, revision: u64) -> Result<Vec<Row>, Error>
     requires fits { revision < 2 ^ 63 }
-    requires was { IsKept (state over_memory conn.old) }
+    requires kept { IsKept (state over_memory conn.old) }
     requires ordered { IsOrdered (changes_in (state over_memory conn.old)) }
-    ensures stays { IsKept (state over_memory conn.new) }
-    ensures ok { OnOk result (changes_in (state over_memory conn.new) ≡ kept revision (changes_in (state over_memory conn.old))) }
-    ensures err { OnErr result (changes_in (state over_memory conn.new) ≡ changes_in (state over_memory conn.old)) }
+    ensures kept { IsKept (state over_memory conn.new) }
+    ensures same { changes_in (state over_memory conn.new) ≡ changes_in (state over_memory conn.old) }
+    ensures ok { IfOk result (λ rows. rows.items ≡ map shown (kept revision (changes_in (state over_memory conn.old)))) }
 {
-    conn.execute(
-        "DELETE FROM change WHERE revision <= ?1 AND (body IS NULL OR EXISTS (SELECT 1 FROM change AS later WHERE change.kind = later.kind AND change.namespace = later.namespace AND change.name = later.name AND later.revision > change.revision AND NOT later.revision > ?1))",
+    conn.query_all(
+        "SELECT revision, kind, namespace, name, body FROM change WHERE revision > ?1 OR body IS NOT NULL AND NOT EXISTS (SELECT 1 FROM change AS later WHERE change.kind = later.kind AND change.namespace = later.namespace AND change.name = later.name AND later.revision > change.revision AND NOT later.revision > ?1) ORDER BY revision",
         params![revision as i64],
     )
 }

@@ -8,7 +8,7 @@ ghost use Rattle.revtable.specs.Read.{change_of, entry_of, key_of, object_of};
 use crate::fault::Fault;
 use crate::reading::{read_changes, read_entries, read_left};
 use crate::row::{Change, Entry, Key, Marks, Object};
-use crate::{paging, statements};
+use crate::{copying, paging, statements};
 use sqlite::{Connection, MemStore};
 use std::alloc::Global;
 use std::marker::Model;
@@ -178,7 +178,7 @@ impl Table {
         ensures err { OnErr result (self.new ≡ self.old) }
     {
         let revision = revision.min(self.current).max(self.compacted);
-        statements::delete_old(&mut self.conn, revision)?;
+        self.conn = copying::copied(self.alloc, &mut self.conn, revision)?;
         self.compacted = revision;
         Ok(())
     }
