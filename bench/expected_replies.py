@@ -1,0 +1,430 @@
+#!/usr/bin/env python3
+"""Writes the stored run of ssa_replay: a script that meets each message that a PATCH can be told, and what it must print.
+
+Usage: bench/expected_replies.py   (writes crates/ssa_replay/data/messages.jsonl and crates/ssa_replay/stdout)
+
+The program is not run here. Each request stands beside the status, the reason and the message of the tables below, or
+beside the object that it has to leave; heads, lengths and versions are computed here. The last check is that no message
+of the table is left out. `rt ci` compares what the program prints with what stands in `stdout`.
+"""
+import json
+import os
+
+TOP = os.path.dirname(os.path.dirname(os.path.abspath(__file__)))
+PROGRAM = os.path.join(TOP, "crates", "ssa_replay")
+
+# code, phrase, reason, messages
+TABLE = [
+    (400, "Bad Request", "BadRequest", [
+        "bad request head", "one Host field is needed", "bad Content-Length", "body is not JSON",
+        "apiVersion and kind must be {} and {}", "metadata.name must be {}", "metadata.namespace must be {}",
+        "metadata.resourceVersion: bad version", "metadata.managedFields must be empty",
+        "{}: not an object", "{}: unknown field", "{}: wrong type", "bad parameter: {}"]),
+    (404, "Not Found", "NotFound", ["no such path"]),
+    (405, "Method Not Allowed", "MethodNotAllowed", ["method not served here"]),
+    (409, "Conflict", "Conflict", [
+        "version {} is not the stored one, {}", "version {} was given and there is no object",
+        "Apply failed with {} conflict(s)"]),
+    (411, "Length Required", "LengthRequired", ["Content-Length is needed"]),
+    (413, "Payload Too Large", "RequestEntityTooLarge", ["body over 65536 bytes"]),
+    (415, "Unsupported Media Type", "UnsupportedMediaType", ["media type not served"]),
+    (422, "Unprocessable Entity", "Invalid", [
+        "{}: duplicate item", "{}: key field missing", "fieldManager: 1 to 128 printable characters",
+        "metadata.name: bad name", "metadata.namespace: bad namespace", "metadata.labels: bad key",
+        "metadata.labels: bad value", "metadata.annotations: bad key", "metadata.labels: more than 64",
+        "object over 262144 bytes"]),
+    (431, "Request Header Fields Too Large", "RequestHeaderFieldsTooLarge", ["request head too large"]),
+    (501, "Not Implemented", "NotImplemented", ["Transfer-Encoding is not served"]),
+    # "revisions are used up" stands after 9223372036854775805 changes: no script has so many.
+    (503, "Service Unavailable", "ServiceUnavailable", ["too many connections"]),
+    (505, "HTTP Version Not Supported", "HTTPVersionNotSupported", ["HTTP/1.1 is needed"]),
+]
+PHRASES = {code: phrase for code, phrase, _, _ in TABLE} | {200: "OK", 201: "Created"}
+FOUND = {message: (code, reason) for code, _, reason, messages in TABLE for message in messages}
+
+API_VERSION = "demo.example/v1"
+WIDGETS = "/apis/demo.example/v1/namespaces/default/widgets/"
+MEDIA = "application/apply-patch+yaml"
+HOST = ["Host: localhost"]
+
+
+def compact(value):
+    return json.dumps(value, sort_keys=True, separators=(",", ":"))
+
+
+# ---- what a reply says
+
+met = set()
+
+
+def refused(message, *words, details=None):
+    """The status and the body of a refusal, by its message in the table."""
+    met.add(message)
+    code, reason = FOUND[message]
+    status = {"apiVersion": "v1", "code": code, "kind": "Status", "message": message.format(*words), "metadata": {},
+              "reason": reason, "status": "Failure"}
+    if details is not None:
+        status["details"] = details
+    return code, compact(status)
+
+
+def conflicts(*causes):
+    """The refusal of an apply by the fields that others own: a path and its owner each."""
+    causes = [{"field": field, "message": f'conflict with "{owner}" using {API_VERSION}', "reason": "FieldManagerConflict"}
+              for field, owner in causes]
+    return refused("Apply failed with {} conflict(s)", len(causes), details={"causes": causes})
+
+
+def widget(name, version, owners, spec=None, labels=None):
+    """An object as it is printed; owners are pairs of a manager and its fields."""
+    metadata = {"name": name, "namespace": "default", "resourceVersion": str(version)}
+    if owners:
+        metadata["managedFields"] = [
+            {"apiVersion": API_VERSION, "fieldsType": "FieldsV1", "fieldsV1": fields, "manager": manager, "operation": "Apply"}
+            for manager, fields in owners]
+    if labels is not None:
+        metadata["labels"] = labels
+    printed = {"apiVersion": API_VERSION, "kind": "Widget", "metadata": metadata}
+    if spec is not None:
+        printed["spec"] = spec
+    return compact(printed)
+
+
+def in_spec(*fields):
+    return {"f:spec": {"f:" + field: {} for field in fields}}
+
+
+def reply(code, body, allow=None):
+    """The bytes of a reply."""
+    fields = [f"HTTP/1.1 {code} {PHRASES[code]}", "Content-Type: application/json", f"Content-Length: {len(body)}",
+              "Connection: close"]
+    if allow is not None:
+        fields.append("Allow: " + allow)
+    return "".join(field + "\r\n" for field in fields) + "\r\n" + body
+
+
+# ---- the script
+
+lines = []      # of the script
+replies = []    # to the applies, in order
+written = {}    # by connection, without those of applies
+last_id = 0
+revision = 1
+
+
+def next_id():
+    global last_id
+    last_id += 1
+    return last_id
+
+
+def next_revision():
+    global revision
+    revision += 1
+    return revision
+
+
+def line(event):
+    lines.append(json.dumps(event, separators=(",", ":")))
+
+
+def body_of(**members):
+    """A body with the envelope of a widget."""
+    return {"apiVersion": API_VERSION, "kind": "Widget", **members}
+
+
+def apply(name, body, expected, manager="alice", force=False, path=None):
+    """An apply line, with the status and the body of its reply."""
+    target = WIDGETS + name if path is None else path
+    line({"apply": {"body": body, "force": force, "manager": manager, "target": target}})
+    next_id()
+    replies.append("{} {}\n".format(*expected))
+
+
+def opened(expected=""):
+    """A connection that opens, and what is written at once."""
+    connection = next_id()
+    line({"open": connection})
+    written[connection] = expected
+    return connection
+
+
+def comes(connection, text):
+    line({"in": [connection, text]})
+
+
+def asked(text, expected, allow=None):
+    """Bytes that come on a connection of their own, and the reply."""
+    connection = opened()
+    comes(connection, text)
+    written[connection] = reply(*expected, allow=allow)
+    return connection
+
+
+def undecided(text):
+    """Bytes that decide nothing yet."""
+    connection = opened()
+    comes(connection, text)
+    return connection
+
+
+def request(fields, body="", target=WIDGETS + "w9?fieldManager=alice", method="PATCH", version="HTTP/1.1"):
+    return f"{method} {target} {version}\r\n" + "".join(field + "\r\n" for field in fields) + "\r\n" + body
+
+
+def patch(body, fields=(), target=WIDGETS + "w9?fieldManager=alice", **rest):
+    """A request with the host, the media type, the length and these fields."""
+    return request(HOST + ["Content-Type: " + MEDIA, f"Content-Length: {len(body)}"] + list(fields), body, target, **rest)
+
+
+# ---- the rows
+
+def six_lines():
+    """The lines of data/script.jsonl: two managers, a conflict, force, a field that is left out."""
+    def w1(version, owners, replicas):
+        return widget("w1", version, owners, {"image": "a", "replicas": replicas})
+
+    def apply_w1(spec, expected, manager, force=False):
+        body = body_of(metadata={"name": "w1"}, **({} if spec is None else {"spec": spec}))
+        apply("w1", body, expected, manager, force)
+
+    both = in_spec("image", "replicas")
+    split = [("alice", in_spec("image")), ("bob", in_spec("replicas"))]
+    apply_w1({"image": "a", "replicas": 3}, (201, w1(next_revision(), [("alice", both)], 3)), "alice")
+    apply_w1({"replicas": 5}, conflicts((".spec.replicas", "alice")), "bob")
+    apply_w1({"replicas": 5}, (200, w1(next_revision(), split, 5)), "bob", True)
+    apply_w1({"image": "a"}, (200, w1(revision, split, 5)), "alice")
+    apply_w1({"image": "a", "replicas": 5}, (200, w1(next_revision(), [("alice", in_spec("image")), ("bob", both)], 5)), "bob")
+    apply_w1(None, (200, w1(next_revision(), [("bob", both)], 5)), "alice")
+    assert revision == 5 and len(replies[-1]) == len("200 \n") + 315
+
+
+def first_apply_in_bytes():
+    """A first apply as bytes, whole and cut in two; what comes after it is read past."""
+    spec = {"image": "a", "replicas": 3}
+    for name, pieces in (("w2", 1), ("w3", 2)):
+        body = compact(body_of(metadata={"name": name}, spec=spec))
+        assert len(body) == 107
+        text = patch(body, target=WIDGETS + name + "?fieldManager=alice")
+        created = widget(name, next_revision(), [("alice", in_spec("image", "replicas"))], spec)
+        connection = opened()
+        cut = len(text) if pieces == 1 else len(text) - 50
+        for piece in (text[:cut], text[cut:]):
+            if piece:
+                comes(connection, piece)
+        comes(connection, "read past")
+        written[connection] = reply(201, created)
+        assert len(created) == 317 and len(written[connection]) == 413
+    comes(last_id + 1, "on a connection that isn't there")
+    line({"open": last_id})
+
+
+def heads():
+    """A request's head: sizes, form, version, host, lengths."""
+    undecided("a" * 16384)
+    asked("a" * 16385, refused("request head too large"))
+    filler = [f"X-{n}: y" for n in range(61)]
+    body = compact(body_of())
+    created = widget("w8", next_revision(), [])
+    asked(patch(body, filler, target=WIDGETS + "w8?fieldManager=alice"), (201, created))
+    asked(patch(body, filler + ["X-61: y"]), refused("request head too large"))
+    undecided("\x01 \x01\r\n")
+    asked("\x01 \x01\r\n\r\n", refused("bad request head"))
+    asked(patch("{}", target="widgets"), refused("bad request head"))
+    apply("", body_of(), refused("bad request head"), path="")
+    asked(patch("{}", version="HTTP/1.0"), refused("HTTP/1.1 is needed"))
+    media = "Content-Type: " + MEDIA
+    asked(request([media, "Content-Length: 2"], "{}"), refused("one Host field is needed"))
+    asked(patch("{}", HOST), refused("one Host field is needed"))
+    for lengths in (["5", "5"], ["0005"]):
+        asked(request(HOST + [media] + ["Content-Length: " + n for n in lengths], '"abc"'), refused("{}: not an object", "."))
+    for lengths in (["5", "6"], ["5, 5"], ["+5"], [""]):
+        asked(request(HOST + [media] + ["Content-Length: " + n for n in lengths], '"abc"'), refused("bad Content-Length"))
+    asked(request(HOST + [media], "{}"), refused("Content-Length is needed"))
+    asked(patch("{}", ["Transfer-Encoding: chunked"]), refused("Transfer-Encoding is not served"))
+
+
+def routes():
+    """The path, the method, the media type."""
+    namespace = "/apis/demo.example/v1/namespaces/default/"
+    for path in (namespace + "gadgets/w1", namespace + "widgets//", WIDGETS + "w1/status", "/%61pis" + WIDGETS[5:] + "w1"):
+        apply("", body_of(), refused("no such path"), path=path)
+    asked(patch("{}", method="PURGE"), refused("method not served here"), allow="PATCH")
+    asked(request(HOST + ["Content-Type: application/json", "Content-Length: 2"], "{}"), refused("media type not served"))
+    asked(request(HOST + ["Content-Length: 2"], "{}"), refused("media type not served"))
+
+
+def bodies():
+    """A body's size, its JSON, its numbers."""
+    spec = {"image": "a", "replicas": 3}
+    body = compact(body_of(metadata={"name": "w4"}, spec=spec))
+    created = widget("w4", next_revision(), [("alice", in_spec("image", "replicas"))], spec)
+    asked(patch(body + " " * (65536 - len(body)), target=WIDGETS + "w4?fieldManager=alice"), (201, created))
+    media = "Content-Type: " + MEDIA
+    asked(request(HOST + [media, "Content-Length: 65537"]), refused("body over 65536 bytes"))
+    asked(patch("[" * 1000 + "]" * 1000), refused("body is not JSON"))
+    asked(patch("{"), refused("body is not JSON"))
+    asked(patch(""), refused("body is not JSON"))
+    asked(patch(compact(body_of(spec={"replicas": 0})).replace(":0", ":1e999")), refused("body is not JSON"))
+    undecided(patch("{}")[:-1])
+    for replicas in (1.0, 9223372036854775808, -9223372036854775809, 18446744073709551616):
+        apply("w9", body_of(spec={"replicas": replicas}), refused("{}: wrong type", ".spec.replicas"))
+    for name, replicas in (("most", 9223372036854775807), ("least", -9223372036854775808)):
+        created = widget(name, next_revision(), [("alice", in_spec("replicas"))], {"replicas": replicas})
+        apply(name, body_of(spec={"replicas": replicas}), (201, created))
+
+
+def envelopes():
+    """What a body says of itself, and the shape of the rest, on a widget that isn't there."""
+    must_be = refused("apiVersion and kind must be {} and {}", API_VERSION, "Widget")
+    rows = [
+        ([], refused("{}: not an object", ".")),
+        ({"apiVersion": 1, "kind": "Widget"}, refused("{}: wrong type", ".apiVersion")),
+        ({"apiVersion": API_VERSION, "kind": []}, refused("{}: wrong type", ".kind")),
+        ({}, must_be),
+        ({"apiVersion": "demo.example/v2", "kind": "Widget"}, must_be),
+        ({"apiVersion": API_VERSION, "kind": "LabelSummary"}, must_be),
+        (body_of(metadata=[]), refused("{}: not an object", ".metadata")),
+        (body_of(metadata={"name": 1}), refused("{}: wrong type", ".metadata.name")),
+        (body_of(metadata={"name": "w1"}), refused("metadata.name must be {}", "w9")),
+        (body_of(metadata={"namespace": {}}), refused("{}: wrong type", ".metadata.namespace")),
+        (body_of(metadata={"namespace": "other"}), refused("metadata.namespace must be {}", "default")),
+        (body_of(metadata={"resourceVersion": 4}), refused("{}: wrong type", ".metadata.resourceVersion")),
+        (body_of(metadata={"resourceVersion": "01"}), refused("metadata.resourceVersion: bad version")),
+        (body_of(metadata={"managedFields": {}}), refused("{}: wrong type", ".metadata.managedFields")),
+        (body_of(metadata={"managedFields": [{}]}), refused("metadata.managedFields must be empty")),
+        (body_of(metadata={"labels": {"tier": 1}}), refused("{}: wrong type", ".metadata.labels.tier")),
+        (body_of(metadata={"nope": "x"}), refused("{}: unknown field", ".metadata.nope")),
+        (body_of(nope={}), refused("{}: unknown field", ".nope")),
+        (body_of(spec="x"), refused("{}: not an object", ".spec")),
+        (body_of(spec={"nope": 1}), refused("{}: unknown field", ".spec.nope")),
+        (body_of(spec={"config": {"a": 5}}), refused("{}: wrong type", ".spec.config.a")),
+        (body_of(spec={"args": [None]}), refused("{}: wrong type", ".spec.args[0]")),
+        (body_of(spec={"ports": [{"name": "web"}, 5]}), refused("{}: not an object", ".spec.ports[1]")),
+        (body_of(spec={"ports": [{"name": "web"}, {"name": "web"}]}), refused("{}: duplicate item", ".spec.ports")),
+        (body_of(spec={"ports": [{"port": 80}]}), refused("{}: key field missing", ".spec.ports[0]")),
+        (body_of(spec={"tags": ["a", "a"]}), refused("{}: duplicate item", ".spec.tags")),
+    ]
+    for body, expected in rows:
+        apply("w9", body, expected)
+
+
+def parameters():
+    """The query; the names of managers."""
+    body = compact(body_of())
+    for query, name in (("fieldManager=alice&dryRun=All", "dryRun"), ("fieldManager=alice&fieldValidation=Warn", "fieldValidation"),
+                        ("fieldManager=alice&force=maybe", "force")):
+        asked(patch(body, target=WIDGETS + "w9?" + query), refused("bad parameter: {}", name))
+    no_manager = refused("fieldManager: 1 to 128 printable characters")
+    asked(patch(body, target=WIDGETS + "w9"), no_manager)
+    for manager in ("", "m" * 129, "tab\t", "\u00fc"):
+        apply("w9", body_of(), no_manager, manager)
+    for name, manager in (("long", "m" * 128), ("signs", "a b&c=d%+?#")):
+        created = widget(name, next_revision(), [(manager, in_spec("image"))], {"image": "a"})
+        apply(name, body_of(spec={"image": "a"}), (201, created), manager)
+
+
+def names():
+    """Names of objects and namespaces, keys and values of labels, keys of annotations."""
+    apply("W1", body_of(), refused("metadata.name: bad name"))
+    apply("", body_of(), refused("metadata.namespace: bad namespace"), path="/apis/demo.example/v1/namespaces/a.b/widgets/w1")
+    rows = [({"labels": {"-a": "b"}}, "metadata.labels: bad key"), ({"labels": {"a": "-b"}}, "metadata.labels: bad value"),
+            ({"annotations": {"a/b/c": "d"}}, "metadata.annotations: bad key")]
+    for metadata, message in rows:
+        apply("w9", body_of(metadata=metadata), refused(message))
+
+
+def versions_and_conflicts():
+    """A version that isn't the stored one; every conflict with every owner."""
+    apply("w9", body_of(metadata={"resourceVersion": "7"}), refused("version {} was given and there is no object", 7))
+    apply("w1", body_of(metadata={"resourceVersion": "4"}), refused("version {} is not the stored one, {}", 4, 5))
+    owners = []
+    for manager, code in (("alice", 201), ("bob", 200)):
+        owners.append((manager, in_spec("replicas")))
+        apply("shared", body_of(spec={"replicas": 3}), (code, widget("shared", next_revision(), owners, {"replicas": 3})), manager)
+    apply("shared", body_of(spec={"replicas": 4}), conflicts((".spec.replicas", "alice"), (".spec.replicas", "bob")), "carol")
+
+
+def lists():
+    """A set of items that two managers share, an atomic list, an object without content."""
+    def tags(*items):
+        return {"f:spec": {"f:tags": {f'v:"{item}"': {} for item in items}}}
+
+    first = widget("set", next_revision(), [("alice", tags("a", "b"))], {"tags": ["a", "b"]})
+    apply("set", body_of(spec={"tags": ["b", "a"]}), (201, first))
+    joined = widget("set", next_revision(), [("alice", tags("a", "b")), ("bob", tags("b", "c"))], {"tags": ["a", "b", "c"]})
+    apply("set", body_of(spec={"tags": ["b", "c"]}), (200, joined), "bob")
+    apply("set", body_of(), (200, widget("set", next_revision(), [("bob", tags("b", "c"))], {"tags": ["b", "c"]})))
+    apply("set", body_of(spec={"tags": ["a", "a"]}), refused("{}: duplicate item", ".spec.tags"), "bob")
+
+    whole = widget("atomic", next_revision(), [("alice", in_spec("args"))], {"args": ["x", "y"]})
+    apply("atomic", body_of(spec={"args": ["x", "y"]}), (201, whole))
+    apply("atomic", body_of(spec={"args": ["x"]}), conflicts((".spec.args", "alice")), "bob")
+    apply("atomic", body_of(metadata={"labels": None}, spec={"args": ["x", "y"], "config": {}}), (200, whole))
+
+    item = {'k:{"name":"web"}': {".": {}, "f:name": {}, "f:port": {}}}
+    ports = widget("keyed", next_revision(), [("alice", {"f:spec": {"f:ports": item}})], {"ports": [{"name": "web", "port": 80}]})
+    apply("keyed", body_of(spec={"ports": [{"port": 80, "name": "web"}]}), (201, ports))
+    apply("keyed", body_of(spec={"ports": [{"name": "web", "port": 81}]}), conflicts(('.spec.ports[name="web"].port', "alice")), "bob")
+
+    empty = widget("empty", next_revision(), [])
+    apply("empty", body_of(), (201, empty))
+    apply("empty", body_of(), (200, empty))
+
+
+def sizes():
+    """More than 64 labels; an object that would be too long."""
+    labels = {f"label-{n:02d}": "" for n in range(64)}
+    fields = {"f:metadata": {"f:labels": {"f:" + key: {} for key in labels}}}
+    apply("labels", body_of(metadata={"labels": labels}), (201, widget("labels", next_revision(), [("alice", fields)], labels=labels)))
+    apply("labels", body_of(metadata={"labels": {"more": ""}}), refused("metadata.labels: more than 64"), "bob")
+
+    # A quotation mark in a set's item is two bytes in the body and in the object, and four more in its owner's entry.
+    def large(marks):
+        return body_of(spec={"tags": ['"' * marks]})
+
+    def fields_of(marks):
+        return {"f:spec": {"f:tags": {"v:" + compact('"' * marks): {}}}}
+
+    first, second = 11200, 32600
+    assert len(compact(large(second))) <= 65536
+    apply("large", large(first), (201, widget("large", next_revision(), [("alice", fields_of(first))], {"tags": ['"' * first]})))
+    both = [("alice", fields_of(first)), ("bob", fields_of(second))]
+    assert len(widget("large", revision + 1, both, {"tags": ['"' * first, '"' * second]})) > 262144
+    apply("large", large(second), refused("object over 262144 bytes"), "bob")
+
+
+def connections():
+    """So many connections that no more is served, till one has ended."""
+    waiting = [connection for connection, text in written.items() if text == ""]
+    while len(waiting) < 1024:
+        waiting.append(opened())
+    full = refused("too many connections")
+    body = compact(body_of(metadata={"name": "w1"}))
+    refused_one = opened(reply(*full))
+    comes(refused_one, patch(body, target=WIDGETS + "w1?fieldManager=alice"))
+    apply("w1", body_of(), full)
+    comes(waiting[-1], patch("{}", method="PURGE"))
+    written[waiting[-1]] = reply(*refused("method not served here"), allow="PATCH")
+    apply("w9", [], refused("{}: not an object", "."))
+
+
+def main():
+    for row in (six_lines, first_apply_in_bytes, heads, routes, bodies, envelopes, parameters, names, versions_and_conflicts,
+                lists, sizes, connections):
+        row()
+    left = set(FOUND) - met
+    assert not left, left
+    with open(os.path.join(PROGRAM, "data", "script.jsonl")) as script:
+        six = [json.loads(text) for text in script if text != "\n"]
+    assert six == [json.loads(text) for text in lines[:6]]
+    with open(os.path.join(PROGRAM, "data", "messages.jsonl"), "w") as out:
+        out.write("".join(text + "\n" for text in lines))
+    with open(os.path.join(PROGRAM, "stdout"), "w", newline="") as out:
+        out.write("".join(replies))
+        for connection, text in sorted(written.items()):
+            out.write(f"connection {connection} {len(text)}\n{text}\n")
+
+
+if __name__ == "__main__":
+    main()
