@@ -29,6 +29,4 @@ pub use reply::reply_bytes;
 pub use target::{judged_media, path_of, query_of};
 
 #[cfg(test)]
-mod hub_tests;
-#[cfg(test)]
 mod tests;

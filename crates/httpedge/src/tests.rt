@@ -1,181 +1,158 @@
-//! Requests by their bytes, and the bytes of replies.
+//! Requests and replies by their bytes, and connections over an API of widgets.
 
-use super::{Front, judged_media, path_of, query_of, read_body, read_head, reply_bytes};
+use super::{
+    Event, Front, Head, Hub, HubFault, Refusal, judged_media, path_of, query_of, read_body,
+    read_head, reply_bytes,
+};
+use schema::Types;
+use serde_json::Value;
 use std::alloc::{AllocError, Global};
 use std::test::Fail;
+use verbs::{Api, Reason};
 
-pub(crate) const HEAD: &str =
-    "PATCH /apis/demo.example/v1/namespaces/default/widgets/w1?fieldManager=alice HTTP/1.1\r\nHost: localhost\r\nContent-Type: application/apply-patch+yaml\r\nContent-Length: 107\r\n\r\n";
+const TYPES: &str =
+    r#"{"types":[{"group":"demo.example","version":"v1","kind":"Widget","plural":"widgets","schema":{"type":"object","properties":{"spec":{"type":"object","properties":{"image":{"type":"string"},"replicas":{"type":"integer"}}}}}}]}"#;
 
-pub(crate) const CONFIG: &str =
-    "{\"apiVersion\":\"demo.example/v1\",\"kind\":\"Widget\",\"metadata\":{\"name\":\"w1\"},\"spec\":{\"image\":\"a\",\"replicas\":3}}";
+/// The first apply.
+const APPLY: &str =
+    "PATCH /apis/demo.example/v1/namespaces/default/widgets/w1?fieldManager=alice HTTP/1.1\r\nHost: localhost\r\nContent-Type: application/apply-patch+yaml\r\nContent-Length: 107\r\n\r\n{\"apiVersion\":\"demo.example/v1\",\"kind\":\"Widget\",\"metadata\":{\"name\":\"w1\"},\"spec\":{\"image\":\"a\",\"replicas\":3}}";
 
-pub(crate) const OBJECT: &str =
-    "{\"apiVersion\":\"demo.example/v1\",\"kind\":\"Widget\",\"metadata\":{\"managedFields\":[{\"apiVersion\":\"demo.example/v1\",\"fieldsType\":\"FieldsV1\",\"fieldsV1\":{\"f:spec\":{\"f:image\":{},\"f:replicas\":{}}},\"manager\":\"alice\",\"operation\":\"Apply\"}],\"name\":\"w1\",\"namespace\":\"default\",\"resourceVersion\":\"2\"},\"spec\":{\"image\":\"a\",\"replicas\":3}}";
+/// A hub without connections, over the types of a types file.
+fn hub_of(alloc: Global, types: &str) -> Result<Hub, Fail> {
+    let value = Value::from_str(alloc, types)?;
+    let types = Types::read(alloc, &value)?;
+    let api = Api::new(alloc, types)?;
+    Ok(Hub::new(alloc, api))
+}
 
-/// What the bytes say: a refusal's message, the body, or that more are needed.
-fn said(alloc: Global, bytes: &[u8]) -> Result<String, AllocError> {
-    let head = match read_head(bytes) {
-        Front::Undecided => return String::from_str(alloc, "undecided"),
-        Front::Refused(refusal) => return String::from_str(alloc, refusal.message()),
-        Front::Told(head) => head,
-    };
-    match read_body(alloc, &head)? {
-        Front::Undecided => String::from_str(alloc, "undecided"),
-        Front::Refused(refusal) => String::from_str(alloc, refusal.message()),
-        Front::Told(None) => String::from_str(alloc, "no body"),
+fn hub_of_widgets(alloc: Global) -> Result<Hub, Fail> {
+    hub_of(alloc, TYPES)
+}
+
+fn opens(hub: &mut Hub, id: u64) -> Result<(), HubFault> {
+    hub.on(&Event::Open(id))
+}
+
+/// The text comes on a connection in one piece.
+fn comes(alloc: Global, hub: &mut Hub, id: u64, text: &str) -> Result<(), HubFault> {
+    let bytes = String::from_str(alloc, text)?.into_bytes();
+    hub.on(&Event::In(id, bytes))
+}
+
+/// The text comes on a connection byte by byte; whether nothing was written before the last.
+fn comes_by_bytes(alloc: Global, hub: &mut Hub, id: u64, text: &str) -> Result<bool, HubFault> {
+    let mut has_waited = true;
+    for byte in text.as_bytes() {
+        has_waited = has_waited && hub.wants(id) && hub.out(id).is_empty();
+        let mut piece = Vec::new(alloc);
+        piece.push(*byte)?;
+        hub.on(&Event::In(id, piece))?;
+    }
+    Ok(has_waited)
+}
+
+fn head_of(bytes: &[u8]) -> Option<Head<'_>> {
+    match read_head(bytes) {
+        Front::Told(head) => Some(head),
+        _ => None,
+    }
+}
+
+/// The text of a request's body, empty where there is none.
+fn body_text(alloc: Global, head: &Head<'_>) -> Result<String, AllocError> {
+    match read_body(alloc, head)? {
         Front::Told(Some(value)) => value.to_string(alloc),
+        _ => Ok(String::new(alloc)),
     }
 }
 
 #[test]
-fn first_apply_as_bytes(rt: HostRuntime) -> Result<(), Fail> {
+fn request_and_reply(rt: HostRuntime) -> Result<(), Fail> {
     let alloc = rt.alloc();
-    let request = format!(in alloc; "{HEAD}{CONFIG}")?;
-    let bytes = request.as_bytes();
-    for end in 0..bytes.len() {
-        let text = said(alloc, &bytes[..end])?;
-        assert_eq!(rt; text.as_str(), "undecided", "{end}");
+    let request =
+        "\r\nDELETE /a?b=c HTTP/1.1\nHOST: x\r\ncontent-type: t/u\r\nContent-Length: 02\r\ncontent-length: 2\r\n\r\n{}more";
+    let head = head_of(request.as_bytes());
+    assert!(rt; head.is_some());
+    if let Some(head) = head {
+        assert_eq!(rt; path_of(head.target), "/a");
+        assert_eq!(rt; query_of(head.target), "b=c");
+        assert!(rt; judged_media(&head) == Some(b"t/u".as_slice()));
+        let body = body_text(alloc, &head)?;
+        assert_eq!(rt; body.as_str(), "{}");
     }
-    let text = said(alloc, bytes)?;
-    assert_eq!(rt; text.as_str(), CONFIG);
-    if let Front::Told(head) = read_head(bytes) {
-        assert_eq!(rt;
-            path_of(head.target),
-            "/apis/demo.example/v1/namespaces/default/widgets/w1"
-        );
-        assert_eq!(rt; query_of(head.target), "fieldManager=alice");
-        assert!(rt; judged_media(&head) == Some(b"application/apply-patch+yaml".as_slice()));
-    }
-    let reply = reply_bytes(alloc, 201, None, OBJECT)?;
-    let expected = format!(in alloc;
-        "HTTP/1.1 201 Created\r\nContent-Type: application/json\r\nContent-Length: 317\r\nConnection: close\r\n\r\n{OBJECT}"
-    )?;
-    assert_eq!(rt; reply.len(), 413);
-    assert_eq!(rt; reply.as_slice(), expected.as_bytes());
-    let denied = reply_bytes(alloc, 405, Some("PATCH"), "{}")?;
+    let denied = Refusal::BodyTooLarge.denied();
+    assert_eq!(rt; denied.reason, Reason::RequestEntityTooLarge);
+    assert_eq!(rt; Refusal::BodyTooLarge.reason().code(), 413);
+    assert_eq!(rt; denied.message, "body over 65536 bytes");
+    let reply = reply_bytes(alloc, 405, Some("PATCH"), "{}")?;
     let expected =
         "HTTP/1.1 405 Method Not Allowed\r\nContent-Type: application/json\r\nContent-Length: 2\r\nConnection: close\r\nAllow: PATCH\r\n\r\n{}";
-    assert_eq!(rt; denied.as_slice(), expected.as_bytes());
+    assert_eq!(rt; reply.as_slice(), expected.as_bytes());
     Ok(())
 }
 
+/// A hub on which the first apply came in one piece.
+fn hub_after_whole(alloc: Global) -> Result<Hub, Fail> {
+    let mut hub = hub_of_widgets(alloc)?;
+    opens(&mut hub, 1)?;
+    comes(alloc, &mut hub, 1, APPLY)?;
+    Ok(hub)
+}
+
+/// A hub with a second connection, on whose first the first apply came byte by byte.
+fn hub_after_bytes(alloc: Global) -> Result<Option<Hub>, Fail> {
+    let mut hub = hub_of_widgets(alloc)?;
+    opens(&mut hub, 1)?;
+    opens(&mut hub, 2)?;
+    let has_waited = comes_by_bytes(alloc, &mut hub, 1, APPLY)?;
+    Ok(has_waited.then_some(hub))
+}
+
 #[test]
-fn hostile_heads(rt: HostRuntime) -> Result<(), Fail> {
+fn request_byte_by_byte(rt: HostRuntime) -> Result<(), Fail> {
     let alloc = rt.alloc();
-    for (request, expected) in [
-        ("\u{1} \u{1}\r\n", "undecided"),
-        ("\u{1} \u{1}\r\n\r\n", "bad request head"),
-        ("GET / HTTP/2.0\r\n", "undecided"),
-        ("GET / HTTP/2.0\r\n\r\n", "bad request head"),
-        ("GET /a HTTP/1.0\r\nHost: x\r\n\r\n", "HTTP/1.1 is needed"),
-        ("GET /a HTTP/1.1\r\n\r\n", "one Host field is needed"),
-        (
-            "GET /a HTTP/1.1\r\nHost: x\r\nhost: x\r\n\r\n",
-            "one Host field is needed",
-        ),
-        ("GET * HTTP/1.1\r\nHost: x\r\n\r\n", "bad request head"),
-        ("\r\n\nGET /a HTTP/1.1\nHOST: x\n\nmore", "no body"),
-        (
-            "GET /a HTTP/1.1\r\nHost: x\r\nTransfer-Encoding: chunked\r\n\r\n",
-            "no body",
-        ),
-    ] {
-        let text = said(alloc, request.as_bytes())?;
-        assert_eq!(rt; text.as_str(), expected, "{request}");
-    }
-    for (more, expected) in [(0, "undecided"), (1, "request head too large")] {
-        let mut letters = String::new(alloc);
-        for _ in 0..16_384 + more {
-            letters.push('a')?;
-        }
-        let text = said(alloc, letters.as_bytes())?;
-        assert_eq!(rt; text.as_str(), expected, "{more}");
-    }
-    for (fields, expected) in [(63, "no body"), (64, "request head too large")] {
-        let mut request = String::from_str(alloc, "GET /a HTTP/1.1\r\nHost: x\r\n")?;
-        for _ in 0..fields {
-            request.push_str("a:b\r\n")?;
-        }
-        request.push_str("\r\n")?;
-        let text = said(alloc, request.as_bytes())?;
-        assert_eq!(rt; text.as_str(), expected, "{fields}");
+    let whole = hub_after_whole(alloc)?;
+    let hub = hub_after_bytes(alloc)?;
+    assert!(rt; hub.is_some());
+    if let Some(hub) = hub {
+        assert_eq!(rt; hub.out(1).len(), 413);
+        assert!(rt; hub.out(1) == whole.out(1));
+        assert!(rt; hub.ended(1) && !hub.wants(1) && hub.wants(2) && !hub.ended(2));
     }
     Ok(())
 }
 
 #[test]
-fn lengths_and_bodies(rt: HostRuntime) -> Result<(), Fail> {
+fn hub_refusals(rt: HostRuntime) -> Result<(), Fail> {
     let alloc = rt.alloc();
-    for (method, rest, expected) in [
-        (
-            "PUT",
-            "Content-Length: 5\r\ncontent-length: 5\r\n\r\n[1,2]7",
-            "[1,2]",
-        ),
-        ("PUT", "Content-Length: 0005\r\n\r\n[1,2]", "[1,2]"),
-        ("PUT", "Content-Length: 5\r\n\r\n[1,2", "undecided"),
-        (
-            "PUT",
-            "Content-Length: 5\r\nContent-Length: 6\r\n\r\n[1,2]",
-            "bad Content-Length",
-        ),
-        (
-            "PUT",
-            "Content-Length: 5, 5\r\n\r\n[1,2]",
-            "bad Content-Length",
-        ),
-        (
-            "PUT",
-            "Content-Length: +5\r\n\r\n[1,2]",
-            "bad Content-Length",
-        ),
-        ("POST", "\r\n", "Content-Length is needed"),
-        ("POST", "Content-Length: 0\r\n\r\n", "body is not JSON"),
-        (
-            "POST",
-            "Transfer-Encoding: chunked\r\n\r\n",
-            "Transfer-Encoding is not served",
-        ),
-        ("POST", "Content-Length: 65536\r\n\r\n", "undecided"),
-        (
-            "POST",
-            "Content-Length: 65537\r\n\r\n",
-            "body over 65536 bytes",
-        ),
-        (
-            "POST",
-            "Content-Length: 99999999999999999999\r\n\r\n",
-            "body over 65536 bytes",
-        ),
-        (
-            "POST",
-            "Content-Length: 99999999999999999999\r\nContent-Length: 99999999999999999998\r\n\r\n",
-            "bad Content-Length",
-        ),
-        ("POST", "Content-Length: 3\r\n\r\n[1}", "body is not JSON"),
-        ("DELETE", "\r\n", "no body"),
-        ("DELETE", "Content-Length: 00\r\n\r\n", "no body"),
-        ("DELETE", "Content-Length: x\r\n\r\n", "bad Content-Length"),
-        ("DELETE", "Content-Length: 2\r\n\r\n{}", "{}"),
-    ] {
-        let request = format!(in alloc; "{method} /a HTTP/1.1\r\nHost: x\r\n{rest}")?;
-        let text = said(alloc, request.as_bytes())?;
-        assert_eq!(rt; text.as_str(), expected, "{method} {rest}");
+    let mut hub = hub_of_widgets(alloc)?;
+    opens(&mut hub, 5)?;
+    assert_eq!(rt; opens(&mut hub, 3), Err(HubFault::IdNotAbove));
+    assert_eq!(rt; opens(&mut hub, 5), Err(HubFault::IdNotAbove));
+    assert_eq!(rt; comes(alloc, &mut hub, 9, "GET"), Err(HubFault::UnknownId));
+    assert!(rt; hub.out(9).is_empty() && !hub.ended(9) && !hub.wants(9));
+    Ok(())
+}
+
+#[test]
+fn too_many_connections(rt: HostRuntime) -> Result<(), Fail> {
+    let alloc = rt.alloc();
+    let mut hub = hub_of_widgets(alloc)?;
+    for id in 1..1_026 {
+        opens(&mut hub, id)?;
     }
-    for (depth, expected) in [(1_000, "body is not JSON"), (128, "body is not JSON")] {
-        let mut request = format!(in alloc;
-            "POST /a HTTP/1.1\r\nHost: x\r\nContent-Length: {}\r\n\r\n",
-            2 * depth
-        )?;
-        for _ in 0..depth {
-            request.push('[')?;
-        }
-        for _ in 0..depth {
-            request.push(']')?;
-        }
-        let text = said(alloc, request.as_bytes())?;
-        assert_eq!(rt; text.as_str(), expected, "{depth}");
-    }
+    assert!(rt; hub.wants(1_024) && hub.ended(1_025));
+    let length = hub.out(1_025).len();
+    assert!(rt;
+        hub.out(1_025)
+            .starts_with(b"HTTP/1.1 503 Service Unavailable\r\n")
+    );
+    assert!(rt;
+        hub.out(1_025).ends_with(
+            b"\"message\":\"too many connections\",\"metadata\":{},\"reason\":\"ServiceUnavailable\",\"status\":\"Failure\"}"
+        )
+    );
+    comes(alloc, &mut hub, 1_025, "GET")?;
+    assert_eq!(rt; hub.out(1_025).len(), length);
     Ok(())
 }
