@@ -3,6 +3,7 @@ pub mod Postings
 pub mod Objects
 pub mod Kept
 pub mod Names
+pub mod Faults
 pub mod PutAll
 pub mod Calls
 pub mod Indexer

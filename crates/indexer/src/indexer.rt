@@ -39,12 +39,16 @@ pub enum NewError {
 }
 
 impl fmt::Display for NewError {
+    ghost use Rattle.std.specs.Prelude.{Some};
+    ghost use Rattle.indexer.specs.Faults.{error_text};
+
+    ghost output = { λ e. Some (error_text e) };
+
     fn fmt<W: fmt::Write>(&self, f: &mut fmt::Formatter<W>) -> fmt::Result {
-        let told = match self {
-            NewError::SameName => "two indexes have one name",
-            NewError::Memory => "out of memory",
-        };
-        write!(f, "{told}")
+        match self {
+            NewError::SameName => f.write_str("two indexes have one name"),
+            NewError::Memory => f.write_str("out of memory"),
+        }
     }
 }
 

@@ -31,22 +31,31 @@ pub enum ReadError {
 }
 
 impl fmt::Display for Fault {
+    ghost use Rattle.std.specs.Prelude.{Some};
+    ghost use Rattle.selector.specs.Faults.{fault_text};
+
+    ghost output = { λ e. Some (fault_text e) };
+
     fn fmt<W: fmt::Write>(&self, f: &mut fmt::Formatter<W>) -> fmt::Result {
-        let told = match self {
-            Fault::EmptyPart => "a part is empty",
-            Fault::BadKey => "a key is not a label's",
-            Fault::BadValue => "a value is not a label's",
-            Fault::Bracket => "a bracket stands wrong",
-        };
-        write!(f, "{told}")
+        match self {
+            Fault::EmptyPart => f.write_str("a part is empty"),
+            Fault::BadKey => f.write_str("a key is not a label's"),
+            Fault::BadValue => f.write_str("a value is not a label's"),
+            Fault::Bracket => f.write_str("a bracket stands wrong"),
+        }
     }
 }
 
 impl fmt::Display for ReadError {
+    ghost use Rattle.std.specs.Prelude.{Some};
+    ghost use Rattle.selector.specs.Faults.{error_text};
+
+    ghost output = { λ e. Some (error_text e) };
+
     fn fmt<W: fmt::Write>(&self, f: &mut fmt::Formatter<W>) -> fmt::Result {
         match self {
             ReadError::Fault(fault) => write!(f, "bad selector: {fault}"),
-            ReadError::Memory => write!(f, "out of memory"),
+            ReadError::Memory => f.write_str("out of memory"),
         }
     }
 }

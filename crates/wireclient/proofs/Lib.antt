@@ -1,3 +1,4 @@
+mod Chunked
 mod Determined
 pub mod Heads
 mod Judging

@@ -52,7 +52,7 @@ head_read seen p j fits ends judged =
     subst (λ (n : Next). Leads (heading seen p) (10 ∷ []) n.0 n.1) next
     (one_byte (heading seen p) (step j (heading seen p) 10).0 10 j (judged_so (leb max_head (length seen)) (seen ++ 10 ∷ []) (place_after p 10) j judged) refl)
 
-whole_head_read : (bytes : List ℕ) (j : Judgement) → length bytes ≤ max_head → EndsAtLast bytes → Judged bytes j → Leads start bytes (begun j).0 (begun j).1
+pub whole_head_read : (bytes : List ℕ) (j : Judgement) → length bytes ≤ max_head → EndsAtLast bytes → Judged bytes j → Leads start bytes (begun j).0 (begun j).1
 whole_head_read bytes j fits e judged =
     let long : length bytes ≡ length e.seen + 1 = ap (λ (xs : List ℕ). length xs) e.is ∙ length-append e.seen (10 ∷ []) in
     let before : Leads start e.seen (heading e.seen e.place) [] = walked [] leading e.place e.seen (omega (arith, long, fits)) e.goes in

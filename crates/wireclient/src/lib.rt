@@ -14,7 +14,7 @@ mod request;
 mod state;
 
 pub use item::Item;
-pub use laws::{one_reading, reply_reads_back};
+pub use laws::{chunks_read_back, one_reading, reply_reads_back};
 pub use reader::{ReadFault, ReplyReader};
 pub use request::request_bytes;
 

@@ -1,0 +1,280 @@
+-- A reply in chunks is read as its status, its lines and the end.
+use Rattle.std.proofs.Common.{arith, ◌≡◌, ℕ, ◌+◌, ◌-◌, ◌*◌, ◌≤◌, ◌<◌, Bool, true, false, cond, leb, ltb, List, [], ◌∷◌, ◌++◌, length, map, Option, Some, None, refl, sym, ap, ap₂, subst, ◌∙◌, append_assoc, append-nil}
+use Rattle.std.proofs.lemmas.Bool.{lt-leb, lt-ltb, ne_eqb}
+use Rattle.std.proofs.lemmas.List.{length-append}
+use Rattle.std.proofs.lemmas.List.Elements.{All-head, All-tail}
+use Rattle.std.specs.Prelude.{◌&&◌, ◌||◌, ◌==◌, if◌then◌else◌}
+use Rattle.std.specs.Char.{digit_value, is_ascii_hexdigit}
+use Rattle.std.specs.List.{All, flat_map, list_all, list_any}
+use Rattle.std.specs.Str.Parse.{digits_value, digits_value_after}
+use Rattle.httparse.specs.Grammar.{ResponseHead, IsResponseHead, print_response, status_code}
+use Rattle.httparse.specs.Spans.{name_and_value}
+use Rattle.wireclient.specs.Chunks.{Chunk, IsChunk, IsSize, IsLine, crlf, print_chunk, print_chunks, print_lines}
+use Rattle.wireclient.specs.Reads.{Judged, Leads, Stands, framing_of, max_fields, start}
+use Rattle.wireclient.specs.Reply.{by_chunks, Told, head, line, end, State, size, size_lf, data_in, data_cr, data_lf, last_cr, last_lf, ended, max_head, max_line, Next, fails, goes_to, data_after, digit_onto, step}
+use Rattle.wireclient.proofs.Leading.{leads_append}
+use Rattle.wireclient.proofs.Printed.{head_ends}
+use Rattle.wireclient.proofs.ReadBack.{whole_head_read}
+
+picked : (t : Bool) (n m : Next) → t ≡ true → cond t n m ≡ n
+picked true n m is = refl
+picked false n m is = absurd cc
+
+first_of : (a b : Bool) → (a && b) ≡ true → a ≡ true
+first_of true b is = refl
+first_of false b is = absurd cc
+
+rest_of : (a b : Bool) → (a && b) ≡ true → b ≡ true
+rest_of true b is = is
+rest_of false b is = absurd cc
+
+none_first : (a b : Bool) → (a || b) ≡ false → a ≡ false
+none_first true b is = absurd cc
+none_first false b is = refl
+
+none_rest : (a b : Bool) → (a || b) ≡ false → b ≡ false
+none_rest true b is = absurd cc
+none_rest false b is = is
+
+-- ---- the data, cut at line feeds
+
+abbrev next_text : List ℕ → ℕ → List ℕ
+next_text text b = if b == 10 then [] else text ++ b ∷ []
+
+abbrev told_at : List ℕ → ℕ → List Told
+told_at text b = if b == 10 then line text ∷ [] else []
+
+abbrev lines_in : List ℕ → List ℕ → List Told
+lines_in text [] = []
+lines_in text (b ∷ bytes) = told_at text b ++ lines_in (next_text text b) bytes
+
+abbrev rest_in : List ℕ → List ℕ → List ℕ
+rest_in text [] = text
+rest_in text (b ∷ bytes) = rest_in (next_text text b) bytes
+
+abbrev Fits : List ℕ → List ℕ → Type 0
+Fits text [] = Unit {0}
+Fits text (b ∷ bytes) = (length text < max_line) × Fits (next_text text b) bytes
+
+lines_append : (text xs ys : List ℕ) → lines_in text (xs ++ ys) ≡ lines_in text xs ++ lines_in (rest_in text xs) ys
+lines_append text [] ys = refl
+lines_append text (x ∷ xs) ys =
+    ap (λ (told : List Told). told_at text x ++ told) (lines_append (next_text text x) xs ys)
+    ∙ sym (append_assoc (told_at text x) (lines_in (next_text text x) xs) (lines_in (rest_in (next_text text x) xs) ys))
+
+rest_append : (text xs ys : List ℕ) → rest_in text (xs ++ ys) ≡ rest_in (rest_in text xs) ys
+rest_append text [] ys = refl
+rest_append text (x ∷ xs) ys = rest_append (next_text text x) xs ys
+
+fits_first : (text xs ys : List ℕ) → Fits text (xs ++ ys) → Fits text xs
+fits_first text [] ys fits = tt
+fits_first text (x ∷ xs) ys fits = (fits.0, fits_first (next_text text x) xs ys fits.1)
+
+fits_rest : (text xs ys : List ℕ) → Fits text (xs ++ ys) → Fits (rest_in text xs) ys
+fits_rest text [] ys fits = fits
+fits_rest text (x ∷ xs) ys fits = fits_rest (next_text text x) xs ys fits.1
+
+fits_both : (text xs ys : List ℕ) → Fits text xs → Fits (rest_in text xs) ys → Fits text (xs ++ ys)
+fits_both text [] ys one other = other
+fits_both text (x ∷ xs) ys one other = (one.0, fits_both (next_text text x) xs ys one.1 other)
+
+-- ---- a line
+
+record IsCut (text bytes whole : List ℕ) : Type 0 where
+  told : lines_in text bytes ≡ line whole ∷ []
+  rest : rest_in text bytes ≡ []
+  fits : Fits text bytes
+
+cut_later : (t : Bool) (text bytes whole : List ℕ) (b : ℕ) → t ≡ false → IsCut (text ++ b ∷ []) bytes whole
+    → (cond t (line text ∷ []) [] ++ lines_in (cond t [] (text ++ b ∷ [])) bytes ≡ line whole ∷ []) × (rest_in (cond t [] (text ++ b ∷ [])) bytes ≡ []) × Fits (cond t [] (text ++ b ∷ [])) bytes
+cut_later true text bytes whole b is cut = absurd cc
+cut_later false text bytes whole b is cut = (cut.told, cut.rest, cut.fits)
+
+line_cut : (text bytes : List ℕ) → list_any (λ b. b == 10) bytes ≡ false → length text + length bytes < max_line → IsCut text (bytes ++ 10 ∷ []) (text ++ bytes)
+line_cut text [] one fits = record {
+  told = ap (λ (xs : List ℕ). line xs ∷ []) (sym (append-nil text));
+  rest = refl;
+  fits = (omega (arith, fits), tt);
+}
+line_cut text (b ∷ bytes) one fits =
+    let long : length (text ++ b ∷ []) ≡ length text + 1 = length-append text (b ∷ []) in
+    let later = line_cut (text ++ b ∷ []) bytes (none_rest (b == 10) (list_any (λ c. c == 10) bytes) one) (omega (arith, long, fits)) in
+    let cut = cut_later (b == 10) text (bytes ++ 10 ∷ []) ((text ++ b ∷ []) ++ bytes) b (none_first (b == 10) (list_any (λ c. c == 10) bytes) one) later in
+    record {
+      told = cut.0 ∙ ap (λ (xs : List ℕ). line xs ∷ []) (append_assoc text (b ∷ []) bytes);
+      rest = cut.1;
+      fits = (omega (arith, fits), cut.2);
+    }
+
+record AreCut (bytes : List ℕ) (lines : List (List ℕ)) : Type 0 where
+  told : lines_in [] bytes ≡ map line lines
+  rest : rest_in [] bytes ≡ []
+  fits : Fits [] bytes
+
+lines_cut : (lines : List (List ℕ)) → All IsLine lines → AreCut (print_lines lines) lines
+lines_cut [] all = record { told = refl; rest = refl; fits = tt }
+lines_cut (text ∷ lines) all =
+    let is = All-head IsLine text lines all in
+    let one = line_cut [] text is.one (omega (arith, is.fits)) in
+    let more = lines_cut lines (All-tail IsLine text lines all) in
+    record {
+      told = lines_append [] (text ++ 10 ∷ []) (print_lines lines)
+          ∙ ap₂ (λ (told : List Told) (rest : List ℕ). told ++ lines_in rest (print_lines lines)) one.told one.rest
+          ∙ ap (λ (told : List Told). line text ∷ told) more.told;
+      rest = rest_append [] (text ++ 10 ∷ []) (print_lines lines) ∙ ap (λ (rest : List ℕ). rest_in rest (print_lines lines)) one.rest ∙ more.rest;
+      fits = fits_both [] (text ++ 10 ∷ []) (print_lines lines) one.fits (subst (λ (rest : List ℕ). Fits rest (print_lines lines)) (sym one.rest) more.fits);
+    }
+
+-- ---- a chunk's size
+
+grows : (n : ℕ) (digits : List ℕ) → n ≤ digits_value_after 16 n digits
+grows n [] = omega arith
+grows n (b ∷ digits) = let more = grows (n * 16 + digit_value b) digits in omega (arith, more)
+
+onto : (value digit : ℕ) → value * 16 + digit ≤ 18446744073709551615 → digit_onto value digit ≡ value * 16 + digit
+onto value digit fits = omega (arith, fits)
+
+digit_next : (s t : Bool) (n m : Next) → s ≡ true → t ≡ true → cond (s && t) n m ≡ n
+digit_next true true n m s-is t-is = refl
+digit_next true false n m s-is t-is = absurd cc
+digit_next false t n m s-is t-is = absurd cc
+
+size_read : (count value : ℕ) (text digits : List ℕ) → list_all is_ascii_hexdigit digits ≡ true → count + length digits ≤ 16 → digits_value_after 16 value digits ≤ 18446744073709551615
+    → Leads (size count value text) digits (size (count + length digits) (digits_value_after 16 value digits) text) []
+size_read count value text [] all few fits = (ap (λ (n : ℕ). size n value text) (omega arith), refl)
+size_read count value text (b ∷ digits) all few fits =
+    let now : ℕ = value * 16 + digit_value b in
+    let more = grows (value * 16 + digit_value b) digits in
+    let next : step None (size count value text) b ≡ goes_to (size (count + 1) (value * 16 + digit_value b) text) =
+    digit_next (is_ascii_hexdigit b) (ltb count 16) (goes_to (size (count + 1) (digit_onto value (digit_value b)) text)) _ (first_of (is_ascii_hexdigit b) (list_all is_ascii_hexdigit digits) all) (lt-ltb count 16 (omega (arith, few)))
+    ∙ ap (λ (v : ℕ). goes_to (size (count + 1) v text)) (onto value (digit_value b) (omega (arith, more, fits))) in
+    let rest = size_read (count + 1) (value * 16 + digit_value b) text digits (rest_of (is_ascii_hexdigit b) (list_all is_ascii_hexdigit digits) all) (omega (arith, few)) fits in
+    let counted : count + 1 + length digits ≡ count + length (b ∷ digits) = omega arith in
+    let same = subst (λ (n : ℕ). Leads (size (count + 1) (value * 16 + digit_value b) text) digits (size n (digits_value_after 16 value (b ∷ digits)) text) []) counted rest in (
+      None,
+      [],
+      tt,
+      subst (λ (n : Next). Leads n.0 digits (size (count + length (b ∷ digits)) (digits_value_after 16 value (b ∷ digits)) text) []) (sym next) same,
+      sym (ap (λ (n : Next). n.1 ++ []) next),
+    )
+
+size_done : (count value : ℕ) (text : List ℕ) → 0 < count → step None (size count value text) 13 ≡ goes_to (size_lf value text)
+size_done count value text some = picked (ltb 0 count) (goes_to (size_lf value text)) fails (lt-ltb 0 count some)
+
+size_ends : (count value : ℕ) (text : List ℕ) → 0 < count → 0 < value → Leads (size count value text) crlf (data_in value text) []
+size_ends count value text some more =
+    let first = size_done count value text some in
+    let second : step None (size_lf value text) 10 ≡ goes_to (data_in value text) = go (value == 0) (ne_eqb value 0 (λ e. absurd (omega (arith, e, more)))) in
+    let last : Leads (size_lf value text) (10 ∷ []) (data_in value text) [] = (None, [], tt, (sym (ap (λ (n : Next). n.0) second), refl), sym (ap (λ (n : Next). n.1 ++ []) second)) in (
+      None,
+      [],
+      tt,
+      subst (λ (n : Next). Leads n.0 (10 ∷ []) (data_in value text) []) (sym first) last,
+      sym (ap (λ (n : Next). n.1 ++ []) first),
+    )
+  where
+    go : (t : Bool) → t ≡ false → ◌≡◌ {A = Next} (goes_to (cond t (last_cr text) (data_in value text))) (goes_to (data_in value text))
+    go true is = absurd cc
+    go false is = refl
+
+last_ends : (count : ℕ) → 0 < count → Leads (size count 0 []) (crlf ++ crlf) ended (end ∷ [])
+last_ends count some =
+    let first = size_done count 0 [] some in
+    let after : Leads (size_lf 0 []) (10 ∷ crlf) ended (end ∷ []) = (None, end ∷ [], tt, (None, end ∷ [], tt, (None, [], tt, (refl, refl), refl), refl), refl) in (
+      None,
+      end ∷ [],
+      tt,
+      subst (λ (n : Next). Leads n.0 (10 ∷ crlf) ended (end ∷ [])) (sym first) after,
+      sym (ap (λ (n : Next). n.1 ++ end ∷ []) first),
+    )
+
+-- ---- a chunk's data
+
+data_next : (s t : Bool) (left : ℕ) (text : List ℕ) (b : ℕ) → s ≡ false
+    → ◌≡◌ {A = Next} (cond s fails (cond t (data_after left [], line text ∷ []) (goes_to (data_after left (text ++ b ∷ []))))) (data_after left (cond t [] (text ++ b ∷ [])), cond t (line text ∷ []) [])
+data_next true t left text b is = absurd cc
+data_next false true left text b is = refl
+data_next false false left text b is = refl
+
+abbrev with_told : List Told → State → Next
+with_told told s = (s, told)
+
+after_more : (left : ℕ) (text : List ℕ) → 0 < left → data_after left text ≡ data_in left text
+after_more left text some = go (left == 0) (ne_eqb left 0 (λ e. absurd (omega (arith, e, some))))
+  where
+    go : (t : Bool) → t ≡ false → cond t (data_cr text) (data_in left text) ≡ data_in left text
+    go true is = absurd cc
+    go false is = refl
+
+data_read : (left : ℕ) (text : List ℕ) (b : ℕ) (bytes : List ℕ) → left ≡ length bytes + 1 → Fits text (b ∷ bytes) → Leads (data_in left text) (b ∷ bytes) (data_cr (rest_in text (b ∷ bytes))) (lines_in text (b ∷ bytes))
+data_read left text b [] is fits =
+    let gone : left - 1 ≡ 0 = omega (arith, is) in
+    let next : step None (data_in left text) b ≡ (data_cr (next_text text b), told_at text b) =
+    data_next (leb max_line (length text)) (b == 10) (left - 1) text b (lt-leb _ _ fits.0) ∙ ap (λ (n : ℕ). with_told (told_at text b) (data_after n (next_text text b))) gone in (
+      None,
+      [],
+      tt,
+      (sym (ap (λ (n : Next). n.0) next), refl),
+      sym (ap (λ (n : Next). n.1 ++ []) next),
+    )
+data_read left text b (c ∷ bytes) is fits =
+    let next : step None (data_in left text) b ≡ (data_in (left - 1) (next_text text b), told_at text b) =
+    data_next (leb max_line (length text)) (b == 10) (left - 1) text b (lt-leb _ _ fits.0) ∙ ap (with_told (told_at text b)) (after_more (left - 1) (next_text text b) (omega (arith, is))) in
+    let rest = data_read (left - 1) (next_text text b) c bytes (omega (arith, is)) fits.1 in (
+      None,
+      lines_in (next_text text b) (c ∷ bytes),
+      tt,
+      subst (λ (n : Next). Leads n.0 (c ∷ bytes) (data_cr (rest_in (next_text text b) (c ∷ bytes))) (lines_in (next_text text b) (c ∷ bytes))) (sym next) rest,
+      sym (ap (λ (n : Next). n.1 ++ lines_in (next_text text b) (c ∷ bytes)) next),
+    )
+
+some_data : (text bytes : List ℕ) → 0 < length bytes → Fits text bytes → Leads (data_in (length bytes) text) bytes (data_cr (rest_in text bytes)) (lines_in text bytes)
+some_data text [] some fits = absurd (omega (arith, some))
+some_data text (b ∷ bytes) some fits = data_read (length (b ∷ bytes)) text b bytes (omega arith) fits
+
+-- ---- chunk after chunk
+
+chunk_read : (chunk : Chunk) (text : List ℕ) → IsChunk chunk → Fits text chunk.content → Leads (size 0 0 text) (print_chunk chunk) (size 0 0 (rest_in text chunk.content)) (lines_in text chunk.content)
+chunk_read chunk text is fits =
+    let long : digits_value 16 chunk.size ≤ 18446744073709551615 = omega (arith, is.size.value, is.fits) in
+    let digits = size_read 0 0 text chunk.size is.size.are_digits (omega (arith, is.size.few)) long in
+    let sized = subst (λ (n : ℕ). Leads (size 0 0 text) chunk.size (size (0 + length chunk.size) n text) []) is.size.value digits in
+    let ends = size_ends (0 + length chunk.size) (length chunk.content) text (omega (arith, is.size.some)) is.some in
+    let after : Leads (data_cr (rest_in text chunk.content)) crlf (size 0 0 (rest_in text chunk.content)) [] = (None, [], tt, (None, [], tt, (refl, refl), refl), refl) in
+    let read = leads_append (data_in (length chunk.content) text) (data_cr (rest_in text chunk.content)) (size 0 0 (rest_in text chunk.content)) chunk.content crlf (lines_in text chunk.content) [] (some_data text chunk.content is.some fits) after in
+    let plain = subst (λ (told : List Told). Leads (data_in (length chunk.content) text) (chunk.content ++ crlf) (size 0 0 (rest_in text chunk.content)) told) (append-nil (lines_in text chunk.content)) read in
+    leads_append (size 0 0 text) (size (0 + length chunk.size) (length chunk.content) text) (size 0 0 (rest_in text chunk.content)) chunk.size (crlf ++ (chunk.content ++ crlf)) [] (lines_in text chunk.content) sized
+    (leads_append (size (0 + length chunk.size) (length chunk.content) text) (data_in (length chunk.content) text) (size 0 0 (rest_in text chunk.content)) crlf (chunk.content ++ crlf) [] (lines_in text chunk.content) ends plain)
+
+abbrev pub data_of : List Chunk → List ℕ
+data_of chunks = flat_map (λ c. c.content) chunks
+
+chunks_read : (chunks : List Chunk) (text : List ℕ) → All IsChunk chunks → Fits text (data_of chunks) → Leads (size 0 0 text) (flat_map print_chunk chunks) (size 0 0 (rest_in text (data_of chunks))) (lines_in text (data_of chunks))
+chunks_read [] text all fits = (refl, refl)
+chunks_read (chunk ∷ chunks) text all fits =
+    let one = chunk_read chunk text (All-head IsChunk chunk chunks all) (fits_first text chunk.content (data_of chunks) fits) in
+    let more = chunks_read chunks (rest_in text chunk.content) (All-tail IsChunk chunk chunks all) (fits_rest text chunk.content (data_of chunks) fits) in
+    let both = leads_append (size 0 0 text) (size 0 0 (rest_in text chunk.content)) (size 0 0 (rest_in (rest_in text chunk.content) (data_of chunks))) (print_chunk chunk) (flat_map print_chunk chunks)
+    (lines_in text chunk.content) (lines_in (rest_in text chunk.content) (data_of chunks)) one more in
+    let told = subst (λ (told : List Told). Leads (size 0 0 text) (print_chunk chunk ++ flat_map print_chunk chunks) (size 0 0 (rest_in (rest_in text chunk.content) (data_of chunks))) told)
+    (sym (lines_append text chunk.content (data_of chunks))) both in
+    subst (λ (rest : List ℕ). Leads (size 0 0 text) (print_chunk chunk ++ flat_map print_chunk chunks) (size 0 0 rest) (lines_in text (chunk.content ++ data_of chunks))) (sym (rest_append text chunk.content (data_of chunks))) told
+
+last_read : (last : List ℕ) → IsSize last 0 → Leads (size 0 0 []) (last ++ (crlf ++ crlf)) ended (end ∷ [])
+last_read last is =
+    let digits = size_read 0 0 [] last is.are_digits (omega (arith, is.few)) (omega (arith, is.value)) in
+    let sized = subst (λ (n : ℕ). Leads (size 0 0 []) last (size (0 + length last) n []) []) is.value digits in
+    leads_append (size 0 0 []) (size (0 + length last) 0 []) ended last (crlf ++ crlf) [] (end ∷ []) sized (last_ends (0 + length last) (omega (arith, is.some)))
+
+pub chunked_read : (h : ResponseHead) (chunks : List Chunk) (last : List ℕ) (lines : List (List ℕ)) → IsResponseHead h → length (print_response h) ≤ max_head → length h.fields ≤ max_fields
+    → framing_of (map name_and_value h.fields) ≡ Some by_chunks → All IsChunk chunks → IsSize last 0 → All IsLine lines → data_of chunks ≡ print_lines lines
+    → Stands (Some ended) (print_response h ++ print_chunks chunks last) (head (status_code h) ∷ (map line lines ++ end ∷ []))
+chunked_read h chunks last lines is fits few framed chunked ends lined joined =
+    let judged : Judged (print_response h) (Some (status_code h, by_chunks)) = (h, (is, sym (append-nil (print_response h))), few, refl, framed) in
+    let first = whole_head_read (print_response h) (Some (status_code h, by_chunks)) fits (head_ends h is) judged in
+    let cut = subst (λ (bytes : List ℕ). AreCut bytes lines) (sym joined) (lines_cut lines lined) in
+    let read = chunks_read chunks [] chunked cut.fits in
+    let told = subst (λ (told : List Told). Leads (size 0 0 []) (flat_map print_chunk chunks) (size 0 0 (rest_in [] (data_of chunks))) told) cut.told read in
+    let whole = subst (λ (rest : List ℕ). Leads (size 0 0 []) (flat_map print_chunk chunks) (size 0 0 rest) (map line lines)) cut.rest told in
+    let body = leads_append (size 0 0 []) (size 0 0 []) ended (flat_map print_chunk chunks) (last ++ (crlf ++ crlf)) (map line lines) (end ∷ []) whole (last_read last ends) in
+    (ended, refl, leads_append start (size 0 0 []) ended (print_response h) (print_chunks chunks last) (head (status_code h) ∷ []) (map line lines ++ end ∷ []) first body)
