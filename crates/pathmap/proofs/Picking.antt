@@ -1,5 +1,5 @@
 -- What a rule picks at the empty path, and below an element.
-use Rattle.std.proofs.Common.{◌≡◌, ◌<◌, ℕ, suc, length, All, arith, Bool, true, false, cond, not, ◌&&◌, ◌||◌, is_eq, nat_cmp, string_cmp, List, [], ◌∷◌, Option, Some, None, is_some, String, Global, string_bytes, refl, sym, subst, ap, ap₂, ◌∙◌, true≢false}
+use Rattle.std.proofs.Common.{◌≡◌, ℕ, suc, All, arith, Bool, true, false, cond, not, ◌&&◌, ◌||◌, is_eq, nat_cmp, string_cmp, List, [], ◌∷◌, Option, Some, None, is_some, String, Global, string_bytes, refl, sym, subst, ap, ap₂, ◌∙◌, true≢false}
 use Rattle.std.specs.Bool.{⊤}
 use Rattle.std.specs.BTreeMap.{IsOrdered}
 use Rattle.std.specs.Cmp.{tied_itself}
