@@ -1,26 +1,28 @@
 -- What a rule picks at the empty path, and below an element.
-use Rattle.std.proofs.Common.{◌≡◌, ℕ, Bool, true, false, cond, not, ◌&&◌, ◌||◌, is_eq, nat_cmp, string_cmp, List, [], ◌∷◌, Option, Some, None, is_some, String, Global, string_bytes, refl, sym, ap, ap₂, ◌∙◌, true≢false}
+use Rattle.std.proofs.Common.{◌≡◌, ℕ, suc, All, arith, Bool, true, false, cond, not, ◌&&◌, ◌||◌, is_eq, nat_cmp, string_cmp, List, [], ◌∷◌, Option, Some, None, is_some, String, Global, string_bytes, refl, sym, subst, ap, ap₂, ◌∙◌, true≢false}
+use Rattle.std.specs.Bool.{⊤}
+use Rattle.std.specs.BTreeMap.{IsOrdered}
 use Rattle.std.specs.Cmp.{tied_itself}
 use Rattle.std.specs.Cmp.Lexicographic.{slice_cmp}
 use Rattle.std.specs.List.Sorted.{IsStrictlySortedBy}
 use Rattle.std.specs.Map.{keys_of}
 use Rattle.std.proofs.lemmas.Cmp.{nat_list_cmp_total}
 use Rattle.std.proofs.lemmas.Map.Keys.{sorted_head}
-use Rattle.std.specs.Option.{option_map}
+use Rattle.std.specs.Option.{option_map, MatchOption}
 use Rattle.std.specs.FinMap as fin
 use Rattle.std.specs.FinSet as set
 use Rattle.fieldpath.specs.Paths.{PathTexts}
 use Rattle.pathmap.specs.Contents.{Standing, Content, nothing, over, gather, dom}
 use Rattle.pathmap.specs.Beside.{same_value, has_at_or_below}
 use Rattle.pathmap.specs.Maps.{at_top, at_name, content, content_at, content_or_nothing, contents_in, standing}
-use Rattle.pathmap.specs.Picks.{picked, picks, picks_alone, picks_some}
+use Rattle.pathmap.specs.Picks.{IsGuess, picked, picks, picks_alone, picks_some}
 use Rattle.pathmap.specs.declared.held.Held.{Held}
 use Rattle.pathmap.specs.declared.pathmap.PathMap.{PathMap, out-PathMap}
 use Rattle.pathmap.specs.declared.pick.Rule.{Rule}
 use Rattle.pathmap.specs.declared.pick.Rule.TheVariants.{Absent, Present, Changed, Clear}
 use Rattle.pathmap.proofs.Contents.{path_cmp_total, get-nothing}
 use Rattle.pathmap.proofs.Sets.{same_paths, contains-dom, contains-changed, contains-clear_of, IsBelow, has_below-at, has_none, nothing-has}
-use Rattle.pathmap.proofs.Levels.{get-level-gather, get-level-top, get-map-top, held_some, top_some}
+use Rattle.pathmap.proofs.Levels.{get-level-gather, get-level-top, get-map-below, get-map-top, held_some, top_some}
 use Rattle.pathmap.proofs.Trees.{get-gather, get-gather-top, past, ties}
 use Rattle.pathmap.proofs.Merging.{get_in-content}
 
@@ -176,3 +178,26 @@ minus_nothing c = same_paths (set.difference (dom c) (dom nothing)) (dom c) (λ 
     and_true : (b : Bool) → (b && true) ≡ b
     and_true true = refl
     and_true false = refl
+
+-- ---- guesses
+
+pub nothing_below : (g : List ℕ) → IsBelow g nothing nothing
+nothing_below g q = get-nothing q ∙ sym (get-nothing (g ∷ q))
+
+-- each of these maps stands below its element
+abbrev pub AreGuesses : PathMap → List (String Global × PathMap) → Type 0
+AreGuesses n [] = ⊤
+AreGuesses n (e ∷ es) = IsBelow (string_bytes e.0) (content n) (content e.1) × AreGuesses n es
+
+pub guesses_first : (n : PathMap) → IsOrdered string_cmp (out-PathMap n).below → (es : List (String Global × PathMap)) → All (λ e. at_name (string_bytes e.0) (out-PathMap n).below.entries ≡ Some e.1) es → AreGuesses n es
+guesses_first n sorted [] are = tt
+guesses_first n sorted (e ∷ es) are = (
+  (λ q. sym (get-map-below n sorted (string_bytes e.0) q ∙ ap (λ m. fin.get (content_or_nothing m) q) (are 0 e (omega arith)))),
+  guesses_first n sorted es (λ k d lt. are (suc k) d (omega arith)),
+)
+
+-- the next guess, and those after it
+pub guess_next : {A : Type 0} (n : PathMap) (old new : List (String Global × PathMap)) (o : Option A) (f : A → String Global × PathMap) → MatchOption o ((old ≡ []) × (new ≡ [])) (λ x. old ≡ f x ∷ new) → AreGuesses n old
+    → IsGuess (content n) (option_map (λ x. (string_bytes (f x).0, content (f x).1)) o) × AreGuesses n new
+guess_next n old new None f steps are = (tt, subst (AreGuesses n) (sym steps.1) tt)
+guess_next n old new (Some x) f steps are = subst (AreGuesses n) steps are

@@ -1,7 +1,8 @@
 -- The paths of one content that are picked beside another content.
-use Rattle.std.specs.Prelude.{Bool, true, false, not, [], Option, Some, None, is_some}
+use Rattle.std.specs.Prelude.{◌≡◌, ℕ, Bool, true, false, not, List, [], ◌∷◌, ⊤, Option, Some, None, is_some}
 use Rattle.std.specs.FinMap as fin
 use Rattle.std.specs.FinSet as set
+use Rattle.fieldpath.specs.Paths.{PathTexts}
 use Rattle.pathmap.specs.Contents.{Standing, Content, PathSet, dom}
 use Rattle.pathmap.specs.Beside.{same_value, changed, has_at_or_below, clear_of}
 use Rattle.pathmap.specs.declared.pick.Rule.{Rule}
@@ -31,3 +32,8 @@ picks_alone Absent = true
 picks_alone Present = false
 picks_alone Changed = true
 picks_alone Clear = true
+
+-- what is guessed to stand below an element does, in this content
+abbrev pub IsGuess : Content → Option (List ℕ × Content) → Type 0
+IsGuess c None = ⊤
+IsGuess c (Some e) = (q : PathTexts) → fin.get e.1 q ≡ fin.get c (e.0 ∷ q)

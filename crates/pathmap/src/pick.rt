@@ -7,10 +7,10 @@ ghost use Rattle.std.specs.Option.{option_map};
 ghost use Rattle.std.specs.FinSet as set;
 ghost use Rattle.std.specs.FinMap as fin;
 ghost use Rattle.fieldpath.specs.Paths.{PathTexts};
-ghost use Rattle.pathmap.specs.Contents.{dom, gather};
+ghost use Rattle.pathmap.specs.Contents.{dom, gather, nothing};
 ghost use Rattle.pathmap.specs.Beside.{changed, clear_of};
 ghost use Rattle.pathmap.specs.Maps.{at_name, content, content_at, content_or_nothing, contents_in, standing};
-ghost use Rattle.pathmap.specs.Picks.{picked, picks, picks_alone, picks_some};
+ghost use Rattle.pathmap.specs.Picks.{IsGuess, picked, picks, picks_alone, picks_some};
 
 use crate::held::Held;
 use crate::pathmap::PathMap;
@@ -75,13 +75,22 @@ fn pick_held(rule: Rule, mine: &Option<Held>, theirs: Option<&PathMap>) -> Optio
     }
 }
 
-fn child_of<'a>(map: Option<&'a PathMap>, name: &String) -> Option<&'a PathMap>
-    ensures { (q : PathTexts) → fin.get (content_or_nothing (option_map (λ m. m.now) result)) q ≡ fin.get (content_or_nothing (option_map (λ m. m.now) map.entry)) (string_bytes name.now ∷ q) }
+/// What another map has below an element. It is the guess, where that has the element: two maps with the same elements
+/// give them in the same order, and then none is looked for.
+fn child_beside<'a>(
+    theirs: &'a PathMap,
+    guess: Option<(&'a String, &'a PathMap)>,
+    name: &String,
+) -> Option<&'a PathMap>
+    requires { IsGuess (content theirs.now) (option_map (λ e. (string_bytes e.0.now, content e.1.now)) guess) }
+    ensures { (q : PathTexts) → fin.get (content_or_nothing (option_map (λ m. m.now) result)) q ≡ fin.get (content theirs.now) (string_bytes name.now ∷ q) }
 {
-    match map {
-        Some(map) => map.child(name),
-        None => None,
+    if let Some((element, map)) = guess {
+        if element.as_str() == name.as_str() {
+            return Some(map);
+        }
     }
+    theirs.child(name)
 }
 
 /// Puts a map under an element that has none, unless it is hollow.
@@ -100,6 +109,44 @@ fn put_in(
     Ok(())
 }
 
+/// What is picked where there is nothing beside it.
+#[cycle(pick)]
+fn pick_alone(
+    mine: &BTreeMap<String, PathMap>,
+    alloc: Global,
+    rule: Rule,
+) -> Result<BTreeMap<String, PathMap>, AllocError>
+    ensures { IfOk result (λ m. dom (gather (contents_in m.entries)) ≡ picked rule (gather (contents_in mine.now.entries)) nothing) }
+{
+    let mut below = BTreeMap::new(alloc);
+    for (name, inner) in mine.iter() {
+        let made = pick(inner, alloc, None, rule)?;
+        put_in(&mut below, name, made)?;
+    }
+    Ok(below)
+}
+
+/// What is picked beside another map.
+#[cycle(pick)]
+fn pick_beside(
+    mine: &BTreeMap<String, PathMap>,
+    alloc: Global,
+    theirs: &PathMap,
+    rule: Rule,
+) -> Result<BTreeMap<String, PathMap>, AllocError>
+    ensures { IfOk result (λ m. dom (gather (contents_in m.entries)) ≡ picked rule (gather (contents_in mine.now.entries)) (content theirs.now)) }
+{
+    let mut below = BTreeMap::new(alloc);
+    let mut guesses = theirs.below.iter();
+    for (name, inner) in mine.iter() {
+        let guess = guesses.next();
+        let child = child_beside(theirs, guess, name);
+        let made = pick(inner, alloc, child, rule)?;
+        put_in(&mut below, name, made)?;
+    }
+    Ok(below)
+}
+
 #[cycle(pick)]
 fn pick_below(
     mine: &BTreeMap<String, PathMap>,
@@ -109,12 +156,10 @@ fn pick_below(
 ) -> Result<BTreeMap<String, PathMap>, AllocError>
     ensures { IfOk result (λ m. dom (gather (contents_in m.entries)) ≡ picked rule (gather (contents_in mine.now.entries)) (content_or_nothing (option_map (λ m. m.now) theirs.entry))) }
 {
-    let mut below = BTreeMap::new(alloc);
-    for (name, inner) in mine.iter() {
-        let made = pick(inner, alloc, child_of(theirs, name), rule)?;
-        put_in(&mut below, name, made)?;
+    match theirs {
+        Some(map) => pick_beside(mine, alloc, map, rule),
+        None => pick_alone(mine, alloc, rule),
     }
-    Ok(below)
 }
 
 /// The paths that the rule picks, each with a mark.

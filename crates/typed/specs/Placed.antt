@@ -8,7 +8,7 @@ use Rattle.std.specs.Str.{bytes_eq}
 use Rattle.serde_json.specs.Data.{Data, depth}
 use Rattle.serde_json.specs.Find.{as_i64, of_integer}
 use Rattle.serde_json.specs.Read.{read, max_depth}
-use Rattle.serde_json.specs.Written.{compact_text}
+use Rattle.serde_json.specs.Written.{compact_text, has_float}
 use Rattle.fieldpath.specs.Elements.{Scalar, KeyFields, has_prefix, read_element, name_text}
 use Rattle.fieldpath.specs.Elements as element
 use Rattle.fieldpath.specs.Paths.{PathTexts}
@@ -81,3 +81,7 @@ HavePlaces = (s : Shape) (c : Content) → IsPlaced s c → (p : PathTexts) → 
 -- what reading gives of a value that a JSON text spells is a content that the shape has
 abbrev pub ReadingsArePlaced : Type 0
 ReadingsArePlaced = (s : Shape) (d : Data) (c : Content) → is_well_formed s ≡ true → IsSpelled d → depth d ≤ max_depth → content_of s d ≡ Ok c → IsPlaced s c
+
+-- no number that is printed of such a content is a float
+abbrev pub PrintedHasNoFloat : Type 0
+PrintedHasNoFloat = (s : Shape) (c : Content) (d : Data) → is_well_formed s ≡ true → IsPlaced s c → print s c ≡ Some d → has_float d ≡ false
