@@ -1,3 +1,4 @@
+mod FrontLemmas
 mod ReplayWords
 mod RunLemmas
 mod ScriptLemmas

@@ -2,7 +2,7 @@
 use Rattle.std.proofs.Common.{◌≡◌, ◌∙◌, ◌<◌, ◌+◌, ◌^◌, ℕ, ap, refl, sym, subst, arith, List, [], ◌∷◌, ◌++◌, length, map, take, Some, append_assoc, append-nil}
 use Rattle.std.specs.List.{slice_index_or}
 use Rattle.std.proofs.lemmas.Bool.{lt-ltb}
-use Rattle.std.proofs.lemmas.List.{flat_map_more, map-append, take_more}
+use Rattle.std.proofs.lemmas.List.{flat_map_more, map_more, take_more}
 use Rattle.httpedge.specs.Hub.{State, written_on}
 use Rattle.schema.specs.TypesFile.{ServedShape}
 use Rattle.programs.specs.Replays.{Does, Run, Runs, connection_text, connections_text, next_id}
@@ -33,7 +33,7 @@ one_more s ids i d lt =
 pub events_more : {A B : Type 0} (f : A → B) (xs : List A) (i : ℕ) (x : A) → i < length xs → x ≡ slice_index_or xs i x
     → map f (take i xs) ++ f x ∷ [] ≡ map f (take (i + 1) xs)
 events_more f xs i x lt is =
-    ap (λ y. map f (take i xs) ++ f y ∷ []) is ∙ sym (ap (map f) (take_more xs i x lt) ∙ map-append f (take i xs) (slice_index_or xs i x ∷ []))
+    ap (λ y. map f (take i xs) ++ f y ∷ []) is ∙ sym (map_more f xs i x lt)
 
 -- the next id
 pub next_is : (old highest id : ℕ) → old ≡ highest → old + 1 < 2 ^ 64 → id ≡ old + 1 → next_id highest ≡ Some id

@@ -85,3 +85,9 @@ connections_text s ids = flat_map (λ id. connection_text id (edge.written_on id
 -- what the events print: the replies to the applies, then what was written on the other connections
 abbrev pub Prints : List ServedShape → List Event → List ℕ → Type 0
 Prints types events text = (q : Run) × (replies : List ℕ) × Runs types start events replies q × (text ≡ replies ++ connections_text q.hub q.others)
+
+-- a front of what the first events print
+abbrev pub PrintsFront : List ServedShape → List Event → List ℕ → Type 0
+PrintsFront types events text =
+    (first : List Event) × (rest : List Event) × (whole : List ℕ) × (more : List ℕ)
+    × (events ≡ first ++ rest) × Prints types first whole × (whole ≡ text ++ more)

@@ -1,5 +1,5 @@
 //! Runs scripts.
-ghost use Rattle.std.specs.Prelude.{◌≡◌, ◌++◌, ℕ, [], List, Bool, IfOk, OnOk, map, option_map, string_bytes};
+ghost use Rattle.std.specs.Prelude.{◌≡◌, ◌≢◌, ◌++◌, ℕ, [], List, Bool, IfOk, OnOk, map, take, option_map, string_bytes};
 ghost use Rattle.std.specs.Io.KnownBytes.{Appends};
 ghost use Rattle.std.specs.List.{flat_map};
 ghost use Rattle.schema.specs.Served.{types_view};
@@ -10,7 +10,7 @@ ghost use Rattle.wireclient.specs.Reply as reply;
 ghost use Rattle.wireclient.specs.Reads as reads;
 ghost use Rattle.wireclient.specs.Views.{told_of};
 ghost use Rattle.programs.specs.ApplyLine.{apply_of, event_view};
-ghost use Rattle.programs.specs.Replays.{Answers, Applies, Does, Follows, Prints, Runs, Takes, TellsReply, connection_text, connections_text, next_id, start, words_of};
+ghost use Rattle.programs.specs.Replays.{Answers, Applies, Does, Follows, Prints, PrintsFront, Runs, Takes, TellsReply, connection_text, connections_text, next_id, start, words_of};
 ghost use Rattle.programs.specs.Replays as replays;
 ghost use Rattle.programs.specs.Script.{opens, comes};
 ghost use Rattle.programs.specs.Requests.{IsRequestOf, query_of, target_of};
@@ -250,13 +250,15 @@ impl Run {
 }
 
 fn write<W: Write>(writer: &mut W, text: &[u8]) -> Result<(), ReplayFault>
-    ensures { OnOk result (Appends (W.contents writer.old) (W.contents writer.new) text.now) }
+    ensures ok { OnOk result (Appends (W.contents writer.old) (W.contents writer.new) text.now) }
+    ensures fault { result ≢ Err ReplayFault.Memory }
 {
     writer.write_all(text).map_err(ReplayFault::Write)
 }
 
 fn take_all<W: Write>(run: &mut Run, events: &[Event], writer: &mut W) -> Result<(), ReplayFault>
-    ensures { (types : List ServedShape) (r : replays.Run) → RunStands run.old types r → OnOk result ((q : replays.Run) × (text : List ℕ) × Runs types r (map event_view events.now) text q × RunStands run.new types q × Appends (W.contents writer.old) (W.contents writer.new) text) }
+    ensures ok { (types : List ServedShape) (r : replays.Run) → RunStands run.old types r → OnOk result ((q : replays.Run) × (text : List ℕ) × Runs types r (map event_view events.now) text q × RunStands run.new types q × Appends (W.contents writer.old) (W.contents writer.new) text) }
+    ensures memory { (types : List ServedShape) (r : replays.Run) → RunStands run.old types r → result ≡ Err ReplayFault.Memory → (i : ℕ) × (q : replays.Run) × (text : List ℕ) × Runs types r (map event_view (take i events.now)) text q × Appends (W.contents writer.old) (W.contents writer.new) text }
 {
     for event in events {
         let text = run.take(event)?;
@@ -271,7 +273,8 @@ fn write_connections<W: Write>(
     ids: &[u64],
     writer: &mut W,
 ) -> Result<(), ReplayFault>
-    ensures { (types : List ServedShape) (s : edge.State) → HubStands hub.now types s → OnOk result (Appends (W.contents writer.old) (W.contents writer.new) (connections_text s ids.now)) }
+    ensures ok { (types : List ServedShape) (s : edge.State) → HubStands hub.now types s → OnOk result (Appends (W.contents writer.old) (W.contents writer.new) (connections_text s ids.now)) }
+    ensures memory { (types : List ServedShape) (s : edge.State) → HubStands hub.now types s → result ≡ Err ReplayFault.Memory → (i : ℕ) × Appends (W.contents writer.old) (W.contents writer.new) (connections_text s (take i ids.now)) }
 {
     for id in ids {
         let lines = connection_lines(alloc, *id, hub.out(*id))?;
@@ -283,14 +286,15 @@ fn write_connections<W: Write>(
 /// Runs the events in order over a hub without connections and an API without objects. Writes the line of the reply
 /// to each apply, `<status> <body>`, and at the end what was written on each other connection, in the order of their
 /// ids, under a line `connection <id> <bytes>`. An event that the hub refuses changes nothing; an apply for which no
-/// id is left does nothing.
+/// id is left does nothing. Without memory, a front of what the first events write is written.
 pub fn replay<W: Write>(
     alloc: Global,
     types: Types,
     events: &[Event],
     writer: &mut W,
 ) -> Result<(), ReplayFault>
-    ensures { OnOk result ((text : List ℕ) × Prints (types_view types) (map event_view events.now) text × Appends (W.contents writer.old) (W.contents writer.new) text) }
+    ensures ok { OnOk result ((text : List ℕ) × Prints (types_view types) (map event_view events.now) text × Appends (W.contents writer.old) (W.contents writer.new) text) }
+    ensures memory { result ≡ Err ReplayFault.Memory → (text : List ℕ) × PrintsFront (types_view types) (map event_view events.now) text × Appends (W.contents writer.old) (W.contents writer.new) text }
 {
     let mut run = Run::new(alloc, types)?;
     take_all(&mut run, events, writer)?;
