@@ -18,13 +18,18 @@ pub enum ParamsFault {
 }
 
 impl fmt::Display for ParamsFault {
+    ghost use Rattle.std.specs.Prelude.{Some};
+    ghost use Rattle.params.specs.Faults.{fault_text};
+
+    ghost output = { λ e. Some (fault_text e) };
+
     fn fmt<W: fmt::Write>(&self, f: &mut fmt::Formatter<W>) -> fmt::Result {
         match self {
             ParamsFault::Bad(parameter) => {
                 let name = parameter.name();
                 write!(f, "bad parameter: {name}")
             }
-            ParamsFault::Memory => write!(f, "out of memory"),
+            ParamsFault::Memory => f.write_str("out of memory"),
         }
     }
 }
