@@ -1,4 +1,4 @@
-use crate::{Elem, ElemFault, Keys, Path, Scalar};
+use crate::{Elem, ElemFault, Keys, KeysFault, Path, Scalar};
 use std::alloc::Global;
 use std::test::Fail;
 
@@ -29,11 +29,26 @@ fn printed(alloc: Global, text: &str) -> Result<String, Fail> {
     }
 }
 
-fn are_keys(alloc: Global, first: &str, second: &str) -> Result<bool, Fail> {
+fn keys(alloc: Global, first: &str, second: &str) -> Result<Result<Keys, KeysFault>, Fail> {
     let mut fields = Vec::new(alloc);
     fields.push((text(alloc, first)?, Scalar::Int(1)))?;
     fields.push((text(alloc, second)?, Scalar::Bool(true)))?;
-    Ok(Keys::new(fields).is_ok())
+    Ok(Keys::new(fields))
+}
+
+fn are_keys(alloc: Global, first: &str, second: &str) -> Result<bool, Fail> {
+    Ok(keys(alloc, first, second)?.is_ok())
+}
+
+// The path and one element more.
+fn longer(alloc: Global, path: &Path, elem: &Elem) -> Result<Path, Fail> {
+    let mut longer = path.try_copy(alloc)?;
+    longer.push_elem(alloc, elem)?;
+    Ok(longer)
+}
+
+fn last(path: &Path) -> &str {
+    path.texts().last().map_or("", |text| text.as_str())
 }
 
 #[test]
@@ -109,5 +124,27 @@ fn keys_ascend(rt: HostRuntime) -> Result<(), Fail> {
     assert!(rt; are_keys(alloc, "a", "b")?);
     assert!(rt; !are_keys(alloc, "b", "a")?);
     assert!(rt; !are_keys(alloc, "a", "a")?);
+    assert_eq!(rt;
+        Keys::new(Vec::new(alloc)).err(),
+        Some(KeysFault::NotAscending)
+    );
+    let read = keys(alloc, "a", "b")?.ok().ok_or("no keys")?;
+    assert_eq!(rt; read.fields().len(), 2);
+    assert_eq!(rt; read.fields()[1].0.as_str(), "b");
+    Ok(())
+}
+
+#[test]
+fn a_front_comes_before_what_extends_it(rt: HostRuntime) -> Result<(), Fail> {
+    let alloc = rt.alloc();
+    let spec = longer(alloc, &Path::new(alloc), &Elem::Field(text(alloc, "spec")?))?;
+    let nine = longer(alloc, &spec, &Elem::Value(Scalar::Int(9)))?;
+    let ten = longer(alloc, &spec, &Elem::Value(Scalar::Int(10)))?;
+    assert_eq!(rt; last(&spec), "f:spec");
+    assert_eq!(rt; last(&ten), "v:10");
+    assert!(rt; spec.cmp(&ten).is_lt());
+    assert!(rt; ten < nine);
+    assert!(rt; spec != ten);
+    assert!(rt; ten == ten.try_copy(alloc)?);
     Ok(())
 }

@@ -8,3 +8,6 @@ mod fields_v1;
 mod fieldset;
 
 pub use fieldset::FieldSet;
+
+#[cfg(test)]
+mod tests;
