@@ -24,7 +24,7 @@ use Rattle.sqlite_value.proofs.OrderLemmas.{value_cmp-Text}
 use Rattle.sqlite_keyed.proofs.SortLemmas.{sorted_unique}
 use Rattle.sqlite_keyed.proofs.ListLemmas.{map-map, ascending-map, ascending-filter, ascending_weaker, filter-map, all_both, IsPermutation-filter}
 use Rattle.revtable.specs.History.{Key, Change, text_cmp, key_cmp, state_at, IsRising}
-use Rattle.revtable.specs.Asked.{as_change, is_in_one, is_in_later, in_one, in_later}
+use Rattle.revtable.specs.Asked.{as_change, is_in_one, is_from, in_one, in_from}
 use Rattle.revtable.specs.Kept.{stands}
 use Rattle.revtable.specs.Rows.{change_schema, row_of, shown, IsKept, changes_in}
 use Rattle.revtable.proofs.Entries.{Entry, entries_ascend, standing_entries}
@@ -32,8 +32,8 @@ use Rattle.revtable.proofs.Last.{kept_if}
 use Rattle.revtable.proofs.Keeping.{counted_are}
 use Rattle.revtable.proofs.Filters.{filter_both}
 use Rattle.revtable.proofs.Span.{take-map}
-use Rattle.revtable.proofs.Where.{bound_page, bound_in, bound_past, beside, in_tests_are, past_tests_are}
-use Rattle.revtable.proofs.Texts.{page_query, names, later_tests, in_text, in_tests, in_is, in_plain, past_text, past_tests, past_is, past_plain}
+use Rattle.revtable.proofs.Where.{bound_page, bound_in, bound_from, beside, in_tests_are, from_tests_are}
+use Rattle.revtable.proofs.Texts.{page_query, names, later_tests, in_text, in_tests, in_is, in_plain, from_text, from_tests, from_is, from_plain}
 
 -- what the query of a page finds: the standing changes whose keys are wanted
 module _ (asked : List Term) (rest : Row) (wanted : Key → Bool) (r max : ℕ) where
@@ -125,15 +125,15 @@ and_left false b e = e
 pub one_kind : (kind : ℕ) (ns : List ℕ) (name : Option (List ℕ)) (k : Key) → is_in_one kind ns name k ≡ true → k.kind ≡ kind
 one_kind kind ns name k e = eqb-true _ _ (and_left (k.kind == kind) _ (and_left ((k.kind == kind) && is_eq (text_cmp k.namespace ns)) _ e))
 
-pub later_kind : (kind : ℕ) (ns : List ℕ) (k : Key) → is_in_later kind ns k ≡ true → k.kind ≡ kind
-later_kind kind ns k e = eqb-true _ _ (and_left (k.kind == kind) _ e)
+pub from_kind : (kind : ℕ) (low : List ℕ) (k : Key) → is_from kind low k ≡ true → k.kind ≡ kind
+from_kind kind low k e = eqb-true _ _ (and_left (k.kind == kind) _ e)
 
 pub finds_in : (old new : State) (kind : ℕ) (ns : List ℕ) (name : Option (List ℕ)) (r max top : ℕ) (rows : List Row) → IsKept old → IsRising 0 (changes_in old) top
     → Shown in_text (bound_page r max (bound_in kind ns name)) old new rows → rows ≡ map (λ e. shown (as_change e)) (take max (in_one kind ns name (state_at (changes_in old) r)))
 finds_in old new kind ns name r max top rows was rising h =
     finds_page in_text in_tests (bound_in kind ns name) (is_in_one kind ns name) kind old new r max top rows in_is in_plain (in_tests_are kind ns name r max) (one_kind kind ns name) was rising h
 
-pub finds_past : (old new : State) (kind : ℕ) (ns : List ℕ) (r max top : ℕ) (rows : List Row) → IsKept old → IsRising 0 (changes_in old) top
-    → Shown past_text (bound_page r max (bound_past kind ns)) old new rows → rows ≡ map (λ e. shown (as_change e)) (take max (in_later kind ns (state_at (changes_in old) r)))
-finds_past old new kind ns r max top rows was rising h =
-    finds_page past_text past_tests (bound_past kind ns) (is_in_later kind ns) kind old new r max top rows past_is past_plain (past_tests_are kind ns r max) (later_kind kind ns) was rising h
+pub finds_from : (old new : State) (kind : ℕ) (low : List ℕ) (r max top : ℕ) (rows : List Row) → IsKept old → IsRising 0 (changes_in old) top
+    → Shown from_text (bound_page r max (bound_from kind low)) old new rows → rows ≡ map (λ e. shown (as_change e)) (take max (in_from kind low (state_at (changes_in old) r)))
+finds_from old new kind low r max top rows was rising h =
+    finds_page from_text from_tests (bound_from kind low) (is_from kind low) kind old new r max top rows from_is from_plain (from_tests_are kind low r max) (from_kind kind low) was rising h

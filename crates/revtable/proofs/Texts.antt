@@ -134,20 +134,20 @@ pub in_plain : IsPlain (understood change_schema in_text)
 unfolding understood everything
 in_plain = (refl, refl)
 
--- of a type, in the namespaces after one
-abbrev pub past_text : List ℕ
-past_text = codes "SELECT revision, kind, namespace, name, body FROM change WHERE kind = ?3 AND namespace > ?4 AND revision <= ?1 AND body IS NOT NULL AND NOT EXISTS (SELECT 1 FROM change AS later WHERE change.kind = later.kind AND change.namespace = later.namespace AND change.name = later.name AND later.revision > change.revision AND NOT later.revision > ?1) ORDER BY namespace, name LIMIT ?2"
+-- of a type, in the namespaces from a text on
+abbrev pub from_text : List ℕ
+from_text = codes "SELECT revision, kind, namespace, name, body FROM change WHERE kind = ?3 AND namespace >= ?4 AND revision <= ?1 AND body IS NOT NULL AND NOT EXISTS (SELECT 1 FROM change AS later WHERE change.kind = later.kind AND change.namespace = later.namespace AND change.name = later.name AND later.revision > change.revision AND NOT later.revision > ?1) ORDER BY namespace, name LIMIT ?2"
 
-abbrev pub past_tests : List Term
-past_tests = op2 (Compare Eq Binary) (col 1 2) (col 0 2) ∷ op2 (Compare Gt Binary) (col 1 3) (col 0 3) ∷ standing_tests
+abbrev pub from_tests : List Term
+from_tests = op2 (Compare Eq Binary) (col 1 2) (col 0 2) ∷ op2 (Compare Ge Binary) (col 1 3) (col 0 3) ∷ standing_tests
 
-pub past_is : (command_of (understood change_schema past_text) ≡ Select (record { lets = []; body = page_query past_tests }) names) × (reads_listing change_schema past_text ≡ false)
+pub from_is : (command_of (understood change_schema from_text) ≡ Select (record { lets = []; body = page_query from_tests }) names) × (reads_listing change_schema from_text ≡ false)
 unfolding understood everything
-past_is = (refl, refl)
+from_is = (refl, refl)
 
-pub past_plain : IsPlain (understood change_schema past_text)
+pub from_plain : IsPlain (understood change_schema from_text)
 unfolding understood everything
-past_plain = (refl, refl)
+from_plain = (refl, refl)
 
 -- the kept changes
 abbrev pub kept_text : List ℕ

@@ -18,12 +18,12 @@ use Rattle.sqlite_sql.specs.Ops.{binary, unary, truth, from_truth, and3, or3, no
 use Rattle.sqlite_value.proofs.OrderLemmas.{value_cmp-Int, value_cmp-Text, value_cmp_total, value_cmp-apart}
 use Rattle.sqlite_value.specs.Order.{value_cmp, Row}
 use Rattle.revtable.specs.History.{Key, Change, text_cmp, is_same_key}
-use Rattle.revtable.specs.Asked.{is_last_of, is_past_name, is_in_one, is_in_later, low_of}
+use Rattle.revtable.specs.Asked.{is_last_of, is_past_name, is_in_one, is_from, low_of}
 use Rattle.revtable.specs.Kept.{replaces, stands}
 use Rattle.revtable.specs.Page.{is_within}
 use Rattle.revtable.specs.Rows.{row_of, body_value}
 use Rattle.revtable.proofs.Keys.{key_cmp_total}
-use Rattle.revtable.proofs.Texts.{last_query, span_query, kept_query, count_query, later_tests, in_tests, past_tests}
+use Rattle.revtable.proofs.Texts.{last_query, span_query, kept_query, count_query, later_tests, in_tests, from_tests}
 
 pub truth_back : (b : Bool) → unwrap_or (truth (from_truth (Some b))) false ≡ b
 truth_back true = refl
@@ -169,8 +169,8 @@ bound_page r max rest = Int (pos r) ∷ Int (pos max) ∷ rest
 abbrev pub bound_in : ℕ → List ℕ → Option (List ℕ) → Row
 bound_in kind ns name = Int (pos kind) ∷ Words ns ∷ Words (low_of name) ∷ body_value name ∷ []
 
-abbrev pub bound_past : ℕ → List ℕ → Row
-bound_past kind ns = Int (pos kind) ∷ Words ns ∷ []
+abbrev pub bound_from : ℕ → List ℕ → Row
+bound_from kind ns = Int (pos kind) ∷ Words ns ∷ []
 
 abbrev or_value : Value → Value → Value
 or_value a b = from_truth (or3 (truth a) (truth b))
@@ -194,10 +194,6 @@ from_low a b = rw (value_cmp-Text a b) (truth_back (is_ge (text_cmp a b)))
 same_text : (a b : List ℕ) → passes (binary (Compare Eq Binary) (Words a) (Words b)) ≡ is_eq (text_cmp a b)
 unfolding binary
 same_text a b = rw (value_cmp-Text a b) (truth_back (is_eq (text_cmp a b)))
-
-past_text_is : (a b : List ℕ) → passes (binary (Compare Gt Binary) (Words a) (Words b)) ≡ is_gt (text_cmp a b)
-unfolding binary
-past_text_is a b = rw (value_cmp-Text a b) (truth_back (is_gt (text_cmp a b)))
 
 after_name : (name : Option (List ℕ)) (n : List ℕ) → passes (binary Or (binary (Is Binary) (body_value name) Null) (binary (Compare Gt Binary) (Words n) (body_value name))) ≡ is_past_name name n
 unfolding binary
@@ -277,12 +273,12 @@ in_tests_are kind ns name r max all it =
     ∙ ap (λ b. same && (here && (b && stands r all it))) (from_name name it.key.name)
     ∙ in_turn same here past (stands r all it))
 
-pub past_tests_are : (kind : ℕ) (ns : List ℕ) (r max : ℕ) (all : List Change) (it : Change)
-    → list_all (holds (bound_page r max (bound_past kind ns) ∷ row_of it ∷ beside r all it ∷ [])) past_tests ≡ (stands r all it && is_in_later kind ns it.key)
-past_tests_are kind ns r max all it =
+pub from_tests_are : (kind : ℕ) (low : List ℕ) (r max : ℕ) (all : List Change) (it : Change)
+    → list_all (holds (bound_page r max (bound_from kind low) ∷ row_of it ∷ beside r all it ∷ [])) from_tests ≡ (stands r all it && is_from kind low it.key)
+from_tests_are kind low r max all it =
     let n = length (filter (replaces r it) all) in
-    rw (of_kind it.key.kind kind, past_text_is it.key.namespace ns, up_to_revision it.revision r, has_body it.body, not_counted n, with_true (not (nat_lt 0 n)), some_counted (replaces r it) all)
-    (later_turn (it.key.kind == kind) (is_gt (text_cmp it.key.namespace ns)) (stands r all it))
+    rw (of_kind it.key.kind kind, from_low it.key.namespace low, up_to_revision it.revision r, has_body it.body, not_counted n, with_true (not (nat_lt 0 n)), some_counted (replaces r it) all)
+    (later_turn (it.key.kind == kind) (is_ge (text_cmp it.key.namespace low)) (stands r all it))
 
 -- ---- what is kept
 

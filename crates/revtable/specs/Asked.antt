@@ -1,6 +1,6 @@
 -- What the statements find among the changes that the rows keep.
 use Rattle.std.specs.Prelude.{ℕ, Bool, true, List, [], Option, Some, None, ◌&&◌, ◌==◌, nat_le, filter, reverse, slice_get}
-use Rattle.std.specs.Ordering.{is_gt}
+use Rattle.std.specs.Ordering.{is_ge, is_gt}
 use Rattle.std.specs.declared.cmp.Ordering.{Ordering}
 use Rattle.std.specs.declared.cmp.Ordering.TheVariants.{Less, Equal, Greater}
 use Rattle.std.specs.FinMap as fin
@@ -31,12 +31,19 @@ is_in_one kind ns name k = is_within kind (Some ns) k && is_past_name name k.nam
 abbrev pub is_in_later : ℕ → List ℕ → Key → Bool
 is_in_later kind ns k = (k.kind == kind) && is_gt (text_cmp k.namespace ns)
 
--- the objects of the type in one namespace, after a name if one is given, and those in the namespaces after it
+abbrev pub is_from : ℕ → List ℕ → Key → Bool
+is_from kind low k = (k.kind == kind) && is_ge (text_cmp k.namespace low)
+
+-- the objects of the type in one namespace, after a name if one is given, those in the namespaces after it, and those
+-- in the namespaces from a text on
 abbrev pub in_one : ℕ → List ℕ → Option (List ℕ) → Objects → List (Key × Object)
 in_one kind ns name s = filter (λ e. is_in_one kind ns name e.0) (fin.entries s)
 
 abbrev pub in_later : ℕ → List ℕ → Objects → List (Key × Object)
 in_later kind ns s = filter (λ e. is_in_later kind ns e.0) (fin.entries s)
+
+abbrev pub in_from : ℕ → List ℕ → Objects → List (Key × Object)
+in_from kind low s = filter (λ e. is_from kind low e.0) (fin.entries s)
 
 -- the text that the names of a page begin from
 abbrev pub low_of : Option (List ℕ) → List ℕ

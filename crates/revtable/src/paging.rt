@@ -1,6 +1,6 @@
 //! Pages of objects: what is left of one namespace, and then what the namespaces after it have.
 
-ghost use Rattle.std.specs.Prelude.{◌≡◌, ◌++◌, ℕ, ◌^◌, ◌<◌, List, Option, Some, map, take, IfOk, option_map};
+ghost use Rattle.std.specs.Prelude.{◌≡◌, [], ◌∷◌, ◌++◌, ℕ, ◌^◌, ◌<◌, List, Option, Some, map, take, IfOk, option_map, string_bytes};
 ghost use Rattle.revtable.specs.Asked.{as_change, begins as place_of, in_later, in_one};
 ghost use Rattle.revtable.specs.History.{IsRising, state_at};
 ghost use Rattle.revtable.specs.Page.{page};
@@ -11,7 +11,7 @@ ghost use Rattle.sqlite.specs.Steps.{over_memory};
 use crate::fault::Fault;
 use crate::statements;
 use sqlite::{Connection, MemStore, Row};
-use std::alloc::Global;
+use std::alloc::{AllocError, Global};
 use std::cmp::Ordering;
 
 /// The namespace that a page begins in, and the name there after which it does: nowhere, if the place is past the
@@ -34,8 +34,19 @@ fn begins<'a>(
     }
 }
 
+/// The text that comes next after this one: `namespace >= next` lets the index begin there, where `namespace > text`
+/// would begin at the first object of the namespace itself.
+fn next_after(alloc: Global, text: &str) -> Result<String, AllocError>
+    ensures { IfOk result (λ s. string_bytes s ≡ text.now ++ 0 ∷ []) }
+{
+    let mut next = String::from_str(alloc, text)?;
+    next.push_str("\0")?;
+    Ok(next)
+}
+
 /// The first objects of a type at a revision: what is left of a namespace, and then of those after it.
 fn listed_on(
+    alloc: Global,
     conn: &mut Connection<MemStore>,
     kind: u32,
     first: &str,
@@ -55,7 +66,8 @@ fn listed_on(
 {
     let mut rows = statements::listed_in(conn, kind, first, name, revision, max)?;
     let left = max.saturating_sub(rows.len() as u64);
-    let mut more = statements::listed_past(conn, kind, first, revision, left)?;
+    let next = next_after(alloc, first)?;
+    let mut more = statements::listed_from(conn, kind, next.as_str(), revision, left)?;
     rows.append(&mut more)?;
     Ok(rows)
 }
@@ -85,6 +97,6 @@ pub(crate) fn listed(
     if namespace.is_some() {
         Ok(statements::listed_in(conn, kind, first, name, revision, max)?)
     } else {
-        listed_on(conn, kind, first, name, revision, max)
+        listed_on(alloc, conn, kind, first, name, revision, max)
     }
 }

@@ -3,7 +3,7 @@
 ghost use Rattle.std.specs.Prelude.{◌≡◌, [], ◌∷◌, ◌++◌, ℕ, ◌^◌, ◌<◌, pos, min, length, map, take, IfOk, OnOk, OnErr, option_map};
 ghost use Rattle.revtable.specs.Read.{key_of};
 ghost use Rattle.std.specs.Option.{option_to_list};
-ghost use Rattle.revtable.specs.Asked.{as_change, in_later, in_one, last_change, low_of};
+ghost use Rattle.revtable.specs.Asked.{as_change, in_from, in_one, last_change, low_of};
 ghost use Rattle.revtable.specs.History.{IsRising, last_revision, later, state_at, up_to};
 ghost use Rattle.revtable.specs.Kept.{kept, with_body};
 ghost use Rattle.revtable.specs.Page.{changes_within};
@@ -143,11 +143,11 @@ pub(crate) fn listed_in(
     )
 }
 
-/// The first objects of a type in the namespaces after one at a revision.
-pub(crate) fn listed_past(
+/// The first objects of a type in the namespaces from a text on at a revision.
+pub(crate) fn listed_from(
     conn: &mut Connection<MemStore>,
     kind: u32,
-    namespace: &str,
+    low: &str,
     revision: u64,
     max: u64,
 ) -> Result<Vec<Row>, Error>
@@ -158,11 +158,11 @@ pub(crate) fn listed_past(
     ensures kept { IsKept (state over_memory conn.new) }
     ensures same { changes_in (state over_memory conn.new) ≡ changes_in (state over_memory conn.old) }
     ensures ok { IfOk result (λ rows. rows.items ≡ map (λ e. shown (as_change e))
-        (take max (in_later kind namespace.now (state_at (changes_in (state over_memory conn.old)) revision)))) }
+        (take max (in_from kind low.now (state_at (changes_in (state over_memory conn.old)) revision)))) }
 {
     conn.query_all(
-        "SELECT revision, kind, namespace, name, body FROM change WHERE kind = ?3 AND namespace > ?4 AND revision <= ?1 AND body IS NOT NULL AND NOT EXISTS (SELECT 1 FROM change AS later WHERE change.kind = later.kind AND change.namespace = later.namespace AND change.name = later.name AND later.revision > change.revision AND NOT later.revision > ?1) ORDER BY namespace, name LIMIT ?2",
-        params![revision as i64, max as i64, kind, namespace],
+        "SELECT revision, kind, namespace, name, body FROM change WHERE kind = ?3 AND namespace >= ?4 AND revision <= ?1 AND body IS NOT NULL AND NOT EXISTS (SELECT 1 FROM change AS later WHERE change.kind = later.kind AND change.namespace = later.namespace AND change.name = later.name AND later.revision > change.revision AND NOT later.revision > ?1) ORDER BY namespace, name LIMIT ?2",
+        params![revision as i64, max as i64, kind, low],
     )
 }
 
