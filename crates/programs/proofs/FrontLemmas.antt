@@ -1,5 +1,5 @@
 -- Fronts of what is printed.
-use Rattle.std.proofs.Common.{◌≡◌, ◌∙◌, ℕ, ap, refl, sym, List, [], ◌++◌, drop, take, append_assoc, append-nil}
+use Rattle.std.proofs.Common.{◌∙◌, ℕ, ap, refl, sym, List, [], ◌++◌, drop, take, append_assoc, append-nil}
 use Rattle.std.proofs.lemmas.Grind.{flat_map-append}
 use Rattle.std.proofs.lemmas.List.{take-append-drop}
 use Rattle.schema.specs.TypesFile.{ServedShape}

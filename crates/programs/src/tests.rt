@@ -38,6 +38,19 @@ fn first_apply(rt: HostRuntime) -> Result<(), Fail> {
     Ok(())
 }
 
+/// A writer without room, and so a status that no file can have.
+#[test]
+fn full_writer_is_told(rt: HostRuntime) -> Result<(), Fail> {
+    let alloc = rt.alloc();
+    let events = read_script(alloc, apply_line(alloc, "alice", "/x", "null")?.as_str())?;
+    let mut room: &mut [u8] = &mut [];
+    match replay(alloc, types_in(alloc, TYPES)?, &events, &mut room) {
+        Ok(()) => assert!(rt; false, "it was written"),
+        Err(fault) => assert_eq!(rt; RunFault::from(fault).status(), 1),
+    }
+    Ok(())
+}
+
 /// What is told of a types file, a script and words, with the exit status.
 fn told(rt: &HostRuntime, words: &[&str]) -> Result<(u8, String), Fail> {
     let mut all = Vec::new(rt.alloc());
