@@ -1,11 +1,12 @@
-//! `bench WORD..` times the layers: a number sets the size, and `selectors`, `indexer`, `reader`, `tables` or
-//! `lookups` runs that layer at it. What was done goes to standard output, the processor times to standard error.
+//! `bench WORD..` times the layers: a number sets the size, and `selectors`, `indexer`, `reader`, `tables`,
+//! `lookups` or `hub` runs that layer at it. What was done goes to standard output, the processor times to standard error.
 #![tactic(auto)]
 
 mod indexing;
 mod lookups;
 mod reading;
 mod selecting;
+mod serving;
 mod storing;
 mod timing;
 
@@ -27,6 +28,7 @@ fn run_layer(
         "reader" => reading::run(rt, alloc, count),
         "tables" => storing::run(rt, alloc, count),
         "lookups" => lookups::run(rt, alloc, size),
+        "hub" => serving::run(rt, alloc, count),
         _ => bail!("no such layer: {layer}"),
     }
 }

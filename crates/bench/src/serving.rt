@@ -1,0 +1,141 @@
+//! Requests through the hub, and the same applies without it.
+
+use crate::timing::{spent, tell};
+use anyhow::bail;
+use httpedge::{Event, Hub, HubFault};
+use schema::Types;
+use serde_json::Value;
+use std::alloc::{AllocError, Global};
+use std::time::CpuClock;
+use verbs::{Api, Call, Fault, Plan};
+
+const TYPES: &str =
+    r#"{"types":[{"group":"demo.example","version":"v1","kind":"Widget","plural":"widgets","schema":{"type":"object","properties":{"spec":{"type":"object","properties":{"config":{"type":"object","additionalProperties":{"type":"string"}}}}}}}]}"#;
+
+const PATH: &str = "/apis/demo.example/v1/namespaces/default/widgets/w1";
+
+const MEDIA: &str = "application/apply-patch+yaml";
+
+const QUERY: &str = "fieldManager=alice";
+
+/// How many requests are served.
+const REQUESTS: u64 = 200;
+
+fn api_of_widgets(alloc: Global) -> anyhow::Result<Api> {
+    let value = Value::from_str(alloc, TYPES)?;
+    let types = Types::read(alloc, &value)?;
+    match Api::new(alloc, types) {
+        Ok(api) => Ok(api),
+        Err(_) => bail!("out of memory"),
+    }
+}
+
+/// The whole object of so many fields, of which one has another value at each turn.
+fn body(alloc: Global, size: u64, turn: u64) -> Result<String, AllocError> {
+    let changed = turn % size.max(1);
+    let mut text = String::from_str(
+        alloc,
+        "{\"apiVersion\":\"demo.example/v1\",\"kind\":\"Widget\",\"metadata\":{\"name\":\"w1\"},\"spec\":{\"config\":{",
+    )?;
+    for i in 0..size {
+        if i > 0 {
+            text.push(',')?;
+        }
+        let field = if i == changed {
+            format!(in alloc; "\"key-{i:05}\":\"changed-{turn}\"")?
+        } else {
+            format!(in alloc; "\"key-{i:05}\":\"value-{i}\"")?
+        };
+        text.push_str(&field)?;
+    }
+    text.push_str("}}}")?;
+    Ok(text)
+}
+
+fn bodies(alloc: Global, size: u64) -> Result<Vec<String>, AllocError> {
+    let mut all = Vec::new(alloc);
+    for turn in 0..REQUESTS {
+        all.push(body(alloc, size, turn)?)?;
+    }
+    Ok(all)
+}
+
+fn requests(alloc: Global, bodies: &[String]) -> Result<Vec<Vec<u8>>, AllocError> {
+    let mut all = Vec::new(alloc);
+    for body in bodies {
+        let length = body.len();
+        let request = format!(in alloc;
+            "PATCH {PATH}?{QUERY} HTTP/1.1\r\nHost: localhost\r\nContent-Type: {MEDIA}\r\nContent-Length: {length}\r\n\r\n{body}"
+        )?;
+        all.push(request.into_bytes())?;
+    }
+    Ok(all)
+}
+
+fn values(alloc: Global, bodies: &[String]) -> anyhow::Result<Vec<Value>> {
+    let mut all = Vec::new(alloc);
+    for body in bodies {
+        all.push(Value::from_str(alloc, body)?)?;
+    }
+    Ok(all)
+}
+
+/// Serves each request on a connection of its own, and counts those that are served.
+fn serve_all(hub: &mut Hub, requests: Vec<Vec<u8>>) -> Result<u64, HubFault> {
+    let mut served: u64 = 0;
+    let mut id: u64 = 0;
+    for request in requests {
+        id = id.saturating_add(1);
+        hub.on(&Event::Open(id))?;
+        hub.on(&Event::In(id, request))?;
+        if hub.out(id).starts_with(b"HTTP/1.1 20") {
+            served = served.saturating_add(1);
+        }
+    }
+    Ok(served)
+}
+
+/// Applies each body, and counts those that are served.
+fn apply_all(alloc: Global, api: &mut Api, bodies: Vec<Value>) -> Result<u64, Fault> {
+    let mut served: u64 = 0;
+    for body in bodies {
+        let Ok(target) = api.admit("PATCH", PATH, Some(MEDIA.as_bytes())) else {
+            return Ok(served);
+        };
+        let call = Call {
+            target,
+            query: Vec::from_slice(alloc, QUERY.as_bytes())?,
+            body: Some(body),
+        };
+        let Plan { answer, change } = api.plan(&call)?;
+        if answer.status < 300 {
+            served = served.saturating_add(1);
+        }
+        if let Some(change) = change {
+            api.commit(change)?;
+        }
+    }
+    Ok(served)
+}
+
+/// Serves the requests over objects of so many fields, and makes the same applies from parsed bodies.
+pub(crate) fn run(
+    rt: &(impl Print + Eprint + CpuClock),
+    alloc: Global,
+    size: u64,
+) -> anyhow::Result<()> {
+    let bodies = bodies(alloc, size)?;
+    let mut hub = Hub::new(alloc, api_of_widgets(alloc)?);
+    let requests = requests(alloc, &bodies)?;
+    let start = spent(rt)?;
+    let served = serve_all(&mut hub, requests).unwrap_or(0);
+    tell(rt, "request through the hub", REQUESTS, start)?;
+    println!(rt; "hub: {served} of {REQUESTS} served through the hub")?;
+    let mut api = api_of_widgets(alloc)?;
+    let values = values(alloc, &bodies)?;
+    let start = spent(rt)?;
+    let served = apply_all(alloc, &mut api, values).unwrap_or(0);
+    tell(rt, "apply of a parsed body", REQUESTS, start)?;
+    println!(rt; "hub: {served} of {REQUESTS} applied without it")?;
+    Ok(())
+}
