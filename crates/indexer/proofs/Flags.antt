@@ -1,5 +1,5 @@
 -- What is under a key after several changes, as truth values.
-use Rattle.std.proofs.Common.{◌≡◌, Bool, true, false, cond, not, ◌&&◌, ◌||◌, refl, sym}
+use Rattle.std.proofs.Common.{◌≡◌, Bool, true, false, cond, not, ◌&&◌, ◌||◌, refl}
 
 -- one more of the keys to take, which isn't to be kept
 pub takes_more : (u m e n s : Bool) → (e && not n) ≡ false → ((u && not ((m && n) && s)) && not (e && s)) ≡ (u && not (((m || e) && n) && s))

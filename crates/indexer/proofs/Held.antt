@@ -10,13 +10,12 @@ use Rattle.std.specs.Map.{lookup, remove_entry}
 use Rattle.std.specs.Ordering.{match_ordering, eq_by_cmp}
 use Rattle.std.proofs.lemmas.Cmp.{then_total, on_total, nat_list_cmp_total}
 use Rattle.indexer.specs.declared.entry.Entry.{Entry}
-use Rattle.indexer.specs.declared.object.Object.{Object}
 use Rattle.indexer.specs.declared.object.ObjectKey.{ObjectKey}
-use Rattle.indexer.specs.Keys.{key_cmp, is_same, IsKeyOf, IsCopyOf}
+use Rattle.indexer.specs.Keys.{key_cmp, is_same}
 use Rattle.indexer.specs.Indexer.{has_one, is_under_number}
 use Rattle.indexer.specs.Kept.{held_in, seen_of, has_key, HoldsPostings}
 use Rattle.indexer.specs.Postings.{Postings}
-use Rattle.indexer.specs.Objects.{Place, place_cmp, place_of, place_of_object, Stored, under_number}
+use Rattle.indexer.specs.Objects.{Place, place_cmp, place_of, Stored, under_number}
 use Rattle.indexer.proofs.Same.{then_equal, texts_equal, equal_texts}
 
 pub place_total : IsTotalOrder place_cmp

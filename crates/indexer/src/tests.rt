@@ -112,6 +112,9 @@ fn two_indexes_with_one_name(rt: HostRuntime) -> Result<(), Fail> {
     indexes.push(Box::new(alloc, Text)?)?;
     indexes.push(Box::new(alloc, Text)?)?;
     let made = Indexer::new(alloc, indexes);
+    if let Err(NewError::Memory) = made {
+        return Err(AllocError.into());
+    }
     assert!(rt; matches!(made, Err(NewError::SameName)));
     Ok(())
 }

@@ -16,10 +16,11 @@ fn labels(alloc: Global, pairs: &[(&str, &str)]) -> Result<BTreeMap<String, Stri
     Ok(labels)
 }
 
-fn fault(alloc: Global, text: &str) -> Option<Fault> {
+fn fault(alloc: Global, text: &str) -> Result<Option<Fault>, AllocError> {
     match Selector::read(alloc, text) {
-        Err(ReadError::Fault(fault)) => Some(fault),
-        Ok(_) | Err(ReadError::Memory) => None,
+        Ok(_) => Ok(None),
+        Err(ReadError::Fault(fault)) => Ok(Some(fault)),
+        Err(ReadError::Memory) => Err(AllocError),
     }
 }
 
@@ -82,7 +83,7 @@ fn the_first_fault_is_the_answer(rt: HostRuntime) -> Result<(), Fail> {
         ("A.b/c", Some(Fault::BadKey)),
         ("ключ", Some(Fault::BadKey)),
     ] {
-        assert_eq!(rt; fault(alloc, text), expected, "{text}");
+        assert_eq!(rt; fault(alloc, text)?, expected, "{text}");
     }
     Ok(())
 }
@@ -100,12 +101,12 @@ fn names_have_63_bytes_and_prefixes_253(rt: HostRuntime) -> Result<(), Fail> {
     }
     prefix.push('b')?;
     let whole = format!(in alloc; "{prefix}/{name}={name}")?;
-    assert_eq!(rt; fault(alloc, &whole), None);
+    assert_eq!(rt; fault(alloc, &whole)?, None);
     let long_prefix = format!(in alloc; "b{prefix}/{name}")?;
-    assert_eq!(rt; fault(alloc, &long_prefix), Some(Fault::BadKey));
+    assert_eq!(rt; fault(alloc, &long_prefix)?, Some(Fault::BadKey));
     let long_name = format!(in alloc; "a{name}")?;
-    assert_eq!(rt; fault(alloc, &long_name), Some(Fault::BadKey));
+    assert_eq!(rt; fault(alloc, &long_name)?, Some(Fault::BadKey));
     let long_value = format!(in alloc; "a=a{name}")?;
-    assert_eq!(rt; fault(alloc, &long_value), Some(Fault::BadValue));
+    assert_eq!(rt; fault(alloc, &long_value)?, Some(Fault::BadValue));
     Ok(())
 }

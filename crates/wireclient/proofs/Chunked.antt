@@ -1,5 +1,5 @@
 -- A reply in chunks is read as its status, its lines and the end.
-use Rattle.std.proofs.Common.{arith, ◌≡◌, ℕ, ◌+◌, ◌-◌, ◌*◌, ◌≤◌, ◌<◌, Bool, true, false, cond, leb, ltb, List, [], ◌∷◌, ◌++◌, length, map, Option, Some, None, refl, sym, ap, ap₂, subst, ◌∙◌, append_assoc, append-nil}
+use Rattle.std.proofs.Common.{arith, ◌≡◌, ℕ, ◌+◌, ◌-◌, ◌*◌, ◌≤◌, ◌<◌, Bool, true, false, cond, leb, ltb, List, [], ◌∷◌, ◌++◌, length, map, Some, None, refl, sym, ap, ap₂, subst, ◌∙◌, append_assoc, append-nil}
 use Rattle.std.proofs.lemmas.Bool.{lt-leb, lt-ltb, ne_eqb}
 use Rattle.std.proofs.lemmas.List.{length-append}
 use Rattle.std.proofs.lemmas.List.Elements.{All-head, All-tail}
@@ -11,7 +11,7 @@ use Rattle.httparse.specs.Grammar.{ResponseHead, IsResponseHead, print_response,
 use Rattle.httparse.specs.Spans.{name_and_value}
 use Rattle.wireclient.specs.Chunks.{Chunk, IsChunk, IsSize, IsLine, crlf, print_chunk, print_chunks, print_lines}
 use Rattle.wireclient.specs.Reads.{Judged, Leads, Stands, framing_of, max_fields, start}
-use Rattle.wireclient.specs.Reply.{by_chunks, Told, head, line, end, State, size, size_lf, data_in, data_cr, data_lf, last_cr, last_lf, ended, max_head, max_line, Next, fails, goes_to, data_after, digit_onto, step}
+use Rattle.wireclient.specs.Reply.{by_chunks, Told, head, line, end, State, size, size_lf, data_in, data_cr, last_cr, ended, max_head, max_line, Next, fails, goes_to, data_after, digit_onto, step}
 use Rattle.wireclient.proofs.Leading.{leads_append}
 use Rattle.wireclient.proofs.Printed.{head_ends}
 use Rattle.wireclient.proofs.ReadBack.{whole_head_read}

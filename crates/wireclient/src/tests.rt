@@ -42,8 +42,10 @@ fn told(alloc: Global, reply: &str, cut: usize) -> Result<String, AllocError> {
     let bytes = reply.as_bytes();
     let (front, back) = bytes.split_at(cut.min(bytes.len()));
     for piece in [front, back] {
-        if let Ok(items) = reader.feed(piece) {
-            show(alloc, &items, &mut text)?;
+        match reader.feed(piece) {
+            Ok(items) => show(alloc, &items, &mut text)?,
+            Err(ReadFault::Malformed) => {}
+            Err(ReadFault::Memory) => return Err(AllocError),
         }
     }
     Ok(text)
@@ -54,8 +56,10 @@ fn told_in_pieces(alloc: Global, reply: &str, size: usize) -> Result<String, All
     let mut reader = ReplyReader::new(alloc);
     let mut text = String::new(alloc);
     for piece in reply.as_bytes().chunks(size.max(1)) {
-        if let Ok(items) = reader.feed(piece) {
-            show(alloc, &items, &mut text)?;
+        match reader.feed(piece) {
+            Ok(items) => show(alloc, &items, &mut text)?,
+            Err(ReadFault::Malformed) => {}
+            Err(ReadFault::Memory) => return Err(AllocError),
         }
     }
     Ok(text)
@@ -123,10 +127,16 @@ fn a_bad_byte_is_told_when_it_comes(rt: HostRuntime) -> Result<(), Fail> {
             "Transfer-Encoding: gzip\r\n\r\n",
             " malformed",
         ),
+        (
+            "HTTP/1.1 200 OK\r\nTransfer-Encoding: chunked\r\n",
+            "Transfer-Encoding: chunked\r\n\r\n",
+            " malformed",
+        ),
         ("ICY 200 OK\r\n", "Content-Length: 1\r\n\r\n", " malformed"),
         (CHUNKED, "\r", "200 malformed"),
         (CHUNKED, "0000000000000001\r\na\r\n", "200"),
         (CHUNKED, "00000000000000001", "200 malformed"),
+        (CHUNKED, "00000000000000000001\r\na\r\n", "200 malformed"),
         (CHUNKED, "1\n", "200 malformed"),
         (CHUNKED, "g", "200 malformed"),
         (CHUNKED, "1 \r\n", "200 malformed"),
@@ -137,12 +147,17 @@ fn a_bad_byte_is_told_when_it_comes(rt: HostRuntime) -> Result<(), Fail> {
         (CHUNKED, "1\r\na\r\n0\r\n\r\n", "200 malformed"),
     ] {
         let reply = format!(in alloc; "{start}{rest}")?;
-        let text = told(alloc, &reply, reply.len())?;
-        assert_eq!(rt; text.as_str(), expected, "{rest}");
+        for cut in 0..=reply.len() {
+            let text = told(alloc, &reply, cut)?;
+            assert_eq!(rt; text.as_str(), expected, "{rest}, {cut}");
+        }
+        let text = told_in_pieces(alloc, &reply, 1)?;
+        assert_eq!(rt; text.as_str(), expected, "{rest}, byte by byte");
     }
     let mut reader = ReplyReader::new(alloc);
-    let head = reader.feed(b"HTTP/1.1 200 OK\r\n\r\nabc").ok();
-    assert!(rt; head.is_some());
+    if reader.feed(b"HTTP/1.1 200 OK\r\n\r\nabc").is_err() {
+        return Err(AllocError.into());
+    }
     assert!(rt; matches!(reader.feed(b"abc"), Err(ReadFault::Malformed)));
     assert!(rt; matches!(reader.feed(b""), Err(ReadFault::Malformed)));
     Ok(())
@@ -197,6 +212,42 @@ fn a_line_has_2097152_bytes(rt: HostRuntime) -> Result<(), Fail> {
         assert_eq!(rt; told.count(), lines, "{length}");
         assert_eq!(rt; items.contains(&Item::End), ends, "{length}");
         assert_eq!(rt; items.contains(&Item::Malformed), !ends, "{length}");
+    }
+    Ok(())
+}
+
+/// How many bytes have come, one by one, when a bad one is told; 0 where no byte is bad.
+fn bytes_to_malformed(alloc: Global, reply: &str) -> Result<usize, ReadFault> {
+    let mut reader = ReplyReader::new(alloc);
+    for (i, piece) in reply.as_bytes().chunks(1).enumerate() {
+        if reader.feed(piece)?.contains(&Item::Malformed) {
+            return Ok(i + 1);
+        }
+    }
+    Ok(0)
+}
+
+#[test]
+fn a_limit_is_met_with_the_byte_that_passes_it(rt: HostRuntime) -> Result<(), Fail> {
+    let alloc = rt.alloc();
+    for (start, filler, wanted) in [
+        ("HTTP/1.1 200 OK\r\nPad: ", "a", 16_385),
+        ("", "\n", 16_385),
+        (CHUNKED, "0", CHUNKED.len() + 17),
+        (
+            "HTTP/1.1 200 OK\r\nTransfer-Encoding: chunked\r\n\r\nffffff\r\n",
+            "a",
+            55 + 2_097_153,
+        ),
+    ] {
+        let mut reply = String::from_str(alloc, start)?;
+        for _ in 0..=wanted {
+            reply.push_str(filler)?;
+        }
+        let Ok(told) = bytes_to_malformed(alloc, &reply) else {
+            return Err(AllocError.into());
+        };
+        assert_eq!(rt; told, wanted, "{filler}");
     }
     Ok(())
 }

@@ -1,4 +1,4 @@
-use Rattle.std.proofs.Common.{◌∙◌, ◌&&◌, ◌||◌, not, ap}
+use Rattle.std.proofs.Common.{◌∙◌, ◌&&◌, not, ap}
 use Rattle.indexer.specs.Keys.{is_same}
 use Rattle.indexer.specs.Objects.{is_among, texts_at, under_at}
 use Rattle.indexer.proofs.Flags.{moved, taken_back}

@@ -7,7 +7,7 @@ use Rattle.std.specs.FinMap as fin
 use Rattle.std.specs.Map.{lookup}
 use Rattle.indexer.specs.declared.entry.Entry.{Entry}
 use Rattle.indexer.specs.declared.object.ObjectKey.{ObjectKey}
-use Rattle.indexer.specs.Keys.{key_cmp, is_same, IsCopyOf}
+use Rattle.indexer.specs.Keys.{key_cmp, is_same}
 use Rattle.indexer.specs.Kept.{held_in, seen_of, has_key}
 use Rattle.indexer.specs.Objects.{stored_of, texts_of, texts_at, is_among, under_at}
 use Rattle.indexer.proofs.Held.{held_insert, held_same, get_held}

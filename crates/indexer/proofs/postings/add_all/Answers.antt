@@ -1,4 +1,4 @@
-use Rattle.std.proofs.Common.{◌∙◌, ◌&&◌, ◌||◌, not, ap, ap₂, map, take, List, ℕ, String, Global, arith, string_bytes}
+use Rattle.std.proofs.Common.{◌∙◌, ◌&&◌, ◌||◌, not, ap₂, map, take, List, ℕ, String, Global, arith, string_bytes}
 use Rattle.std.proofs.lemmas.List.{length-set}
 use Rattle.std.proofs.lemmas.Result.{err_from_is_err_and}
 use Rattle.indexer.specs.Keys.{is_same}
