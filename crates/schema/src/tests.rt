@@ -1,6 +1,7 @@
 //! A types file of two types, and each refusal.
 
-use super::{Types, TypesFault};
+use super::{Place, Types, TypesFault};
+use fieldpath::Path;
 use serde_json::Value;
 use std::alloc::Global;
 use std::test::Fail;
@@ -216,5 +217,42 @@ fn read_past_and_sorted(rt: HostRuntime) -> Result<(), Fail> {
     )?;
     assert_eq!(rt; shown.as_str(), want.as_str());
     assert!(rt; widget.schema.lawful());
+    Ok(())
+}
+
+/// The place that the first type's schema gives the path whose elements stand between blanks.
+fn place_in(alloc: Global, types: &Types, elements: &str) -> Result<Option<Place>, Fail> {
+    let mut path = Path::new(alloc);
+    for element in elements.split(' ') {
+        path.push(String::from_str(alloc, element)?)?;
+    }
+    let widget = types.get(0).ok_or("no widget")?;
+    Ok(widget.schema.place(alloc, &path)?)
+}
+
+#[test]
+fn widget_places(rt: HostRuntime) -> Result<(), Fail> {
+    let types = read(rt.alloc(), WIDGET_TYPES)??;
+    for (elements, place) in [
+        ("f:spec", None),
+        ("f:spec f:image", Some(Place::Leaf)),
+        ("f:spec f:args", Some(Place::Leaf)),
+        ("f:spec f:config f:any", Some(Place::Leaf)),
+        (r#"f:spec f:tags v:"a""#, Some(Place::SetItem)),
+        ("f:spec f:tags v:1", None),
+        (r#"f:spec f:ports k:{"name":"web"}"#, Some(Place::MapItem)),
+        (
+            r#"f:spec f:ports k:{"name":"web"} f:port"#,
+            Some(Place::Leaf),
+        ),
+        (r#"f:spec f:ports k:{"name":"web"} f:name"#, None),
+        (r#"f:spec f:ports k:{"port":80}"#, None),
+    ] {
+        assert_eq!(rt;
+            place_in(rt.alloc(), &types, elements)?,
+            place,
+            "{elements}"
+        );
+    }
     Ok(())
 }
