@@ -1,6 +1,6 @@
 //! Pages of objects: what is left of one namespace, and then what the namespaces after it have.
 
-ghost use Rattle.std.specs.Prelude.{◌≡◌, [], ◌∷◌, ◌++◌, ℕ, ◌^◌, ◌<◌, List, Option, Some, map, take, IfOk, option_map, string_bytes};
+ghost use Rattle.std.specs.Prelude.{◌≡◌, [], ◌∷◌, ◌++◌, ℕ, ◌^◌, ◌<◌, List, Option, map, take, IfOk, option_map, string_bytes};
 ghost use Rattle.revtable.specs.Asked.{as_change, begins as place_of, in_later, in_one};
 ghost use Rattle.revtable.specs.History.{IsRising, state_at};
 ghost use Rattle.revtable.specs.Page.{page};
