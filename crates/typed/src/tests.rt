@@ -1,5 +1,6 @@
 // Examples under a schema with a list of each kind, a map and an atomic struct.
 use crate::{ReadFault, Tree};
+use fieldset::FieldSet;
 use pathmap::{Held, PathMap};
 use schema::{ListKind, Schema};
 use serde_json::Value;
@@ -231,6 +232,62 @@ fn the_other_content_overrides(rt: HostRuntime) -> Result<(), Fail> {
     assert_eq!(rt;
         held_at(rt.alloc(), &copy, ["f:spec", "f:replicas"].as_slice())?.as_str(),
         "whole 1"
+    );
+    Ok(())
+}
+
+fn tree(alloc: Global, schema: &Schema, text: &str) -> Result<Tree, Fail> {
+    Ok(Tree::read(schema, alloc, &Value::from_str(alloc, text)?)?)
+}
+
+/// Puts the paths as conflicts show them, each behind a blank, and a bar.
+fn push_paths(alloc: Global, text: &mut String, set: &FieldSet) -> Result<(), AllocError> {
+    for path in set.paths(alloc)? {
+        text.push_str(" ")?;
+        text.push_str(path.shown(alloc)?.as_str())?;
+    }
+    text.push_str(" |")
+}
+
+/// The paths of a content, those changed from another, and those added, modified and removed.
+fn compared(alloc: Global, new: &Tree, old: &Tree) -> Result<String, AllocError> {
+    let mut text = String::new(alloc);
+    push_paths(alloc, &mut text, &new.paths(alloc)?)?;
+    push_paths(alloc, &mut text, &new.changed_from(alloc, old)?)?;
+    let changes = new.compare(alloc, old)?;
+    push_paths(alloc, &mut text, &changes.added)?;
+    push_paths(alloc, &mut text, &changes.modified)?;
+    push_paths(alloc, &mut text, &changes.removed)?;
+    Ok(text)
+}
+
+fn differences(alloc: Global, new: &str, old: &str) -> Result<String, Fail> {
+    let schema = widget(alloc)?;
+    let new = tree(alloc, &schema, new)?;
+    Ok(compared(alloc, &new, &tree(alloc, &schema, old)?)?)
+}
+
+/// What is printed of the first content less the paths of the second.
+fn left(alloc: Global, content: &str, less: &str) -> Result<String, Fail> {
+    let schema = widget(alloc)?;
+    let less = tree(alloc, &schema, less)?.paths(alloc)?;
+    let left = tree(alloc, &schema, content)?.without(&less);
+    let value = left.to_value(alloc, &schema)?.ok_or("nothing is left")?;
+    Ok(value.to_string(alloc)?)
+}
+
+#[test]
+fn contents_side_by_side(rt: HostRuntime) -> Result<(), Fail> {
+    let alloc = rt.alloc();
+    let new = "{\"spec\":{\"config\":{\"a\":\"1\"},\"image\":\"b\",\"ready\":true}}";
+    let old = "{\"spec\":{\"image\":\"a\",\"ready\":true,\"replicas\":1}}";
+    assert_eq!(rt;
+        differences(alloc, new, old)?.as_str(),
+        " .spec.config.a .spec.image .spec.ready | .spec.config.a .spec.image | .spec.config.a | .spec.image | .spec.replicas |"
+    );
+    assert_eq!(rt;
+        left(alloc, new, old)?.as_str(),
+        "{\"spec\":{\"config\":{\"a\":\"1\"}}}"
     );
     Ok(())
 }
