@@ -199,7 +199,7 @@ def six_lines():
     assert revision == 5 and len(replies[-1]) == len("200 \n") + 315
 
 
-def first_apply_in_bytes():
+def first_apply():
     """A first apply as bytes, whole and cut in two; what comes after it is read past."""
     spec = {"image": "a", "replicas": 3}
     for name, pieces in (("w2", 1), ("w3", 2)):
@@ -219,7 +219,7 @@ def first_apply_in_bytes():
     line({"open": last_id})
 
 
-def heads():
+def hostile_heads():
     """A request's head: sizes, form, version, host, lengths."""
     undecided("a" * 16384)
     asked("a" * 16385, refused("request head too large"))
@@ -254,7 +254,7 @@ def routes():
     asked(request(HOST + ["Content-Length: 2"], "{}"), refused("media type not served"))
 
 
-def bodies():
+def body_limits_and_numbers():
     """A body's size, its JSON, its numbers."""
     spec = {"image": "a", "replicas": 3}
     body = compact(body_of(metadata={"name": "w4"}, spec=spec))
@@ -310,13 +310,17 @@ def envelopes():
 
 
 def parameters():
-    """The query; the names of managers."""
+    """The query."""
     body = compact(body_of())
     for query, name in (("fieldManager=alice&dryRun=All", "dryRun"), ("fieldManager=alice&fieldValidation=Warn", "fieldValidation"),
                         ("fieldManager=alice&force=maybe", "force")):
         asked(patch(body, target=WIDGETS + "w9?" + query), refused("bad parameter: {}", name))
+
+
+def manager_name_limits():
+    """The names of managers: 1 to 128 characters that print."""
     no_manager = refused("fieldManager: 1 to 128 printable characters")
-    asked(patch(body, target=WIDGETS + "w9"), no_manager)
+    asked(patch(compact(body_of()), target=WIDGETS + "w9"), no_manager)
     for manager in ("", "m" * 129, "tab\t", "\u00fc"):
         apply("w9", body_of(), no_manager, manager)
     for name, manager in (("long", "m" * 128), ("signs", "a b&c=d%+?#")):
@@ -334,10 +338,14 @@ def names():
         apply("w9", body_of(metadata=metadata), refused(message))
 
 
-def versions_and_conflicts():
-    """A version that isn't the stored one; every conflict with every owner."""
+def versions():
+    """A version that isn't the stored one, or of nothing."""
     apply("w9", body_of(metadata={"resourceVersion": "7"}), refused("version {} was given and there is no object", 7))
     apply("w1", body_of(metadata={"resourceVersion": "4"}), refused("version {} is not the stored one, {}", 4, 5))
+
+
+def all_conflicts_listed():
+    """Every conflict with every owner."""
     owners = []
     for manager, code in (("alice", 201), ("bob", 200)):
         owners.append((manager, in_spec("replicas")))
@@ -346,7 +354,7 @@ def versions_and_conflicts():
 
 
 def lists():
-    """A set of items that two managers share, an atomic list, an object without content."""
+    """Items of a set that two managers share, an atomic list, a map list, an object without content."""
     def tags(*items):
         return {"f:spec": {"f:tags": {f'v:"{item}"': {} for item in items}}}
 
@@ -410,8 +418,8 @@ def connections():
 
 
 def main():
-    for row in (six_lines, first_apply_in_bytes, heads, routes, bodies, envelopes, parameters, names, versions_and_conflicts,
-                lists, sizes, connections):
+    for row in (six_lines, first_apply, hostile_heads, routes, body_limits_and_numbers, envelopes, parameters, manager_name_limits,
+                names, versions, all_conflicts_listed, lists, sizes, connections):
         row()
     left = set(FOUND) - met
     assert not left, left
