@@ -40,12 +40,21 @@ impl Api {
     pub fn new(alloc: Global, types: Types) -> Result<Api, Fault>
         ensures { IfOk result (λ api. Stands api (types_view types) (fresh 1)) }
     {
+        Api::new_at(alloc, types, 1)
+    }
+
+    /// An API without objects whose current revision is this one, from 1 to 9223372036854775807.
+    pub fn new_at(alloc: Global, types: Types, revision: u64) -> Result<Api, Fault>
+        requires from { 1 ≤ revision }
+        requires to { revision ≤ last_revision }
+        ensures { IfOk result (λ api. Stands api (types_view types) (fresh revision)) }
+    {
         Ok(Api {
             alloc,
             types,
             routes: Routes::new(alloc)?,
             objects: BTreeMap::new(alloc),
-            current: 1,
+            current: revision,
         })
     }
 

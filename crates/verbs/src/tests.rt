@@ -70,14 +70,41 @@ fn step(alloc: Global, api: &mut Api, line: &str) -> Result<String, Fail> {
     told(alloc, &answer)
 }
 
-/// Does lines of `NAME QUERY REST` on a fresh API and tells the answers, a line each.
-fn answers(alloc: Global, lines: &str) -> Result<String, Fail> {
-    let mut api = fresh(alloc, TYPES)?;
+/// Does lines of `NAME QUERY REST` and tells the answers, a line each.
+fn answers_of(alloc: Global, api: &mut Api, lines: &str) -> Result<String, Fail> {
     let mut all = String::new(alloc);
     for line in lines.split('\n') {
-        all.push_str(step(alloc, &mut api, line)?.as_str())?;
+        all.push_str(step(alloc, api, line)?.as_str())?;
     }
     Ok(all)
+}
+
+/// The answers of a fresh API.
+fn answers(alloc: Global, lines: &str) -> Result<String, Fail> {
+    let mut api = fresh(alloc, TYPES)?;
+    answers_of(alloc, &mut api, lines)
+}
+
+/// An API at which one revision is left.
+fn one_left(alloc: Global, types: &str) -> Result<Api, Fail> {
+    let types = Types::read(alloc, &Value::from_str(alloc, types)?)?;
+    Ok(Api::new_at(alloc, types, 9_223_372_036_854_775_806)?)
+}
+
+#[test]
+fn revisions_are_used_up(rt: HostRuntime) -> Result<(), Fail> {
+    let mut api = one_left(rt.alloc(), TYPES)?;
+    let lines = r#"w1 fieldManager=m ,"spec":{"replicas":3}
+w1 fieldManager=m ,"spec":{"replicas":3}
+w1 fieldManager=m ,"spec":{"replicas":4}
+w2 fieldManager=m "#;
+    let told = "201 9223372036854775807
+200 9223372036854775807
+503 revisions are used up
+503 revisions are used up
+";
+    assert_eq!(rt; answers_of(rt.alloc(), &mut api, lines)?.as_str(), told);
+    Ok(())
 }
 
 #[test]
