@@ -5,16 +5,10 @@
 //! range, and a call that fails leaves it as it was. It stands on `revtable` and names no SQL.
 #![tactic(auto)]
 
-mod call;
 mod fault;
-mod laws;
-mod running;
 mod store;
 #[cfg(test)]
 mod tests;
 
-pub use call::{Answer, Call};
 pub use fault::{ChangesFault, CompactFault, ListFault, WriteFault};
-pub use laws::whole_runs;
-pub use running::run;
 pub use store::Store;

@@ -1,6 +1,6 @@
-ghost use Rattle.std.specs.Prelude.{◌≡◌, ◌↔◌, ℕ, suc, ◌-◌, ◌<◌, ◌≤◌, true, map, Err, IfOk, OnOk, OnErr, None, option_map};
+ghost use Rattle.std.specs.Prelude.{◌≡◌, ◌↔◌, suc, ◌-◌, ◌<◌, ◌≤◌, true, map, Err, IfOk, OnOk, OnErr, None, option_map};
 ghost use Rattle.std.specs.FinMap as fin;
-ghost use Rattle.revtable.specs.History.{History, IsHistory, last_revision, later};
+ghost use Rattle.revtable.specs.History.{last_revision, later};
 ghost use Rattle.revtable.specs.Page.{changes_within, listed, page, picked};
 ghost use Rattle.revtable.specs.Read.{change_of, entry_of, key_of, object_of};
 ghost use Rattle.revtable.specs.View.{compacted_in, state_in, view, written_in};
@@ -39,13 +39,6 @@ impl Store {
     {
         let _ = table.marks();
         Store { table }
-    }
-
-    /// There is a history that the store is the view of; the laws over histories speak of it.
-    pub fn has_history(&self)
-        ensures { (h : History) × IsHistory h × (view h ≡ self.now) }
-    {
-        let _ = self.table.marks();
     }
 
     /// The revision that stands now.

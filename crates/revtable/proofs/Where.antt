@@ -13,7 +13,7 @@ use Rattle.sqlite.specs.Collation.TheVariants.{Binary}
 use Rattle.sqlite_sql.specs.declared.ops.CompareOp.TheVariants.{Eq, Gt, Ge, Le}
 use Rattle.sqlite_sql.specs.declared.ops.BinaryOp.TheVariants.{Compare, Or, Is}
 use Rattle.sqlite_sql.specs.declared.ops.UnaryOp.TheVariants.{Not}
-use Rattle.sqlite_sql.specs.Term.{Env, holds}
+use Rattle.sqlite_sql.specs.Term.{holds}
 use Rattle.sqlite_sql.specs.Ops.{binary, unary, truth, from_truth, and3, or3, not3}
 use Rattle.sqlite_value.proofs.OrderLemmas.{value_cmp-Int, value_cmp-Text, value_cmp_total, value_cmp-apart}
 use Rattle.sqlite_value.specs.Order.{value_cmp, Row}

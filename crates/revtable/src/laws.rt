@@ -1,7 +1,7 @@
 //! Laws of histories, which crates above build on. Each function does nothing; what it promises is the law.
 
-ghost use Rattle.std.specs.Prelude.{◌≡◌, ℕ, suc, ◌≤◌, List, Option};
-ghost use Rattle.revtable.specs.History.{History, IsHistory, Key, compacted_to, last_revision, later, state_at, written};
+ghost use Rattle.std.specs.Prelude.{◌≡◌, ℕ, ◌≤◌, List, Option};
+ghost use Rattle.revtable.specs.History.{History, IsHistory, Key, compacted_to, later, state_at, written};
 ghost use Rattle.revtable.specs.Kept.{IsPruned, pruned};
 ghost use Rattle.revtable.specs.View.{compacted_in, state_in, view, written_in};
 

@@ -1,7 +1,7 @@
 //! Rows, read as what they show.
 
 ghost use Rattle.std.specs.Prelude.{◌≡◌, IfOk, map, option_map};
-ghost use Rattle.revtable.specs.Decoded.{key_shown, change_shown, entry_shown, object_shown};
+ghost use Rattle.revtable.specs.Decoded.{key_shown, change_shown, entry_shown};
 ghost use Rattle.revtable.specs.History.{object_by};
 ghost use Rattle.revtable.specs.Read.{change_of, entry_of, key_of, object_of};
 

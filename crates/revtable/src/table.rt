@@ -1,4 +1,4 @@
-ghost use Rattle.std.specs.Prelude.{◌≡◌, [], ◌∷◌, ◌++◌, ℕ, suc, ◌≤◌, true, map, IfOk, OnOk, OnErr, Some, None, option_map, length};
+ghost use Rattle.std.specs.Prelude.{◌≡◌, suc, ◌≤◌, true, map, IfOk, OnOk, OnErr, Some, None, option_map, length};
 ghost use Rattle.std.specs.FinMap as fin;
 ghost use Rattle.revtable.specs.History.{fresh, last_revision, later, standing, state_at, up_to, written};
 ghost use Rattle.revtable.specs.Kept.{IsPruned, between_marks, pruned, with_body};
