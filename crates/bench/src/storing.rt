@@ -1,8 +1,9 @@
 //! The revisioned store over tables.
 
 use crate::timing::{spent, tell};
+use history::Key;
 use revstore::{ChangesFault, CompactFault, ListFault, Store, WriteFault};
-use revtable::{Fault, Key, Object, Table};
+use revtable::{Fault, Object, Table};
 use std::alloc::{AllocError, Global};
 use std::time::CpuClock;
 

@@ -2,7 +2,7 @@
 //!
 //! A store is seen as a view: the current revision, the compacted number, the objects that stood there, and the
 //! changes after it. Each answer is a filter of that view, `Expired` and `TooLarge` come exactly outside its
-//! range, and a call that fails leaves it as it was. It stands on `revtable` and names no SQL.
+//! range, and a call that fails leaves it as it was. It stands on `history` and `revtable` and names no SQL.
 #![tactic(auto)]
 
 mod fault;

@@ -1,12 +1,14 @@
 ghost use Rattle.std.specs.Prelude.{◌≡◌, ◌↔◌, suc, ◌-◌, ◌<◌, ◌≤◌, true, map, Err, IfOk, OnOk, OnErr, None, option_map};
 ghost use Rattle.std.specs.FinMap as fin;
-ghost use Rattle.revtable.specs.History.{last_revision, later};
-ghost use Rattle.revtable.specs.Page.{changes_within, listed, page, picked};
-ghost use Rattle.revtable.specs.Read.{change_of, entry_of, key_of, object_of};
-ghost use Rattle.revtable.specs.View.{compacted_in, state_in, view, written_in};
+ghost use Rattle.history.specs.History.{last_revision, later};
+ghost use Rattle.history.specs.Page.{changes_within, listed, page, picked};
+ghost use Rattle.history.specs.Read.{key_of};
+ghost use Rattle.revtable.specs.Read.{change_of, entry_of, object_of};
+ghost use Rattle.history.specs.View.{compacted_in, state_in, view, written_in};
 
 use crate::fault::{ChangesFault, CompactFault, ListFault, WriteFault};
-use revtable::{Change, Entry, Fault, Key, Object, Table};
+use history::Key;
+use revtable::{Change, Entry, Fault, Object, Table};
 use std::marker::Model;
 
 /// The highest revision.
@@ -19,9 +21,9 @@ pub struct Store {
 }
 
 impl Model for Store {
-    ghost use Rattle.revtable.specs.Kept.{IsPruned};
-    ghost use Rattle.revtable.specs.Codes.{view_code};
-    ghost use Rattle.revtable.specs.View.{View, view as view_of};
+    ghost use Rattle.history.specs.Kept.{IsPruned};
+    ghost use Rattle.history.specs.Codes.{view_code};
+    ghost use Rattle.history.specs.View.{View, view as view_of};
 
     ghost Value = { View };
 

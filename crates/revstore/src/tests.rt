@@ -4,7 +4,8 @@
 //! Each call stands in a helper with no clause, so that a test carries few facts.
 
 use super::*;
-use revtable::{Change, Entry, Fault, Key, Marks, Object, Table};
+use history::Key;
+use revtable::{Change, Entry, Fault, Marks, Object, Table};
 use std::alloc::{AllocError, Global};
 use std::test::Fail;
 

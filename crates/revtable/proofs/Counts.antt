@@ -15,8 +15,8 @@ use Rattle.std.proofs.lemmas.List.Sorted.{length_permutation}
 use Rattle.sqlite_sql.specs.Term.{Env, eval}
 use Rattle.sqlite.specs.Term.{lit}
 use Rattle.sqlite_sql.specs.Group.{IsSummary, Summarizes, value_over}
-use Rattle.revtable.specs.History.{Change}
-use Rattle.revtable.specs.Kept.{with_body}
+use Rattle.history.specs.History.{Change}
+use Rattle.history.specs.Kept.{with_body}
 use Rattle.revtable.specs.Rows.{change_schema, row_of, IsKept, changes_in}
 use Rattle.revtable.proofs.Last.{kept_if}
 use Rattle.revtable.proofs.Where.{count_tests}

@@ -9,12 +9,12 @@ use Rattle.std.specs.Cmp.{alike_right}
 use Rattle.std.proofs.lemmas.List.Sorted.{IsPermutation-sym, IsPermutation-trans, IsPermutation-cons, IsPermutation-middle, IsPermutation-append, IsPermutation-map, IsPermutation-refl}
 use Rattle.sqlite.specs.Tree.{IsAscending}
 use Rattle.sqlite_keyed.proofs.ListLemmas.{IsPermutation-filter, IsPermutation-same, filter_all, filter_same, all_weaker, all_of}
-use Rattle.revtable.specs.History.{Key, Change, Object, Objects, key_cmp, is_same_key, object_by, left_by, put_or_remove, changed, up_to, state_at, IsRising}
+use Rattle.history.specs.History.{Key, Change, Object, Objects, key_cmp, is_same_key, object_by, left_by, put_or_remove, changed, up_to, state_at, IsRising}
 use Rattle.revtable.specs.Asked.{as_change}
-use Rattle.revtable.specs.Kept.{stands}
-use Rattle.revtable.proofs.Keys.{key_cmp_total, key_cmp_antisymmetric, same}
+use Rattle.history.specs.Kept.{stands}
+use Rattle.history.proofs.Keys.{key_cmp_total, key_cmp_antisymmetric, same}
 use Rattle.revtable.proofs.Filters.{filter_both}
-use Rattle.revtable.proofs.Standing.{standing_by, standing_is, has_later}
+use Rattle.history.proofs.Standing.{standing_by, standing_is, has_later}
 use Rattle.revtable.proofs.Where.{same_key_symm}
 
 abbrev pub Entry : Type 0

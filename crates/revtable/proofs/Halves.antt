@@ -9,10 +9,10 @@ use Rattle.std.specs.FinMap as fin
 use Rattle.sqlite.specs.Tree.{IsAscending}
 use Rattle.sqlite_keyed.proofs.ListLemmas.{filter_same}
 use Rattle.revtable.specs.Asked.{begins, begins_by, in_one, in_from, in_later, is_in_one, is_in_later, is_past_name}
-use Rattle.revtable.specs.History.{Key, Objects, text_cmp, key_cmp}
-use Rattle.revtable.specs.Page.{is_within, is_past, listed, page}
+use Rattle.history.specs.History.{Key, Objects, text_cmp, key_cmp}
+use Rattle.history.specs.Page.{is_within, is_past, listed, page}
 use Rattle.revtable.proofs.Entries.{Entry, entries_ascend}
-use Rattle.revtable.proofs.Keys.{is_equal, text_cmp_antisymmetric}
+use Rattle.history.proofs.Keys.{is_equal, text_cmp_antisymmetric}
 use Rattle.revtable.proofs.Pages.{and_left, same_kind}
 
 and_right : (a b : Bool) → (a && b) ≡ true → b ≡ true

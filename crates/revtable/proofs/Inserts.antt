@@ -25,7 +25,7 @@ use Rattle.sqlite.specs.Rowids.TheVariants.{Chosen}
 use Rattle.sqlite.specs.Rows.{Written}
 use Rattle.sqlite.specs.Tree.{Trees, put_row}
 use Rattle.sqlite.specs.Order.{Row}
-use Rattle.revtable.specs.History.{Change}
+use Rattle.history.specs.History.{Change}
 use Rattle.revtable.specs.Rows.{change_table, change_schema, no_schema, body_value, row_of, change_in, changes_in, AreBelow, IsKept}
 use Rattle.revtable.proofs.Texts.{create_text, create_is, create_plain, insert_text, terms, insert_is, insert_plain}
 use Rattle.revtable.proofs.Outcomes.{went, same_value, refused_keeps, back}

@@ -19,12 +19,12 @@ use Rattle.sqlite_value.proofs.OrderLemmas.{value_cmp-Int}
 use Rattle.sqlite_keyed.proofs.SortLemmas.{sorted_unique}
 use Rattle.sqlite_keyed.proofs.ListLemmas.{map-map, map_back, ascending-map, ascending-filter, ascending_weaker, all_weaker, all-filter}
 use Rattle.revtable.specs.Decoded.{change_shown}
-use Rattle.revtable.specs.History.{Change, IsRising}
-use Rattle.revtable.specs.Kept.{replaces, stands, kept}
+use Rattle.history.specs.History.{Change, IsRising}
+use Rattle.history.specs.Kept.{replaces, stands, kept}
 use Rattle.revtable.specs.Rows.{change_schema, row_of, shown, AreBelow, IsOrdered, IsKept, changes_in}
 use Rattle.revtable.proofs.Last.{kept_if}
 use Rattle.revtable.proofs.Numbers.{shown_back}
-use Rattle.revtable.proofs.Revisions.{all_within}
+use Rattle.history.proofs.Revisions.{all_within}
 use Rattle.revtable.proofs.Where.{later_are, beside, kept_tests_are}
 use Rattle.revtable.proofs.Texts.{kept_text, kept_query, kept_is, kept_plain, later_tests}
 

@@ -20,10 +20,10 @@ use Rattle.sqlite_sql.proofs.QueryLemmas.{output_cmp_total}
 use Rattle.sqlite_value.proofs.OrderLemmas.{value_cmp-Int}
 use Rattle.sqlite_keyed.proofs.SortLemmas.{sorted_unique}
 use Rattle.sqlite_keyed.proofs.ListLemmas.{map-map, ascending-map, ascending-filter, ascending_weaker}
-use Rattle.revtable.specs.History.{Key, Change, Object, Objects, key_cmp, left_by, is_same_key, changed, put_or_remove, up_to, state_at}
+use Rattle.history.specs.History.{Key, Change, Object, Objects, key_cmp, left_by, is_same_key, changed, put_or_remove, up_to, state_at}
 use Rattle.revtable.specs.Asked.{is_last_of, last_change}
 use Rattle.revtable.specs.Rows.{change_schema, row_of, shown, IsOrdered, IsKept, changes_in}
-use Rattle.revtable.proofs.Keys.{get-put_or_remove}
+use Rattle.history.proofs.Keys.{get-put_or_remove}
 use Rattle.revtable.proofs.Lists.{reverse-cons, map-reverse, ascending-reverse}
 use Rattle.revtable.proofs.Where.{bound_key, last_tests, same_key_symm}
 use Rattle.revtable.proofs.Texts.{last_text, last_query, last_is, last_plain}

@@ -11,15 +11,19 @@ use Rattle.sqlite.specs.declared.types.Value.TheVariants.{Int}
 use Rattle.sqlite_keyed.proofs.ListLemmas.{all_weaker, map_back}
 use Rattle.revtable.specs.Asked.{as_change, last_change}
 use Rattle.revtable.specs.Decoded.{change_shown, entry_shown}
-use Rattle.revtable.specs.History.{Key, Change, Object, Objects, History, IsHistory, IsRising, key_cmp, last_revision, changed, later, left_by, object_by, put_or_remove, state_at, up_to}
-use Rattle.revtable.specs.Kept.{IsPruned, kept, with_body}
-use Rattle.revtable.specs.Page.{changes_within, listed, page, picked}
+use Rattle.history.specs.History.{Key, Change, Object, Objects, History, IsHistory, IsRising, key_cmp, last_revision, changed, later, left_by, object_by, put_or_remove, state_at, up_to}
+use Rattle.history.specs.Kept.{IsPruned, kept, with_body}
+use Rattle.history.specs.Page.{changes_within, listed, page, picked}
 use Rattle.revtable.specs.Rows.{IsOrdered, AreBelow, shown, body_value, body_in, number_in}
-use Rattle.revtable.proofs.Keys.{key_cmp_total}
-use Rattle.revtable.proofs.Kept.{written_is, pruned_is}
+use Rattle.history.proofs.Keys.{key_cmp_total}
+use Rattle.history.proofs.Kept.{written_is, pruned_is}
 use Rattle.revtable.proofs.Last.{get_last}
-use Rattle.revtable.proofs.Revisions.{ascending, all_within, rising-filter}
-use Rattle.revtable.proofs.Standing.{filter_same_on}
+use Rattle.history.proofs.Revisions.{all_above, all_within, rising-filter}
+use Rattle.history.proofs.Standing.{filter_same_on}
+
+pub ascending : (lo top : ℕ) (cs : List Change) → IsRising lo cs top → IsOrdered cs
+ascending lo top [] rise = tt
+ascending lo top (c ∷ cs) rise = (all_above c.revision top cs rise.1, ascending c.revision top cs rise.1)
 
 pub ordered : (h : History) → IsPruned h → IsOrdered h.changes
 ordered h p = ascending 0 h.current h.changes p.is.rising

@@ -10,7 +10,7 @@ use Rattle.sqlite.specs.Listing.{understood}
 use Rattle.sqlite.specs.Tree.{Trees}
 use Rattle.sqlite.specs.State.{State, Executes, Shown, IsUnchanged, FailsToQuery, FailsToShow, ShowsRows, Survives, HasCleanDisk, Fails, IsNotRun, ExecutesIn, shows_rows}
 use Rattle.sqlite.proofs.Callers.{IsPlain}
-use Rattle.revtable.specs.History.{Change}
+use Rattle.history.specs.History.{Change}
 use Rattle.revtable.specs.Rows.{change_schema, row_of, change_in, changes_in, body_value, body_in, IsKept, IsSame}
 
 -- a part that gave a value did not stop on the way

@@ -23,9 +23,9 @@ use Rattle.sqlite_sql.proofs.QueryLemmas.{output_cmp_total}
 use Rattle.sqlite_value.proofs.OrderLemmas.{value_cmp-Text}
 use Rattle.sqlite_keyed.proofs.SortLemmas.{sorted_unique}
 use Rattle.sqlite_keyed.proofs.ListLemmas.{map-map, ascending-map, ascending-filter, ascending_weaker, filter-map, all_both, IsPermutation-filter}
-use Rattle.revtable.specs.History.{Key, Change, text_cmp, key_cmp, state_at, IsRising}
+use Rattle.history.specs.History.{Key, Change, text_cmp, key_cmp, state_at, IsRising}
 use Rattle.revtable.specs.Asked.{as_change, is_in_one, is_from, in_one, in_from}
-use Rattle.revtable.specs.Kept.{stands}
+use Rattle.history.specs.Kept.{stands}
 use Rattle.revtable.specs.Rows.{change_schema, row_of, shown, IsKept, changes_in}
 use Rattle.revtable.proofs.Entries.{Entry, entries_ascend, standing_entries}
 use Rattle.revtable.proofs.Last.{kept_if}

@@ -17,8 +17,8 @@ use Rattle.sqlite_sql.proofs.QueryLemmas.{output_cmp_total}
 use Rattle.sqlite_value.proofs.OrderLemmas.{value_cmp-Int}
 use Rattle.sqlite_keyed.proofs.SortLemmas.{sorted_unique}
 use Rattle.sqlite_keyed.proofs.ListLemmas.{map-map, ascending-map, ascending-filter, ascending_weaker, filter_same}
-use Rattle.revtable.specs.History.{Change, up_to, later}
-use Rattle.revtable.specs.Page.{is_within, changes_within}
+use Rattle.history.specs.History.{Change, up_to, later}
+use Rattle.history.specs.Page.{is_within, changes_within}
 use Rattle.revtable.specs.Rows.{change_schema, row_of, shown, IsOrdered, IsKept, changes_in}
 use Rattle.revtable.proofs.Last.{kept_if}
 use Rattle.revtable.proofs.Filters.{filter_both}

@@ -17,12 +17,12 @@ use Rattle.sqlite_sql.specs.Term.{holds}
 use Rattle.sqlite_sql.specs.Ops.{binary, unary, truth, from_truth, and3, or3, not3}
 use Rattle.sqlite_value.proofs.OrderLemmas.{value_cmp-Int, value_cmp-Text, value_cmp_total, value_cmp-apart}
 use Rattle.sqlite_value.specs.Order.{value_cmp, Row}
-use Rattle.revtable.specs.History.{Key, Change, text_cmp, is_same_key}
+use Rattle.history.specs.History.{Key, Change, text_cmp, is_same_key}
 use Rattle.revtable.specs.Asked.{is_last_of, is_past_name, is_in_one, is_from, low_of}
-use Rattle.revtable.specs.Kept.{replaces, stands}
-use Rattle.revtable.specs.Page.{is_within}
+use Rattle.history.specs.Kept.{replaces, stands}
+use Rattle.history.specs.Page.{is_within}
 use Rattle.revtable.specs.Rows.{row_of, body_value}
-use Rattle.revtable.proofs.Keys.{key_cmp_total}
+use Rattle.history.proofs.Keys.{key_cmp_total}
 use Rattle.revtable.proofs.Texts.{last_query, span_query, kept_query, count_query, later_tests, in_tests, from_tests}
 
 pub truth_back : (b : Bool) → unwrap_or (truth (from_truth (Some b))) false ≡ b

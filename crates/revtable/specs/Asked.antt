@@ -4,8 +4,8 @@ use Rattle.std.specs.Ordering.{is_ge, is_gt}
 use Rattle.std.specs.declared.cmp.Ordering.{Ordering}
 use Rattle.std.specs.declared.cmp.Ordering.TheVariants.{Less, Equal, Greater}
 use Rattle.std.specs.FinMap as fin
-use Rattle.revtable.specs.History.{Key, Change, Object, Objects, is_same_key, text_cmp}
-use Rattle.revtable.specs.Page.{is_within}
+use Rattle.history.specs.History.{Key, Change, Object, Objects, is_same_key, text_cmp}
+use Rattle.history.specs.Page.{is_within}
 
 abbrev pub is_last_of : Key → ℕ → Change → Bool
 is_last_of k r c = is_same_key c.key k && nat_le c.revision r

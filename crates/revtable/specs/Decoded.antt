@@ -1,6 +1,6 @@
 -- What a shown row says, column by column.
 use Rattle.sqlite.specs.Order.{Row, column}
-use Rattle.revtable.specs.History.{Key, Change, Object}
+use Rattle.history.specs.History.{Key, Change, Object}
 use Rattle.revtable.specs.Rows.{number_in, text_in, body_in}
 
 abbrev pub key_shown : Row → Key

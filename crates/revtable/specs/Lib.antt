@@ -1,10 +1,5 @@
 pub mod Asked
-pub mod Codes
 pub mod Decoded
 pub mod Faults
-pub mod History
-pub mod Kept
-pub mod Page
 pub mod Read
 pub mod Rows
-pub mod View

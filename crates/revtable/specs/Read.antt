@@ -1,13 +1,10 @@
 -- What the values that a call hands out stand for.
 use Rattle.std.specs.Prelude.{option_map, string_bytes}
-use Rattle.revtable.specs.declared.row.Key.{Key as TheKey}
 use Rattle.revtable.specs.declared.row.Change.{Change as TheChange}
 use Rattle.revtable.specs.declared.row.Object.{Object as TheObject}
 use Rattle.revtable.specs.declared.row.Entry.{Entry}
-use Rattle.revtable.specs.History.{Key, Change, Object}
-
-abbrev pub key_of : TheKey → Key
-key_of k = record { kind = k.kind; namespace = string_bytes k.namespace; name = string_bytes k.name }
+use Rattle.history.specs.History.{Key, Change, Object}
+use Rattle.history.specs.Read.{key_of}
 
 abbrev pub change_of : TheChange → Change
 change_of c = record { revision = c.revision; key = key_of c.key; body = option_map string_bytes c.body }

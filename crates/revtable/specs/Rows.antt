@@ -11,7 +11,7 @@ use Rattle.sqlite.specs.Table.{Table as SqlTable}
 use Rattle.sqlite.specs.Schema.{Schema}
 use Rattle.sqlite.specs.Change.{created}
 use Rattle.sqlite.specs.Kind.TheVariants.{Integer, Text}
-use Rattle.revtable.specs.History.{Change}
+use Rattle.history.specs.History.{Change}
 
 abbrev pub change_table : SqlTable
 change_table = record {

@@ -4,8 +4,8 @@
 ghost use Rattle.std.specs.Prelude.{◌≡◌, [], ◌∷◌, ◌++◌, ℕ, ◌^◌, ◌<◌, map, IfOk, OnOk, option_map, string_bytes};
 ghost use Rattle.std.specs.List.{AllByRecursion};
 ghost use Rattle.revtable.specs.Decoded.{change_shown};
-ghost use Rattle.revtable.specs.History.{Change as AChange, IsRising};
-ghost use Rattle.revtable.specs.Kept.{kept};
+ghost use Rattle.history.specs.History.{Change as AChange, IsRising};
+ghost use Rattle.history.specs.Kept.{kept};
 ghost use Rattle.revtable.specs.Rows.{changes_in, AreBelow, IsKept, IsOrdered};
 ghost use Rattle.sqlite.specs.Held.{state};
 ghost use Rattle.sqlite.specs.Steps.{over_memory};

@@ -2,12 +2,12 @@
 //!
 //! A table is seen as its history: the changes that are kept, oldest first, with the revision that stands now
 //! and the one up to which old changes are forgotten. Each call's answer is a filter of that history, and a call
-//! that fails leaves it as it was. It stands on `sqlite` and on that crate's promises over its memory store.
+//! that fails leaves it as it was. It stands on `history` for these words, and on `sqlite` and that crate's promises
+//! over its memory store.
 #![tactic(auto)]
 
 mod copying;
 mod fault;
-mod laws;
 mod paging;
 mod reading;
 mod row;
@@ -15,6 +15,5 @@ mod statements;
 mod table;
 
 pub use fault::Fault;
-pub use laws::{kept_is_enough, view_of_calls, view_of_kept};
-pub use row::{Change, Entry, Key, Marks, Object};
+pub use row::{Change, Entry, Marks, Object};
 pub use table::Table;

@@ -2,8 +2,8 @@
 
 ghost use Rattle.std.specs.Prelude.{◌≡◌, [], ◌∷◌, ◌++◌, ℕ, ◌^◌, ◌<◌, List, Option, map, take, IfOk, option_map, string_bytes};
 ghost use Rattle.revtable.specs.Asked.{as_change, begins as place_of, in_later, in_one};
-ghost use Rattle.revtable.specs.History.{IsRising, state_at};
-ghost use Rattle.revtable.specs.Page.{page};
+ghost use Rattle.history.specs.History.{IsRising, state_at};
+ghost use Rattle.history.specs.Page.{page};
 ghost use Rattle.revtable.specs.Rows.{changes_in, shown, IsKept};
 ghost use Rattle.sqlite.specs.Held.{state};
 ghost use Rattle.sqlite.specs.Steps.{over_memory};

@@ -2,11 +2,13 @@
 
 ghost use Rattle.std.specs.Prelude.{◌≡◌, IfOk, map, option_map};
 ghost use Rattle.revtable.specs.Decoded.{key_shown, change_shown, entry_shown};
-ghost use Rattle.revtable.specs.History.{object_by};
-ghost use Rattle.revtable.specs.Read.{change_of, entry_of, key_of, object_of};
+ghost use Rattle.history.specs.History.{object_by};
+ghost use Rattle.history.specs.Read.{key_of};
+ghost use Rattle.revtable.specs.Read.{change_of, entry_of, object_of};
 
 use crate::fault::Fault;
-use crate::row::{Change, Entry, Key, Object};
+use crate::row::{Change, Entry, Object};
+use history::Key;
 use sqlite::{Error, Row};
 use std::alloc::Global;
 

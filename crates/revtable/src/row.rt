@@ -1,12 +1,6 @@
 //! What the table is asked for and hands out.
 
-/// What names an object: the number of its type, its namespace and its name.
-#[derive(Debug, Drop)]
-pub struct Key {
-    pub kind: u32,
-    pub namespace: String,
-    pub name: String,
-}
+use history::Key;
 
 /// A change of one key. Without a body it is the deletion of what stood there.
 #[derive(Debug, Drop)]

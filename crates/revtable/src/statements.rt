@@ -1,18 +1,18 @@
 //! The statements, each with what it does to the changes that the rows keep.
 
 ghost use Rattle.std.specs.Prelude.{◌≡◌, [], ◌∷◌, ◌++◌, ℕ, ◌^◌, ◌<◌, pos, min, length, map, take, IfOk, OnOk, OnErr, option_map};
-ghost use Rattle.revtable.specs.Read.{key_of};
+ghost use Rattle.history.specs.Read.{key_of};
 ghost use Rattle.std.specs.Option.{option_to_list};
 ghost use Rattle.revtable.specs.Asked.{as_change, in_from, in_one, last_change, low_of};
-ghost use Rattle.revtable.specs.History.{IsRising, last_revision, later, state_at, up_to};
-ghost use Rattle.revtable.specs.Kept.{kept, with_body};
-ghost use Rattle.revtable.specs.Page.{changes_within};
+ghost use Rattle.history.specs.History.{IsRising, last_revision, later, state_at, up_to};
+ghost use Rattle.history.specs.Kept.{kept, with_body};
+ghost use Rattle.history.specs.Page.{changes_within};
 ghost use Rattle.revtable.specs.Rows.{changes_in, shown, AreBelow, IsKept, IsOrdered};
 ghost use Rattle.sqlite.specs.declared.types.Value.TheVariants.{Int};
 ghost use Rattle.sqlite.specs.Held.{state};
 ghost use Rattle.sqlite.specs.Steps.{over_memory, IsEmpty};
 
-use crate::row::Key;
+use history::Key;
 use sqlite::{Connection, Error, MemStore, Row, params};
 
 /// Makes the table, with an index by key and revision.

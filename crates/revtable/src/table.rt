@@ -1,14 +1,16 @@
 ghost use Rattle.std.specs.Prelude.{◌≡◌, suc, ◌≤◌, true, map, IfOk, OnOk, OnErr, Some, None, option_map, length};
 ghost use Rattle.std.specs.FinMap as fin;
-ghost use Rattle.revtable.specs.History.{fresh, last_revision, later, standing, state_at, up_to, written};
-ghost use Rattle.revtable.specs.Kept.{IsPruned, between_marks, pruned, with_body};
-ghost use Rattle.revtable.specs.Page.{changes_within, listed, page, picked};
-ghost use Rattle.revtable.specs.Read.{change_of, entry_of, key_of, object_of};
+ghost use Rattle.history.specs.History.{fresh, last_revision, later, standing, state_at, up_to, written};
+ghost use Rattle.history.specs.Kept.{IsPruned, between_marks, pruned, with_body};
+ghost use Rattle.history.specs.Page.{changes_within, listed, page, picked};
+ghost use Rattle.history.specs.Read.{key_of};
+ghost use Rattle.revtable.specs.Read.{change_of, entry_of, object_of};
 
 use crate::fault::Fault;
 use crate::reading::{read_changes, read_entries, read_left};
-use crate::row::{Change, Entry, Key, Marks, Object};
+use crate::row::{Change, Entry, Marks, Object};
 use crate::{copying, paging, statements};
+use history::Key;
 use sqlite::{Connection, MemStore};
 use std::alloc::Global;
 use std::marker::Model;
@@ -28,8 +30,8 @@ pub struct Table {
 impl Model for Table {
     ghost use Rattle.sqlite.specs.Held.{state};
     ghost use Rattle.sqlite.specs.Steps.{over_memory};
-    ghost use Rattle.revtable.specs.History.{History};
-    ghost use Rattle.revtable.specs.Kept.{IsPruned};
+    ghost use Rattle.history.specs.History.{History};
+    ghost use Rattle.history.specs.Kept.{IsPruned};
     ghost use Rattle.revtable.specs.Rows.{IsKept, changes_in};
 
     ghost Value = { History };

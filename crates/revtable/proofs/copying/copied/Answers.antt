@@ -1,10 +1,10 @@
 use Rattle.std.proofs.Common.{◌∙◌, sym, subst}
 use Rattle.sqlite.specs.Held.{state}
 use Rattle.sqlite.specs.Steps.{over_memory}
-use Rattle.revtable.specs.Kept.{kept}
+use Rattle.history.specs.Kept.{kept}
 use Rattle.revtable.specs.Rows.{IsOrdered, changes_in}
 use Rattle.revtable.proofs.Keeping.{AreFit, kept_fits, kept_ordered, read_back}
-use Rattle.revtable.proofs.Revisions.{ascending}
+use Rattle.revtable.proofs.Numbers.{ascending}
 use Rattle.revtable.proofs.copying.copied.Goals as goal
 
 pub unpruned-requires-clause-ordered : goal.unpruned-requires-clause-ordered

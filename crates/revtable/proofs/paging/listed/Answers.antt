@@ -1,6 +1,6 @@
 use Rattle.std.proofs.Common.{◌∙◌, ap, sym, map, option_map, List, ℕ, Option}
 use Rattle.revtable.specs.Asked.{as_change}
-use Rattle.revtable.specs.History.{state_at}
+use Rattle.history.specs.History.{state_at}
 use Rattle.revtable.specs.Rows.{changes_in, shown}
 use Rattle.sqlite.specs.Held.{state}
 use Rattle.sqlite.specs.Steps.{over_memory}

@@ -1,6 +1,6 @@
 use Rattle.std.proofs.Common.{◌∙◌, ap, map, take, option_map, List, ℕ, ◌-◌}
 use Rattle.revtable.specs.Asked.{as_change, in_from, in_one, in_later}
-use Rattle.revtable.specs.History.{Change, state_at}
+use Rattle.history.specs.History.{Change, state_at}
 use Rattle.revtable.specs.Rows.{changes_in, shown}
 use Rattle.sqlite.specs.Held.{state}
 use Rattle.sqlite.specs.Steps.{over_memory}

@@ -3,8 +3,8 @@ use Rattle.sqlite.specs.declared.types.Value.TheVariants.{Int}
 use Rattle.sqlite.specs.Held.{state}
 use Rattle.sqlite.specs.Steps.{over_memory}
 use Rattle.sqlite.proofs.Callers.{memory_is_clean}
-use Rattle.revtable.specs.History.{last_revision}
-use Rattle.revtable.specs.Kept.{with_body}
+use Rattle.history.specs.History.{last_revision}
+use Rattle.history.specs.Kept.{with_body}
 use Rattle.revtable.specs.Rows.{IsKept, changes_in}
 use Rattle.revtable.proofs.Outcomes.{open_still, after_query, when_ok}
 use Rattle.revtable.proofs.Counts.{finds_count}

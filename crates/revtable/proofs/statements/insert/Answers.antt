@@ -3,8 +3,8 @@ use Rattle.sqlite.specs.Held.{state}
 use Rattle.sqlite.specs.State.{Executes}
 use Rattle.sqlite.specs.Steps.{over_memory}
 use Rattle.sqlite.proofs.Callers.{memory_is_clean}
-use Rattle.revtable.specs.History.{Change}
-use Rattle.revtable.specs.Read.{key_of}
+use Rattle.history.specs.History.{Change}
+use Rattle.history.specs.Read.{key_of}
 use Rattle.revtable.specs.Rows.{IsKept, changes_in}
 use Rattle.revtable.proofs.Inserts.{put_keeps, raw_change}
 use Rattle.revtable.proofs.Outcomes.{open_still}

@@ -6,7 +6,7 @@ use Rattle.sqlite.specs.State.{Shown, FailsToQuery}
 use Rattle.sqlite.specs.Steps.{over_memory}
 use Rattle.sqlite.proofs.Callers.{memory_is_clean}
 use Rattle.revtable.specs.Asked.{as_change, in_from}
-use Rattle.revtable.specs.History.{state_at}
+use Rattle.history.specs.History.{state_at}
 use Rattle.revtable.specs.Rows.{IsKept, changes_in, shown}
 use Rattle.revtable.proofs.Outcomes.{open_still, after_query, when_ok}
 use Rattle.revtable.proofs.Pages.{finds_from}

@@ -7,7 +7,7 @@ use Rattle.sqlite.specs.Steps.{over_memory}
 use Rattle.sqlite.specs.Values.{bound_value, or_null}
 use Rattle.sqlite.proofs.Callers.{memory_is_clean}
 use Rattle.revtable.specs.Asked.{as_change, in_one}
-use Rattle.revtable.specs.History.{state_at}
+use Rattle.history.specs.History.{state_at}
 use Rattle.revtable.specs.Rows.{IsKept, changes_in, shown}
 use Rattle.revtable.proofs.Inserts.{bound_body}
 use Rattle.revtable.proofs.Outcomes.{open_still, after_query, when_ok}

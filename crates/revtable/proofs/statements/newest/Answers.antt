@@ -7,7 +7,7 @@ use Rattle.sqlite.specs.State.{Shown, FailsToQuery}
 use Rattle.sqlite.specs.Steps.{over_memory}
 use Rattle.sqlite.proofs.Callers.{memory_is_clean}
 use Rattle.revtable.specs.Asked.{last_change}
-use Rattle.revtable.specs.Read.{key_of}
+use Rattle.history.specs.Read.{key_of}
 use Rattle.revtable.specs.Rows.{IsKept, changes_in, shown}
 use Rattle.revtable.proofs.Outcomes.{open_still, after_query, when_ok}
 use Rattle.revtable.proofs.Last.{finds_last}

@@ -6,8 +6,8 @@ use Rattle.sqlite.specs.State.{Shown, FailsToQuery}
 use Rattle.sqlite.specs.Steps.{over_memory}
 use Rattle.sqlite.specs.Values.{bound_value, or_null}
 use Rattle.sqlite.proofs.Callers.{memory_is_clean}
-use Rattle.revtable.specs.History.{later, up_to}
-use Rattle.revtable.specs.Page.{changes_within}
+use Rattle.history.specs.History.{later, up_to}
+use Rattle.history.specs.Page.{changes_within}
 use Rattle.revtable.specs.Rows.{IsKept, changes_in, shown}
 use Rattle.revtable.proofs.Inserts.{bound_body}
 use Rattle.revtable.proofs.Outcomes.{open_still, after_query, when_ok}

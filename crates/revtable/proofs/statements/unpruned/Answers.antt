@@ -5,7 +5,7 @@ use Rattle.sqlite.specs.Held.{state}
 use Rattle.sqlite.specs.State.{Shown, FailsToQuery}
 use Rattle.sqlite.specs.Steps.{over_memory}
 use Rattle.sqlite.proofs.Callers.{memory_is_clean}
-use Rattle.revtable.specs.Kept.{kept}
+use Rattle.history.specs.Kept.{kept}
 use Rattle.revtable.specs.Rows.{IsKept, changes_in, shown}
 use Rattle.revtable.proofs.Keeping.{finds_kept}
 use Rattle.revtable.proofs.Outcomes.{open_still, after_query, when_ok}

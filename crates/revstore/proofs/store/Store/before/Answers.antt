@@ -1,9 +1,9 @@
 use Rattle.std.proofs.Common.{◌-◌, ◌<◌, ap, sym, subst, ◌∙◌, arith}
 use Rattle.std.specs.FinMap as fin
-use Rattle.revtable.specs.Read.{key_of}
-use Rattle.revtable.specs.View.{View, state_in}
+use Rattle.history.specs.Read.{key_of}
+use Rattle.history.specs.View.{View, state_in}
 use Rattle.revtable.proofs.Outcomes.{when_ok}
-use Rattle.revtable.proofs.Views.{view_states}
+use Rattle.history.proofs.Views.{view_states}
 use Rattle.revstore.proofs.store.Store.before.Goals as goal
 
 pub returns-clause-ok : goal.returns-clause-ok

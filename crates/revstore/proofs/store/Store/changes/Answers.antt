@@ -1,8 +1,8 @@
 use Rattle.std.proofs.Common.{option_map, ap, ◌∙◌, arith}
-use Rattle.revtable.specs.History.{later, up_to}
-use Rattle.revtable.specs.Page.{changes_within, picked}
-use Rattle.revtable.specs.View.{View}
-use Rattle.revtable.proofs.Seen.{later_seen}
+use Rattle.history.specs.History.{later, up_to}
+use Rattle.history.specs.Page.{changes_within, picked}
+use Rattle.history.specs.View.{View}
+use Rattle.history.proofs.Seen.{later_seen}
 use Rattle.revstore.proofs.store.Store.changes.Goals as goal
 
 pub returns-clause-ok : goal.returns-clause-ok

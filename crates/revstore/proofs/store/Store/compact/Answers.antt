@@ -1,7 +1,7 @@
 use Rattle.std.proofs.Common.{ap, sym, subst, ◌∙◌, arith}
-use Rattle.revtable.specs.Kept.{IsPruned}
-use Rattle.revtable.specs.View.{compacted_in, view}
-use Rattle.revtable.proofs.Seen.{pruned_stays, view_prunes}
+use Rattle.history.specs.Kept.{IsPruned}
+use Rattle.history.specs.View.{compacted_in, view}
+use Rattle.history.proofs.Seen.{pruned_stays, view_prunes}
 use Rattle.revstore.proofs.store.Store.compact.Goals as goal
 
 pub invariant_of-self-2 : goal.invariant_of-self-2

@@ -1,7 +1,7 @@
 use Rattle.std.proofs.Common.{option_map, ap, sym, ◌∙◌, arith}
-use Rattle.revtable.specs.Page.{listed, page}
-use Rattle.revtable.specs.View.{View, state_in}
-use Rattle.revtable.proofs.Views.{view_states}
+use Rattle.history.specs.Page.{listed, page}
+use Rattle.history.specs.View.{View, state_in}
+use Rattle.history.proofs.Views.{view_states}
 use Rattle.revstore.proofs.store.Store.list_at.Goals as goal
 
 pub returns-clause-ok : goal.returns-clause-ok

@@ -1,10 +1,10 @@
 use Rattle.std.proofs.Common.{ap, sym, subst, ◌∙◌, arith}
 use Rattle.std.specs.FinMap as fin
-use Rattle.revtable.specs.Kept.{IsPruned}
-use Rattle.revtable.specs.Read.{key_of}
-use Rattle.revtable.specs.View.{View, state_in}
-use Rattle.revtable.proofs.Kept.{written_is}
-use Rattle.revtable.proofs.Views.{view_states}
+use Rattle.history.specs.Kept.{IsPruned}
+use Rattle.history.specs.Read.{key_of}
+use Rattle.history.specs.View.{View, state_in}
+use Rattle.history.proofs.Kept.{written_is}
+use Rattle.history.proofs.Views.{view_states}
 use Rattle.revstore.proofs.store.Store.write.Goals as goal
 
 pub put-requires-clause-there : goal.put-requires-clause-there

@@ -1,7 +1,7 @@
 use Rattle.std.proofs.Common.{◌≡◌, ℕ, List, map, ap, sym, ◌∙◌, IfOk, Option, option_map}
 use Rattle.revtable.specs.Decoded.{entry_shown}
-use Rattle.revtable.specs.History.{History, state_at}
-use Rattle.revtable.specs.Page.{listed, page}
+use Rattle.history.specs.History.{History, state_at}
+use Rattle.history.specs.Page.{listed, page}
 use Rattle.revtable.specs.Read.{entry_of}
 use Rattle.revtable.proofs.Numbers.{at_is, at_whole}
 use Rattle.revtable.proofs.Outcomes.{when_ok}

@@ -1,7 +1,7 @@
 use Rattle.std.proofs.Common.{ap, ◌∙◌, slice_get, option_and_then}
 use Rattle.std.specs.FinMap as fin
-use Rattle.revtable.specs.History.{History, state_at}
-use Rattle.revtable.specs.Read.{key_of}
+use Rattle.history.specs.History.{History, state_at}
+use Rattle.history.specs.Read.{key_of}
 use Rattle.revtable.proofs.Numbers.{ordered, left_shown, latest_is}
 use Rattle.revtable.proofs.table.Table.latest_at.Goals as goal
 

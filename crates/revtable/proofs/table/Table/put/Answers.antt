@@ -1,5 +1,5 @@
 use Rattle.std.proofs.Common.{suc, ap, sym, ◌∙◌}
-use Rattle.revtable.specs.History.{History}
+use Rattle.history.specs.History.{History}
 use Rattle.revtable.proofs.Numbers.{below_at, after_put}
 use Rattle.revtable.proofs.table.Table.put.Goals as goal
 

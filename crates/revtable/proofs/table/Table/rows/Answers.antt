@@ -1,6 +1,6 @@
 use Rattle.std.proofs.Common.{ap, ◌∙◌, length, slice_get}
-use Rattle.revtable.specs.History.{History}
-use Rattle.revtable.specs.Kept.{with_body}
+use Rattle.history.specs.History.{History}
+use Rattle.history.specs.Kept.{with_body}
 use Rattle.revtable.proofs.Numbers.{count_is}
 use Rattle.revtable.proofs.table.Table.rows.Goals as goal
 

@@ -1,7 +1,7 @@
 use Rattle.std.proofs.Common.{◌≡◌, ℕ, List, map, ap, sym, ◌∙◌, IfOk, Option, option_map}
 use Rattle.revtable.specs.Decoded.{change_shown}
-use Rattle.revtable.specs.History.{History, later, up_to}
-use Rattle.revtable.specs.Page.{changes_within, picked}
+use Rattle.history.specs.History.{History, later, up_to}
+use Rattle.history.specs.Page.{changes_within, picked}
 use Rattle.revtable.specs.Read.{change_of}
 use Rattle.revtable.proofs.Numbers.{ordered, span_is, span_whole}
 use Rattle.revtable.proofs.Outcomes.{when_ok}

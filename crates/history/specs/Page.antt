@@ -2,7 +2,7 @@
 use Rattle.std.specs.Prelude.{ℕ, Bool, true, List, Option, Some, None, ◌&&◌, ◌==◌, filter, take}
 use Rattle.std.specs.Ordering.{is_eq, is_gt, ordering_then}
 use Rattle.std.specs.FinMap as fin
-use Rattle.revtable.specs.History.{Key, Object, Objects, Change, text_cmp}
+use Rattle.history.specs.History.{Key, Object, Objects, Change, text_cmp}
 
 abbrev pub is_in_namespace : Option (List ℕ) → Key → Bool
 is_in_namespace None k = true

@@ -1,7 +1,7 @@
 -- What a compaction may forget: all but the kept changes.
 use Rattle.std.specs.Prelude.{◌≡◌, ℕ, min, max, Bool, List, filter, ◌&&◌, ◌||◌, not, nat_lt, nat_le, is_some}
 use Rattle.std.specs.List.{list_any}
-use Rattle.revtable.specs.History.{History, IsHistory, Change, is_same_key}
+use Rattle.history.specs.History.{History, IsHistory, Change, is_same_key}
 
 -- the second change is of the first's key and came after it, up to c
 abbrev pub replaces : ℕ → Change → Change → Bool

@@ -3,11 +3,11 @@ use Rattle.std.proofs.Common.{◌≡◌, ℕ, suc, ◌<◌, ◌≤◌, Bool, tru
 use Rattle.std.proofs.Common.{ltb-true, ltb-false, le-leb, le-ltb, lt-ltb, leb-true, zero-le, true≢false}
 use Rattle.std.proofs.lemmas.Bool.{lt-leb}
 use Rattle.std.specs.Prelude.{nat_le, nat_lt}
-use Rattle.revtable.specs.History.{Key, Change, History, IsHistory, is_same_key, IsRising, fresh, written, last_revision}
-use Rattle.revtable.specs.Kept.{kept, pruned, IsPruned}
-use Rattle.revtable.proofs.Revisions.{rising-push, rising-filter}
-use Rattle.revtable.proofs.Standing.{has_later, kept_by, kept_is}
-use Rattle.revtable.proofs.Views.{none_later}
+use Rattle.history.specs.History.{Key, Change, History, IsHistory, is_same_key, IsRising, fresh, written, last_revision}
+use Rattle.history.specs.Kept.{kept, pruned, IsPruned}
+use Rattle.history.proofs.Revisions.{rising-push, rising-filter}
+use Rattle.history.proofs.Standing.{has_later, kept_by, kept_is}
+use Rattle.history.proofs.Views.{none_later}
 
 -- ---- a write
 

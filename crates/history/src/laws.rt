@@ -1,9 +1,9 @@
 //! Laws of histories, which crates above build on. Each function does nothing; what it promises is the law.
 
 ghost use Rattle.std.specs.Prelude.{◌≡◌, ℕ, ◌≤◌, List, Option};
-ghost use Rattle.revtable.specs.History.{History, IsHistory, Key, compacted_to, later, state_at, written};
-ghost use Rattle.revtable.specs.Kept.{IsPruned, pruned};
-ghost use Rattle.revtable.specs.View.{compacted_in, state_in, view, written_in};
+ghost use Rattle.history.specs.History.{History, IsHistory, Key, compacted_to, later, state_at, written};
+ghost use Rattle.history.specs.Kept.{IsPruned, pruned};
+ghost use Rattle.history.specs.View.{compacted_in, state_in, view, written_in};
 
 /// From the compacted number on, the kept changes have the same states and the same later changes, so the view
 /// depends on them and on the two numbers alone; and the view gives each of these states.

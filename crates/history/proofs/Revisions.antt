@@ -4,9 +4,8 @@ use Rattle.std.proofs.Common.{ltb-true, ltb-false, leb-true, leb-false, lt-ltb, 
 use Rattle.std.proofs.lemmas.Bool.{lt-leb}
 use Rattle.std.specs.Prelude.{nat_le, nat_lt}
 use Rattle.std.specs.List.{AllByRecursion}
-use Rattle.sqlite_keyed.proofs.ListLemmas.{all_weaker}
-use Rattle.sqlite.specs.Tree.{IsAscending}
-use Rattle.revtable.specs.History.{Objects, Change, left_by, put_or_remove, changed, up_to, later, state_at, IsRising}
+use Rattle.history.proofs.Lists.{all_weaker}
+use Rattle.history.specs.History.{Objects, Change, left_by, put_or_remove, changed, up_to, later, state_at, IsRising}
 
 pub rising_ends : (lo top : ℕ) (cs : List Change) → IsRising lo cs top → lo ≤ top
 rising_ends lo top [] rise = rise
@@ -105,18 +104,11 @@ rising-filter own lo top (d ∷ cs) rise = go (own d) (rising-filter own d.revis
 
 -- ---- each is above all before it
 
-abbrev pub IsBefore : Change → Change → Type 0
-IsBefore a b = a.revision < b.revision
-
 pub all_above : (lo top : ℕ) (cs : List Change) → IsRising lo cs top → AllByRecursion (λ c. lo < c.revision) cs
 all_above lo top [] rise = tt
 all_above lo top (c ∷ cs) rise =
     let a : lo < c.revision = rise.0 in
     (a, all_weaker (λ d. c.revision < d.revision) (λ d. lo < d.revision) (λ d (h : c.revision < d.revision). omega arith) cs (all_above c.revision top cs rise.1))
-
-pub ascending : (lo top : ℕ) (cs : List Change) → IsRising lo cs top → IsAscending IsBefore cs
-ascending lo top [] rise = tt
-ascending lo top (c ∷ cs) rise = (all_above c.revision top cs rise.1, ascending c.revision top cs rise.1)
 
 pub all_within : (lo top : ℕ) (cs : List Change) → IsRising lo cs top → AllByRecursion (λ c. c.revision ≤ top) cs
 all_within lo top [] rise = tt

@@ -5,7 +5,7 @@ use Rattle.std.specs.Cmp.{IsTotalOrder, then_total, on_total, nat_cmp_total}
 use Rattle.std.specs.Cmp.Lexicographic.{nat_list_cmp_total}
 use Rattle.std.specs.FinMap as fin
 use Rattle.std.specs.FinMap.{IsAntisymmetric, nat_cmp-IsAntisymmetric, slice_cmp-IsAntisymmetric}
-use Rattle.revtable.specs.History.{Key, Object, Objects, text_cmp, key_cmp, is_same_key, put_or_remove}
+use Rattle.history.specs.History.{Key, Object, Objects, text_cmp, key_cmp, is_same_key, put_or_remove}
 
 pub text_cmp_total : IsTotalOrder text_cmp
 text_cmp_total = nat_list_cmp_total

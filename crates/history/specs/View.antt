@@ -1,6 +1,6 @@
 -- All that a call may see of a history: the objects at the compacted number, and the changes after it.
 use Rattle.std.specs.Prelude.{ℕ, suc, List, [], ◌∷◌, ◌++◌, Option}
-use Rattle.revtable.specs.History.{Key, Objects, Change, History, changed, up_to, later, state_at}
+use Rattle.history.specs.History.{Key, Objects, Change, History, changed, up_to, later, state_at}
 
 pub record View : Type 0 where
   pub current : ℕ

@@ -3,10 +3,10 @@ use Rattle.std.proofs.Common.{◌≡◌, ℕ, ◌<◌, ◌≤◌, Bool, true, fa
 use Rattle.std.proofs.Common.{lt-ltb, le-ltb, le-leb, ltb-false}
 use Rattle.std.specs.Prelude.{nat_le, nat_lt}
 use Rattle.std.specs.List.{list_any, AllByRecursion}
-use Rattle.sqlite_keyed.proofs.ListLemmas.{all_weaker}
-use Rattle.revtable.specs.History.{Key, Change, is_same_key, IsRising}
-use Rattle.revtable.specs.Kept.{replaces, stands, kept}
-use Rattle.revtable.proofs.Revisions.{all_above}
+use Rattle.history.proofs.Lists.{all_weaker}
+use Rattle.history.specs.History.{Key, Change, is_same_key, IsRising}
+use Rattle.history.specs.Kept.{replaces, stands, kept}
+use Rattle.history.proofs.Revisions.{all_above}
 
 -- whether one of these changes is of the key, up to c
 abbrev pub has_later : ℕ → Key → List Change → Bool

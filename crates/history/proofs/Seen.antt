@@ -2,13 +2,13 @@
 use Rattle.std.proofs.Common.{◌≡◌, ℕ, suc, ◌<◌, ◌≤◌, List, [], ◌∷◌, ◌++◌, refl, sym, ap, ◌∙◌, Option, arith, cond, Bool, true, false}
 use Rattle.std.proofs.Common.{le-leb, lt-ltb}
 use Rattle.std.specs.Prelude.{nat_le, nat_lt}
-use Rattle.sqlite_keyed.proofs.ListLemmas.{all-filter, all_weaker, filter_all}
-use Rattle.revtable.specs.History.{Key, Change, History, IsHistory, compacted_to, later, up_to, written}
-use Rattle.revtable.specs.Kept.{IsPruned, between_marks, pruned}
-use Rattle.revtable.specs.View.{compacted_in, view, written_in}
-use Rattle.revtable.proofs.Kept.{kept-push, kept_kept, pruned_is}
-use Rattle.revtable.proofs.Revisions.{all_within, later-later, state_at-push}
-use Rattle.revtable.proofs.Views.{kept_later, kept_states, view_states}
+use Rattle.history.proofs.Lists.{all-filter, all_weaker, filter_all}
+use Rattle.history.specs.History.{Key, Change, History, IsHistory, compacted_to, later, up_to, written}
+use Rattle.history.specs.Kept.{IsPruned, between_marks, pruned}
+use Rattle.history.specs.View.{compacted_in, view, written_in}
+use Rattle.history.proofs.Kept.{kept-push, kept_kept, pruned_is}
+use Rattle.history.proofs.Revisions.{all_within, later-later, state_at-push}
+use Rattle.history.proofs.Views.{kept_later, kept_states, view_states}
 
 later-push : (c : ℕ) (cs : List Change) (d : Change) → c < d.revision → later c (cs ++ d ∷ []) ≡ later c cs ++ d ∷ []
 later-push c [] d h = ap (λ b. cond b (d ∷ []) []) (lt-ltb c d.revision h)

@@ -2,8 +2,8 @@
 use Rattle.std.specs.Prelude.{◌≡◌, ℕ, List, [], ◌∷◌, Option, Some, None, refl}
 use Rattle.std.specs.Coded.{Coded, code_by, coded×, coded_ℕ, coded_list}
 use Rattle.std.specs.FinMap as fin
-use Rattle.revtable.specs.History.{Key, Object, Objects, Change}
-use Rattle.revtable.specs.View.{View}
+use Rattle.history.specs.History.{Key, Object, Objects, Change}
+use Rattle.history.specs.View.{View}
 
 abbrev pub key_code : Coded Key
 key_code = code_by (ℕ × (List ℕ × List ℕ)) (coded× coded_ℕ (coded× (coded_list coded_ℕ) (coded_list coded_ℕ)))

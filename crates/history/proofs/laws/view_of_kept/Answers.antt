@@ -1,5 +1,5 @@
-use Rattle.revtable.proofs.Views.{kept_states, kept_later, kept_view, view_states}
-use Rattle.revtable.proofs.laws.view_of_kept.Goals as goal
+use Rattle.history.proofs.Views.{kept_states, kept_later, kept_view, view_states}
+use Rattle.history.proofs.laws.view_of_kept.Goals as goal
 
 pub returns : goal.returns
 returns c = record {

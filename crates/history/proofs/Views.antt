@@ -4,12 +4,12 @@ use Rattle.std.proofs.Common.{ltb-true, ltb-false, le-leb, true≢false}
 use Rattle.std.proofs.lemmas.Bool.{lt-leb}
 use Rattle.std.specs.Prelude.{nat_le, nat_lt}
 use Rattle.std.specs.FinMap as fin
-use Rattle.revtable.specs.History.{Key, key_cmp, Object, Objects, Change, History, IsHistory, object_by, left_by, is_same_key, put_or_remove, changed, up_to, later, state_at, IsRising}
-use Rattle.revtable.specs.Kept.{kept, pruned}
-use Rattle.revtable.specs.View.{view, state_in}
-use Rattle.revtable.proofs.Keys.{same, tied, get-put_or_remove}
-use Rattle.revtable.proofs.Revisions.{up_to-keeps, up_to-split, later-drops, changed-append}
-use Rattle.revtable.proofs.Standing.{has_later, kept_by, kept_is}
+use Rattle.history.specs.History.{Key, key_cmp, Object, Objects, Change, History, IsHistory, object_by, left_by, is_same_key, put_or_remove, changed, up_to, later, state_at, IsRising}
+use Rattle.history.specs.Kept.{kept, pruned}
+use Rattle.history.specs.View.{view, state_in}
+use Rattle.history.proofs.Keys.{same, tied, get-put_or_remove}
+use Rattle.history.proofs.Revisions.{up_to-keeps, up_to-split, later-drops, changed-append}
+use Rattle.history.proofs.Standing.{has_later, kept_by, kept_is}
 
 -- the last word of these changes on a key
 abbrev last_of : Key → Option Object → List Change → Option Object
