@@ -3,16 +3,17 @@ use Rattle.std.proofs.Common.{arith, ◌≡◌, ℕ, ◌+◌, ◌-◌, ◌*◌, 
 use Rattle.std.proofs.lemmas.Bool.{lt-leb, lt-ltb, ne_eqb}
 use Rattle.std.proofs.lemmas.List.{length-append}
 use Rattle.std.proofs.lemmas.List.Elements.{All-head, All-tail}
-use Rattle.std.specs.Prelude.{◌&&◌, ◌||◌, ◌==◌, if◌then◌else◌}
+use Rattle.std.specs.Prelude.{◌&&◌, ◌==◌, if◌then◌else◌}
 use Rattle.std.specs.Char.{digit_value, is_ascii_hexdigit}
 use Rattle.std.specs.List.{All, flat_map, list_all, list_any}
 use Rattle.std.specs.Str.Parse.{digits_value, digits_value_after}
 use Rattle.httparse.specs.Grammar.{ResponseHead, IsResponseHead, print_response, status_code}
 use Rattle.httparse.specs.Spans.{name_and_value}
 use Rattle.wireclient.specs.Chunks.{Chunk, IsChunk, IsSize, IsLine, crlf, print_chunk, print_chunks, print_lines}
-use Rattle.wireclient.specs.Reads.{Judged, Leads, Stands, framing_of, max_fields, start}
+use Rattle.wireclient.specs.Reads.{Items, Judged, Leads, framing_of, max_fields, start}
 use Rattle.wireclient.specs.Reply.{by_chunks, Told, head, line, end, State, size, size_lf, data_in, data_cr, last_cr, ended, max_head, max_line, Next, fails, goes_to, data_after, digit_onto, step}
 use Rattle.wireclient.proofs.Leading.{leads_append}
+use Rattle.wireclient.proofs.Lengthened.{after_more, data_next, none_first, none_rest}
 use Rattle.wireclient.proofs.Printed.{head_ends}
 use Rattle.wireclient.proofs.ReadBack.{whole_head_read}
 
@@ -27,14 +28,6 @@ first_of false b is = absurd cc
 rest_of : (a b : Bool) → (a && b) ≡ true → b ≡ true
 rest_of true b is = is
 rest_of false b is = absurd cc
-
-none_first : (a b : Bool) → (a || b) ≡ false → a ≡ false
-none_first true b is = absurd cc
-none_first false b is = refl
-
-none_rest : (a b : Bool) → (a || b) ≡ false → b ≡ false
-none_rest true b is = absurd cc
-none_rest false b is = is
 
 -- ---- the data, cut at line feeds
 
@@ -190,21 +183,8 @@ last_ends count some =
 
 -- ---- a chunk's data
 
-data_next : (s t : Bool) (left : ℕ) (text : List ℕ) (b : ℕ) → s ≡ false
-    → ◌≡◌ {A = Next} (cond s fails (cond t (data_after left [], line text ∷ []) (goes_to (data_after left (text ++ b ∷ []))))) (data_after left (cond t [] (text ++ b ∷ [])), cond t (line text ∷ []) [])
-data_next true t left text b is = absurd cc
-data_next false true left text b is = refl
-data_next false false left text b is = refl
-
 abbrev with_told : List Told → State → Next
 with_told told s = (s, told)
-
-after_more : (left : ℕ) (text : List ℕ) → 0 < left → data_after left text ≡ data_in left text
-after_more left text some = go (left == 0) (ne_eqb left 0 (λ e. absurd (omega (arith, e, some))))
-  where
-    go : (t : Bool) → t ≡ false → cond t (data_cr text) (data_in left text) ≡ data_in left text
-    go true is = absurd cc
-    go false is = refl
 
 data_read : (left : ℕ) (text : List ℕ) (b : ℕ) (bytes : List ℕ) → left ≡ length bytes + 1 → Fits text (b ∷ bytes) → Leads (data_in left text) (b ∷ bytes) (data_cr (rest_in text (b ∷ bytes))) (lines_in text (b ∷ bytes))
 data_read left text b [] is fits =
@@ -266,15 +246,62 @@ last_read last is =
     let sized = subst (λ (n : ℕ). Leads (size 0 0 []) last (size (0 + length last) n []) []) is.value digits in
     leads_append (size 0 0 []) (size (0 + length last) 0 []) ended last (crlf ++ crlf) [] (end ∷ []) sized (last_ends (0 + length last) (omega (arith, is.some)))
 
+-- the lines of which the beginning of another came
+record AreBegun (bytes : List ℕ) (lines : List (List ℕ)) (rest : List ℕ) : Type 0 where
+  told : lines_in [] bytes ≡ map line lines
+  fits : Fits [] bytes
+
+line_begun : (text bytes : List ℕ) → list_any (λ b. b == 10) bytes ≡ false → length text + length bytes < max_line → (lines_in text bytes ≡ []) × Fits text bytes
+line_begun text [] one fits = (refl, tt)
+line_begun text (b ∷ bytes) one fits =
+    let long : length (text ++ b ∷ []) ≡ length text + 1 = length-append text (b ∷ []) in
+    let later = line_begun (text ++ b ∷ []) bytes (none_rest (b == 10) (list_any (λ c. c == 10) bytes) one) (omega (arith, long, fits)) in
+    let both = begun_later (b == 10) text bytes b (none_first (b == 10) (list_any (λ c. c == 10) bytes) one) later in
+    (both.0, (omega (arith, fits), both.1))
+  where
+    begun_later : (t : Bool) (text bytes : List ℕ) (b : ℕ) → t ≡ false → (lines_in (text ++ b ∷ []) bytes ≡ []) × Fits (text ++ b ∷ []) bytes
+        → (cond t (line text ∷ []) [] ++ lines_in (cond t [] (text ++ b ∷ [])) bytes ≡ []) × Fits (cond t [] (text ++ b ∷ [])) bytes
+    begun_later true text bytes b is later = absurd cc
+    begun_later false text bytes b is later = later
+
+lines_begun : (lines : List (List ℕ)) (rest : List ℕ) → All IsLine lines → IsLine rest → AreBegun (print_lines lines ++ rest) lines rest
+lines_begun lines rest all is =
+    let before = lines_cut lines all in
+    let after = line_begun [] rest is.one (omega (arith, is.fits)) in
+    record {
+      told = lines_append [] (print_lines lines) rest
+          ∙ ap₂ (λ (told : List Told) (text : List ℕ). told ++ lines_in text rest) before.told before.rest
+          ∙ ap (λ (told : List Told). map line lines ++ told) after.0
+          ∙ append-nil (map line lines);
+      fits = fits_both [] (print_lines lines) rest before.fits (subst (λ (text : List ℕ). Fits text rest) (sym before.rest) after.1);
+    }
+
+-- the head of a reply in chunks
+head_then_chunks : (h : ResponseHead) → IsResponseHead h → length (print_response h) ≤ max_head → length h.fields ≤ max_fields → framing_of (map name_and_value h.fields) ≡ Some by_chunks
+    → Leads start (print_response h) (size 0 0 []) (head (status_code h) ∷ [])
+head_then_chunks h is fits few framed =
+    let judged : Judged (print_response h) (Some (status_code h, by_chunks)) = (h, (is, sym (append-nil (print_response h))), few, refl, framed) in
+    whole_head_read (print_response h) (Some (status_code h, by_chunks)) fits (head_ends h is) judged
+
+pub watch_read : (h : ResponseHead) (chunks : List Chunk) (lines : List (List ℕ)) (rest : List ℕ) → IsResponseHead h → length (print_response h) ≤ max_head → length h.fields ≤ max_fields
+    → framing_of (map name_and_value h.fields) ≡ Some by_chunks → All IsChunk chunks → All IsLine lines → IsLine rest → data_of chunks ≡ print_lines lines ++ rest
+    → Items (print_response h ++ flat_map print_chunk chunks) (head (status_code h) ∷ map line lines)
+watch_read h chunks lines rest is fits few framed chunked lined begun joined =
+    let cut = subst (λ (bytes : List ℕ). AreBegun bytes lines rest) (sym joined) (lines_begun lines rest lined begun) in
+    let read = chunks_read chunks [] chunked cut.fits in
+    let told = subst (λ (told : List Told). Leads (size 0 0 []) (flat_map print_chunk chunks) (size 0 0 (rest_in [] (data_of chunks))) told) cut.told read in (
+      size 0 0 (rest_in [] (data_of chunks)),
+      leads_append start (size 0 0 []) (size 0 0 (rest_in [] (data_of chunks))) (print_response h) (flat_map print_chunk chunks) (head (status_code h) ∷ []) (map line lines) (head_then_chunks h is fits few framed) told,
+    )
+
 pub chunked_read : (h : ResponseHead) (chunks : List Chunk) (last : List ℕ) (lines : List (List ℕ)) → IsResponseHead h → length (print_response h) ≤ max_head → length h.fields ≤ max_fields
     → framing_of (map name_and_value h.fields) ≡ Some by_chunks → All IsChunk chunks → IsSize last 0 → All IsLine lines → data_of chunks ≡ print_lines lines
-    → Stands (Some ended) (print_response h ++ print_chunks chunks last) (head (status_code h) ∷ (map line lines ++ end ∷ []))
+    → Items (print_response h ++ print_chunks chunks last) (head (status_code h) ∷ (map line lines ++ end ∷ []))
 chunked_read h chunks last lines is fits few framed chunked ends lined joined =
-    let judged : Judged (print_response h) (Some (status_code h, by_chunks)) = (h, (is, sym (append-nil (print_response h))), few, refl, framed) in
-    let first = whole_head_read (print_response h) (Some (status_code h, by_chunks)) fits (head_ends h is) judged in
+    let first = head_then_chunks h is fits few framed in
     let cut = subst (λ (bytes : List ℕ). AreCut bytes lines) (sym joined) (lines_cut lines lined) in
     let read = chunks_read chunks [] chunked cut.fits in
     let told = subst (λ (told : List Told). Leads (size 0 0 []) (flat_map print_chunk chunks) (size 0 0 (rest_in [] (data_of chunks))) told) cut.told read in
     let whole = subst (λ (rest : List ℕ). Leads (size 0 0 []) (flat_map print_chunk chunks) (size 0 0 rest) (map line lines)) cut.rest told in
     let body = leads_append (size 0 0 []) (size 0 0 []) ended (flat_map print_chunk chunks) (last ++ (crlf ++ crlf)) (map line lines) (end ∷ []) whole (last_read last ends) in
-    (ended, refl, leads_append start (size 0 0 []) ended (print_response h) (print_chunks chunks last) (head (status_code h) ∷ []) (map line lines ++ end ∷ []) first body)
+    (ended, leads_append start (size 0 0 []) ended (print_response h) (print_chunks chunks last) (head (status_code h) ∷ []) (map line lines ++ end ∷ []) first body)

@@ -3,7 +3,7 @@ use Rattle.std.proofs.Common.{◌≡◌, ℕ, Bool, true, false, cond, leb, List
 use Rattle.httparse.specs.Grammar.{ResponseHead, status_code}
 use Rattle.httparse.specs.Spans.{name_and_value}
 use Rattle.httparse.proofs.GrammarLemmas.{response_unique}
-use Rattle.wireclient.specs.Reads.{Judged, JudgedWhereEnded, JudgedAt, Leads, Stands, framing_of, start}
+use Rattle.wireclient.specs.Reads.{Judged, JudgedWhereEnded, JudgedAt, Items, Leads, Stands, framing_of, start}
 use Rattle.wireclient.specs.Reply.{Framing, Judgement, Told, Place, State, heading, body, size, size_lf, data_in, data_cr, data_lf, last_cr, last_lf, ended, broken, place_after, max_head, Next, fails, headed, step}
 
 framed_alike : (h k : ResponseHead) → h ≡ k → framing_of (map name_and_value h.fields) ≡ framing_of (map name_and_value k.fields)
@@ -39,7 +39,7 @@ stepped_once (last_lf text) b j k x y = refl
 stepped_once ended b j k x y = refl
 stepped_once broken b j k x y = refl
 
-leads_once : (s t u : State) (bytes : List ℕ) (items others : List Told) → Leads s bytes t items → Leads s bytes u others → (items ≡ others) × (t ≡ u)
+pub leads_once : (s t u : State) (bytes : List ℕ) (items others : List Told) → Leads s bytes t items → Leads s bytes u others → (items ≡ others) × (t ≡ u)
 leads_once s t u [] items others a b = (a.1 ∙ sym b.1, a.0 ∙ sym b.0)
 leads_once s t u (x ∷ bytes) items others a b =
     let next : step b.0 s x ≡ step a.0 s x = stepped_once s x b.0 a.0 b.2 a.2 in
@@ -47,7 +47,8 @@ leads_once s t u (x ∷ bytes) items others a b =
     let after = leads_once (step a.0 s x).0 t u bytes a.1 b.1 a.3 rest in
     (a.4 ∙ ap₂ (λ (n : Next) (more : List Told). n.1 ++ more) (sym next) after.0 ∙ sym b.4, after.1)
 
-pub stands_once : (one other : Option State) (bytes : List ℕ) (items others : List Told) → Stands one bytes items → Stands other bytes others → (items ≡ others) × (one ≡ other)
-stands_once one other bytes items others a b =
-    let same = leads_once start a.0 b.0 bytes items others a.2 b.2 in
-    (same.0, a.1 ∙ ap (λ (s : State). Some s) same.1 ∙ sym b.1)
+pub items_once : (bytes : List ℕ) (items others : List Told) → Items bytes items → Items bytes others → items ≡ others
+items_once bytes items others a b = (leads_once start a.0 b.0 bytes items others a.1 b.1).0
+
+pub stands_once : (bytes : List ℕ) (one other : Option State) → Stands one bytes → Stands other bytes → one ≡ other
+stands_once bytes one other a b = a.2 ∙ ap (λ (s : State). Some s) (leads_once start a.0 b.0 bytes a.1 b.1 a.3 b.3).1 ∙ sym b.2

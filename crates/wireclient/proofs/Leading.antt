@@ -1,9 +1,15 @@
 -- Bytes that lead from state to state.
-use Rattle.std.proofs.Common.{◌≡◌, ℕ, ◌+◌, ◌<◌, Bool, true, false, cond, List, [], ◌∷◌, ◌++◌, length, take, get_or, Option, Some, None, Result, Ok, Err, refl, sym, ap, subst, ◌∙◌, append_assoc, append-nil}
+use Rattle.std.proofs.Common.{arith, ◌≡◌, ℕ, ◌+◌, ◌-◌, ◌<◌, ◌≤◌, Bool, true, false, cond, List, [], ◌∷◌, ◌++◌, length, take, drop, get_or, Option, Some, None, Result, Ok, Err, refl, sym, ap, subst, ◌∙◌, append_assoc, append-nil}
 use Rattle.std.specs.Prelude.{IfOk, OnOk}
-use Rattle.std.proofs.lemmas.List.{take_more}
-use Rattle.wireclient.specs.Reads.{JudgedAt, Steps, Leads, Stands, start}
-use Rattle.wireclient.specs.Reply.{Judgement, State, Told, step}
+use Rattle.std.proofs.lemmas.List.{length-drop, take_all, take_more}
+use Rattle.std.proofs.Math.Seq.{take-add}
+use Rattle.wireclient.specs.Reads.{Items, JudgedAt, Steps, Leads, Stands, TakesIn, has_malformed, start}
+use Rattle.wireclient.specs.Reply.{Judgement, State, broken, Told, step}
+use Rattle.wireclient.specs.Views.{state_of}
+use Rattle.wireclient.specs.declared.state.State as states
+use Rattle.wireclient.specs.declared.state.State.TheVariants as state
+use Rattle.wireclient.proofs.Closing.{broken_told, is_after}
+use Rattle.wireclient.proofs.Determined.{leads_once}
 
 pub leads_append : (s m t : State) (xs ys : List ℕ) (is ks : List Told) → Leads s xs m is → Leads m ys t ks → Leads s (xs ++ ys) t (is ++ ks)
 leads_append s m t [] ys is ks h k = subst (λ (s' : State). Leads s' ys t (is ++ ks)) h.0 (subst (λ (told : List Told). Leads m ys t told) (sym (ap (λ (told : List Told). told ++ ks) h.1)) k)
@@ -33,13 +39,63 @@ plain view (Err e) s b old new judged is told = tt
 same_state : {s t : State} → Some s ≡ Some t → s ≡ t
 same_state is = cc
 
--- a reader that has memory takes a piece
+-- a byte, and then some of which nothing is told
+pub leads_on : (s m n t : State) (piece : List ℕ) (i b d count : ℕ) (old new : List Told) → i < length piece → b ≡ get_or piece i d
+    → Leads s (take i piece) m old → Steps m b n old new → TakesIn n (take (length piece - (i + 1)) (drop (i + 1) piece)) count t
+    → (i + (1 + count) ≤ length piece) × Leads s (take (i + (1 + count)) piece) t new
+leads_on s m n t piece i b d count old new lt at before more part =
+    let long : length (drop (i + 1) piece) ≡ length piece - (i + 1) = length-drop (i + 1) piece in
+    let all : take (length piece - (i + 1)) (drop (i + 1) piece) ≡ drop (i + 1) piece = take_all (length piece - (i + 1)) (drop (i + 1) piece) (omega (arith, long)) in
+    let takes = subst (λ (xs : List ℕ). TakesIn n xs count t) all part in
+    let counted : i + 1 + count ≡ i + (1 + count) = omega arith in
+    let both = leads_append s n t (take (i + 1) piece) (take count (drop (i + 1) piece)) new [] (leads_more s m n piece i b d old new lt at before more) takes.1 in
+    let plain = subst (λ (told : List Told). Leads s (take (i + 1) piece ++ take count (drop (i + 1) piece)) t told) (append-nil new) both in
+    (omega (arith, lt, long, takes.0), subst (λ (k : ℕ). Leads s (take k piece) t new) counted (subst (λ (xs : List ℕ). Leads s xs t new) (sym (take-add (i + 1) count piece)) plain))
+
+-- a reader that has memory takes a piece: where it then stands, and what it tells
+pub feed_stands : (d : Bool) (inside : State) (now : Option State) (from s : State) (bytes piece : List ℕ) (told : List Told)
+    → cond d None (Some inside) ≡ now → d ≡ false → from ≡ inside → Leads from piece s told → Stands now bytes → Stands (cond d None (Some s)) (bytes ++ piece)
+feed_stands true inside now from s bytes piece told view alive is leads stands = absurd cc
+feed_stands false inside now from s bytes piece told view alive is leads stands =
+    (s, stands.1 ++ told, refl, leads_append start stands.0 s bytes piece stands.1 told stands.3 (subst (λ (m : State). Leads m piece s told) (is ∙ same_state (view ∙ stands.2)) leads))
+
 pub feed_tells : (d : Bool) (inside : State) (now : Option State) (from s : State) (bytes piece : List ℕ) (before told : List Told)
-    → cond d None (Some inside) ≡ now → d ≡ false → from ≡ inside → Leads from piece s told → Stands now bytes before
-    → Stands (cond d None (Some s)) (bytes ++ piece) (before ++ told)
-feed_tells true inside now from s bytes piece before told view alive is leads stands = absurd cc
-feed_tells false inside now from s bytes piece before told view alive is leads stands = (
-  s,
-  refl,
-  leads_append start stands.0 s bytes piece before told stands.2 (subst (λ (m : State). Leads m piece s told) (is ∙ same_state (view ∙ stands.1)) leads),
-)
+    → cond d None (Some inside) ≡ now → d ≡ false → from ≡ inside → Leads from piece s told → Stands now bytes → Items bytes before → Items (bytes ++ piece) (before ++ told)
+feed_tells true inside now from s bytes piece before told view alive is leads stands items = absurd cc
+feed_tells false inside now from s bytes piece before told view alive is leads stands items =
+    let same : items.0 ≡ stands.0 = (leads_once start items.0 stands.0 bytes before stands.1 items.1 stands.3).1 in
+    (s, leads_append start items.0 s bytes piece before told items.1 (subst (λ (m : State). Leads m piece s told) (is ∙ same_state (view ∙ stands.2) ∙ sym same) leads))
+
+-- a reader of a bad byte, and no other, is refused for it
+pub unbroken : (s : states.State) → (s ≡ state.Broken → ⊥) → is_after false (state_of s) ≡ false
+unbroken (state.Heading bytes p) other = refl
+unbroken (state.Body left bytes) other = refl
+unbroken (state.Size count value text) other = refl
+unbroken (state.SizeLf value text) other = refl
+unbroken (state.Data left text) other = refl
+unbroken (state.DataCr text) other = refl
+unbroken (state.DataLf text) other = refl
+unbroken (state.LastCr text) other = refl
+unbroken (state.LastLf text) other = refl
+unbroken state.Ended other = refl
+unbroken state.Broken other = absurd (other refl)
+
+pub feed_broken : (d : Bool) (inside : State) (now : Option State) (bytes : List ℕ) (before : List Told)
+    → cond d None (Some inside) ≡ now → d ≡ false → inside ≡ broken → Stands now bytes → Items bytes before → has_malformed before ≡ true
+feed_broken true inside now bytes before view alive is stands items = absurd cc
+feed_broken false inside now bytes before view alive is stands items =
+    let same : items.0 ≡ stands.0 = (leads_once start items.0 stands.0 bytes before stands.1 items.1 stands.3).1 in
+    sym (broken_told start items.0 bytes before items.1) ∙ ap (is_after false) (same ∙ sym (same_state (view ∙ stands.2)) ∙ is)
+
+pub feed_unbroken : (d : Bool) (inside : State) (now : Option State) (bytes : List ℕ) (before : List Told)
+    → cond d None (Some inside) ≡ now → d ≡ false → is_after false inside ≡ false → Stands now bytes → Items bytes before → has_malformed before ≡ true → ⊥
+feed_unbroken true inside now bytes before view alive is stands items bad = absurd cc
+feed_unbroken false inside now bytes before view alive is stands items bad =
+    let same : items.0 ≡ stands.0 = (leads_once start items.0 stands.0 bytes before stands.1 items.1 stands.3).1 in
+    let told : is_after false items.0 ≡ has_malformed before = broken_told start items.0 bytes before items.1 in
+    let alike : is_after false items.0 ≡ is_after false inside = ap (is_after false) (same ∙ sym (same_state (view ∙ stands.2))) in
+    cc
+
+pub dead_unread : (d : Bool) (inside : State) (now : Option State) (bytes : List ℕ) → cond d None (Some inside) ≡ now → d ≡ true → Stands now bytes → ⊥
+dead_unread true inside now bytes view dead stands = let no_state = view ∙ stands.2 in cc
+dead_unread false inside now bytes view dead stands = absurd cc

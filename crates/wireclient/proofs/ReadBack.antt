@@ -11,9 +11,10 @@ use Rattle.std.specs.Fmt.{decimal}
 use Rattle.std.specs.Str.Parse.{AllDigits, digits_value_after}
 use Rattle.httparse.specs.Grammar.{ResponseHead, IsResponseHead, print_response, status_code}
 use Rattle.httparse.specs.Spans.{name_and_value}
-use Rattle.wireclient.specs.Reads.{Judged, JudgedWhereEnded, Leads, Stands, framing_of, length_after, length_in, max_body, max_fields, start}
+use Rattle.wireclient.specs.Reads.{Items, Judged, JudgedWhereEnded, Leads, framing_of, length_after, length_in, max_body, max_fields, start}
 use Rattle.wireclient.specs.Reply.{by_length, Judgement, Told, head, whole, end, Place, leading, heading, body, ended, place_after, max_head, Next, fails, goes_to, begun, headed, step}
 use Rattle.wireclient.proofs.Leading.{leads_append, one_byte}
+use Rattle.wireclient.proofs.Lengthened.{more_of_body}
 use Rattle.wireclient.proofs.Heads.{judged_so, next_so}
 use Rattle.wireclient.proofs.Printed.{Goes, EndsAtLast, head_ends}
 
@@ -66,10 +67,6 @@ last_of_body : (t : Bool) (bytes : List ℕ) (left : ℕ) → t ≡ true → con
 last_of_body true bytes left is = refl
 last_of_body false bytes left is = absurd cc
 
-more_of_body : (t : Bool) (bytes : List ℕ) (left : ℕ) → t ≡ false → cond t (ended, whole bytes ∷ end ∷ []) (goes_to (body left bytes)) ≡ goes_to (body left bytes)
-more_of_body true bytes left is = absurd cc
-more_of_body false bytes left is = refl
-
 body_read : (left : ℕ) (seen : List ℕ) (b : ℕ) (bytes : List ℕ) → left ≡ length bytes + 1 → Leads (body left seen) (b ∷ bytes) ended (whole (seen ++ b ∷ bytes) ∷ end ∷ [])
 body_read left seen b [] is =
     let next = last_of_body (leb left 1) (seen ++ b ∷ []) (left - 1) (le-leb _ _ (omega (arith, is))) in (
@@ -103,12 +100,12 @@ body_begins status n some = go (n == 0) (ne_eqb n 0 (λ e. absurd (omega (arith,
 
 pub reply_read : (h : ResponseHead) (bytes : List ℕ) → IsResponseHead h → length (print_response h) ≤ max_head → length h.fields ≤ max_fields
     → framing_of (map name_and_value h.fields) ≡ Some (by_length (length bytes))
-    → Stands (Some ended) (print_response h ++ bytes) (head (status_code h) ∷ whole bytes ∷ end ∷ [])
+    → Items (print_response h ++ bytes) (head (status_code h) ∷ whole bytes ∷ end ∷ [])
 reply_read h bytes is fits few framed =
     let j : Judgement = Some (status_code h, by_length (length bytes)) in
     let judged : Judged (print_response h) (Some (status_code h, by_length (length bytes))) = (h, (is, sym (append-nil (print_response h))), few, refl, framed) in
     let first = whole_head_read (print_response h) (Some (status_code h, by_length (length bytes))) fits (head_ends h is) judged in
-    (ended, refl, after bytes first)
+    (ended, after bytes first)
   where
     after : (bytes : List ℕ) → Leads start (print_response h) (begun (Some (status_code h, by_length (length bytes)))).0 (begun (Some (status_code h, by_length (length bytes)))).1
         → Leads start (print_response h ++ bytes) ended (head (status_code h) ∷ whole bytes ∷ end ∷ [])

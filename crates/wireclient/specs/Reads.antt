@@ -1,10 +1,11 @@
 -- What a reader tells of the bytes that came.
-use Rattle.std.specs.Prelude.{◌≡◌, ℕ, ◌≤◌, ◌+◌, ◌-◌, ◌*◌, Bool, true, false, ◌||◌, nat_le, if◌then◌else◌, List, [], ◌∷◌, ◌++◌, length, map, Option, None, Some, ◌&&◌, codes}
+use Rattle.std.specs.Prelude.{◌≡◌, ℕ, ◌≤◌, ◌+◌, ◌-◌, ◌*◌, Bool, true, false, ◌||◌, nat_le, if◌then◌else◌, List, [], ◌∷◌, ◌++◌, length, map, take, Option, None, Some, ◌&&◌, codes}
 use Rattle.std.specs.Char.{to_ascii_lowercase, is_ascii_digit}
+use Rattle.std.specs.List.{list_any}
 use Rattle.std.specs.Str.{bytes_eq}
 use Rattle.httparse.specs.Grammar.{ResponseHead, ReadsResponse, status_code}
 use Rattle.httparse.specs.Spans.{name_and_value}
-use Rattle.wireclient.specs.Reply.{Framing, by_length, by_chunks, Judgement, Told, Place, leading, State, heading, place_after, max_head, step}
+use Rattle.wireclient.specs.Reply.{Framing, by_length, by_chunks, Judgement, Told, is_malformed, is_last, Place, leading, State, heading, place_after, max_head, step}
 
 -- ---- the head
 
@@ -87,6 +88,22 @@ abbrev pub Leads : State → List ℕ → State → List Told → Type 0
 Leads s [] t items = (t ≡ s) × (items ≡ [])
 Leads s (b ∷ bytes) t items = (j : Judgement) × (rest : List Told) × JudgedAt s b j × Leads (step j s b).0 bytes t rest × (items ≡ (step j s b).1 ++ rest)
 
--- a reader of all these bytes, which told these items, stands here; None is a reader without memory
-abbrev pub Stands : Option State → List ℕ → List Told → Type 0
-Stands reader bytes items = (s : State) × (reader ≡ Some s) × Leads start bytes s items
+-- the items that these bytes hold: head, body or whole lines, and end; or those before a bad byte, and then malformed
+abbrev pub Items : List ℕ → List Told → Type 0
+Items bytes items = (s : State) × Leads start bytes s items
+
+-- whether a bad byte stands in the bytes that hold these items
+abbrev pub has_malformed : List Told → Bool
+has_malformed items = list_any is_malformed items
+
+-- whether nothing is told of any byte after those that hold these items
+abbrev pub has_closed : List Told → Bool
+has_closed items = list_any is_last items
+
+-- a reader that took all these bytes; None is a reader without memory
+abbrev pub Stands : Option State → List ℕ → Type 0
+Stands reader bytes = (s : State) × (items : List Told) × (reader ≡ Some s) × Leads start bytes s items
+
+-- the first n of these bytes lead to a state, and nothing is told
+abbrev pub TakesIn : State → List ℕ → ℕ → State → Type 0
+TakesIn s bytes n t = (n ≤ length bytes) × Leads s (take n bytes) t []

@@ -1,5 +1,5 @@
 -- A reply, byte by byte (RFC 9112, sections 2.2, 6 and 7.1), and the items that a reader tells of it.
-use Rattle.std.specs.Prelude.{ℕ, ◌+◌, ◌-◌, ◌*◌, min, ◌&&◌, ◌==◌, if◌then◌else◌, nat_le, nat_lt, List, [], ◌∷◌, ◌++◌, length, Option, None, Some}
+use Rattle.std.specs.Prelude.{ℕ, Bool, true, false, ◌+◌, ◌-◌, ◌*◌, min, ◌&&◌, ◌==◌, if◌then◌else◌, nat_le, nat_lt, List, [], ◌∷◌, ◌++◌, length, Option, None, Some}
 use Rattle.std.specs.Char.{is_ascii_hexdigit, digit_value}
 
 -- how the body is framed: so many bytes, or chunks
@@ -17,6 +17,16 @@ pub data Told : Type 0 where
   line : List ℕ → Told
   end : Told
   malformed : Told
+
+abbrev pub is_malformed : Told → Bool
+is_malformed malformed = true
+is_malformed _ = false
+
+-- nothing is told after it
+abbrev pub is_last : Told → Bool
+is_last end = true
+is_last malformed = true
+is_last _ = false
 
 -- where a head's bytes stand: before the first line, inside a line, after a line feed, after a line feed and CR
 pub data Place : Type 0 where

@@ -1,17 +1,27 @@
 //! Laws of reading, which crates above build on. Each function does nothing; what it promises is the law.
 
-ghost use Rattle.std.specs.Prelude.{◌≡◌, ◌≤◌, ℕ, List, [], ◌∷◌, ◌++◌, length, map, Option, Some};
+ghost use Rattle.std.specs.Prelude.{◌≡◌, ◌≤◌, ℕ, List, [], ◌∷◌, ◌++◌, length, map, Option, Some, IsTrue};
 ghost use Rattle.std.specs.Fmt.{decimal};
 ghost use Rattle.std.specs.List.{All, flat_map};
 ghost use Rattle.httparse.specs.Grammar.{ResponseHead, IsResponseHead, print_response, status_code};
 ghost use Rattle.httparse.specs.Spans.{name_and_value};
-ghost use Rattle.wireclient.specs.Reads.{Stands, framing_of, length_in, max_body, max_fields};
-ghost use Rattle.wireclient.specs.Chunks.{Chunk, IsChunk, IsLine, IsSize, print_chunks, print_lines};
-ghost use Rattle.wireclient.specs.Reply.{State, Told, by_chunks, by_length, end, ended, head, line, max_head, whole};
+ghost use Rattle.wireclient.specs.Reads.{Items, Stands, framing_of, has_closed, length_in, max_body, max_fields};
+ghost use Rattle.wireclient.specs.Chunks.{Chunk, IsChunk, IsLine, IsSize, print_chunk, print_chunks, print_lines};
+ghost use Rattle.wireclient.specs.Reply.{State, Told, by_chunks, by_length, end, head, line, max_head, whole};
 
-/// Two readings of the same bytes, however they were cut, told the same items and stand at the same state.
+/// Bytes hold one list of items, and two readers that took the same bytes, however these were cut, stand alike.
 pub fn one_reading()
-    ensures { (one other : Option State) (bytes : List ℕ) (items others : List Told) → Stands one bytes items → Stands other bytes others → (items ≡ others) × (one ≡ other) }
+    ensures items { (bytes : List ℕ) (items others : List Told) → Items bytes items → Items bytes others → items ≡ others }
+    ensures readers { (bytes : List ℕ) (one other : Option State) → Stands one bytes → Stands other bytes → one ≡ other }
+{}
+
+/// What a front of the bytes holds stands in what they all hold: bytes that hold items have fronts that do, these
+/// items are a front of those, and after an end or a bad byte no more come. A reply may be cut anywhere, and a watch
+/// read at any time.
+pub fn fronts_stand()
+    ensures front { (bytes more : List ℕ) (items : List Told) → Items (bytes ++ more) items → (before : List Told) × (after : List Told) × Items bytes before × (items ≡ before ++ after) }
+    ensures same { (bytes more : List ℕ) (before items : List Told) → Items bytes before → Items (bytes ++ more) items → (after : List Told) × (items ≡ before ++ after) }
+    ensures closed { (bytes more : List ℕ) (items : List Told) → Items bytes items → IsTrue (has_closed items) → Items (bytes ++ more) items }
 {}
 
 /// A printed reply reads back: a head of the grammar (RFC 9112, section 4) within the limits, of which one field
@@ -20,7 +30,7 @@ pub fn one_reading()
 pub fn reply_reads_back()
     ensures reply { (h : ResponseHead) (body : List ℕ) → IsResponseHead h → length (print_response h) ≤ max_head → length h.fields ≤ max_fields
         → framing_of (map name_and_value h.fields) ≡ Some (by_length (length body))
-        → Stands (Some ended) (print_response h ++ body) (head (status_code h) ∷ whole body ∷ end ∷ []) }
+        → Items (print_response h ++ body) (head (status_code h) ∷ whole body ∷ end ∷ []) }
     ensures length { (n : ℕ) → n ≤ max_body → length_in (decimal n) ≡ Some (by_length n) }
 {}
 
@@ -30,5 +40,13 @@ pub fn reply_reads_back()
 pub fn chunks_read_back()
     ensures { (h : ResponseHead) (chunks : List Chunk) (last : List ℕ) (lines : List (List ℕ)) → IsResponseHead h → length (print_response h) ≤ max_head → length h.fields ≤ max_fields
         → framing_of (map name_and_value h.fields) ≡ Some by_chunks → All IsChunk chunks → IsSize last 0 → All IsLine lines → flat_map (λ c. c.content) chunks ≡ print_lines lines
-        → Stands (Some ended) (print_response h ++ print_chunks chunks last) (head (status_code h) ∷ (map line lines ++ end ∷ [])) }
+        → Items (print_response h ++ print_chunks chunks last) (head (status_code h) ∷ (map line lines ++ end ∷ [])) }
+{}
+
+/// A printed watch that has not ended reads back: chunks whose data are lines that end in line feeds, and then the
+/// beginning of a line, are told as the status and each whole line.
+pub fn watch_reads_back()
+    ensures { (h : ResponseHead) (chunks : List Chunk) (lines : List (List ℕ)) (rest : List ℕ) → IsResponseHead h → length (print_response h) ≤ max_head → length h.fields ≤ max_fields
+        → framing_of (map name_and_value h.fields) ≡ Some by_chunks → All IsChunk chunks → All IsLine lines → IsLine rest → flat_map (λ c. c.content) chunks ≡ print_lines lines ++ rest
+        → Items (print_response h ++ flat_map print_chunk chunks) (head (status_code h) ∷ map line lines) }
 {}

@@ -1,7 +1,8 @@
 //! The client's side of the wire: the bytes of a request, and a reader of replies that is fed in pieces.
 //!
 //! However a reply is cut, the items told so far are those of the bytes that came: a head, then a body or
-//! whole lines, then the end, or what came before a bad byte and then `Malformed`.
+//! whole lines, then the end, or what came before a bad byte and then `Malformed`. What is told of a front of the
+//! bytes stands told of them all.
 //!
 //! Stands on `httparse` for the grammar of a head (RFC 9112).
 #![tactic(auto)]
@@ -12,9 +13,10 @@ mod laws;
 mod reader;
 mod request;
 mod state;
+mod taking;
 
 pub use item::Item;
-pub use laws::{chunks_read_back, one_reading, reply_reads_back};
+pub use laws::{chunks_read_back, fronts_stand, one_reading, reply_reads_back, watch_reads_back};
 pub use reader::{ReadFault, ReplyReader};
 pub use request::request_bytes;
 

@@ -6,6 +6,7 @@ ghost use Rattle.wireclient.specs.Views.{state_of, told_of};
 
 use crate::item::Item;
 use crate::state::{Place, State, step};
+use crate::taking::take_in;
 use std::alloc::{AllocError, Global};
 use std::marker::Model;
 use std::mem;
@@ -45,26 +46,32 @@ struct Reading {
     told: Vec<Item>,
 }
 
+/// Takes one byte, then as many as only lengthen what is kept, until none is left.
 fn read(alloc: Global, from: State, piece: &[u8]) -> Result<Reading, AllocError>
     ensures { IfOk result (λ r. Leads (state_of from) piece.now (state_of r.state) (map told_of r.told.items)) }
 {
     let mut told = Vec::new(alloc);
     let mut state = from;
-    for byte in piece {
-        state = step(alloc, state, *byte, &mut told)?;
+    let mut at = 0;
+    while at < piece.len() {
+        let next = step(alloc, state, piece[at], &mut told)?;
+        let taken = take_in(next, &piece[at + 1..])?;
+        state = taken.state;
+        at += 1 + taken.count;
     }
     Ok(Reading { state, told })
 }
 
 impl ReplyReader {
-    ghost use Rattle.std.specs.Prelude.{◌≡◌, ◌⊎◌, ℕ, List, [], ◌++◌, map, Some, None, IfOk, OnErr};
-    ghost use Rattle.wireclient.specs.Reads.{Stands};
-    ghost use Rattle.wireclient.specs.Reply.{Told, broken};
+    ghost use Rattle.std.specs.Prelude.{◌≡◌, ◌↔◌, ℕ, List, [], ◌++◌, map, IfOk, None, IsTrue};
+    ghost use Rattle.wireclient.specs.Reads.{Items, Stands, has_malformed};
+    ghost use Rattle.wireclient.specs.Reply.{Told};
     ghost use Rattle.wireclient.specs.Views.{told_of};
 
     /// A reader of which nothing has come.
     pub fn new(alloc: Global) -> ReplyReader
-        ensures { Stands result [] [] }
+        ensures stands { Stands result [] }
+        ensures nothing { Items [] [] }
     {
         ReplyReader {
             state: State::Heading(Vec::new(alloc), Place::Leading),
@@ -76,10 +83,12 @@ impl ReplyReader {
     /// Takes the next piece and tells what it completes. After `Malformed` was told, or without memory, every
     /// later call is refused the same.
     pub fn feed(&mut self, piece: &[u8]) -> Result<Vec<Item>, ReadFault>
-        ensures told { (bytes : List ℕ) (before : List Told) → Stands self.old bytes before → IfOk result (λ out. Stands self.new (bytes ++ piece.now) (before ++ map told_of out.items)) }
-        ensures malformed { self.old ≡ Some broken → (result ≡ Err ReadFault.Malformed) × (self.new ≡ self.old) }
-        ensures memory { self.old ≡ None → (result ≡ Err ReadFault.Memory) × (self.new ≡ self.old) }
-        ensures err { OnErr result ((self.new ≡ None) ⊎ ((self.old ≡ Some broken) × (self.new ≡ self.old))) }
+        ensures stands { (bytes : List ℕ) → Stands self.old bytes → IfOk result (λ _. Stands self.new (bytes ++ piece.now)) }
+        ensures told { (bytes : List ℕ) (before : List Told) → Stands self.old bytes → Items bytes before → IfOk result (λ out. Items (bytes ++ piece.now) (before ++ map told_of out.items)) }
+        ensures malformed { (bytes : List ℕ) (before : List Told) → Stands self.old bytes → Items bytes before → (result ≡ Err ReadFault.Malformed) ↔ IsTrue (has_malformed before) }
+        ensures kept { result ≡ Err ReadFault.Malformed → self.new ≡ self.old }
+        ensures memory { self.old ≡ None → result ≡ Err ReadFault.Memory }
+        ensures lost { result ≡ Err ReadFault.Memory → self.new ≡ None }
     {
         if self.is_dead {
             return Err(ReadFault::Memory);

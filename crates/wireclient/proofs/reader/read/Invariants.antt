@@ -1,7 +1,13 @@
-use Rattle.std.proofs.Common.{map, take}
+use Rattle.std.proofs.Common.{◌≤◌, ◌-◌, length, map, take}
 use Rattle.wireclient.specs.Reads.{Leads}
 use Rattle.wireclient.specs.Views.{state_of, told_of}
 use Rattle.wireclient.proofs.reader.read.Given as goal
 
-abbrev pub invariant-loop-byte : goal.invariant-loop-byte
-invariant-loop-byte l = Leads (state_of l.fn.from) (take l.byte-index l.piece) (state_of l.state) (map told_of l.told.items)
+abbrev pub invariant-loop-at : goal.invariant-loop-at
+invariant-loop-at l = record {
+  within : l.at ≤ length l.piece;
+  leads : Leads (state_of l.fn.from) (take l.at l.piece) (state_of l.state) (map told_of l.told.items);
+}
+
+abbrev pub decreases-loop-at : goal.decreases-loop-at
+decreases-loop-at l = length l.piece - l.at
