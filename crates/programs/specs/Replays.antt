@@ -22,7 +22,7 @@ words_of reply.malformed = []
 
 -- the text tells the reply that these bytes are, as a client reads it
 abbrev pub TellsReply : List ℕ → List ℕ → Type 0
-TellsReply bytes text = (reader : Option reply.State) × (items : List reply.Told) × reads.Stands reader bytes items × (text ≡ flat_map words_of items)
+TellsReply bytes text = (items : List reply.Told) × reads.Items bytes items × (text ≡ flat_map words_of items)
 
 -- a connection's id, how many bytes were written on it, and these
 abbrev pub connection_text : ℕ → List ℕ → List ℕ

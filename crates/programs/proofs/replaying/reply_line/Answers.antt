@@ -9,5 +9,5 @@ pub returns-in-Ok : goal.returns-in-Ok
 returns-in-Ok c =
     let items = map told_of c.in-Ok.items.items in
     IfOk-weaker c.line_of.result _ _ (λ v e.
-    (_, items, c.in-Ok.ensures.told [] [] c.new.ensures, e ∙ ap (λ parts. flat_map words_of (map told_of parts)) c.deref.ensures.value))
+    (items, c.in-Ok.ensures.told [] [] c.new.ensures.stands c.new.ensures.nothing, e ∙ ap (λ parts. flat_map words_of (map told_of parts)) c.deref.ensures.value))
     c.line_of.ensures
