@@ -10,8 +10,6 @@ mod json_law;
 mod keys;
 mod path;
 mod scalar;
-#[cfg(test)]
-mod tests;
 
 pub use elem::{Elem, ElemFault};
 pub use json_law::{compact_texts_read_back, readings_are_spelled};

@@ -8,6 +8,3 @@ mod fields_v1;
 mod fieldset;
 
 pub use fieldset::FieldSet;
-
-#[cfg(test)]
-mod tests;

@@ -12,8 +12,6 @@ mod managers;
 mod object;
 mod owned;
 mod same;
-#[cfg(test)]
-mod tests;
 mod updating;
 
 pub use applying::apply;

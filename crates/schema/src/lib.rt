@@ -23,6 +23,3 @@ pub use place::Place;
 pub use schema::{ListKind, Schema};
 pub use served::Served;
 pub use types::Types;
-
-#[cfg(test)]
-mod tests;

@@ -12,11 +12,7 @@ mod plain;
 mod print;
 mod print_law;
 mod print_parts;
-#[cfg(test)]
-mod print_tests;
 mod read;
-#[cfg(test)]
-mod tests;
 mod tree;
 
 pub use changes::Changes;

@@ -1,29 +1,10 @@
 //! A types file of two types, and each refusal.
 
-use super::{Place, Types, TypesFault};
-use fieldpath::Path;
+use crate::given::{WIDGET_TYPES, first_schema, path, types_of};
+use schema::{Place, Types, TypesFault};
 use serde_json::Value;
-use std::alloc::Global;
+use std::alloc::{AllocError, Global};
 use std::test::Fail;
-
-/// Two types: one with each kind of list, and one of counts.
-const WIDGET_TYPES: &str = r#"{"types":[
- {"group":"demo.example","version":"v1","kind":"Widget","plural":"widgets",
-  "schema":{"type":"object","properties":{"spec":{"type":"object","properties":{
-   "args":{"type":"array","items":{"type":"string"}},
-   "config":{"type":"object","additionalProperties":{"type":"string"}},
-   "image":{"type":"string"},
-   "ports":{"type":"array","x-kubernetes-list-type":"map",
-    "x-kubernetes-list-map-keys":["name"],
-    "items":{"type":"object","properties":{"name":{"type":"string"},
-     "note":{"type":"string"},"port":{"type":"integer"}}}},
-   "replicas":{"type":"integer"},
-   "tags":{"type":"array","x-kubernetes-list-type":"set","items":{"type":"string"}}
-  }}}}},
- {"group":"summary.example","version":"v1","kind":"LabelSummary","plural":"labelsummaries",
-  "schema":{"type":"object","properties":{"spec":{"type":"object","properties":{
-   "counts":{"type":"object","additionalProperties":{"type":"integer"}},
-   "label":{"type":"string"},"total":{"type":"integer"}}}}}}]}"#;
 
 const METADATA: &str =
     r#"("metadata", Struct([("annotations", MapOf(Text, false)), ("labels", MapOf(Text, false))], false))"#;
@@ -62,37 +43,57 @@ fn nested(alloc: Global, depth: usize) -> Result<String, Fail> {
     Ok(format!(in alloc; r#"{{"type":"object","properties":{{"a":{inner}}}}}"#)?)
 }
 
+/// The kind of the first type, and whether its schema is lawful.
+fn first_kind(types: &Types) -> Result<(&str, bool), Fail> {
+    let served = types.get(0).ok_or("no type")?;
+    Ok((served.kind.as_str(), served.schema.lawful()))
+}
+
 #[test]
 fn widget_types(rt: HostRuntime) -> Result<(), Fail> {
-    let alloc = rt.alloc();
-    let types = read(alloc, WIDGET_TYPES)??;
-    assert_eq!(rt; types.find("demo.example", "v1", "widgets"), Some(0));
-    assert_eq!(rt;
-        types.find("summary.example", "v1", "labelsummaries"),
-        Some(1)
-    );
-    assert_eq!(rt; types.find("demo.example", "v2", "widgets"), None);
+    let types = types_of(rt.alloc(), WIDGET_TYPES)?;
+    for (group, version, plural, place) in [
+        ("demo.example", "v1", "widgets", Some(0)),
+        ("summary.example", "v1", "labelsummaries", Some(1)),
+        ("demo.example", "v2", "widgets", None),
+    ] {
+        assert_eq!(rt; types.find(group, version, plural), place, "{plural}");
+    }
     assert!(rt; types.get(2).is_none());
+    assert_eq!(rt; first_kind(&types)?, ("Widget", true));
+    Ok(())
+}
 
-    let widget = types.get(0).ok_or("no widget")?;
-    assert_eq!(rt; widget.kind.as_str(), "Widget");
-    assert!(rt; widget.schema.lawful());
-    let shown = format!(in alloc; "{:?}", widget.schema)?;
-    let want = format!(in alloc;
-        "Struct([{METADATA}, (\"spec\", Struct([\
-        (\"args\", List(Text, Atomic)), (\"config\", MapOf(Text, false)), (\"image\", Text), \
-        (\"ports\", List(Struct([(\"name\", Text), (\"note\", Text), (\"port\", Whole)], false), Keyed([\"name\"]))), \
-        (\"replicas\", Whole), (\"tags\", List(Text, Set))], false))], false)"
-    )?;
-    assert_eq!(rt; shown.as_str(), want.as_str());
+/// How the schema of a type is shown.
+fn shown(alloc: Global, types: &Types, place: u32) -> Result<String, Fail> {
+    let schema = &types.get(place).ok_or("no type")?.schema;
+    Ok(format!(in alloc; "{schema:?}")?)
+}
 
-    let summary = types.get(1).ok_or("no summary")?;
-    let shown = format!(in alloc; "{:?}", summary.schema)?;
-    let want = format!(in alloc;
-        "Struct([{METADATA}, (\"spec\", Struct([\
-        (\"counts\", MapOf(Whole, false)), (\"label\", Text), (\"total\", Whole)], false))], false)"
-    )?;
-    assert_eq!(rt; shown.as_str(), want.as_str());
+/// How a schema is shown that has these fields in `spec` alone.
+fn with_spec(alloc: Global, fields: &str) -> Result<String, AllocError> {
+    format!(in alloc; "Struct([{METADATA}, (\"spec\", Struct([{fields}], false))], false)")
+}
+
+#[test]
+fn widget_schemas(rt: HostRuntime) -> Result<(), Fail> {
+    let alloc = rt.alloc();
+    let types = types_of(alloc, WIDGET_TYPES)?;
+    for (place, fields) in [
+        (
+            0,
+            r#"("args", List(Text, Atomic)), ("config", MapOf(Text, false)), ("image", Text), ("ports", List(Struct([("name", Text), ("note", Text), ("port", Whole)], false), Keyed(["name"]))), ("replicas", Whole), ("tags", List(Text, Set))"#,
+        ),
+        (
+            1,
+            r#"("counts", MapOf(Whole, false)), ("label", Text), ("total", Whole)"#,
+        ),
+    ] {
+        assert_eq!(rt;
+            shown(alloc, &types, place)?.as_str(),
+            with_spec(alloc, fields)?.as_str()
+        );
+    }
     Ok(())
 }
 
@@ -195,6 +196,11 @@ fn refusals_of_files(rt: HostRuntime) -> Result<(), Fail> {
     Ok(())
 }
 
+/// How a schema is shown that has these fields before and behind `metadata`.
+fn around_metadata(alloc: Global, before: &str, behind: &str) -> Result<String, AllocError> {
+    format!(in alloc; "Struct([{before}, {METADATA}, {behind}], false)")
+}
+
 #[test]
 fn read_past_and_sorted(rt: HostRuntime) -> Result<(), Fail> {
     let alloc = rt.alloc();
@@ -207,32 +213,25 @@ fn read_past_and_sorted(rt: HostRuntime) -> Result<(), Fail> {
             "at":{"type":"object","x-kubernetes-map-type":"atomic"},
             "by":{"type":"object","x-kubernetes-map-type":"atomic","additionalProperties":{"type":"object"}}}}"#,
     )?;
-    let types = read(alloc, file.as_str())??;
-    let widget = types.get(0).ok_or("no widget")?;
-    let shown = format!(in alloc; "{:?}", widget.schema)?;
-    let want = format!(in alloc;
-        "Struct([(\"at\", Struct([], true)), (\"by\", MapOf(Struct([], false), true)), {METADATA}, \
-        (\"ports\", List(Struct([(\"port\", Whole), (\"protocol\", Text)], false), Keyed([\"port\", \"protocol\"]))), \
-        (\"zone\", Truth)], false)"
+    let types = types_of(alloc, file.as_str())?;
+    let want = around_metadata(
+        alloc,
+        r#"("at", Struct([], true)), ("by", MapOf(Struct([], false), true))"#,
+        r#"("ports", List(Struct([("port", Whole), ("protocol", Text)], false), Keyed(["port", "protocol"]))), ("zone", Truth)"#,
     )?;
-    assert_eq!(rt; shown.as_str(), want.as_str());
-    assert!(rt; widget.schema.lawful());
+    assert_eq!(rt; shown(alloc, &types, 0)?.as_str(), want.as_str());
+    assert!(rt; first_schema(&types)?.lawful());
     Ok(())
 }
 
 /// The place that the first type's schema gives the path whose elements stand between blanks.
 fn place_in(alloc: Global, types: &Types, elements: &str) -> Result<Option<Place>, Fail> {
-    let mut path = Path::new(alloc);
-    for element in elements.split(' ') {
-        path.push(String::from_str(alloc, element)?)?;
-    }
-    let widget = types.get(0).ok_or("no widget")?;
-    Ok(widget.schema.place(alloc, &path)?)
+    Ok(first_schema(types)?.place(alloc, &path(alloc, elements)?)?)
 }
 
 #[test]
 fn widget_places(rt: HostRuntime) -> Result<(), Fail> {
-    let types = read(rt.alloc(), WIDGET_TYPES)??;
+    let types = types_of(rt.alloc(), WIDGET_TYPES)?;
     for (elements, place) in [
         ("f:spec", None),
         ("f:spec f:image", Some(Place::Leaf)),

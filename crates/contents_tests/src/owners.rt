@@ -1,46 +1,18 @@
 //! Worked rows as far as owners go, each public call with ample memory, and applies that find none.
-//!
-//! Each call stands in a helper with no clause, so that a test carries few facts.
-use crate::{ApplyFault, Conflict, Identity, Manager, Managers, Operation, Owned, apply, update};
-use fieldset::FieldSet;
-use schema::{Schema, Types};
-use serde_json::Value;
+
+use crate::given::{WIDGET_TYPES, first_schema, printed, push_paths, tree, types_of};
+use ownership::{
+    ApplyFault, Conflict, Identity, Manager, Managers, Operation, Owned, apply, update,
+};
+use schema::Schema;
 use std::alloc::{AllocError, Global};
 use std::test::Fail;
 use typed::Tree;
 
-const TYPES: &str =
-    r#"{"types":[{"group":"demo.example","version":"v1","kind":"Widget","plural":"widgets",
-    "schema":{"type":"object","properties":{"spec":{"type":"object","properties":{
-    "args":{"type":"array","items":{"type":"string"}},"image":{"type":"string"},"replicas":{"type":"integer"},
-    "ports":{"type":"array","x-kubernetes-list-type":"map","x-kubernetes-list-map-keys":["name"],
-     "items":{"type":"object","properties":{"name":{"type":"string"},"note":{"type":"string"},"port":{"type":"integer"}}}},
-    "tags":{"type":"array","x-kubernetes-list-type":"set","items":{"type":"string"}}}}}}}]}"#;
-
-fn read_types(alloc: Global, text: &str) -> Result<Types, Fail> {
-    Ok(Types::read(alloc, &Value::from_str(alloc, text)?)?)
-}
-
-fn types(alloc: Global) -> Result<Types, Fail> {
-    read_types(alloc, TYPES)
-}
-
-fn widget(types: &Types) -> Result<&Schema, Fail> {
-    Ok(&types.get(0).ok_or("no widget")?.schema)
-}
-
 /// The content of a body with this `spec`.
 fn body(alloc: Global, schema: &Schema, spec: &str) -> Result<Tree, Fail> {
     let text = format!(in alloc; "{{\"spec\":{spec}}}")?;
-    Ok(Tree::read(schema, alloc, &Value::from_str(alloc, text.as_str())?)?)
-}
-
-/// What is printed of a content; nothing is the empty text.
-fn printed(alloc: Global, schema: &Schema, tree: &Tree) -> Result<String, Fail> {
-    match tree.to_value(alloc, schema)? {
-        Some(value) => Ok(value.to_string(alloc)?),
-        None => Ok(String::new(alloc)),
-    }
+    tree(alloc, schema, text.as_str())
 }
 
 fn push_manager(text: &mut String, manager: &Manager) -> Result<(), AllocError> {
@@ -48,15 +20,6 @@ fn push_manager(text: &mut String, manager: &Manager) -> Result<(), AllocError> 
     text.push_str(manager.name.as_str())?;
     text.push_str("/")?;
     text.push_str(manager.operation.text())
-}
-
-/// The paths as conflicts show them, each after a blank.
-fn push_paths(alloc: Global, text: &mut String, set: &FieldSet) -> Result<(), AllocError> {
-    for path in set.paths(alloc)? {
-        text.push_str(" ")?;
-        text.push_str(path.shown(alloc)?.as_str())?;
-    }
-    Ok(())
 }
 
 fn push_owners(alloc: Global, text: &mut String, owners: &Managers) -> Result<(), AllocError> {
@@ -136,13 +99,24 @@ fn is_same(alloc: Global, live: &Owned, answer: &Result<Owned, ApplyFault>) -> R
     }
 }
 
+/// What a line is answered, and whether that is as what stood.
+fn told_beside(
+    alloc: Global,
+    schema: &Schema,
+    live: &Owned,
+    answer: &Result<Owned, ApplyFault>,
+) -> Result<String, Fail> {
+    let mut text = told(alloc, schema, answer)?;
+    if is_same(alloc, live, answer)? {
+        text.push_str(" as before")?;
+    }
+    Ok(text)
+}
+
 /// Does a line and tells its answer; what is done becomes what stands.
 fn step(alloc: Global, schema: &Schema, live: &mut Owned, line: &str) -> Result<String, Fail> {
     let answer = answer_to(alloc, schema, live, line)?;
-    let mut text = told(alloc, schema, &answer)?;
-    if is_same(alloc, live, &answer)? {
-        text.push_str(" as before")?;
-    }
+    let text = told_beside(alloc, schema, live, &answer)?;
     match answer {
         Ok(owned) => *live = owned,
         Err(fault) => drop(fault),
@@ -150,20 +124,33 @@ fn step(alloc: Global, schema: &Schema, live: &mut Owned, line: &str) -> Result<
     Ok(text)
 }
 
+/// Does a line, and puts its answer behind those so far.
+fn push_answer(
+    alloc: Global,
+    all: &mut String,
+    schema: &Schema,
+    live: &mut Owned,
+    line: &str,
+) -> Result<(), Fail> {
+    let text = step(alloc, schema, live, line)?;
+    all.push_str(text.as_str())?;
+    all.push_str("\n")?;
+    Ok(())
+}
+
 /// Does lines from nothing, and tells each one's answer in a line.
 fn run(alloc: Global, schema: &Schema, live: &mut Owned, lines: &str) -> Result<String, Fail> {
     let mut all = String::new(alloc);
     for line in lines.split('\n') {
-        all.push_str(step(alloc, schema, live, line)?.as_str())?;
-        all.push_str("\n")?;
+        push_answer(alloc, &mut all, schema, live, line)?;
     }
     Ok(all)
 }
 
 fn answers(alloc: Global, lines: &str) -> Result<String, Fail> {
-    let types = types(alloc)?;
+    let types = types_of(alloc, WIDGET_TYPES)?;
     let mut live = Owned::empty(alloc);
-    run(alloc, widget(&types)?, &mut live, lines)
+    run(alloc, first_schema(&types)?, &mut live, lines)
 }
 
 /// The text of the object `w1` at version 4.
@@ -178,8 +165,8 @@ fn object_of(alloc: Global, schema: &Schema, owned: &Owned) -> Result<String, Fa
 }
 
 fn object_after(alloc: Global, lines: &str) -> Result<String, Fail> {
-    let types = types(alloc)?;
-    let schema = widget(&types)?;
+    let types = types_of(alloc, WIDGET_TYPES)?;
+    let schema = first_schema(&types)?;
     let mut live = Owned::empty(alloc);
     drop(run(alloc, schema, &mut live, lines)?);
     object_of(alloc, schema, &live)
@@ -281,6 +268,55 @@ fn mark(alloc: Global) -> Result<(), AllocError> {
     Ok(())
 }
 
+/// What stands with its owners, and a content beside it.
+fn seen(alloc: Global, schema: &Schema, live: &Owned, config: &Tree) -> Result<String, Fail> {
+    let mut text = shown(alloc, schema, live)?;
+    let wanted = printed(alloc, schema, config)?;
+    text.push_str(wanted.as_str())?;
+    Ok(text)
+}
+
+fn is_seen(
+    alloc: Global,
+    schema: &Schema,
+    live: &Owned,
+    config: &Tree,
+    before: &str,
+) -> Result<bool, Fail> {
+    Ok(seen(alloc, schema, live, config)?.as_str() == before)
+}
+
+/// Alice's apply between marks.
+fn marked_apply(
+    alloc: Global,
+    live: &Owned,
+    config: &Tree,
+    force: bool,
+) -> Result<Result<Owned, ApplyFault>, AllocError> {
+    mark(alloc)?;
+    let answer = try_apply(alloc, live, "alice", config, force);
+    mark(alloc)?;
+    Ok(answer)
+}
+
+/// What the apply answers, or the same apply again where it was refused memory.
+fn told_anew(
+    alloc: Global,
+    schema: &Schema,
+    live: &Owned,
+    config: &Tree,
+    force: bool,
+) -> Result<String, Fail> {
+    match marked_apply(alloc, live, config, force)? {
+        Err(ApplyFault::Memory) => told(
+            alloc,
+            schema,
+            &try_apply(alloc, live, "alice", config, force),
+        ),
+        answer => told(alloc, schema, &answer),
+    }
+}
+
 /// What alice's apply answers; refused memory, it leaves what it was given as it was, and answers anew.
 fn answer_anew(
     alloc: Global,
@@ -290,24 +326,18 @@ fn answer_anew(
     force: bool,
 ) -> Result<String, Fail> {
     let config = body(alloc, schema, spec)?;
-    let stood = shown(alloc, schema, live)?;
-    let wanted = printed(alloc, schema, &config)?;
-    mark(alloc)?;
-    let mut answer = try_apply(alloc, live, "alice", &config, force);
-    mark(alloc)?;
-    if shown(alloc, schema, live)? != stood || printed(alloc, schema, &config)? != wanted {
-        return Err("what was given was changed".into());
+    let before = seen(alloc, schema, live, &config)?;
+    let told = told_anew(alloc, schema, live, &config, force)?;
+    match is_seen(alloc, schema, live, &config, before.as_str())? {
+        true => Ok(told),
+        false => Err("what was given was changed".into()),
     }
-    if matches!(answer, Err(ApplyFault::Memory)) {
-        answer = try_apply(alloc, live, "alice", &config, force);
-    }
-    told(alloc, schema, &answer)
 }
 
 /// What alice's apply answers after some lines.
 fn anew_after(alloc: Global, lines: &str, spec: &str, force: bool) -> Result<String, Fail> {
-    let types = types(alloc)?;
-    let schema = widget(&types)?;
+    let types = types_of(alloc, WIDGET_TYPES)?;
+    let schema = first_schema(&types)?;
     let mut live = Owned::empty(alloc);
     drop(run(alloc, schema, &mut live, lines)?);
     answer_anew(alloc, schema, &live, spec, force)

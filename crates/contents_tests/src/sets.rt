@@ -1,24 +1,12 @@
-//! Sets of paths and the maps that they are kept in, by examples of the worked rows: each public call with ample memory.
-//!
-//! Each call stands in a helper with no clause, so that a test carries few facts.
+//! Sets of paths and the maps that they are kept in: each public call with ample memory.
 
-use crate::FieldSet;
+use crate::given::{WIDGET_TYPES, first_schema, path, push_paths, types_of};
 use fieldpath::Path;
+use fieldset::FieldSet;
 use pathmap::{Held, PathMap, put_over};
-use schema::{Schema, Types};
-use serde_json::Value;
 use std::alloc::{AllocError, Global};
 use std::collections::BTreeMap;
 use std::test::Fail;
-
-/// The path whose elements stand between blanks; the empty text is the empty path.
-fn path(alloc: Global, elements: &str) -> Result<Path, AllocError> {
-    let mut path = Path::new(alloc);
-    for element in elements.split_whitespace() {
-        path.push(String::from_str(alloc, element)?)?;
-    }
-    Ok(path)
-}
 
 /// The set of the paths between commas.
 fn set(alloc: Global, paths: &str) -> Result<FieldSet, AllocError> {
@@ -29,13 +17,10 @@ fn set(alloc: Global, paths: &str) -> Result<FieldSet, AllocError> {
     Ok(set)
 }
 
-/// Its paths as conflicts show them, each after a blank.
+/// Its paths as conflicts show them, each behind a blank.
 fn shown(alloc: Global, set: &FieldSet) -> Result<String, AllocError> {
     let mut text = String::new(alloc);
-    for path in set.paths(alloc)? {
-        text.push_str(" ")?;
-        text.push_str(path.shown(alloc)?.as_str())?;
-    }
+    push_paths(alloc, &mut text, set)?;
     Ok(text)
 }
 
@@ -61,7 +46,7 @@ fn of_ports(alloc: Global, name: &str) -> Result<String, Fail> {
 }
 
 #[test]
-fn item_kept_for_other_owner(rt: HostRuntime) -> Result<(), Fail> {
+fn set_operations(rt: HostRuntime) -> Result<(), Fail> {
     let alloc = rt.alloc();
     for (name, paths) in [
         (
@@ -98,28 +83,10 @@ fn paths_are_found(rt: HostRuntime) -> Result<(), Fail> {
     Ok(())
 }
 
-fn types(alloc: Global, text: &str) -> Result<Types, Fail> {
-    Ok(Types::read(alloc, &Value::from_str(alloc, text)?)?)
-}
-
-const TYPES: &str =
-    r#"{"types":[{"group":"demo.example","version":"v1","kind":"Widget","plural":"widgets",
-    "schema":{"type":"object","properties":{"spec":{"type":"object","properties":{"image":{"type":"string"},
-    "ports":{"type":"array","x-kubernetes-list-type":"map","x-kubernetes-list-map-keys":["name"],
-     "items":{"type":"object","properties":{"name":{"type":"string"},"port":{"type":"integer"}}}},
-    "tags":{"type":"array","x-kubernetes-list-type":"set","items":{"type":"string"}}}}}}}]}"#;
-
-fn printed(alloc: Global, schema: &Schema, paths: &str) -> Result<String, Fail> {
-    Ok(
-        set(alloc, paths)?
-            .to_fields_v1(alloc, schema)?
-            .to_string(alloc)?,
-    )
-}
-
 fn fields_v1(alloc: Global, paths: &str) -> Result<String, Fail> {
-    let types = types(alloc, TYPES)?;
-    printed(alloc, &types.get(0).ok_or("no widget")?.schema, paths)
+    let types = types_of(alloc, WIDGET_TYPES)?;
+    let value = set(alloc, paths)?.to_fields_v1(alloc, first_schema(&types)?)?;
+    Ok(value.to_string(alloc)?)
 }
 
 #[test]
@@ -137,42 +104,79 @@ fn fields_v1_of_paths(rt: HostRuntime) -> Result<(), Fail> {
     Ok(())
 }
 
-/// The map that has these values: a number, or else a text, behind each path and `=`.
-fn map(alloc: Global, values: &str) -> Result<PathMap, Fail> {
+/// A number, or else a text.
+fn value_of(alloc: Global, text: &str) -> Result<Held, AllocError> {
+    match text.parse::<i64>() {
+        Ok(number) => Ok(Held::Whole(number)),
+        Err(_) => Ok(Held::Text(String::from_str(alloc, text)?)),
+    }
+}
+
+fn put(alloc: Global, map: &mut PathMap, elements: &str, value: &str) -> Result<(), AllocError> {
+    let path = path(alloc, elements)?;
+    map.insert(alloc, &path, value_of(alloc, value)?)
+}
+
+/// The map that has these values, each behind its path and `=`.
+fn map(alloc: Global, values: &str) -> Result<PathMap, AllocError> {
     let mut map = PathMap::empty(alloc);
     for value in values.split(',') {
-        let (elements, value) = value.split_once('=').ok_or("no value")?;
-        let held = match value.parse::<i64>() {
-            Ok(number) => Held::Whole(number),
-            Err(_) => Held::Text(String::from_str(alloc, value)?),
-        };
-        map.insert(alloc, &path(alloc, elements)?, held)?;
+        let (elements, value) = value.split_once('=').unwrap_or((value, ""));
+        put(alloc, &mut map, elements, value)?;
     }
     Ok(map)
 }
 
 /// A map made of two, by name.
-fn joined(alloc: Global, one: PathMap, name: &str, other: &PathMap) -> Result<PathMap, Fail> {
+fn joined(
+    alloc: Global,
+    one: &PathMap,
+    name: &str,
+    other: &PathMap,
+) -> Result<PathMap, AllocError> {
     match name {
-        "over" => Ok(put_over(other, alloc, one)?),
-        "without" => Ok(one.without(other)),
-        "changed" => Ok(one.changed(alloc, other)?),
-        "copy" => Ok(one.try_copy(alloc)?),
-        _ => Err("no such call".into()),
+        "over" => put_over(other, alloc, one.try_copy(alloc)?),
+        "without" => Ok(one.try_copy(alloc)?.without(other)),
+        "changed" => one.try_copy(alloc)?.changed(alloc, other),
+        _ => one.try_copy(alloc),
     }
 }
 
-/// What stands at a path.
-fn held_at(alloc: Global, map: &PathMap, elements: &str) -> Result<Held, Fail> {
-    let held = map.get(&path(alloc, elements)?).ok_or("nothing")?;
-    Ok(held.try_copy()?)
+/// Whether the number stands at a path.
+fn is_number_at(
+    alloc: Global,
+    map: &PathMap,
+    elements: &str,
+    number: i64,
+) -> Result<bool, AllocError> {
+    let path = path(alloc, elements)?;
+    match map.get(&path) {
+        Some(held) => Ok(held.try_copy()?.same(&Held::Whole(number))),
+        None => Ok(false),
+    }
 }
 
-fn paths_in(alloc: Global, name: &str) -> Result<String, Fail> {
+fn paths_in(alloc: Global, name: &str) -> Result<String, AllocError> {
     let one = map(alloc, "f:a=x,f:b=1,f:c f:d=2")?;
     let other = map(alloc, "f:a=y,f:b=1,f:c=3")?;
-    let made = joined(alloc, one, name, &other)?;
-    Ok(shown(alloc, &FieldSet::of(made))?)
+    let made = joined(alloc, &one, name, &other)?;
+    shown(alloc, &FieldSet::of(made))
+}
+
+/// Whether 1 stands at the first path of two, and at the second.
+fn numbers_found(alloc: Global) -> Result<(bool, bool), AllocError> {
+    let map = map(alloc, "f:a=1,f:b=x")?;
+    Ok((
+        is_number_at(alloc, &map, "f:a", 1)?,
+        is_number_at(alloc, &map, "f:b", 1)?,
+    ))
+}
+
+/// Whether a leaf has the empty path, and a branch of nothing none.
+fn leaf_and_branch(alloc: Global) -> (bool, bool) {
+    let leaf = PathMap::leaf(alloc, Held::Whole(1));
+    let branch = PathMap::branch(BTreeMap::new(alloc));
+    (leaf.get(&Path::new(alloc)).is_some(), branch.is_bare())
 }
 
 #[test]
@@ -186,15 +190,7 @@ fn maps_of_paths(rt: HostRuntime) -> Result<(), Fail> {
     ] {
         assert_eq!(rt; paths_in(alloc, name)?.as_str(), paths, "{name}");
     }
-    let number = Held::Whole(1);
-    let map = map(alloc, "f:a=1,f:b=x")?;
-    assert!(rt; held_at(alloc, &map, "f:a")?.same(&number));
-    assert!(rt; !held_at(alloc, &map, "f:b")?.same(&number));
-    assert!(rt;
-        PathMap::leaf(alloc, number)
-            .get(&Path::new(alloc))
-            .is_some()
-    );
-    assert!(rt; PathMap::branch(BTreeMap::new(alloc)).is_bare());
+    assert_eq!(rt; numbers_found(alloc)?, (true, false));
+    assert_eq!(rt; leaf_and_branch(alloc), (true, true));
     Ok(())
 }

@@ -1,0 +1,72 @@
+//! What several tests are given: texts, paths, and a types file of widgets.
+
+use fieldpath::Path;
+use fieldset::FieldSet;
+use schema::{Schema, Types};
+use serde_json::Value;
+use std::alloc::{AllocError, Global};
+use std::test::Fail;
+use typed::Tree;
+
+/// Two types: one with each kind of list, and one of counts.
+pub const WIDGET_TYPES: &str = r#"{"types":[
+ {"group":"demo.example","version":"v1","kind":"Widget","plural":"widgets",
+  "schema":{"type":"object","properties":{"spec":{"type":"object","properties":{
+   "args":{"type":"array","items":{"type":"string"}},
+   "config":{"type":"object","additionalProperties":{"type":"string"}},
+   "image":{"type":"string"},
+   "ports":{"type":"array","x-kubernetes-list-type":"map",
+    "x-kubernetes-list-map-keys":["name"],
+    "items":{"type":"object","properties":{"name":{"type":"string"},
+     "note":{"type":"string"},"port":{"type":"integer"}}}},
+   "replicas":{"type":"integer"},
+   "tags":{"type":"array","x-kubernetes-list-type":"set","items":{"type":"string"}}
+  }}}}},
+ {"group":"summary.example","version":"v1","kind":"LabelSummary","plural":"labelsummaries",
+  "schema":{"type":"object","properties":{"spec":{"type":"object","properties":{
+   "counts":{"type":"object","additionalProperties":{"type":"integer"}},
+   "label":{"type":"string"},"total":{"type":"integer"}}}}}}]}"#;
+
+/// The types of a types file.
+pub fn types_of(alloc: Global, text: &str) -> Result<Types, Fail> {
+    Ok(Types::read(alloc, &Value::from_str(alloc, text)?)?)
+}
+
+/// The schema of the first type.
+pub fn first_schema(types: &Types) -> Result<&Schema, Fail> {
+    Ok(&types.get(0).ok_or("no type")?.schema)
+}
+
+pub fn owned_text(alloc: Global, text: &str) -> Result<String, AllocError> {
+    String::from_str(alloc, text)
+}
+
+/// The path whose elements stand between blanks; the empty text is the empty path.
+pub fn path(alloc: Global, elements: &str) -> Result<Path, AllocError> {
+    let mut path = Path::new(alloc);
+    for element in elements.split_whitespace() {
+        path.push(String::from_str(alloc, element)?)?;
+    }
+    Ok(path)
+}
+
+/// Puts the paths as conflicts show them, each behind a blank.
+pub fn push_paths(alloc: Global, text: &mut String, set: &FieldSet) -> Result<(), AllocError> {
+    for path in set.paths(alloc)? {
+        text.push_str(" ")?;
+        text.push_str(path.shown(alloc)?.as_str())?;
+    }
+    Ok(())
+}
+
+pub fn tree(alloc: Global, schema: &Schema, text: &str) -> Result<Tree, Fail> {
+    Ok(Tree::read(schema, alloc, &Value::from_str(alloc, text)?)?)
+}
+
+/// What is printed of a content; nothing is the empty text.
+pub fn printed(alloc: Global, schema: &Schema, tree: &Tree) -> Result<String, Fail> {
+    match tree.to_value(alloc, schema)? {
+        Some(value) => Ok(value.to_string(alloc)?),
+        None => Ok(String::new(alloc)),
+    }
+}
