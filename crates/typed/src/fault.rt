@@ -91,7 +91,7 @@ fn place_before(alloc: Global, place: usize, path: &str) -> Result<String, Alloc
 
 impl ReadFault {
     /// The fault of a member's value, seen from its object.
-    pub fn in_field(self, alloc: Global, name: &str) -> ReadFault
+    pub(crate) fn in_field(self, alloc: Global, name: &str) -> ReadFault
         ensures { (fault : Option Fault) → Tells self fault
             → Tells result (option_map (fault_below (shown_name name.now)) fault) }
     {
@@ -105,7 +105,7 @@ impl ReadFault {
     }
 
     /// The fault of an item, seen from its list.
-    pub fn in_item(self, alloc: Global, place: usize) -> ReadFault
+    pub(crate) fn in_item(self, alloc: Global, place: usize) -> ReadFault
         ensures { (fault : Option Fault) → Tells self fault
             → Tells result (option_map (fault_below (shown_place place)) fault) }
     {

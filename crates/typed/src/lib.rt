@@ -17,9 +17,7 @@ mod tree;
 
 pub use changes::Changes;
 pub use fault::{Cause, ReadFault};
-pub use print::print_map;
 pub use print_law::{
     contents_have_places, printed_has_no_float, printed_reads_back, readings_are_placed,
 };
-pub use read::read_map;
 pub use tree::Tree;

@@ -195,7 +195,11 @@ fn print_list(
 
 /// The value that a content is printed as, if anything stands in it.
 #[cycle(print)]
-pub fn print_map(schema: &Schema, alloc: Global, map: &PathMap) -> Result<Option<Value>, AllocError>
+pub(crate) fn print_map(
+    schema: &Schema,
+    alloc: Global,
+    map: &PathMap,
+) -> Result<Option<Value>, AllocError>
     ensures { IfOk result (λ o. option_map view o ≡ print (shape schema.now) (content map.now)) }
 {
     match schema {

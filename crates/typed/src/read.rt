@@ -189,7 +189,7 @@ fn read_struct(
 
 /// The content of a value, or the first fault in its shape.
 #[cycle(read)]
-pub fn read_map(schema: &Schema, alloc: Global, value: &Value) -> Result<PathMap, ReadFault>
+pub(crate) fn read_map(schema: &Schema, alloc: Global, value: &Value) -> Result<PathMap, ReadFault>
     ensures { Gives content result (content_of (shape schema.now) (view value.now)) }
 {
     match schema {
