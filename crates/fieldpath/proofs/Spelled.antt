@@ -1,5 +1,5 @@
 -- What a JSON text spells, and that a value's compact text spells it.
-use Rattle.std.proofs.Common.{◌≡◌, ℕ, zero, suc, ◌<◌, ◌≤◌, ◌^◌, pos, negsuc, ◌==◌, ◌&&◌, Bool, true, false, true≢false, cond, nat_lt, nat_le, List, [], ◌∷◌, length, Option, Some, None, option_map, option_and_then, decimal, Ordering, Less, Equal, Greater, nat_cmp, refl, sym, ap, ap₂, subst, ◌∙◌, arith, append-nil}
+use Rattle.std.proofs.Common.{◌≡◌, ℕ, zero, suc, ◌<◌, ◌≤◌, ◌^◌, pos, negsuc, ◌==◌, ◌&&◌, Bool, true, false, true≢false, cond, nat_lt, nat_le, List, [], ◌∷◌, Option, Some, None, option_map, option_and_then, Ordering, Less, Equal, Greater, nat_cmp, refl, sym, ap, ap₂, subst, ◌∙◌, arith, append-nil}
 use Rattle.std.specs.Prelude.{⊤, drop, max, slice_index}
 use Rattle.std.specs.Cmp.Derive.{both_true}
 use Rattle.std.specs.Cmp.Lexicographic.{slice_cmp}
@@ -20,7 +20,7 @@ use Rattle.json.proofs.Printed.Tokens.{tokens-print}
 use Rattle.json.proofs.Printed.Trees.{value-json_tokens, ArePrintable-json_tokens}
 use Rattle.serde_json.specs.Data.{Num, unsigned, negative, float, Data, null, boolean, number, string, array, object, Items, no_items, item, Members, no_members, member, put, depth, items_depth, members_depth}
 use Rattle.serde_json.specs.Find.{is_float}
-use Rattle.serde_json.specs.Read.{number_from, float_of, number_of, is_integer, of_json, of_items, of_members, read, max_depth}
+use Rattle.serde_json.specs.Read.{number_from, float_of, number_of, is_integer, of_json, of_items, of_members, max_depth}
 use Rattle.serde_json.specs.Written.{number_text, outline, items_outline, members_outline, has_float, items_have_float, members_have_float, compact_text}
 use Rattle.serde_json.proofs.Nesting.{depth-read}
 use Rattle.serde_json.proofs.Numbers.{number_of-decimal, number_of-negative}

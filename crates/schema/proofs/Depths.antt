@@ -1,5 +1,5 @@
 -- Schemas at their depths: fields one after another, the field that every type has, and the whole.
-use Rattle.std.proofs.Common.{◌≡◌, ℕ, suc, ◌+◌, ◌-◌, ◌≤◌, ◌||◌, Bool, true, false, true≢false, cond, ◌&&◌, nat_le, List, [], ◌∷◌, ◌++◌, map, Ok, String, Global, Ordering, Less, Equal, Greater, is_eq, nat_cmp, string_cmp, string_bytes, codes, refl, sym, ap, ap₂, subst, ◌∙◌, arith}
+use Rattle.std.proofs.Common.{◌≡◌, ℕ, suc, ◌+◌, ◌-◌, ◌≤◌, ◌||◌, Bool, true, false, true≢false, cond, nat_le, List, [], ◌∷◌, ◌++◌, map, Ok, String, Global, Ordering, Less, Equal, Greater, is_eq, nat_cmp, string_cmp, string_bytes, codes, refl, sym, ap, ap₂, ◌∙◌, arith}
 use Rattle.std.proofs.Math.Nat.{le-max_left, le-max_right, max-le}
 use Rattle.std.proofs.lemmas.Bool.{and_parts, or_parts}
 use Rattle.std.proofs.lemmas.Bool.Decides.{nat_tests}
@@ -13,15 +13,12 @@ use Rattle.std.specs.List.Sorted.{IsStrictlySortedBy}
 use Rattle.std.specs.Map.{keys_of}
 use Rattle.std.specs.Ordering.{is_lt, ordering_reverse}
 use Rattle.std.specs.Str.{bytes_eq}
-use Rattle.std.specs.declared.result.Result.{Result}
 use Rattle.serde_json.specs.Data.{Data, object, Members, no_members, member}
 use Rattle.serde_json.specs.View.{view, members_view}
-use Rattle.serde_json.specs.declared.value.Value.{Value}
 use Rattle.fieldpath.specs.Scalars.{ascend, ascend_from}
 use Rattle.fieldpath.proofs.KeyFields.{Entry, ascend_keys}
 use Rattle.schema.specs.Depths.{KeepsAt, KeepAt, AreFieldsAt}
 use Rattle.schema.specs.Lawful.{names_of, depth_of, fields_depth, is_well_formed, are_well_formed, item_is_lawful, is_type_shape}
-use Rattle.schema.specs.Refusals.{Refusal}
 use Rattle.schema.specs.Shape.{Kind, Shape, struct_of, list_of, Fields, no_fields, field, shape, fields_in}
 use Rattle.schema.specs.TypesFile.{fields_of, fields_at, shape_in, is_envelope, own_properties, metadata, put_field}
 use Rattle.schema.specs.declared.schema.Schema.{Schema}

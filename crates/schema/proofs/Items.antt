@@ -1,6 +1,6 @@
 -- Items are as their list wants them: what a schema's keywords asked of the schema of its items holds of what was read there.
-use Rattle.std.proofs.Common.{◌≡◌, ℕ, zero, suc, ◌==◌, Bool, true, false, true≢false, cond, not, ◌&&◌, ◌||◌, T, nat_le, List, [], ◌∷◌, map, length, Option, Some, None, option_map, option_and_then, Ok, Err, Ordering, Less, Equal, Greater, nat_cmp, codes, refl, sym, ap, subst, ◌∙◌, arith}
-use Rattle.std.proofs.lemmas.Bool.{and_parts, or_parts, ne_eqb}
+use Rattle.std.proofs.Common.{◌≡◌, ℕ, zero, suc, ◌==◌, Bool, true, false, true≢false, cond, not, ◌&&◌, ◌||◌, T, nat_le, List, [], ◌∷◌, map, length, Option, Some, None, option_map, option_and_then, Ok, Err, nat_cmp, codes, refl, sym, ap, subst, ◌∙◌, arith}
+use Rattle.std.proofs.lemmas.Bool.{and_parts, ne_eqb}
 use Rattle.std.proofs.lemmas.Slice.Eq.{bytes_eq-Decides}
 use Rattle.std.specs.Cmp.Derive.{both_true}
 use Rattle.std.specs.Cmp.Lexicographic.{slice_cmp}
@@ -17,8 +17,8 @@ use Rattle.schema.specs.Forms.{Form, object_form, list_form, scalar_form, object
 use Rattle.schema.specs.Keywords.{has, has_only, keywords, members_at, items_at, texts_in, map_type, TypeName, object_type, array_type, scalar_type, type_in, type_named, text_at, text_or, is_scalar_type, is_object_type, is_scalar_schema, have_scalars, is_granular, is_keyed_struct, name_set, different, key_names, atomic_kind, set_kind, keyed_kind, kind_named, list_type}
 use Rattle.schema.specs.Lawful.{max_depth, is_scalar, is_some_scalar, has_keys, is_some_name, item_is_lawful}
 use Rattle.schema.specs.Refusals.{Refusal, unknown_keyword, unknown_type, misfit, too_deep, and_then, some_or}
-use Rattle.schema.specs.Shape.{Kind, atomic, set, keyed, Shape, text, whole, truth, struct_of, Fields, no_fields, field, shape_at}
-use Rattle.schema.specs.TypesFile.{shape_in, schema_at, properties_in, fields_at, fields_of, one_field, shape_of_form}
+use Rattle.schema.specs.Shape.{Kind, atomic, set, keyed, Shape, text, whole, truth, struct_of, Fields, field, shape_at}
+use Rattle.schema.specs.TypesFile.{shape_in, schema_at, properties_in, fields_of, one_field, shape_of_form}
 use Rattle.schema.proofs.Reading.{schema_or, fields_or, schema_at-is, properties_in-is, at_name}
 
 -- ---- what an answer was made of

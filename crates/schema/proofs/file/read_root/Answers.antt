@@ -1,8 +1,7 @@
-use Rattle.std.proofs.Common.{◌≡◌, true, false, codes, sym, ap, ap₂, ◌∙◌}
+use Rattle.std.proofs.Common.{◌≡◌, false, codes, ap, ap₂, ◌∙◌}
 use Rattle.schema.specs.Lawful.{is_type_shape}
-use Rattle.schema.specs.Shape.{shape, struct_of, fields_in}
+use Rattle.schema.specs.Shape.{struct_of, fields_in}
 use Rattle.schema.specs.TypesFile.{metadata, put_field}
-use Rattle.schema.specs.declared.schema.Schema.{Struct}
 use Rattle.schema.proofs.Depths.{type_kept}
 use Rattle.schema.proofs.Shapes.{shape-Struct}
 use Rattle.schema.proofs.file.read_root.Goals as goal
