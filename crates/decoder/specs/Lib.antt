@@ -1,0 +1,5 @@
+pub mod Wanted
+pub mod Members
+pub mod Objects
+pub mod Pages
+pub mod Lines

@@ -1,0 +1,11 @@
+//! What replies say to a client: the body of a list's answer, and a line of a watch (Kubernetes API Concepts,
+//! "Retrieving large results sets in chunks" and "Efficient detection of changes").
+//!
+//! What is read is of the asked type and namespace, else the first thing amiss is told.
+//!
+//! Stands on `serde_json` for JSON, `names` for versions, `indexer` for objects.
+#![tactic(auto)]
+
+mod malformed;
+
+pub use malformed::Malformed;
