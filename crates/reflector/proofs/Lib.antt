@@ -1,0 +1,4 @@
+pub mod Follows
+pub mod Reached
+pub mod Grows
+pub mod Lists

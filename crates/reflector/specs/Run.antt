@@ -1,0 +1,118 @@
+-- The client run: lists in pages, then a watch from the list's revision (Kubernetes API Concepts, "Efficient detection of
+-- changes", "Retrieving large results sets in chunks", "410 Gone responses").
+use Rattle.std.specs.Prelude.{ℕ, Bool, true, false, ◌&&◌, nat_eq, nat_lt, nat_le, if◌then◌else◌, List, [], ◌∷◌, ◌++◌, length, Option, Some, None}
+use Rattle.std.specs.FinMap as fin
+use Rattle.indexer.specs.Objects.{place_cmp, Stored}
+use Rattle.wireclient.specs.Reply.{Told}
+use Rattle.decoder.specs.Wanted.{Wanted}
+use Rattle.decoder.specs.Pages.{Page}
+use Rattle.decoder.specs.Lines.{Line, put, deleted, bookmark, error}
+use Rattle.reflector.specs.Client.{Objects, place_in, by_place, max_objects, Notice, Cache, Asks, first, next, follow, Client, fresh, kept, notice_of, differences}
+use Rattle.reflector.specs.Items.{News, begun, page, line, over, unfit, said_of_list, said_of_watch}
+
+-- what ends the request at once and makes the next one a first page; cache and notices stay
+abbrev pub again : Client → Client
+again c = record { cache = c.cache; asks = first; is_asking = false; notices = c.notices }
+
+-- ---- pages
+
+-- the cache as the whole list has it
+abbrev pub listed : Client → ℕ → Objects → Client
+listed c revision objects =
+    record { cache = Some (record { revision = revision; objects = objects }); asks = follow; is_asking = false; notices = c.notices ++ differences (kept c.cache) objects }
+
+-- all objects so far, which are set aside until the last page
+abbrev pub set_aside : Client → ℕ → List Stored → Option (List ℕ) → Client
+set_aside c revision all None = listed c revision (fin.from_sorted {R = place_cmp} (by_place all))
+set_aside c revision all (Some token) = record { cache = c.cache; asks = next revision token all; is_asking = false; notices = c.notices }
+
+-- their places strictly ascend, and they are not too many
+abbrev pub is_list : List Stored → Bool
+is_list all = fin.is_sorted place_cmp (by_place all) && nat_le (length all) max_objects
+
+abbrev pub with_page : Client → List Stored → Page → Client
+with_page c aside p = if is_list (aside ++ p.objects) then set_aside c p.revision (aside ++ p.objects) p.token else again c
+
+-- ---- lines
+
+-- another revision, with the objects as they are then, and the notices of it
+abbrev pub moved : Client → ℕ → Objects → List Notice → Client
+moved c revision objects notices = record { cache = Some (record { revision = revision; objects = objects }); asks = follow; is_asking = true; notices = c.notices ++ notices }
+
+abbrev pub with_put : Client → Cache → Stored → Client
+with_put c now o =
+    if nat_lt now.revision o.revision && nat_le (fin.len (fin.insert now.objects (place_in o) o)) max_objects
+    then moved c o.revision (fin.insert now.objects (place_in o) o) (notice_of (fin.get now.objects (place_in o)) (Some o))
+    else again c
+
+abbrev pub with_deleted : Client → Cache → Stored → Client
+with_deleted c now o =
+    if nat_lt now.revision o.revision
+    then moved c o.revision (fin.remove now.objects (place_in o)) (notice_of (fin.get now.objects (place_in o)) None)
+    else again c
+
+abbrev pub with_bookmark : Client → Cache → ℕ → Client
+with_bookmark c now revision = if nat_le now.revision revision then moved c revision now.objects [] else again c
+
+abbrev pub with_line : Client → Cache → Line → Client
+with_line c now (put o) = with_put c now o
+with_line c now (deleted o) = with_deleted c now o
+with_line c now (bookmark revision) = with_bookmark c now revision
+with_line c now error = again c
+
+-- ---- items
+
+-- of a list, behind what is set aside
+abbrev pub with_list : Client → (Page → Client) → News → Client
+with_list c with_it begun = c
+with_list c with_it (page p) = with_it p
+with_list c with_it _ = again c
+
+-- a later page is of the first one's revision
+abbrev pub with_next : Client → ℕ → List Stored → Page → Client
+with_next c revision aside p = if nat_eq p.revision revision then with_page c aside p else again c
+
+abbrev pub over_at : Client → Client
+over_at c = record { cache = c.cache; asks = follow; is_asking = false; notices = c.notices }
+
+abbrev pub with_watch : Client → Option Cache → News → Client
+with_watch c now begun = c
+with_watch c None (line l) = again c
+with_watch c (Some now) (line l) = with_line c now l
+with_watch c now over = over_at c
+with_watch c now (page p) = again c
+with_watch c now unfit = again c
+
+abbrev pub with_item : Wanted → Client → Asks → Told → Client
+with_item wanted c first x = with_list c (with_page c []) (said_of_list wanted x)
+with_item wanted c (next revision token aside) x = with_list c (with_next c revision aside) (said_of_list wanted x)
+with_item wanted c follow x = with_watch c c.cache (said_of_watch wanted x)
+
+-- one item of the reply; with no request under way it changes nothing
+abbrev pub hears : Wanted → Client → Told → Client
+hears wanted c x = if c.is_asking then with_item wanted c c.asks x else c
+
+abbrev pub hears_all : Wanted → Client → List Told → Client
+hears_all wanted c [] = c
+hears_all wanted c (x ∷ xs) = hears_all wanted (hears wanted c x) xs
+
+-- ---- the other events
+
+abbrev pub asked : Client → Client
+asked c = record { cache = c.cache; asks = c.asks; is_asking = true; notices = c.notices }
+
+-- a list that was cut begins again, a watch goes on from the revision that it reached
+abbrev pub after_cut : Asks → Asks
+after_cut first = first
+after_cut (next revision token aside) = first
+after_cut follow = follow
+
+-- the connection has ended or was cut; with no request under way it changes nothing
+abbrev pub closed : Client → Client
+closed c = if c.is_asking then record { cache = c.cache; asks = after_cut c.asks; is_asking = false; notices = c.notices } else c
+
+abbrev pub restarted : Client → Client
+restarted c = fresh
+
+abbrev pub taken : Client → Client
+taken c = record { cache = c.cache; asks = c.asks; is_asking = c.is_asking; notices = [] }

@@ -1,0 +1,33 @@
+//! Laws of the client run, which crates above build on. Each function does nothing; what it promises is the law.
+
+ghost use Rattle.std.specs.Prelude.{◌≡◌, ◌≤◌, ℕ, true, List, [], ◌++◌, Some};
+ghost use Rattle.std.specs.FinMap as fin;
+ghost use Rattle.wireclient.specs.Reply.{Told};
+ghost use Rattle.decoder.specs.Wanted.{Wanted};
+ghost use Rattle.reflector.specs.Client.{Client, Objects, first, follow, kept, max_objects};
+ghost use Rattle.reflector.specs.Run.{again, asked, closed, hears_all, restarted, taken};
+ghost use Rattle.reflector.specs.Follows.{Server, Comes, Follows, GoesOn, IsLater, Watches};
+ghost use Rattle.reflector.specs.Lists.{ArePages, answered};
+
+/// Whatever comes of what a server answers, and whatever else happens, the client's objects are the server's at the
+/// revision that it reports, and that revision never falls: after any of the items (`heard`), in whichever parts; after
+/// a request, if what then comes is its answer (`asked`); after a cut, want of memory or a restart, whatever was still
+/// to come; and after the server has changed (`later`). Of a watch whose items all fit, the objects at the end are
+/// those to which they lead (`reached`).
+pub fn follows_the_server()
+    ensures heard { (server : Server) (wanted : Wanted) (m : ℕ) (c : Client) (xs ys : List Told) (p : ℕ) → Follows server wanted m c (xs ++ ys) p → GoesOn server wanted m (hears_all wanted c xs) ys p }
+    ensures asked { (server : Server) (wanted : Wanted) (m : ℕ) (c : Client) (xs ys : List Told) (p q : ℕ) → Follows server wanted m c xs p → Comes server wanted m c.asks c.cache ys q → Follows server wanted m (asked c) ys q }
+    ensures closed { (server : Server) (wanted : Wanted) (m : ℕ) (c : Client) (xs ys : List Told) (p q : ℕ) → Follows server wanted m c xs p → Follows server wanted m (closed c) ys q }
+    ensures given_up { (server : Server) (wanted : Wanted) (m : ℕ) (c : Client) (xs ys : List Told) (p q : ℕ) → Follows server wanted m c xs p → Follows server wanted m (again c) ys q }
+    ensures restarted { (server : Server) (wanted : Wanted) (m : ℕ) (c : Client) (ys : List Told) (q : ℕ) → m ≤ server.top → Follows server wanted m (restarted c) ys q }
+    ensures taken { (server : Server) (wanted : Wanted) (m : ℕ) (c : Client) (xs : List Told) (p : ℕ) → Follows server wanted m c xs p → Follows server wanted m (taken c) xs p }
+    ensures later { (server later : Server) (wanted : Wanted) (m : ℕ) (c : Client) (xs : List Told) (p : ℕ) → IsLater server later → Follows server wanted m c xs p → Follows later wanted m c xs p }
+    ensures written { (server : Server) (wanted : Wanted) (r p q : ℕ) (xs ys : List Told) → Watches server wanted r xs p → Watches server wanted p ys q → Watches server wanted r (xs ++ ys) q }
+    ensures reached { (server : Server) (wanted : Wanted) (m : ℕ) (c : Client) (xs : List Told) (p : ℕ) → Follows server wanted m c xs p → c.asks ≡ follow → (hears_all wanted c xs).is_asking ≡ true → kept (hears_all wanted c xs).cache ≡ server.at p }
+{}
+
+/// The pages of a list of these objects at r, each the answer to a request of its own, leave a client with the
+/// objects at r.
+pub fn takes_whole_lists()
+    ensures { (wanted : Wanted) (c : Client) (o : Objects) (r : ℕ) (bodies : List (List ℕ)) → c.asks ≡ first → ArePages wanted o r [] bodies → fin.len o ≤ max_objects → (answered wanted c bodies).cache ≡ Some (record { revision = r; objects = o }) }
+{}

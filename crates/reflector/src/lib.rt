@@ -1,0 +1,13 @@
+//! The client run: what the items of a reply make of the client's cache, and that it follows the server
+//! (Kubernetes API Concepts, "Efficient detection of changes").
+//!
+//! Lists in pages, then watches from the list's revision. All that doesn't fit the question, or breaks a rule, ends
+//! the request and makes the next one a first page; the cache stays meanwhile.
+//!
+//! Stands on `decoder` for what a reply says, `wireclient` for its items and a request's bytes, `indexer` for
+//! objects.
+#![tactic(auto)]
+
+mod laws;
+
+pub use laws::{follows_the_server, takes_whole_lists};
