@@ -33,7 +33,7 @@ pub and_then_ok : {X Y : Type 0} (r : Read X) (g : X → Read Y) (y : Y) → and
 and_then_ok (Ok x) g y h = (x, refl, h)
 and_then_ok (Err e) g y h = absurd (err_not_ok e y h)
 
-joined_ok : (a b : Read Content) (c : Content) → joined a b ≡ Ok c → ((x : Content) × (a ≡ Ok x)) × ((y : Content) × (b ≡ Ok y))
+pub joined_ok : (a b : Read Content) (c : Content) → joined a b ≡ Ok c → ((x : Content) × (a ≡ Ok x)) × ((y : Content) × (b ≡ Ok y))
 joined_ok (Err e) b c h = absurd (err_not_ok e c h)
 joined_ok (Ok x) (Err e) c h = absurd (err_not_ok e c h)
 joined_ok (Ok x) (Ok y) c h = ((x, refl), (y, refl))
@@ -42,11 +42,11 @@ pub either_ok : {X : Type 0} (P : Type 0) (b : Bool) (r s : Read X) (x : X) → 
 either_ok P true r s x h f g = f h
 either_ok P false r s x h f g = g h
 
-neither : (a b : Bool) → (a || b) ≡ false → (a ≡ false) × (b ≡ false)
+pub neither : (a b : Bool) → (a || b) ≡ false → (a ≡ false) × (b ≡ false)
 neither true b h = absurd (true≢false h)
 neither false b h = (refl, h)
 
-both : (a b : Bool) → a ≡ false → b ≡ false → (a || b) ≡ false
+pub both : (a b : Bool) → a ≡ false → b ≡ false → (a || b) ≡ false
 both true b h i = absurd (true≢false h)
 both false b h i = i
 
@@ -78,7 +78,7 @@ truth_clean (string s) b h = refl
 truth_clean (array ds) b h = absurd (err_not_ok _ b h)
 truth_clean (object ms) b h = absurd (err_not_ok _ b h)
 
-null_clean : (d : Data) → is_null d ≡ true → has_float d ≡ false
+pub null_clean : (d : Data) → is_null d ≡ true → has_float d ≡ false
 null_clean null h = refl
 null_clean (boolean b) h = refl
 null_clean (number n) h = absurd (true≢false (sym h))
@@ -292,7 +292,7 @@ put_clean_at Less k l d e ms rest one other old new = both _ _ one (both _ _ oth
 put_clean_at Equal k l d e ms rest one other old new = both _ _ one old
 put_clean_at Greater k l d e ms rest one other old new = both _ _ other new
 
-put_clean : (k : List ℕ) (d : Data) (ms : Members) → has_float d ≡ false → members_have_float ms ≡ false → members_have_float (put k d ms) ≡ false
+pub put_clean : (k : List ℕ) (d : Data) (ms : Members) → has_float d ≡ false → members_have_float ms ≡ false → members_have_float (put k d ms) ≡ false
 put_clean k d no_members one old = both _ _ one refl
 put_clean k d (member l e ms) one old =
     let parts = neither (has_float e) (members_have_float ms) old in

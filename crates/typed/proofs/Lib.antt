@@ -16,3 +16,8 @@ pub mod RoundTrip
 pub mod PlainAgain
 pub mod Placing
 pub mod Places
+pub mod Fitting
+pub mod Keeping
+pub mod Depths
+pub mod Spelling
+pub mod FieldTexts

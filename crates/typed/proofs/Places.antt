@@ -21,7 +21,7 @@ use Rattle.typed.specs.Reading.{leaf}
 use Rattle.typed.proofs.Insides.{get-inside}
 use Rattle.typed.proofs.RoundTrip.{leaf_is}
 
-none_there : (c : Content) (p : PathTexts) → c ≡ nothing → is_some (fin.get c p) ≡ true → ⊥
+pub none_there : (c : Content) (p : PathTexts) → c ≡ nothing → is_some (fin.get c p) ≡ true → ⊥
 none_there c p none h = true≢false (sym h ∙ ap (λ d. is_some (fin.get d p)) none ∙ ap is_some (get-nothing p))
 
 -- a value at the empty path alone
@@ -43,7 +43,7 @@ name_field : (f : List ℕ) → field_name (name_text f) ≡ Some f
 unfolding name_text
 name_field f = refl
 
-one_of : (all : Fields) (e : List ℕ) → is_field all e ≡ true → (f : List ℕ) × (e ≡ name_text f)
+pub one_of : (all : Fields) (e : List ℕ) → is_field all e ≡ true → (f : List ℕ) × (e ≡ name_text f)
 one_of no_fields e h = absurd (true≢false (sym h))
 one_of (field f s more) e h = by_test (bytes_eq e (name_text f)) refl h (one_of more e)
   where
@@ -51,11 +51,11 @@ one_of (field f s more) e h = by_test (bytes_eq e (name_text f)) refl h (one_of 
     by_test true t h later = (f, (bytes_eq-Decides e (name_text f)).0 t)
     by_test false t h later = later h
 
-same_name : (f g : List ℕ) → name_text f ≡ name_text g → f ≡ g
+pub same_name : (f g : List ℕ) → name_text f ≡ name_text g → f ≡ g
 unfolding name_text
 same_name f g h = ap (drop 2) h
 
-other_name : (known f : List ℕ) → bytes_eq known f ≡ false → (b : Bool) → (bytes_eq (name_text f) (name_text known) || b) ≡ true → b ≡ true
+pub other_name : (known f : List ℕ) → bytes_eq known f ≡ false → (b : Bool) → (bytes_eq (name_text f) (name_text known) || b) ≡ true → b ≡ true
 other_name known f apart b h = by_test (bytes_eq (name_text f) (name_text known)) refl h
   where
     by_test : (t : Bool) → bytes_eq (name_text f) (name_text known) ≡ t → (t || b) ≡ true → b ≡ true

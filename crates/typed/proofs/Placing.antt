@@ -1,6 +1,7 @@
 -- What reading gives of a spelled value is a content that the shape has.
-use Rattle.std.proofs.Common.{◌≡◌, ℕ, ℤ, zero, suc, pos, negsuc, ◌^◌, ◌≤◌, nat_lt, Bool, true, false, true≢false, cond, not, ◌&&◌, ◌||◌, ◌⊎◌, inl, inr, is_eq, is_some, is_ok, take, drop, List, [], ◌∷◌, Option, Some, None, option_map, Ok, Err, Ordering, Less, Equal, Greater, nat_cmp, refl, sym, ap, ap₂, subst, ◌∙◌, arith}
+use Rattle.std.proofs.Common.{◌≡◌, ℕ, ℤ, suc, pos, negsuc, ◌^◌, ◌<◌, ◌≤◌, nat_lt, Bool, true, false, true≢false, cond, not, ◌&&◌, ◌||◌, ◌⊎◌, inl, inr, is_eq, is_some, List, [], ◌∷◌, Option, Some, None, option_map, Ok, Err, Ordering, Less, Equal, Greater, nat_cmp, refl, sym, ap, ap₂, subst, ◌∙◌, arith}
 use Rattle.std.proofs.lemmas.Bool.{and_parts, or_parts}
+use Rattle.std.proofs.lemmas.Bool.Decides.{nat_tests}
 use Rattle.std.proofs.lemmas.Map.Text.{is_eq-slice_cmp}
 use Rattle.std.proofs.lemmas.Slice.Eq.{bytes_eq-Decides}
 use Rattle.std.specs.Cmp.Derive.{both_true}
@@ -10,9 +11,8 @@ use Rattle.std.specs.List.{AllByRecursion, list_all, list_any}
 use Rattle.std.specs.Ordering.{is_lt, match_ordering}
 use Rattle.std.specs.Prelude.{option_and_then}
 use Rattle.std.specs.Str.{bytes_eq}
-use Rattle.std.specs.declared.result.Result.{Result}
 use Rattle.serde_json.specs.Data.{Num, unsigned, negative, float, Data, null, boolean, number, string, array, object, Items, no_items, item, Members, no_members, member, put, depth, items_depth, members_depth}
-use Rattle.serde_json.specs.Find.{get_member, as_array, as_bool, as_i64, as_number, as_object, as_str, of_integer}
+use Rattle.serde_json.specs.Find.{get_member, as_array, as_i64, as_number, as_object}
 use Rattle.serde_json.specs.Read.{read, max_depth}
 use Rattle.serde_json.specs.Written.{compact_text, has_float, members_have_float}
 use Rattle.fieldpath.specs.Elements.{Scalar, KeyFields, Element, has_prefix, key_members, key_text, keys_of, keys_of_members, name_text, one_more, read_element, read_json, scalar_of, scalar_text, some_keys, whole_scalar, if_canonical, element_text, scalar_data}
@@ -29,13 +29,13 @@ use Rattle.pathmap.proofs.Merging.{get-here-top}
 use Rattle.pathmap.proofs.Trees.{ties}
 use Rattle.schema.specs.Lawful.{names_of, item_is_lawful, has_keys, is_scalar, is_some_scalar, is_some_name, is_well_formed, are_well_formed}
 use Rattle.schema.specs.Place.{fits, fits_some, fit_keys}
-use Rattle.schema.specs.Shape.{Kind, atomic, set, keyed, Shape, text, whole, truth, struct_of, map_of, list_of, Fields, no_fields, field, shape_at}
+use Rattle.schema.specs.Shape.{atomic, set, keyed, Shape, text, whole, truth, struct_of, map_of, list_of, Fields, no_fields, field, shape_at}
 use Rattle.typed.specs.declared.fault.Cause.TheVariants.{NotAnObject, WrongType, DuplicateItem, KeyFieldMissing}
 use Rattle.typed.specs.Faults.{Read, below, and_then, some_or, shown_name, shown_place}
-use Rattle.typed.specs.Placed.{IsAtomic, IsBelow, is_field, IsSetItem, HasKeys, IsItem, IsPlaced, ArePlaced, ReadingsArePlaced}
-use Rattle.typed.specs.Reading.{is_null, is_there, object_item, text_in, whole_in, truth_in, have_keys, put_some, keys_in, plain_of, leaf, at_field, joined, one_member, members_at, marked, one_item, items_at, set_item, keyed_item, beside_keys, content_of, content_of_item, content_of_field}
+use Rattle.typed.specs.Placed.{IsWithin, IsAtomic, is_field, IsSetItem, HasKeys, IsItem, IsPlaced, ArePlaced, ReadingsArePlaced}
+use Rattle.typed.specs.Reading.{is_null, is_there, text_in, whole_in, truth_in, have_keys, put_some, keys_in, plain_of, leaf, at_field, joined, one_member, members_at, marked, one_item, items_at, set_item, keyed_item, beside_keys, content_of, content_of_item, content_of_field}
 use Rattle.typed.proofs.ElementTexts.{scalar_same}
-use Rattle.typed.proofs.Floats.{ok_is, err_not_ok, below_ok, and_then_ok, either_ok, plain_clean, content_item_clean, keys_clean}
+use Rattle.typed.proofs.Floats.{ok_is, err_not_ok, below_ok, plain_clean, content_item_clean, keys_clean}
 use Rattle.typed.proofs.Insides.{get-inside, inside-nothing, itself}
 use Rattle.typed.proofs.KeyFields.{AreRising, ascend_rising, keys_text, field-at}
 use Rattle.typed.proofs.PlainAgain.{ascend_skip, ascend_rest, plain_leaf}
@@ -168,7 +168,7 @@ module _ (inner : List ℕ → Data → Read Content) where
 -- ---- where nothing stands
 
 mutual
-  nothing_placed : (s : Shape) → IsPlaced s nothing
+  pub nothing_placed : (s : Shape) → IsPlaced s nothing
   nothing_placed text = inl refl
   nothing_placed whole = inl refl
   nothing_placed truth = inl refl
@@ -199,22 +199,24 @@ some_of d (Some x) = x
 same_some : {X : Type 0} (x y : X) → Some x ≡ Some y → x ≡ y
 same_some x y h = ap (some_of x) h
 
-within_by : (b : Bool) (m : ℕ) (n : ℤ) → nat_lt m (2 ^ 63) ≡ b → cond b (Some (pos m)) None ≡ Some n → as_i64 (of_integer n) ≡ Some n
-within_by true m n is h =
-    subst (λ z. as_i64 (of_integer z) ≡ Some z) (same_some (pos m) n h) (ap (λ b. cond b (Some (pos m)) None) is)
+below_of : (m n : ℕ) → nat_lt m n ≡ true → m < n
+below_of m n h = grind (arith, nat_tests)
+
+within_by : (b : Bool) (m : ℕ) (n : ℤ) → nat_lt m (2 ^ 63) ≡ b → cond b (Some (pos m)) None ≡ Some n → IsWithin n
+within_by true m n is h = subst IsWithin (same_some (pos m) n h) (below_of m (2 ^ 63) is)
 within_by false m n is h = absurd (true≢false (sym (ap is_some h)))
 
-whole_within : (x : Num) (n : ℤ) → IsSpelledNumber x → as_i64 x ≡ Some n → as_i64 (of_integer n) ≡ Some n
+whole_within : (x : Num) (n : ℤ) → IsSpelledNumber x → as_i64 x ≡ Some n → IsWithin n
 whole_within (unsigned m) n fit h = within_by (nat_lt m (2 ^ 63)) m n refl h
 whole_within (negative (pos m)) n fit h = absurd fit
-whole_within (negative (negsuc m)) n fit h = subst (λ z. as_i64 (of_integer z) ≡ Some z) (same_some (negsuc m) n h) refl
+whole_within (negative (negsuc m)) n fit h = subst IsWithin (same_some (negsuc m) n h) fit
 whole_within (float x) n fit h = absurd (true≢false (sym (ap is_some h)))
 
 was_some : {X : Type 0} (o : Option X) (x : X) → some_or WrongType o ≡ Ok x → o ≡ Some x
 was_some None x h = absurd (err_not_ok _ x h)
 was_some (Some y) x h = ap Some (ok_is y x h)
 
-whole_found : (d : Data) (n : ℤ) → IsSpelled d → option_and_then as_i64 (as_number d) ≡ Some n → as_i64 (of_integer n) ≡ Some n
+whole_found : (d : Data) (n : ℤ) → IsSpelled d → option_and_then as_i64 (as_number d) ≡ Some n → IsWithin n
 whole_found null n spelled h = absurd (true≢false (sym (ap is_some h)))
 whole_found (boolean b) n spelled h = absurd (true≢false (sym (ap is_some h)))
 whole_found (number x) n spelled h = whole_within x n spelled h
@@ -334,7 +336,7 @@ struct_placed all ms c rise place good h =
       fields_placed all all c (all_found all all (ascend_rising (names_of all) rise) (λ k d t. refl)) place (λ f. struct_each all f (inside (name_text f) c) (each (name_text f))),
     )
 
-prefix_of_name : (k : List ℕ) → has_prefix 102 (name_text k) ≡ true
+pub prefix_of_name : (k : List ℕ) → has_prefix 102 (name_text k) ≡ true
 unfolding name_text
 prefix_of_name k = refl
 

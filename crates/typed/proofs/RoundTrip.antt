@@ -1,5 +1,5 @@
 -- What is printed reads back.
-use Rattle.std.proofs.Common.{◌≡◌, ℕ, suc, Bool, true, false, cond, ◌&&◌, ◌||◌, is_eq, nat_cmp, List, [], ◌∷◌, ◌++◌, map, take, drop, take-append-drop, Option, Some, None, is_some, option_map, Ok, Err, is_ok, Result, inl, inr, ◌⊎◌, Less, refl, sym, ap, ap₂, ◌∙◌, true≢false, subst}
+use Rattle.std.proofs.Common.{◌≡◌, ℕ, ℤ, suc, pos, negsuc, ◌^◌, ◌<◌, nat_lt, arith, Bool, true, false, cond, ◌&&◌, ◌||◌, is_eq, nat_cmp, List, [], ◌∷◌, ◌++◌, map, take, drop, take-append-drop, Option, Some, None, is_some, option_map, Ok, Err, is_ok, Result, inl, inr, ◌⊎◌, Less, refl, sym, ap, ap₂, ◌∙◌, true≢false, subst}
 use Rattle.std.specs.Prelude.{option_and_then, codes}
 use Rattle.std.specs.Cmp.{first_so, second_so}
 use Rattle.std.specs.Cmp.Lexicographic.{slice_cmp}
@@ -7,10 +7,11 @@ use Rattle.std.specs.FinMap as fin
 use Rattle.std.specs.List.{AllByRecursion, list_any}
 use Rattle.std.specs.List.Sorted.{IsStrictlySortedBy}
 use Rattle.std.specs.Str.{bytes_eq}
+use Rattle.std.proofs.lemmas.Bool.Decides.{nat_tests}
 use Rattle.std.proofs.lemmas.Map.Text.{is_eq-slice_cmp}
 use Rattle.std.proofs.lemmas.Slice.Eq.{bytes_eq-Decides}
 use Rattle.serde_json.specs.Data.{Data, null, boolean, number, string, array, object, Items, no_items, item, Members, no_members, member}
-use Rattle.serde_json.specs.Find.{of_integer, get_member}
+use Rattle.serde_json.specs.Find.{of_integer, as_i64, get_member}
 use Rattle.serde_json.specs.Written.{compact_text}
 use Rattle.fieldpath.specs.Elements.{has_prefix, name_text, key_text, scalar_text}
 use Rattle.pathmap.specs.Contents.{Content, nothing, here, under, over}
@@ -23,7 +24,7 @@ use Rattle.schema.specs.Lawful.{names_of, item_is_lawful, has_keys, is_some_name
 use Rattle.schema.specs.Shape.{atomic, set, keyed, Shape, text, whole, truth, struct_of, map_of, list_of, Fields, no_fields, field}
 use Rattle.typed.specs.declared.fault.Cause.TheVariants.{WrongType, DuplicateItem, KeyFieldMissing}
 use Rattle.typed.specs.Faults.{Read, below, some_or, shown_place}
-use Rattle.typed.specs.Placed.{IsAtomic, IsBelow, is_field, IsSetItem, HasKeys, IsItem, ArePlaced, ReadsBack, RoundTrip}
+use Rattle.typed.specs.Placed.{IsWithin, IsAtomic, IsBelow, is_field, IsSetItem, HasKeys, IsItem, ArePlaced, ReadsBack, RoundTrip}
 use Rattle.typed.specs.Printing.{value_at, value_of, object_or_none, array_or_none, with_member, with_named, with_item, after, each_member, each_item, scalar_in, print, print_item, print_fields}
 use Rattle.typed.specs.Printing as printing
 use Rattle.typed.specs.Reading.{is_null, plain_of, leaf, joined, members_at, marked, one_item, items_at, set_item, keyed_item, beside_keys, keys_in, content_of, content_of_item, content_of_field}
@@ -106,19 +107,19 @@ every : (P : List ℕ → Type 0) (hs : List (List ℕ)) → ((e : List ℕ) →
 every P [] each = tt
 every P (h ∷ hs) each = (each h (one_so (bytes_eq h h) (list_any (bytes_eq h) hs) (itself h)), every P hs (λ e t. each e (other_so (bytes_eq e h) (list_any (bytes_eq e) hs) t)))
 
-are_rising : (hs : List (List ℕ)) → IsStrictlySortedBy (slice_cmp nat_cmp) hs → AreRising hs
+pub are_rising : (hs : List (List ℕ)) → IsStrictlySortedBy (slice_cmp nat_cmp) hs → AreRising hs
 unfolding IsStrictlySortedBy
 are_rising [] h = tt
 are_rising (e ∷ hs) h = (h.0, are_rising hs h.1)
 
-heads_rise : (c : Content) → AreRising (heads c)
+pub heads_rise : (c : Content) → AreRising (heads c)
 heads_rise c = are_rising (heads c) (rising c)
 
 -- the element is that of a name
-abbrev IsName : List ℕ → Type 0
+abbrev pub IsName : List ℕ → Type 0
 IsName e = (k : List ℕ) × (after (codes "f:") e ≡ Some k) × (e ≡ name_text k)
 
-prefix_name : (e : List ℕ) → has_prefix 102 e ≡ true → IsName e
+pub prefix_name : (e : List ℕ) → has_prefix 102 e ≡ true → IsName e
 unfolding name_text
 prefix_name e h = (drop 2 e, ap (λ b. cond b (Some (drop 2 e)) None) h, sym (take-append-drop 2 e) ∙ ap (λ t. t ++ drop 2 e) ((bytes_eq-Decides (take 2 e) (102 ∷ 58 ∷ [])).0 h))
 
@@ -345,12 +346,19 @@ list_back names s c top each =
 not_read : {X Y : Type 0} {e : Y} {x : X} → ◌≡◌ {A = Result X Y} (Err e) (Ok x) → ⊥
 not_read h = true≢false (sym (ap is_ok h))
 
+below_is : (m n : ℕ) → m < n → nat_lt m n ≡ true
+below_is m n h = grind (arith, nat_tests)
+
+within_is : (n : ℤ) → IsWithin n → as_i64 (of_integer n) ≡ Some n
+within_is (pos m) lt = ap (λ b. cond b (Some (pos m)) None) (below_is m (2 ^ 63) lt)
+within_is (negsuc m) lt = refl
+
 mutual
   pub round : RoundTrip
   round text c lawful (inl none) = at_nothing text c none
   round text c lawful (inr (s, is)) = at_here text c (standing.text s) (string s) is refl refl refl
   round whole c lawful (inl none) = at_nothing whole c none
-  round whole c lawful (inr (n, within, is)) = at_here whole c (standing.whole n) (number (of_integer n)) is refl refl (ap (λ o. below [] (λ m. here (standing.whole m)) (some_or WrongType o)) within)
+  round whole c lawful (inr (n, within, is)) = at_here whole c (standing.whole n) (number (of_integer n)) is refl refl (ap (λ o. below [] (λ m. here (standing.whole m)) (some_or WrongType o)) (within_is n within))
   round truth c lawful (inl none) = at_nothing truth c none
   round truth c lawful (inr (b, is)) = at_here truth c (standing.truth b) (boolean b) is refl refl refl
   round (struct_of all true) c lawful placed = atomic_back (struct_of all true) c not_read (λ d. refl) placed

@@ -3,3 +3,4 @@ pub mod Reading
 pub mod Printing
 pub mod Steps
 pub mod Placed
+pub mod Fitting

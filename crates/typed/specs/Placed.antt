@@ -1,12 +1,11 @@
 -- Which contents a shape has, and what printing owes them.
 -- Server-Side Apply, "Merge strategy": the cases are those of `place_of`, each path with a value that fits its place.
-use Rattle.std.specs.Prelude.{◌≡◌, ◌≤◌, ℕ, ℤ, Bool, true, false, ◌⊎◌, List, [], ◌∷◌, Option, Some, None, is_some}
+use Rattle.std.specs.Prelude.{◌≡◌, ◌<◌, ◌≤◌, ◌^◌, ℕ, ℤ, pos, negsuc, Bool, true, false, ◌⊎◌, List, [], ◌∷◌, Option, Some, None, is_some}
 use Rattle.std.specs.declared.result.Result.TheVariants.{Ok}
 use Rattle.std.specs.FinMap as fin
 use Rattle.std.specs.List.{list_any}
 use Rattle.std.specs.Str.{bytes_eq}
 use Rattle.serde_json.specs.Data.{Data, depth}
-use Rattle.serde_json.specs.Find.{as_i64, of_integer}
 use Rattle.serde_json.specs.Read.{read, max_depth}
 use Rattle.serde_json.specs.Written.{compact_text, has_float}
 use Rattle.fieldpath.specs.Elements.{Scalar, KeyFields, has_prefix, read_element, name_text}
@@ -47,10 +46,15 @@ HasKeys names all e c =
     (ks : KeyFields) × (read_element e ≡ Ok (element.key ks)) × (fit_keys names all ks ≡ true) × (fin.get c [] ≡ Some standing.mark)
     × ((g : List ℕ) (q : PathTexts) → is_field all g ≡ false → fin.get c (g ∷ q) ≡ None) × ((f : List ℕ) → list_any (bytes_eq f) names ≡ true → inside (name_text f) c ≡ nothing)
 
+-- within 64 bits signed
+abbrev pub IsWithin : ℤ → Type 0
+IsWithin (pos n) = n < 2 ^ 63
+IsWithin (negsuc n) = n < 2 ^ 63
+
 abbrev mutual
   pub IsPlaced : Shape → Content → Type 0
   IsPlaced text c = (c ≡ nothing) ⊎ (s : List ℕ) × (c ≡ here (standing.text s))
-  IsPlaced whole c = (c ≡ nothing) ⊎ (n : ℤ) × (as_i64 (of_integer n) ≡ Some n) × (c ≡ here (standing.whole n))
+  IsPlaced whole c = (c ≡ nothing) ⊎ (n : ℤ) × IsWithin n × (c ≡ here (standing.whole n))
   IsPlaced truth c = (c ≡ nothing) ⊎ (b : Bool) × (c ≡ here (standing.truth b))
   IsPlaced (struct_of all is_atomic) c = When is_atomic (IsAtomic (struct_of all is_atomic) c) (IsBelow (is_field all) c × ArePlaced all c)
   IsPlaced (map_of s is_atomic) c = When is_atomic (IsAtomic (map_of s is_atomic) c) (IsBelow (has_prefix 102) c × ((e : List ℕ) → IsPlaced s (inside e c)))

@@ -18,6 +18,7 @@ mod tree;
 pub use changes::Changes;
 pub use fault::{Cause, ReadFault};
 pub use print_law::{
-    contents_have_places, printed_has_no_float, printed_reads_back, readings_are_placed,
+    contents_are_kept, contents_are_placed, contents_have_places, printed_has_no_float,
+    printed_is_textual, printed_reads_back, readings_are_placed,
 };
 pub use tree::Tree;

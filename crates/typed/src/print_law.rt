@@ -1,3 +1,4 @@
+ghost use Rattle.typed.specs.Fitting.{ContentsArePlaced, FieldsV1IsTextual, OversAreContents, PrintedIsTextual, ReadingsAreContents, RemainsAreContents};
 ghost use Rattle.typed.specs.Placed.{HavePlaces, PrintedHasNoFloat, ReadingsArePlaced, RoundTrip};
 
 /// What is printed of a content reads back as that content; where nothing is printed, nothing stands.
@@ -19,4 +20,23 @@ pub fn contents_have_places()
 /// so what is printed of it reads back as it.
 pub fn readings_are_placed()
     ensures { ReadingsArePlaced }
+{}
+
+/// A content path by path is the same as one level by level.
+pub fn contents_are_placed()
+    ensures { ContentsArePlaced }
+{}
+
+/// What is read is a content path by path, and so are one content over another and what is left of one.
+pub fn contents_are_kept()
+    ensures readings { ReadingsAreContents }
+    ensures overs { OversAreContents }
+    ensures remains { RemainsAreContents }
+{}
+
+/// What is printed of a content of a lawful schema, and the FieldsV1 value of any set of paths:
+/// no float, no more than 127 deep, and read again from its compact text.
+pub fn printed_is_textual()
+    ensures printed { PrintedIsTextual }
+    ensures fields_v1 { FieldsV1IsTextual }
 {}

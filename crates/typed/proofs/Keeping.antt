@@ -1,0 +1,79 @@
+-- What is put over a content, what is left of one, and what is read is one.
+use Rattle.std.proofs.Common.{◌≡◌, ◌||◌, Bool, true, false, cond, List, [], ◌∷◌, ◌++◌, Option, Some, None, is_some, refl, sym, ap, ◌∙◌, true≢false}
+use Rattle.std.proofs.lemmas.Bool.{and_parts}
+use Rattle.std.specs.Cmp.Derive.{both_true}
+use Rattle.std.specs.FinMap as fin
+use Rattle.std.specs.FinSet as set
+use Rattle.std.specs.List.{list_any}
+use Rattle.std.specs.Str.{bytes_eq}
+use Rattle.fieldpath.specs.Paths.{PathTexts}
+use Rattle.pathmap.specs.Beside.{has_at_or_above, is_front}
+use Rattle.pathmap.specs.Contents.{Standing, Content, PathSet}
+use Rattle.pathmap.proofs.Contents.{either, get-over}
+use Rattle.pathmap.proofs.Sets.{get-without}
+use Rattle.typed.specs.Fitting.{FitsAt, OversAreContents, RemainsAreContents, ReadingsAreContents}
+use Rattle.typed.proofs.Fitting.{placed_content}
+use Rattle.typed.proofs.Placing.{placed}
+
+either_is : (P : Standing → Type 0) (a b : Option Standing) (v : Standing) → ((w : Standing) → a ≡ Some w → P w) → ((w : Standing) → b ≡ Some w → P w) → either a b ≡ Some v → P v
+either_is P None b v mine theirs h = theirs v h
+either_is P (Some w) b v mine theirs h = mine v h
+
+one_of_two : (a b : Option Standing) (P : Type 0) → is_some (either a b) ≡ true → (is_some a ≡ true → P) → (is_some b ≡ true → P) → P
+one_of_two None b P h mine theirs = theirs h
+one_of_two (Some w) b P h mine theirs = mine h
+
+mine_stands : (a b : Option Standing) → is_some a ≡ true → is_some (either a b) ≡ true
+mine_stands None b h = absurd (true≢false (sym h))
+mine_stands (Some w) b h = refl
+
+theirs_stands : (a b : Option Standing) → is_some b ≡ true → is_some (either a b) ≡ true
+theirs_stands None b h = h
+theirs_stands (Some w) b h = refl
+
+pub over_content : OversAreContents
+over_content s c d mine theirs = (
+  (λ p v h. either_is (FitsAt s p) (fin.get c p) (fin.get d p) v (mine.0 p) (theirs.0 p) (sym (get-over c d p) ∙ h)),
+  λ p q fit h. ap is_some (get-over c d p)
+      ∙ one_of_two (fin.get c (p ++ q)) (fin.get d (p ++ q)) (is_some (either (fin.get c p) (fin.get d p)) ≡ true) (sym (ap is_some (get-over c d (p ++ q))) ∙ h)
+      (λ t. mine_stands (fin.get c p) (fin.get d p) (mine.1 p q fit t)) (λ t. theirs_stands (fin.get c p) (fin.get d p) (theirs.1 p q fit t)),
+)
+
+left_is : (b : Bool) (o : Option Standing) (v : Standing) → cond b None o ≡ Some v → o ≡ Some v
+left_is true o v h = absurd (true≢false (sym (ap is_some h)))
+left_is false o v h = h
+
+any_more : (p q : PathTexts → Bool) → ((x : PathTexts) → p x ≡ true → q x ≡ true) → (xs : List PathTexts) → list_any p xs ≡ true → list_any q xs ≡ true
+any_more p q more [] h = h
+any_more p q more (x ∷ xs) h = by_first (p x) refl h (any_more p q more xs)
+  where
+    other_too : (a b : Bool) → b ≡ true → (a || b) ≡ true
+    other_too true b t = refl
+    other_too false b t = t
+
+    by_first : (b : Bool) → p x ≡ b → (b || list_any p xs) ≡ true → (list_any p xs ≡ true → list_any q xs ≡ true) → (q x || list_any q xs) ≡ true
+    by_first true is h later = ap (λ b. b || list_any q xs) (more x is)
+    by_first false is h later = other_too (q x) (list_any q xs) (later h)
+
+front_more : (x p q : PathTexts) → is_front x p ≡ true → is_front x (p ++ q) ≡ true
+front_more [] p q h = refl
+front_more (f ∷ x) [] q h = absurd (true≢false (sym h))
+front_more (f ∷ x) (g ∷ p) q h = let k = and_parts (bytes_eq f g) (is_front x p) h in both_true k.0 (front_more x p q k.1)
+
+above_more : (s : PathSet) (p q : PathTexts) → has_at_or_above s p ≡ true → has_at_or_above s (p ++ q) ≡ true
+unfolding has_at_or_above
+above_more s p q h = any_more (λ x. is_front x p) (λ x. is_front x (p ++ q)) (λ x t. front_more x p q t) (set.items s) h
+
+pub without_content : RemainsAreContents
+without_content s c paths content = (
+  (λ p v h. content.0 p v (left_is (has_at_or_above paths p) (fin.get c p) v (sym (get-without c paths p) ∙ h))),
+  λ p q fit h. ap is_some (get-without c paths p) ∙ by_test p q fit (has_at_or_above paths p) refl (has_at_or_above paths (p ++ q)) refl (sym (ap is_some (get-without c paths (p ++ q))) ∙ h),
+)
+  where
+    by_test : (p q : PathTexts) → FitsAt s p Rattle.pathmap.specs.Contents.mark → (a : Bool) → has_at_or_above paths p ≡ a → (b : Bool) → has_at_or_above paths (p ++ q) ≡ b → is_some (cond b None (fin.get c (p ++ q))) ≡ true → is_some (cond a None (fin.get c p)) ≡ true
+    by_test p q fit a is true more h = absurd (true≢false (sym h))
+    by_test p q fit true is false more h = absurd (true≢false (sym (above_more paths p q is) ∙ more))
+    by_test p q fit false is false more h = content.1 p q fit h
+
+pub reading_content : ReadingsAreContents
+reading_content s d c lawful spelled shallow h = placed_content s c (placed s d c lawful spelled shallow h)
