@@ -1,7 +1,14 @@
+pub mod Added
+pub mod Apart
+pub mod Befores
+pub mod Following
 pub mod Kept
 pub mod Keys
 pub mod Lists
+pub mod Paging
 pub mod Revisions
 pub mod Seen
+pub mod Selecting
 pub mod Standing
 pub mod Views
+pub mod Wholes

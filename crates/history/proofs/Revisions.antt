@@ -17,13 +17,13 @@ up_to-below lo r top (c ∷ cs) h rise =
     let a : lo < c.revision = rise.0 in
     ap (λ b. cond b (c ∷ up_to r cs) (up_to r cs)) (lt-leb c.revision r (omega arith)) ∙ up_to-below c.revision r top cs (omega arith) rise.1
 
-later-below : (lo r top : ℕ) (cs : List Change) → r ≤ lo → IsRising lo cs top → later r cs ≡ cs
+pub later-below : (lo r top : ℕ) (cs : List Change) → r ≤ lo → IsRising lo cs top → later r cs ≡ cs
 later-below lo r top [] h rise = refl
 later-below lo r top (c ∷ cs) h rise =
     let a : lo < c.revision = rise.0 in
     ap (λ b. cond b (c ∷ later r cs) (later r cs)) (lt-ltb r c.revision (omega arith)) ∙ ap (λ ds. c ∷ ds) (later-below c.revision r top cs (omega arith) rise.1)
 
-up_to-all : (lo r top : ℕ) (cs : List Change) → top ≤ r → IsRising lo cs top → up_to r cs ≡ cs
+pub up_to-all : (lo r top : ℕ) (cs : List Change) → top ≤ r → IsRising lo cs top → up_to r cs ≡ cs
 up_to-all lo r top [] h rise = refl
 up_to-all lo r top (c ∷ cs) h rise =
     let a : c.revision ≤ top = rising_ends c.revision top cs rise.1 in
@@ -46,7 +46,7 @@ up_to-split lo r q top (c ∷ cs) h rise = go (up_to-split c.revision r q top cs
         ∙ ap (λ b. up_to q (cond b (c ∷ later r cs) (later r cs))) (sym (lt-ltb r c.revision a))
         ∙ ap (λ ds. ds ++ up_to q (later r (c ∷ cs))) (sym (up_to-below c.revision r top cs b rise.1))
 
-rising-later : (lo p top : ℕ) (cs : List Change) → lo ≤ p → p ≤ top → IsRising lo cs top → IsRising p (later p cs) top
+pub rising-later : (lo p top : ℕ) (cs : List Change) → lo ≤ p → p ≤ top → IsRising lo cs top → IsRising p (later p cs) top
 rising-later lo p top [] h k rise = k
 rising-later lo p top (c ∷ cs) h k rise = go (λ below. rising-later c.revision p top cs below k rise.1) (nat_lt p c.revision) refl
   where
@@ -74,7 +74,7 @@ later-later r q (c ∷ cs) h = go (later-later r q cs h) (nat_lt r c.revision) r
     go below true is = ap (λ ds. cond (nat_lt q c.revision) (c ∷ ds) ds) below
     go below false is = let a : c.revision ≤ r = ltb-false _ _ is in below ∙ sym (later-drops q c cs (omega arith))
 
-up_to-push : (r : ℕ) (cs : List Change) (c : Change) → r < c.revision → up_to r (cs ++ c ∷ []) ≡ up_to r cs
+pub up_to-push : (r : ℕ) (cs : List Change) (c : Change) → r < c.revision → up_to r (cs ++ c ∷ []) ≡ up_to r cs
 up_to-push r [] c h = ap (λ b. cond b (c ∷ []) []) (lt-leb c.revision r h)
 up_to-push r (d ∷ cs) c h = ap (λ ds. cond (nat_le d.revision r) (d ∷ ds) ds) (up_to-push r cs c h)
 

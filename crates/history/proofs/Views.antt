@@ -12,11 +12,11 @@ use Rattle.history.proofs.Revisions.{up_to-keeps, up_to-split, later-drops, chan
 use Rattle.history.proofs.Standing.{has_later, kept_by, kept_is}
 
 -- the last word of these changes on a key
-abbrev last_of : Key → Option Object → List Change → Option Object
+abbrev pub last_of : Key → Option Object → List Change → Option Object
 last_of q o [] = o
 last_of q o (d ∷ cs) = last_of q (cond (is_same_key q d.key) (left_by d) o) cs
 
-get-changed : (s : Objects) (cs : List Change) (q : Key) → fin.get (changed s cs) q ≡ last_of q (fin.get s q) cs
+pub get-changed : (s : Objects) (cs : List Change) (q : Key) → fin.get (changed s cs) q ≡ last_of q (fin.get s q) cs
 get-changed s [] q = refl
 get-changed s (d ∷ cs) q = get-changed (put_or_remove s d.key (left_by d)) cs q ∙ ap (λ o. last_of q o cs) (get-put_or_remove s d.key (left_by d) q)
 

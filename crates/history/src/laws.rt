@@ -1,9 +1,11 @@
 //! Laws of histories, which crates above build on. Each function does nothing; what it promises is the law.
 
-ghost use Rattle.std.specs.Prelude.{◌≡◌, ℕ, ◌≤◌, List, Option};
-ghost use Rattle.history.specs.History.{History, IsHistory, Key, compacted_to, later, state_at, written};
+ghost use Rattle.std.specs.Prelude.{◌≡◌, ℕ, suc, ◌≤◌, true, List, Option, None};
+ghost use Rattle.std.specs.FinMap as fin;
+ghost use Rattle.history.specs.History.{History, IsHistory, Key, compacted_to, fresh, last_revision, later, standing, state_at, written};
 ghost use Rattle.history.specs.Kept.{IsPruned, pruned};
 ghost use Rattle.history.specs.View.{compacted_in, state_in, view, written_in};
+ghost use Rattle.history.specs.Whole.{IsWhole};
 
 /// From the compacted number on, the kept changes have the same states and the same later changes, so the view
 /// depends on them and on the two numbers alone; and the view gives each of these states.
@@ -25,4 +27,14 @@ pub fn kept_is_enough()
     ensures fresh { (h : History) → IsHistory h → IsPruned (pruned h.compacted h) }
     ensures writes { (h : History) (k : Key) (body : Option (List ℕ)) → IsHistory h → pruned h.compacted (written h k body) ≡ written (pruned h.compacted h) k body }
     ensures prunes { (h : History) (c : ℕ) → IsHistory h → h.compacted ≤ c → pruned c (pruned h.compacted h) ≡ pruned c (compacted_to c h) }
+{}
+
+/// A history of which nothing is forgotten is one with rising revisions, and stays whole: from its beginning, over
+/// each write (of a deletion, where the object is there) and over each compaction.
+pub fn histories_stay_whole()
+    ensures rising { (first : ℕ) (h : History) → IsWhole first h → IsHistory h }
+    ensures begins { (first : ℕ) → 1 ≤ first → first ≤ last_revision → IsWhole first (fresh first) }
+    ensures writes { (first : ℕ) (h : History) (k : Key) (body : Option (List ℕ)) → IsWhole first h → suc h.current ≤ last_revision
+        → (body ≡ None → fin.contains_key (standing h) k ≡ true) → IsWhole first (written h k body) }
+    ensures compacts { (first : ℕ) (h : History) (c : ℕ) → IsWhole first h → h.compacted ≤ c → c ≤ h.current → IsWhole first (compacted_to c h) }
 {}

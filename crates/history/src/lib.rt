@@ -10,6 +10,10 @@
 
 mod key;
 mod laws;
+mod page_laws;
+mod seen_laws;
 
 pub use key::Key;
-pub use laws::{kept_is_enough, view_of_calls, view_of_kept};
+pub use laws::{histories_stay_whole, kept_is_enough, view_of_calls, view_of_kept};
+pub use page_laws::pages_make_the_list;
+pub use seen_laws::{seen_changes_lead_on, seen_changes_one_by_one, seen_stays, types_stand_apart};

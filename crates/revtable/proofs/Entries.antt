@@ -13,7 +13,7 @@ use Rattle.history.specs.History.{Key, Change, Object, Objects, key_cmp, is_same
 use Rattle.revtable.specs.Asked.{as_change}
 use Rattle.history.specs.Kept.{stands}
 use Rattle.history.proofs.Keys.{key_cmp_total, key_cmp_antisymmetric, same}
-use Rattle.revtable.proofs.Filters.{filter_both}
+use Rattle.history.proofs.Lists.{filter_both}
 use Rattle.history.proofs.Standing.{standing_by, standing_is, has_later}
 use Rattle.revtable.proofs.Where.{same_key_symm}
 

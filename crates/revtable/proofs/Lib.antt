@@ -8,7 +8,6 @@ pub mod Numbers
 pub mod Outcomes
 pub mod Pages
 pub mod Keeping
-pub mod Filters
 pub mod Span
 pub mod Where
 pub mod Texts

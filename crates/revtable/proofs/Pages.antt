@@ -30,7 +30,7 @@ use Rattle.revtable.specs.Rows.{change_schema, row_of, shown, IsKept, changes_in
 use Rattle.revtable.proofs.Entries.{Entry, entries_ascend, standing_entries}
 use Rattle.revtable.proofs.Last.{kept_if}
 use Rattle.revtable.proofs.Keeping.{counted_are}
-use Rattle.revtable.proofs.Filters.{filter_both}
+use Rattle.history.proofs.Lists.{filter_both}
 use Rattle.revtable.proofs.Span.{take-map}
 use Rattle.revtable.proofs.Where.{bound_page, bound_in, bound_from, beside, in_tests_are, from_tests_are}
 use Rattle.revtable.proofs.Texts.{page_query, names, later_tests, in_text, in_tests, in_is, in_plain, from_text, from_tests, from_is, from_plain}

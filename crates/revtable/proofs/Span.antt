@@ -21,7 +21,7 @@ use Rattle.history.specs.History.{Change, up_to, later}
 use Rattle.history.specs.Page.{is_within, changes_within}
 use Rattle.revtable.specs.Rows.{change_schema, row_of, shown, IsOrdered, IsKept, changes_in}
 use Rattle.revtable.proofs.Last.{kept_if}
-use Rattle.revtable.proofs.Filters.{filter_both}
+use Rattle.history.proofs.Lists.{filter_both}
 use Rattle.revtable.proofs.Where.{bound_span, is_in_span, span_tests}
 use Rattle.revtable.proofs.Texts.{span_text, span_query, span_is, span_plain}
 
