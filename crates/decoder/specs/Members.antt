@@ -1,10 +1,10 @@
 -- The members of the JSON objects that a reply consists of (Kubernetes API conventions, "Types (Kinds)" and "Metadata").
 -- A member that is null is absent, and an empty text is no text.
-use Rattle.std.specs.Prelude.{ℕ, Bool, false, if◌then◌else◌, List, [], ◌∷◌, Option, Some, None, option_map, option_and_then, is_some, codes, ⊤}
+use Rattle.std.specs.Prelude.{ℕ, Bool, false, if◌then◌else◌, List, [], ◌∷◌, Option, Some, None, option_and_then, is_some, codes, ⊤}
 use Rattle.std.specs.declared.result.Result.{Result}
 use Rattle.std.specs.declared.result.Result.TheVariants.{Ok, Err}
 use Rattle.std.specs.Str.{bytes_eq, is_utf8}
-use Rattle.serde_json.specs.Data.{Data, Members, no_members, member}
+use Rattle.serde_json.specs.Data.{Data, Members}
 use Rattle.serde_json.specs.Find.{get_member, as_null, as_str, as_object}
 use Rattle.serde_json.specs.Read.{read}
 use Rattle.names.specs.Decimals.{version_of}

@@ -1,5 +1,5 @@
 -- Each item that a server tells leaves the client with the server's objects.
-use Rattle.std.proofs.Common.{◌≡◌, ℕ, ◌<◌, ◌≤◌, Bool, true, false, cond, ◌&&◌, T, List, [], ◌∷◌, ◌++◌, refl, sym, ap, subst, ◌∙◌, Option, Some, None, is_some, arith, true≢false, append-nil}
+use Rattle.std.proofs.Common.{◌≡◌, ℕ, ◌<◌, ◌≤◌, Bool, true, false, cond, ◌&&◌, T, List, [], ◌∷◌, ◌++◌, refl, sym, ap, subst, ◌∙◌, Option, Some, None, is_some, arith, true≢false}
 use Rattle.std.specs.Prelude.{nat_lt, nat_le, nat_eq}
 use Rattle.std.specs.FinMap as fin
 use Rattle.indexer.specs.Objects.{place_cmp, Stored}
@@ -7,9 +7,9 @@ use Rattle.wireclient.specs.Reply.{Told}
 use Rattle.decoder.specs.Wanted.{Wanted}
 use Rattle.decoder.specs.Pages.{Page}
 use Rattle.decoder.specs.Lines.{Line, put, deleted, bookmark, error}
-use Rattle.reflector.specs.Client.{Objects, place_in, by_place, max_objects, Cache, Asks, first, next, follow, Client, fresh, kept, notice_of}
+use Rattle.reflector.specs.Client.{Objects, place_in, by_place, max_objects, Cache, Asks, first, next, follow, Client, fresh, notice_of}
 use Rattle.reflector.specs.Items.{News, begun, page, line, over, unfit, said_of_list, said_of_watch}
-use Rattle.reflector.specs.Run.{again, set_aside, is_list, with_page, moved, with_put, with_deleted, with_bookmark, with_line, with_list, with_next, over_at, with_watch, with_item, hears, hears_all, asked, after_cut, closed, taken}
+use Rattle.reflector.specs.Run.{again, set_aside, is_list, with_page, moved, with_line, with_list, with_next, with_watch, with_item, hears, hears_all, asked, after_cut, closed, taken}
 use Rattle.reflector.specs.Follows.{Server, IsCache, IsPart, IsAsked, ListGoes, Lists, LineGoes, WatchGoes, Watches, Comes, Follows, GoesOn}
 
 -- all pages together are the map

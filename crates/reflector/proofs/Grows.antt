@@ -1,5 +1,5 @@
 -- A server that has changed since, and items behind others.
-use Rattle.std.proofs.Common.{◌≡◌, ℕ, ◌<◌, ◌≤◌, List, [], ◌∷◌, ◌++◌, refl, sym, ap, ◌∙◌, Option, Some, None, arith}
+use Rattle.std.proofs.Common.{◌≡◌, ℕ, ◌<◌, ◌≤◌, List, [], ◌∷◌, ◌++◌, sym, ap, ◌∙◌, Option, Some, None, arith}
 use Rattle.std.specs.FinMap as fin
 use Rattle.indexer.specs.Objects.{Stored}
 use Rattle.wireclient.specs.Reply.{Told}

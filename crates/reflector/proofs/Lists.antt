@@ -1,16 +1,15 @@
 -- The pages of a list make the list.
-use Rattle.std.proofs.Common.{◌≡◌, ℕ, ◌+◌, ◌≤◌, Bool, true, false, cond, ◌&&◌, T, List, [], ◌∷◌, ◌++◌, length, map, refl, sym, ap, ap₂, subst, ◌∙◌, Option, Some, None, Ok, arith, append_assoc, le-leb, length-append, eq-eqb, is_lt}
+use Rattle.std.proofs.Common.{◌≡◌, ℕ, ◌+◌, ◌≤◌, Bool, true, false, cond, ◌&&◌, T, List, [], ◌∷◌, ◌++◌, length, refl, sym, ap, ap₂, subst, ◌∙◌, Option, Some, None, Ok, arith, append_assoc, le-leb, length-append, eq-eqb}
 use Rattle.std.proofs.lemmas.List.{map-append, length-map}
-use Rattle.std.specs.Prelude.{nat_le, nat_eq}
 use Rattle.std.specs.FinMap as fin
 use Rattle.std.specs.FinMap.Entries.{below_all}
 use Rattle.indexer.specs.Objects.{Place, place_cmp, Stored}
-use Rattle.wireclient.specs.Reply.{Told, head, whole, end}
+use Rattle.wireclient.specs.Reply.{head, whole, end}
 use Rattle.decoder.specs.Wanted.{Wanted}
 use Rattle.decoder.specs.Pages.{Page, page_in}
 use Rattle.reflector.specs.Client.{Objects, place_in, by_place, max_objects, Notice, Cache, Asks, first, next, follow, Client}
 use Rattle.reflector.specs.Items.{page_or_unfit}
-use Rattle.reflector.specs.Run.{again, set_aside, is_list, with_page, with_list, with_next, hears, hears_all, asked}
+use Rattle.reflector.specs.Run.{again, set_aside, is_list, with_page, with_list, with_next, hears, hears_all}
 use Rattle.reflector.specs.Lists.{answered, Leaves, ArePages}
 use Rattle.reflector.proofs.Follows.{all_of}
 

@@ -6,7 +6,7 @@ use Rattle.wireclient.specs.Reply.{Told}
 use Rattle.decoder.specs.Wanted.{Wanted}
 use Rattle.decoder.specs.Lines.{Line, put, deleted, bookmark, error}
 use Rattle.reflector.specs.Client.{Objects, place_in, by_place, Cache, Asks, first, next, follow, Client}
-use Rattle.reflector.specs.Items.{News, begun, page, line, over, unfit, said_of_list, said_of_watch}
+use Rattle.reflector.specs.Items.{News, begun, page, line, said_of_list, said_of_watch}
 
 -- the objects at each revision, as the client's lists and watches see them; the last revision; and whether a token is
 -- the one that goes on behind these objects of the list at a revision

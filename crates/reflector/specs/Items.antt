@@ -1,5 +1,5 @@
 -- What an item of a reply says to a client that asks a list or a watch. All that doesn't fit the question says the same.
-use Rattle.std.specs.Prelude.{ℕ, Bool, true, false, ◌==◌, if◌then◌else◌, List}
+use Rattle.std.specs.Prelude.{◌==◌, if◌then◌else◌}
 use Rattle.std.specs.declared.result.Result.TheVariants.{Ok, Err}
 use Rattle.wireclient.specs.Reply.{Told, head, whole, end, malformed}
 use Rattle.wireclient.specs.Reply as reply
