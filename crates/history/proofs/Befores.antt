@@ -6,7 +6,8 @@ use Rattle.std.specs.Prelude.{nat_le}
 use Rattle.std.specs.List.{flat_map}
 use Rattle.std.specs.FinMap as fin
 use Rattle.history.specs.History.{Key, Objects, Change, changed, up_to, later, state_at, IsRising}
-use Rattle.history.specs.Seen.{Selection, if_wanted, seen_by, seen_of, seen_among, seen_changes}
+use Rattle.history.specs.Seen.{Selection, if_wanted, seen_by, seen_of, seen_among, seen_changes, seen_in}
+use Rattle.history.specs.View.{IsView, View, state_in}
 use Rattle.history.proofs.Lists.{flat_map-filter}
 use Rattle.history.proofs.Revisions.{rising-filter, up_to-below, later-below, up_to-keeps, later-drops, changed-append}
 
@@ -41,20 +42,25 @@ up_to_before lo top (d ∷ xs) ys c rise =
     let a : d.revision < c.revision = rising_to d.revision top xs ys c rise.1 in
     up_to-keeps (c.revision - 1) d (xs ++ c ∷ ys) (omega arith) ∙ ap (λ ds. d ∷ ds) (up_to_before d.revision top xs ys c rise.1)
 
-by_befores : (wanted : Selection) (top : ℕ) (cs xs ds ys : List Change) → cs ≡ xs ++ (ds ++ ys) → IsRising 0 cs top
-    → seen_among wanted (changed fin.empty xs) ds ≡ flat_map (λ c. seen_of wanted (state_at cs (c.revision - 1)) c) ds
-by_befores wanted top cs xs [] ys is rise = refl
-by_befores wanted top cs xs (c ∷ ds) ys is rise =
-    let before : state_at cs (c.revision - 1) ≡ changed fin.empty xs =
-    ap (λ l. changed fin.empty (up_to (c.revision - 1) l)) is ∙ ap (changed fin.empty) (up_to_before 0 top xs (ds ++ ys) c (subst (λ l. IsRising 0 l top) is rise)) in
-    ap₂ (λ a b. a ++ b) (ap (λ s. seen_of wanted s c) (sym before))
-    (ap (λ s. seen_among wanted s ds) (sym (changed-append fin.empty xs (c ∷ []))) ∙ by_befores wanted top cs (xs ++ c ∷ []) ds ys (is ∙ sym (append_assoc xs (c ∷ []) (ds ++ ys))) rise)
+-- from any objects, as those at a view's compacted number
+by_befores : (wanted : Selection) (s : Objects) (lo top : ℕ) (cs xs ds ys : List Change) → cs ≡ xs ++ (ds ++ ys) → IsRising lo cs top
+    → seen_among wanted (changed s xs) ds ≡ flat_map (λ c. seen_of wanted (changed s (up_to (c.revision - 1) cs)) c) ds
+by_befores wanted s lo top cs xs [] ys is rise = refl
+by_befores wanted s lo top cs xs (c ∷ ds) ys is rise =
+    let before : changed s (up_to (c.revision - 1) cs) ≡ changed s xs =
+    ap (λ l. changed s (up_to (c.revision - 1) l)) is ∙ ap (changed s) (up_to_before lo top xs (ds ++ ys) c (subst (λ l. IsRising lo l top) is rise)) in
+    ap₂ (λ a b. a ++ b) (ap (λ t. seen_of wanted t c) (sym before))
+    (ap (λ t. seen_among wanted t ds) (sym (changed-append s xs (c ∷ []))) ∙ by_befores wanted s lo top cs (xs ++ c ∷ []) ds ys (is ∙ sym (append_assoc xs (c ∷ []) (ds ++ ys))) rise)
+
+one_by_one : (wanted : Selection) (s : Objects) (lo top : ℕ) (cs : List Change) (r q : ℕ) → IsRising lo cs top
+    → seen_among wanted (changed s (up_to r cs)) (up_to q (later r cs)) ≡ flat_map (λ c. seen_of wanted (changed s (up_to (c.revision - 1) cs)) c) (up_to q (later r cs))
+one_by_one wanted s lo top cs r q rise =
+    by_befores wanted s lo top cs (up_to r cs) (up_to q (later r cs)) (later q (later r cs))
+    (cut_at lo r top cs rise ∙ ap (λ l. up_to r cs ++ l) (cut_at lo q top (later r cs) (rising-filter _ lo top cs rise))) rise
 
 pub seen_one_by_one : (wanted : Selection) (cs : List Change) (top r q : ℕ) → IsRising 0 cs top
     → seen_changes wanted cs r q ≡ flat_map (λ c. seen_of wanted (state_at cs (c.revision - 1)) c) (up_to q (later r cs))
-seen_one_by_one wanted cs top r q rise =
-    by_befores wanted top cs (up_to r cs) (up_to q (later r cs)) (later q (later r cs))
-    (cut_at 0 r top cs rise ∙ ap (λ l. up_to r cs ++ l) (cut_at 0 q top (later r cs) (rising-filter _ 0 top cs rise))) rise
+seen_one_by_one wanted cs top r q rise = one_by_one wanted fin.empty 0 top cs r q rise
 
 -- ---- of some keys alone
 
@@ -72,8 +78,19 @@ unwanted wanted own within k none (Some b) = go (wanted k b) refl
 pub unseen : (wanted : Selection) (own : Key → Bool) → Within wanted own → (s : Objects) (c : Change) → own c.key ≡ false → seen_of wanted s c ≡ []
 unseen wanted own within s c none = ap₂ (λ a b. seen_by c.revision c.key a b) (unwanted wanted own within c.key none _) (unwanted wanted own within c.key none c.body)
 
+own_alone : (wanted : Selection) (own : Key → Bool) → Within wanted own → (before : Change → Objects) (cs : List Change)
+    → flat_map (λ c. seen_of wanted (before c) c) cs ≡ flat_map (λ c. seen_of wanted (before c) c) (filter (λ c. own c.key) cs)
+own_alone wanted own within before cs =
+    sym (flat_map-filter (λ c. seen_of wanted (before c) c) (λ c. seen_of wanted (before c) c) (λ c. own c.key) (λ c _. refl) (λ c none. unseen wanted own within (before c) c none) cs)
+
 pub seen_of_own : (wanted : Selection) (own : Key → Bool) (cs : List Change) (top r q : ℕ) → Within wanted own → IsRising 0 cs top
     → seen_changes wanted cs r q ≡ flat_map (λ c. seen_of wanted (state_at cs (c.revision - 1)) c) (filter (λ c. own c.key) (up_to q (later r cs)))
 seen_of_own wanted own cs top r q within rise =
-    seen_one_by_one wanted cs top r q rise
-    ∙ sym (flat_map-filter _ (λ c. seen_of wanted (state_at cs (c.revision - 1)) c) (λ c. own c.key) (λ c _. refl) (λ c none. unseen wanted own within (state_at cs (c.revision - 1)) c none) (up_to q (later r cs)))
+    seen_one_by_one wanted cs top r q rise ∙ own_alone wanted own within (λ c. state_at cs (c.revision - 1)) (up_to q (later r cs))
+
+-- ---- the same, of a view
+
+pub view_one_by_one : (wanted : Selection) (own : Key → Bool) (v : View) (r q : ℕ) → Within wanted own → IsView v
+    → seen_in wanted v r q ≡ flat_map (λ c. seen_of wanted (state_in v (c.revision - 1)) c) (filter (λ c. own c.key) (up_to q (later r v.changes)))
+view_one_by_one wanted own v r q within is =
+    one_by_one wanted v.base v.compacted v.current v.changes r q is.rising ∙ own_alone wanted own within (λ c. state_in v (c.revision - 1)) (up_to q (later r v.changes))

@@ -1,14 +1,14 @@
 -- The kept changes have the same states and the same view.
 use Rattle.std.proofs.Common.{◌≡◌, ℕ, ◌<◌, ◌≤◌, Bool, true, false, cond, not, ◌&&◌, ◌||◌, List, [], ◌∷◌, refl, sym, ap, ◌∙◌, Option, Some, None, arith, is_some}
-use Rattle.std.proofs.Common.{ltb-true, ltb-false, le-leb, true≢false}
+use Rattle.std.proofs.Common.{ltb-true, ltb-false, le-leb, true≢false, zero-le}
 use Rattle.std.proofs.lemmas.Bool.{lt-leb}
 use Rattle.std.specs.Prelude.{nat_le, nat_lt}
 use Rattle.std.specs.FinMap as fin
 use Rattle.history.specs.History.{Key, key_cmp, Object, Objects, Change, History, IsHistory, object_by, left_by, is_same_key, put_or_remove, changed, up_to, later, state_at, IsRising}
 use Rattle.history.specs.Kept.{kept, pruned}
-use Rattle.history.specs.View.{view, state_in}
+use Rattle.history.specs.View.{IsView, view, state_in}
 use Rattle.history.proofs.Keys.{same, tied, get-put_or_remove}
-use Rattle.history.proofs.Revisions.{up_to-keeps, up_to-split, later-drops, changed-append}
+use Rattle.history.proofs.Revisions.{up_to-keeps, up_to-split, later-drops, rising-later, changed-append}
 use Rattle.history.proofs.Standing.{has_later, kept_by, kept_is}
 
 -- the last word of these changes on a key
@@ -152,6 +152,9 @@ state_in_is c r top cs rise h = sym (changed-append fin.empty (up_to c cs) (up_t
 -- the view gives each state from the compacted number on
 pub view_states : (h : History) (r : ℕ) → IsHistory h → h.compacted ≤ r → state_in (view h) r ≡ state_at h.changes r
 view_states h r is above = state_in_is h.compacted r h.current h.changes is.rising above
+
+pub sound_view : (h : History) → IsHistory h → IsView (view h)
+sound_view h is = record { rising = rising-later 0 h.compacted h.current h.changes zero-le is.low is.rising; high = is.high }
 
 -- the view depends on the kept changes and the two numbers alone
 pub kept_view : (h : History) → IsHistory h → view (pruned h.compacted h) ≡ view h

@@ -1,6 +1,6 @@
 -- All that a call may see of a history: the objects at the compacted number, and the changes after it.
-use Rattle.std.specs.Prelude.{ℕ, suc, List, [], ◌∷◌, ◌++◌, Option}
-use Rattle.history.specs.History.{Key, Objects, Change, History, changed, up_to, later, state_at}
+use Rattle.std.specs.Prelude.{ℕ, suc, ◌≤◌, List, [], ◌∷◌, ◌++◌, Option}
+use Rattle.history.specs.History.{Key, Objects, Change, History, IsRising, changed, last_revision, up_to, later, state_at}
 
 pub record View : Type 0 where
   pub current : ℕ
@@ -10,6 +10,11 @@ pub record View : Type 0 where
 
 abbrev pub view : History → View
 view h = record { current = h.current; compacted = h.compacted; base = state_at h.changes h.compacted; changes = later h.compacted h.changes }
+
+-- its changes are after the compacted number, each revision above the last, and none above the current one
+pub record IsView (v : View) : Type 0 where
+  pub rising : IsRising v.compacted v.changes v.current
+  pub high : v.current ≤ last_revision
 
 -- the objects at a revision from the compacted one on
 abbrev pub state_in : View → ℕ → Objects

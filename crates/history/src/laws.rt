@@ -4,7 +4,7 @@ ghost use Rattle.std.specs.Prelude.{◌≡◌, ℕ, suc, ◌≤◌, true, List, 
 ghost use Rattle.std.specs.FinMap as fin;
 ghost use Rattle.history.specs.History.{History, IsHistory, Key, compacted_to, fresh, last_revision, later, standing, state_at, written};
 ghost use Rattle.history.specs.Kept.{IsPruned, pruned};
-ghost use Rattle.history.specs.View.{compacted_in, state_in, view, written_in};
+ghost use Rattle.history.specs.View.{IsView, compacted_in, state_in, view, written_in};
 ghost use Rattle.history.specs.Whole.{IsWhole};
 
 /// From the compacted number on, the kept changes have the same states and the same later changes, so the view
@@ -14,6 +14,7 @@ pub fn view_of_kept()
     ensures later { (h : History) (c r : ℕ) → IsHistory h → c ≤ r → later r (pruned c h).changes ≡ later r h.changes }
     ensures same { (h : History) → IsHistory h → view (pruned h.compacted h) ≡ view h }
     ensures within { (h : History) (r : ℕ) → IsHistory h → h.compacted ≤ r → state_in (view h) r ≡ state_at h.changes r }
+    ensures sound { (h : History) → IsHistory h → IsView (view h) }
 {}
 
 /// A write and a compaction of a history are seen as a write and a compaction of its view.

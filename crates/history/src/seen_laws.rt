@@ -6,7 +6,7 @@ ghost use Rattle.std.specs.List.{flat_map};
 ghost use Rattle.history.specs.History.{Change, History, IsHistory, IsRising, Key, Objects, changed, later, state_at, up_to, written};
 ghost use Rattle.history.specs.Kept.{pruned};
 ghost use Rattle.history.specs.Seen.{IsNextSeen, SeenChange, Selection, all_added, put_all_seen, seen_among, seen_at, seen_changes, seen_in, seen_of, selected};
-ghost use Rattle.history.specs.View.{state_in, view};
+ghost use Rattle.history.specs.View.{IsView, View, state_in, view};
 
 /// What is seen of changes makes of the selected objects before them the selected objects after them. So whoever
 /// has the list of a revision and puts what is seen after it has the list of each later revision; where nothing is
@@ -21,11 +21,13 @@ pub fn seen_changes_lead_on()
 {}
 
 /// What is seen, change by change: each by what stood just before its revision; and changes of keys outside the
-/// selection can be left out.
+/// selection can be left out. The same holds of a view.
 pub fn seen_changes_one_by_one()
     ensures each { (wanted : Selection) (cs : List Change) (top r q : ℕ) → IsRising 0 cs top → seen_changes wanted cs r q ≡ flat_map (λ c. seen_of wanted (state_at cs (c.revision - 1)) c) (up_to q (later r cs)) }
     ensures inside { (wanted : Selection) (own : Key → Bool) (cs : List Change) (top r q : ℕ) → ((k : Key) (body : List ℕ) → wanted k body ≡ true → own k ≡ true) → IsRising 0 cs top
         → seen_changes wanted cs r q ≡ flat_map (λ c. seen_of wanted (state_at cs (c.revision - 1)) c) (filter (λ c. own c.key) (up_to q (later r cs))) }
+    ensures in_view { (wanted : Selection) (own : Key → Bool) (v : View) (r q : ℕ) → ((k : Key) (body : List ℕ) → wanted k body ≡ true → own k ≡ true) → IsView v
+        → seen_in wanted v r q ≡ flat_map (λ c. seen_of wanted (state_in v (c.revision - 1)) c) (filter (λ c. own c.key) (up_to q (later r v.changes))) }
 {}
 
 /// What was seen stays so after a write; from the compacted number on it stays so after a compaction; and a view

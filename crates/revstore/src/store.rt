@@ -4,7 +4,7 @@ ghost use Rattle.history.specs.History.{last_revision, later};
 ghost use Rattle.history.specs.Page.{changes_within, listed, page, picked};
 ghost use Rattle.history.specs.Read.{key_of};
 ghost use Rattle.revtable.specs.Read.{change_of, entry_of, object_of};
-ghost use Rattle.history.specs.View.{compacted_in, state_in, view, written_in};
+ghost use Rattle.history.specs.View.{IsView, compacted_in, state_in, view, written_in};
 
 use crate::fault::{ChangesFault, CompactFault, ListFault, WriteFault};
 use history::Key;
@@ -45,7 +45,8 @@ impl Store {
 
     /// The revision that stands now.
     pub fn current(&self) -> u64
-        ensures { result ≡ self.now.current }
+        ensures current { result ≡ self.now.current }
+        ensures sound { IsView self.now }
     {
         self.table.marks().current
     }

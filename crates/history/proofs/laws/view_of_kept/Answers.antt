@@ -1,4 +1,4 @@
-use Rattle.history.proofs.Views.{kept_states, kept_later, kept_view, view_states}
+use Rattle.history.proofs.Views.{kept_states, kept_later, kept_view, sound_view, view_states}
 use Rattle.history.proofs.laws.view_of_kept.Goals as goal
 
 pub returns : goal.returns
@@ -7,4 +7,5 @@ returns c = record {
   later = λ h c r is le. kept_later c r h.current h.changes is.rising le;
   same = kept_view;
   within = view_states;
+  sound = sound_view;
 }
