@@ -1,10 +1,10 @@
 -- What is seen between two revisions, from one seen change to the next.
-use Rattle.std.proofs.Common.{◌≡◌, ℕ, ◌<◌, ◌≤◌, List, [], ◌∷◌, ◌++◌, refl, sym, ap, ◌∙◌, Option, Some, None, arith, zero-le, ◌⊎◌, inl, inr}
+use Rattle.std.proofs.Common.{◌≡◌, ℕ, zero, suc, ◌<◌, ◌≤◌, take, drop, List, [], ◌∷◌, ◌++◌, refl, sym, ap, ◌∙◌, Option, Some, None, arith, zero-le, ◌⊎◌, inl, inr}
 use Rattle.std.specs.Prelude.{nat_le, nat_lt, option_map}
 use Rattle.std.specs.FinMap as fin
 use Rattle.history.specs.History.{Objects, Key, Change, left_by, put_or_remove, changed, up_to, later, state_at, IsRising, History, IsHistory}
 use Rattle.history.specs.Kept.{kept}
-use Rattle.history.specs.Seen.{Selection, SeenChange, if_wanted, seen_by, seen_of, seen_among, seen_changes, seen_at, selected, put_all_seen, seen_in, IsNextSeen}
+use Rattle.history.specs.Seen.{Selection, SeenChange, if_wanted, seen_by, seen_of, seen_among, seen_changes, seen_at, selected, put_all_seen, reached, seen_in, IsNextSeen}
 use Rattle.history.specs.View.{view}
 use Rattle.history.proofs.Revisions.{rising_ends, rising-later, up_to-below, later-below, up_to-all, up_to-keeps, later-drops, later-later, state_at-push, up_to-push}
 use Rattle.history.proofs.Selecting.{changes_apply}
@@ -90,6 +90,23 @@ next_seen wanted cs top p x xs rise h is =
       rest = ap (seen_among wanted (state_at cs x.object.revision)) (up_to-all x.object.revision top top (later x.object.revision cs) (omega arith) rise_x ∙ sym (later-later p x.object.revision cs b))
           ∙ ap (λ s. seen_among wanted s (later x.object.revision (later p cs))) (sym state) ∙ first.others;
     }
+
+-- a front of what is seen after p leads to where a watch then stands, and the others are what is seen after that
+pub record IsFrontSeen (wanted : Selection) (cs : List Change) (top p n : ℕ) (xs : List SeenChange) : Type 0 where
+  pub leads : put_all_seen (seen_at wanted cs p) (take n xs) ≡ seen_at wanted cs (reached p (take n xs))
+  pub left : seen_changes wanted cs (reached p (take n xs)) top ≡ drop n xs
+  pub low : p ≤ reached p (take n xs)
+  pub high : reached p (take n xs) ≤ top
+
+pub front_seen : (wanted : Selection) (cs : List Change) (top n p : ℕ) (xs : List SeenChange) → IsRising 0 cs top → p ≤ top → seen_changes wanted cs p top ≡ xs → IsFrontSeen wanted cs top p n xs
+front_seen wanted cs top zero p xs rise h is = record { leads = refl; left = is; low = omega arith; high = h }
+front_seen wanted cs top (suc n) p [] rise h is = record { leads = refl; left = is; low = omega arith; high = h }
+front_seen wanted cs top (suc n) p (x ∷ xs) rise h is =
+    let next : IsNextSeen wanted cs top p x xs = next_seen wanted cs top p x xs rise h is in
+    let others : IsFrontSeen wanted cs top x.object.revision n xs = front_seen wanted cs top n x.object.revision xs rise next.within next.rest in
+    let a : p < x.object.revision = next.above in
+    let b : x.object.revision ≤ reached x.object.revision (take n xs) = others.low in
+    record { leads = ap (λ s. put_all_seen s (take n xs)) next.applies ∙ others.leads; left = others.left; low = omega arith; high = others.high }
 
 pub none_seen : (wanted : Selection) (cs : List Change) (top r q : ℕ) → IsRising 0 cs top → r ≤ q → seen_changes wanted cs r q ≡ [] → seen_at wanted cs q ≡ seen_at wanted cs r
 none_seen wanted cs top r q rise h none = sym (between wanted cs top r q rise h) ∙ ap (put_all_seen (seen_at wanted cs r)) none

@@ -79,6 +79,11 @@ abbrev pub put_all_seen : Objects → List SeenChange → Objects
 put_all_seen s [] = s
 put_all_seen s (x ∷ xs) = put_all_seen (put_seen s x) xs
 
+-- the revision of the last of these, or p where there is none: where a watch that began at p stands after them
+abbrev pub reached : ℕ → List SeenChange → ℕ
+reached p [] = p
+reached p (x ∷ xs) = reached x.object.revision xs
+
 -- the first change seen after p is x, and those after it are the others: up to x nothing else is seen
 pub record IsNextSeen (wanted : Selection) (cs : List Change) (top p : ℕ) (x : SeenChange) (others : List SeenChange) : Type 0 where
   pub above : p < x.object.revision

@@ -1,22 +1,26 @@
 //! Laws of what a list and a watch see. Each function does nothing; what it promises is the law.
 
-ghost use Rattle.std.specs.Prelude.{◌≡◌, [], ◌∷◌, ◌++◌, ◌&&◌, true, ℕ, ◌-◌, ◌≤◌, Bool, List, Option, cond, filter};
+ghost use Rattle.std.specs.Prelude.{◌≡◌, [], ◌∷◌, ◌++◌, ◌&&◌, true, ℕ, ◌-◌, ◌≤◌, Bool, List, Option, cond, drop, filter, take};
 ghost use Rattle.std.specs.FinMap as fin;
 ghost use Rattle.std.specs.List.{flat_map};
 ghost use Rattle.history.specs.History.{Change, History, IsHistory, IsRising, Key, Objects, changed, later, state_at, up_to, written};
 ghost use Rattle.history.specs.Kept.{pruned};
-ghost use Rattle.history.specs.Seen.{IsNextSeen, SeenChange, Selection, all_added, put_all_seen, seen_among, seen_at, seen_changes, seen_in, seen_of, selected};
+ghost use Rattle.history.specs.Seen.{IsNextSeen, SeenChange, Selection, all_added, put_all_seen, reached, seen_among, seen_at, seen_changes, seen_in, seen_of, selected};
 ghost use Rattle.history.specs.View.{IsView, View, state_in, view};
 
 /// What is seen of changes makes of the selected objects before them the selected objects after them. So whoever
 /// has the list of a revision and puts what is seen after it has the list of each later revision; where nothing is
-/// seen the list stays. One step of it is the next seen change; and what a watch without a version begins with
-/// makes the list itself.
+/// seen the list stays. One step of it is the next seen change, and so is any front of what is seen: the others are
+/// what is seen after the front's last revision. What a watch without a version begins with makes the list itself.
 pub fn seen_changes_lead_on()
     ensures changes { (wanted : Selection) (s : Objects) (cs : List Change) → put_all_seen (selected wanted s) (seen_among wanted s cs) ≡ selected wanted (changed s cs) }
     ensures between { (wanted : Selection) (cs : List Change) (top r q : ℕ) → IsRising 0 cs top → r ≤ q → put_all_seen (seen_at wanted cs r) (seen_changes wanted cs r q) ≡ seen_at wanted cs q }
     ensures stays { (wanted : Selection) (cs : List Change) (top r q : ℕ) → IsRising 0 cs top → r ≤ q → seen_changes wanted cs r q ≡ [] → seen_at wanted cs q ≡ seen_at wanted cs r }
     ensures next { (wanted : Selection) (cs : List Change) (top p : ℕ) (x : SeenChange) (others : List SeenChange) → IsRising 0 cs top → p ≤ top → seen_changes wanted cs p top ≡ x ∷ others → IsNextSeen wanted cs top p x others }
+    ensures front { (wanted : Selection) (cs : List Change) (top p n : ℕ) → IsRising 0 cs top → p ≤ top
+        → put_all_seen (seen_at wanted cs p) (take n (seen_changes wanted cs p top)) ≡ seen_at wanted cs (reached p (take n (seen_changes wanted cs p top))) }
+    ensures left { (wanted : Selection) (cs : List Change) (top p n : ℕ) → IsRising 0 cs top → p ≤ top
+        → seen_changes wanted cs (reached p (take n (seen_changes wanted cs p top))) top ≡ drop n (seen_changes wanted cs p top) }
     ensures added { (s : Objects) → put_all_seen fin.empty (all_added s) ≡ s }
 {}
 
