@@ -4,3 +4,4 @@ pub mod Run
 pub mod Requests
 pub mod Follows
 pub mod Lists
+pub mod Replays

@@ -4,10 +4,11 @@ ghost use Rattle.std.specs.Prelude.{◌≡◌, ◌≤◌, ℕ, true, List, [], �
 ghost use Rattle.std.specs.FinMap as fin;
 ghost use Rattle.wireclient.specs.Reply.{Told};
 ghost use Rattle.decoder.specs.Wanted.{Wanted};
-ghost use Rattle.reflector.specs.Client.{Client, Objects, first, follow, kept, max_objects};
+ghost use Rattle.reflector.specs.Client.{Client, Objects, first, follow, fresh, kept, max_objects};
 ghost use Rattle.reflector.specs.Run.{again, asked, closed, hears_all, restarted, taken};
 ghost use Rattle.reflector.specs.Follows.{Server, Comes, Follows, GoesOn, IsLater, Watches};
 ghost use Rattle.reflector.specs.Lists.{ArePages, answered};
+ghost use Rattle.reflector.specs.Replays.{ArePlaced, Tells};
 
 /// Whatever comes of what a server answers, and whatever else happens, the client's objects are the server's at the
 /// revision that it reports, and that revision never falls: after any of the items (`heard`), in whichever parts; after
@@ -30,4 +31,11 @@ pub fn follows_the_server()
 /// objects at r.
 pub fn takes_whole_lists()
     ensures { (wanted : Wanted) (c : Client) (o : Objects) (r : ℕ) (bodies : List (List ℕ)) → c.asks ≡ first → ArePages wanted o r [] bodies → fin.len o ≤ max_objects → (answered wanted c bodies).cache ≡ Some (record { revision = r; objects = o }) }
+{}
+
+/// The notices that came with the items, replayed on the objects before them, give the objects after them: the same
+/// text at each place.
+pub fn notices_tell()
+    ensures heard { (wanted : Wanted) (c : Client) (xs : List Told) → ArePlaced (kept c.cache) → Tells c (hears_all wanted c xs) }
+    ensures fresh { ArePlaced (kept fresh.cache) }
 {}

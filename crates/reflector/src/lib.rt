@@ -10,4 +10,4 @@
 
 mod laws;
 
-pub use laws::{follows_the_server, takes_whole_lists};
+pub use laws::{follows_the_server, notices_tell, takes_whole_lists};
