@@ -111,7 +111,7 @@ module _ (live : State) (new : Content) (m : Manager) where
       let both = sym (set.contains-difference path_cmp_total (owned_by live.owners k) lost p) ∙ ap (λ s. set.contains s p) (sym (owned_other live.owners m lost mine k other)) ∙ is in
       stays_there p (before k p (left_true (set.contains (owned_by live.owners k) p) _ both)) (not_lost p (not_true (set.contains lost p) (right_true (set.contains (owned_by live.owners k) p) _ both)))
 
-  updated_stand : OwnedStand live → OwnedStand (updated live new m)
+  pub updated_stand : OwnedStand live → OwnedStand (updated live new m)
   unfolding updated
   updated_stand before k p is = owned_stand_by before k p (is_same m k) refl is
 

@@ -1,5 +1,5 @@
 -- Lists of entries: the others of a manager, and a manager's place.
-use Rattle.std.proofs.Common.{◌≡◌, ℕ, suc, ◌+◌, ◌<◌, Bool, true, false, not, cond, List, [], ◌∷◌, ◌++◌, length, map, take, drop, get_or, refl, sym, ap, ap₂, ◌∙◌, Ordering, Less, Equal, Greater, arith, drop-cons, add-one, append-nil, is_eq, ◌≤◌, zero, IsTrue, ◌↔◌, ◌==◌, true≢false, T, ◌&&◌, subst}
+use Rattle.std.proofs.Common.{◌≡◌, ℕ, suc, ◌+◌, ◌<◌, Bool, true, false, not, cond, List, [], ◌∷◌, ◌++◌, length, map, take, drop, get_or, is_some, refl, sym, ap, ap₂, ◌∙◌, Ordering, Less, Equal, Greater, arith, drop-cons, add-one, append-nil, is_eq, ◌≤◌, zero, IsTrue, ◌↔◌, ◌==◌, true≢false, T, ◌&&◌, subst}
 use Rattle.std.specs.FinMap as fin
 use Rattle.std.specs.Prelude.{filter}
 use Rattle.std.specs.Ordering.{match_ordering}
@@ -11,7 +11,7 @@ use Rattle.std.specs.FinMap.Entries.{below_all}
 use Rattle.pathmap.proofs.Contents.{path_cmp_total, path_cmp_antisymmetric}
 use Rattle.fieldpath.specs.Paths.{PathTexts, path_cmp}
 use Rattle.pathmap.specs.Contents.{PathSet}
-use Rattle.ownership.specs.Owners.{Manager, is_same, is_empty, less, others, with_owner, taken_over}
+use Rattle.ownership.specs.Owners.{Manager, HavePaths, is_same, is_empty, less, others, with_owner, taken_over}
 use Rattle.ownership.specs.Managers.{pair, pairs}
 use Rattle.ownership.specs.Ranks.{rank}
 use Rattle.ownership.specs.declared.managers.Entry.{Entry}
@@ -93,6 +93,9 @@ entries-empty = none (fin.entries fin.empty) (sym (fin.len-entries fin.empty) �
     none : (es : Pairs) → length es ≡ 0 → es ≡ []
     none [] e = refl
     none (x ∷ es) e = absurd (omega arith)
+
+pub none_have_paths : HavePaths (fin.from_entries {R = path_cmp} [])
+none_have_paths m paths is = absurd (true≢false (sym (ap is_some (sym (fin.get-from_entries path_cmp_total [] m) ∙ is))))
 
 -- ---- order
 

@@ -6,6 +6,7 @@ pub mod Clearing
 pub mod Keeping
 pub mod Ends
 pub mod Leaves
+pub mod Placed
 pub mod Clauses
 pub mod Changing
 pub mod Objects

@@ -1,5 +1,5 @@
 -- Who owns what, once a manager has taken over.
-use Rattle.std.proofs.Common.{◌≡◌, Bool, true, false, cond, not, ◌&&◌, [], ◌∷◌, Option, Some, None, refl, sym, ap, ◌∙◌, subst, T, is_lt}
+use Rattle.std.proofs.Common.{◌≡◌, Bool, true, false, cond, not, ◌&&◌, [], ◌∷◌, Option, Some, None, is_some, refl, sym, ap, ◌∙◌, subst, T, is_lt, true≢false}
 use Rattle.std.specs.FinMap as fin
 use Rattle.std.specs.FinMap.{find, is_sorted}
 use Rattle.std.specs.FinMap.Entries.{below_all, find-where_key}
@@ -11,7 +11,7 @@ use Rattle.fieldpath.specs.Paths.{path_cmp}
 use Rattle.pathmap.specs.Contents.{PathSet}
 use Rattle.pathmap.proofs.Contents.{path_cmp_total, path_cmp_antisymmetric}
 use Rattle.pathmap.proofs.Sets.{same_paths}
-use Rattle.ownership.specs.Owners.{Manager, Owners, is_same, is_empty, owned_by, others, less, with_owner, taken_over}
+use Rattle.ownership.specs.Owners.{Manager, Owners, HavePaths, is_same, is_empty, owned_by, others, less, with_owner, taken_over}
 use Rattle.ownership.proofs.Entries.{Pairs, fst, snd, is_other, is_sorted-filter}
 use Rattle.ownership.proofs.Sameness.{no_paths, same_manager-is, same_manager-itself}
 
@@ -109,6 +109,22 @@ get-taken_over w m lost mine q = by_test (less lost (others w m)) (find-base w m
     by_test base is false some =
         fin.get-insert path_cmp_total (fin.from_entries base) m mine q ∙ ap (λ o. cond (eq_by_cmp path_cmp q m) (Some mine) o) (fin.get-from_entries path_cmp_total base q ∙ is)
         ∙ ap (λ b. cond b (Some mine) (cond (is_same m q) None (kept_less lost (fin.get w q)))) (same_turned m q) ∙ once (is_same m q) ∙ ap (λ o. cond (is_same m q) o (kept_less lost (fin.get w q))) (sym (ap (λ b. cond b None (Some mine)) some))
+
+kept_have_path : (s t : PathSet) → kept s ≡ Some t → is_empty t ≡ false
+kept_have_path s t h = by_test (is_empty s) refl h
+  where
+    by_test : (b : Bool) → is_empty s ≡ b → cond b None (Some s) ≡ Some t → is_empty t ≡ false
+    by_test true is h = absurd (true≢false (sym (ap is_some h)))
+    by_test false is h = ap is_empty (sym (ap (λ o. unwrap_or o s) h)) ∙ is
+
+-- each entry then has a path
+pub taken_have_paths : (w : Owners) (m : Manager) (lost mine : PathSet) → HavePaths (taken_over w m lost mine)
+taken_have_paths w m lost mine k t h = by_manager (is_same m k) (fin.get w k) (sym (get-taken_over w m lost mine k) ∙ h)
+  where
+    by_manager : (b : Bool) (o : Option PathSet) → cond b (kept mine) (kept_less lost o) ≡ Some t → is_empty t ≡ false
+    by_manager true o h = kept_have_path mine t h
+    by_manager false None h = absurd (true≢false (sym (ap is_some h)))
+    by_manager false (Some s) h = kept_have_path (set.difference s lost) t h
 
 -- the manager owns just what is given it
 pub owned_mine : (w : Owners) (m : Manager) (lost mine : PathSet) → owned_by (taken_over w m lost mine) m ≡ mine

@@ -8,7 +8,8 @@ use Rattle.schema.specs.Place.{place_of}
 use Rattle.schema.specs.Shape.{Shape}
 use Rattle.schema.specs.declared.place.Place.{Place}
 use Rattle.schema.specs.declared.place.Place.TheVariants.{Leaf, SetItem, MapItem}
-use Rattle.ownership.specs.Owners.{Manager, owned_by}
+use Rattle.typed.specs.Fitting.{IsContent}
+use Rattle.ownership.specs.Owners.{Manager, HavePaths, owned_by}
 use Rattle.ownership.specs.Apply.{State, conflicts, applied}
 
 abbrev pub Stands : Content → PathTexts → Type 0
@@ -24,6 +25,14 @@ OthersKeep old new m = (k : Manager) (p : PathTexts) → ¬ (k ≡ m) → Owns o
 -- each owned path is in the content
 abbrev pub OwnedStand : State → Type 0
 OwnedStand state = (k : Manager) (p : PathTexts) → Owns state k p → Stands state.content p
+
+-- each manager with an entry owns a path, and each owned path is in the content
+abbrev pub OwnersWithin : State → Type 0
+OwnersWithin state = HavePaths state.owners × OwnedStand state
+
+-- a content of the schema, and owners of its paths
+abbrev pub IsPlacedState : Shape → State → Type 0
+IsPlacedState s state = IsContent s state.content × OwnersWithin state
 
 -- each path of the content has a place in the schema
 abbrev pub HasPlaces : Shape → Content → Type 0

@@ -1,5 +1,5 @@
 -- Who owns which paths. Server-Side Apply, "Field management": a manager is a name and an operation (`Apply` or `Update`), with a subresource where it wrote by one.
-use Rattle.std.specs.Prelude.{ℕ, Bool, not, List, [], ◌∷◌, filter, map, unwrap_or, if◌then◌else◌, codes, ◌==◌}
+use Rattle.std.specs.Prelude.{◌≡◌, ℕ, Bool, false, not, List, [], ◌∷◌, Some, filter, map, unwrap_or, if◌then◌else◌, codes, ◌==◌}
 use Rattle.std.specs.Coded.{Coded}
 use Rattle.std.specs.Ordering.{eq_by_cmp}
 use Rattle.std.specs.FinMap as fin
@@ -41,6 +41,10 @@ others w m = filter (λ e. not (is_same m e.0)) (fin.entries w)
 
 abbrev pub is_empty : PathSet → Bool
 is_empty s = set.len s == 0
+
+-- each entry has a path
+abbrev pub HavePaths : Owners → Type 0
+HavePaths w = (m : Manager) (paths : PathSet) → fin.get w m ≡ Some paths → is_empty paths ≡ false
 
 -- each entry less these paths; what is empty then vanishes
 abbrev pub less : PathSet → List (Manager × PathSet) → List (Manager × PathSet)

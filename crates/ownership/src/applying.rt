@@ -1,9 +1,10 @@
 ghost use Rattle.std.specs.Prelude.{◌≡◌, IfOk, false, map};
 ghost use Rattle.schema.specs.Shape.{Shape};
 ghost use Rattle.pathmap.specs.Contents.{Content, dom};
+ghost use Rattle.typed.specs.Fitting.{IsContent};
 ghost use Rattle.ownership.specs.Owners.{apply_operation, manager_of};
 ghost use Rattle.ownership.specs.Apply.{dropped, is_refused};
-ghost use Rattle.ownership.specs.Keeping.{HasPlaces, IsSettled, LeavesOwned, OthersKeep, OwnedStand};
+ghost use Rattle.ownership.specs.Keeping.{HasPlaces, IsPlacedState, IsSettled, LeavesOwned, OthersKeep, OwnedStand};
 ghost use Rattle.ownership.specs.Managers.{texts};
 ghost use Rattle.ownership.specs.Results.{Applies, conflict_of, state_of};
 
@@ -52,6 +53,7 @@ pub fn apply(
     ensures places { (s : Shape) → HasPlaces s live.now.tree → HasPlaces s config.now → IfOk result (λ o. HasPlaces s o.tree) }
     ensures stand { OwnedStand (state_of live.now) → IfOk result (λ o. OwnedStand (state_of o)) }
     ensures leaves { (s : Shape) → HasPlaces s live.now.tree → HasPlaces s config.now → OwnedStand (state_of live.now) → LeavesOwned s (state_of live.now) → IfOk result (λ o. LeavesOwned s (state_of o)) }
+    ensures placed { (s : Shape) → IsContent s config.now → IsPlacedState s (state_of live.now) → IfOk result (λ o. IsPlacedState s (state_of o)) }
     ensures again { IfOk result (λ o. IsSettled (state_of o) config.now (manager_of manager.now apply_operation)) }
 {
     let manager = Manager::new(alloc, manager, Operation::Apply)?;

@@ -7,7 +7,7 @@ ghost use Rattle.std.specs.FinMap as fin;
 ghost use Rattle.fieldpath.specs.Paths.{path_cmp};
 ghost use Rattle.pathmap.specs.Contents.{in_order};
 ghost use Rattle.ownership.specs.Apply.{clear_of_all, conflicts_with};
-ghost use Rattle.ownership.specs.Owners.{is_same, less, others, taken_over};
+ghost use Rattle.ownership.specs.Owners.{HavePaths, is_same, less, others, taken_over};
 ghost use Rattle.ownership.specs.Managers.{pairs, texts};
 ghost use Rattle.ownership.specs.Ranks.{rank};
 
@@ -36,7 +36,7 @@ impl Model for Managers {
     ghost use Rattle.std.specs.Prelude.{◌≡◌};
     ghost use Rattle.std.specs.FinMap as fin;
     ghost use Rattle.fieldpath.specs.Paths.{path_cmp};
-    ghost use Rattle.ownership.specs.Owners.{Owners, coded_owners};
+    ghost use Rattle.ownership.specs.Owners.{HavePaths, Owners, coded_owners};
     ghost use Rattle.ownership.specs.Managers.{pairs};
 
     ghost Value = { Owners };
@@ -45,7 +45,7 @@ impl Model for Managers {
 
     ghost view = { λ m. fin.from_entries (pairs m.entries.items) };
 
-    ghost invariant = { λ m. fin.entries (fin.from_entries {R = path_cmp} (pairs m.entries.items)) ≡ pairs m.entries.items };
+    ghost invariant = { λ m. (fin.entries (fin.from_entries {R = path_cmp} (pairs m.entries.items)) ≡ pairs m.entries.items) × HavePaths (fin.from_entries {R = path_cmp} (pairs m.entries.items)) };
 }
 
 fn rank(entries: &[Entry], manager: &Manager) -> usize
@@ -175,9 +175,10 @@ impl Managers {
         }
     }
 
-    /// The entries, in order.
+    /// The entries, in order; each has a path.
     pub fn entries(&self) -> &[Entry]
-        ensures { pairs result.now ≡ fin.entries self.now }
+        ensures entries { pairs result.now ≡ fin.entries self.now }
+        ensures have_paths { HavePaths self.now }
     {
         &self.entries
     }

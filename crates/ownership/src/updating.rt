@@ -2,7 +2,8 @@ ghost use Rattle.std.specs.Prelude.{◌≡◌, IfOk};
 ghost use Rattle.std.specs.FinSet as set;
 ghost use Rattle.ownership.specs.Owners.{manager_of, owned_by, update_operation};
 ghost use Rattle.schema.specs.Shape.{Shape};
-ghost use Rattle.ownership.specs.Keeping.{LeavesOwned, OwnedStand};
+ghost use Rattle.typed.specs.Fitting.{IsContent};
+ghost use Rattle.ownership.specs.Keeping.{IsPlacedState, LeavesOwned, OwnedStand};
 ghost use Rattle.ownership.specs.Managers.{texts};
 ghost use Rattle.ownership.specs.Results.{state_of};
 ghost use Rattle.ownership.specs.Update.{removed, updated};
@@ -43,6 +44,7 @@ fn owned_then(
 pub fn update(alloc: Global, live: &Owned, manager: &str, new: Tree) -> Result<Owned, AllocError>
     ensures updates { IfOk result (λ o. state_of o ≡ updated (state_of live.now) new (manager_of manager.now update_operation)) }
     ensures stand { OwnedStand (state_of live.now) → IfOk result (λ o. OwnedStand (state_of o)) }
+    ensures placed { (s : Shape) → IsContent s new → IsPlacedState s (state_of live.now) → IfOk result (λ o. IsPlacedState s (state_of o)) }
     ensures leaves { (s : Shape) → LeavesOwned s (state_of live.now) → IfOk result (λ o. LeavesOwned s (state_of o)) }
 {
     let manager = Manager::new(alloc, manager, Operation::Update)?;

@@ -3,7 +3,7 @@ use Rattle.ownership.specs.Apply.{State, applied, conflicts, is_refused}
 use Rattle.ownership.specs.Managers.{texts}
 use Rattle.ownership.specs.Owners.{manager_of, apply_operation}
 use Rattle.ownership.specs.Results.{state_of, conflict_of}
-use Rattle.ownership.proofs.Clauses.{keeps_others, keeps_places, keeps_standing, keeps_leaves, settles}
+use Rattle.ownership.proofs.Clauses.{keeps_others, keeps_places, keeps_standing, keeps_leaves, keeps_placed, settles}
 use Rattle.ownership.proofs.Dropping.{conflicts_are, state_is}
 use Rattle.ownership.proofs.applying.apply.Goals as goal
 
@@ -17,6 +17,7 @@ returns-then-is_refused c =
       places = λ s places body_places. tt;
       stand = λ before. tt;
       leaves = λ s places body_places before owned. tt;
+      placed = λ s content placed. tt;
       again = tt;
     }
 
@@ -37,5 +38,6 @@ returns c =
       places = keeps_places live body m c.args.force new free is;
       stand = keeps_standing live body m c.args.force new free is;
       leaves = keeps_leaves live body m c.args.force new free is;
+      placed = keeps_placed live body m c.args.force new free is;
       again = settles live body m c.args.force new free is;
     }

@@ -1,10 +1,12 @@
-use Rattle.std.proofs.Common.{◌≡◌}
+use Rattle.std.proofs.Common.{◌≡◌, sym, subst}
 use Rattle.ownership.specs.Apply.{State}
 use Rattle.ownership.specs.Managers.{texts}
 use Rattle.ownership.specs.Owners.{manager_of, update_operation}
 use Rattle.ownership.specs.Results.{state_of}
 use Rattle.ownership.specs.Update.{updated}
 use Rattle.ownership.proofs.Changing.{updated_is, update_stands, update_leaves}
+use Rattle.ownership.specs.Keeping.{IsPlacedState}
+use Rattle.ownership.proofs.Placed.{updated_placed}
 use Rattle.ownership.proofs.updating.update.Goals as goal
 
 pub returns : goal.returns
@@ -18,5 +20,6 @@ returns c =
     record {
       updates = is;
       stand = update_stands live c.args.new m after is;
+      placed = λ s content placed. subst (IsPlacedState s) (sym is) (updated_placed live c.args.new m s content placed);
       leaves = update_leaves live c.args.new m after is;
     }

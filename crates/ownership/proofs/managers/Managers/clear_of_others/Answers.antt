@@ -11,4 +11,4 @@ pub returns : goal.returns
 unfolding others
 returns c =
     subst (λ es. IfOk c.clear_of_others.result (λ s. s ≡ clear_of_all c.args.paths (filter (is_other (texts c.args.manager.now)) es)))
-    (ap pairs c.deref.ensures.value ∙ sym c.self.invariant ∙ ap fin.entries c.self.view_is) c.clear_of_others.ensures
+    (ap pairs c.deref.ensures.value ∙ sym c.self.invariant.0 ∙ ap fin.entries c.self.view_is) c.clear_of_others.ensures

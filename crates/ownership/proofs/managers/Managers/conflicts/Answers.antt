@@ -12,4 +12,4 @@ pub returns : goal.returns
 unfolding others
 returns c =
     subst (λ es. IfOk c.conflicts_with.result (λ v. map conflict_of v.items ≡ conflicts_with c.args.changed.now (filter (is_other (texts c.args.manager.now)) es)))
-    (ap pairs c.deref.ensures.value ∙ sym c.self.invariant ∙ ap fin.entries c.self.view_is) c.conflicts_with.ensures
+    (ap pairs c.deref.ensures.value ∙ sym c.self.invariant.0 ∙ ap fin.entries c.self.view_is) c.conflicts_with.ensures

@@ -8,4 +8,4 @@ use Rattle.ownership.proofs.managers.Managers.get.Goals as goal
 pub returns : goal.returns
 returns c =
     let m = texts c.args.manager.now in
-    c.paths_of.ensures ∙ ap (λ l. find path_cmp m (pairs l)) c.deref.ensures.value ∙ ap (find path_cmp m) (sym c.self.invariant ∙ ap fin.entries c.self.view_is) ∙ sym (fin.get-entries c.args.self.now m)
+    c.paths_of.ensures ∙ ap (λ l. find path_cmp m (pairs l)) c.deref.ensures.value ∙ ap (find path_cmp m) (sym c.self.invariant.0 ∙ ap fin.entries c.self.view_is) ∙ sym (fin.get-entries c.args.self.now m)

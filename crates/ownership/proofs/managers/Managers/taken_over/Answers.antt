@@ -2,9 +2,10 @@ use Rattle.std.proofs.Common.{◌≡◌, sym, ap, ◌∙◌, subst}
 use Rattle.std.specs.FinMap as fin
 use Rattle.std.specs.Prelude.{filter}
 use Rattle.fieldpath.specs.Paths.{path_cmp}
-use Rattle.ownership.specs.Owners.{less, taken_over}
+use Rattle.ownership.specs.Owners.{HavePaths, less, taken_over}
 use Rattle.ownership.specs.Managers.{pairs, texts}
 use Rattle.ownership.proofs.Entries.{is_other, empty_is, from-entries, owners_left, owners_more}
+use Rattle.ownership.proofs.Taking.{taken_have_paths}
 use Rattle.ownership.proofs.managers.Managers.taken_over.Goals as goal
 use Rattle.ownership.proofs.managers.Managers.taken_over.Goals.{then-is_empty, else-is_empty+in_ok-entries}
 
@@ -16,7 +17,7 @@ are_owners c =
     let mine = c.args.mine in
     let left = c.in_ok-left.left in
     let is : pairs left.items ≡ less lost (filter (is_other m) (fin.entries w)) =
-    c.in_ok-left.ensures ∙ ap (λ l. less lost (filter (is_other m) l)) (ap pairs c.deref.ensures.value ∙ sym c.self.invariant ∙ ap fin.entries c.self.view_is) in
+    c.in_ok-left.ensures ∙ ap (λ l. less lost (filter (is_other m) l)) (ap pairs c.deref.ensures.value ∙ sym c.self.invariant.0 ∙ ap fin.entries c.self.view_is) in
     let emptiness = empty_is mine c.is_empty.result c.is_empty.ensures in
     elim c.if-is_empty.branch [
       | then-is_empty w' ↦ owners_left w m lost mine (pairs left.items) _ is (ap (λ v. pairs v.items) w'.entries-is) (emptiness ∙ w'.if-is_empty.true)
@@ -25,7 +26,10 @@ are_owners c =
 
 pub invariant_of-result : goal.invariant_of-result
 invariant_of-result c =
-    subst (λ es. fin.entries (fin.from_entries {R = path_cmp} es) ≡ es) (sym (are_owners c)) (ap fin.entries (from-entries (taken_over c.args.self.now (texts c.args.manager) c.args.lost.now c.args.mine)))
+    let w = c.args.self.now in
+    let m = texts c.args.manager in
+    let back = from-entries (taken_over w m c.args.lost.now c.args.mine) in
+    subst (λ es. (fin.entries (fin.from_entries {R = path_cmp} es) ≡ es) × HavePaths (fin.from_entries {R = path_cmp} es)) (sym (are_owners c)) (ap fin.entries back, subst HavePaths (sym back) (taken_have_paths w m c.args.lost.now c.args.mine))
 
 pub returns : goal.returns
 returns c = ap (λ es. fin.from_entries {R = path_cmp} es) (are_owners c) ∙ from-entries _

@@ -7,7 +7,7 @@ use Rattle.ownership.proofs.owned.Owned.is_same.Goals as goal
 pub returns-in_ok-are_same_entries-clause-value : goal.returns-in_ok-are_same_entries-clause-value
 returns-in_ok-are_same_entries-clause-value c =
     both_same (state_of c.args.self.now) (state_of c.args.other.now) c.in_ok-are_same_entries.field-0 (pairs c.entries.result.now) (pairs c.entries-then-branch.result.now) (sym c.in_ok-is_same_content.ensures ∙ c.if-branch.true) c.in_ok-are_same_entries.ensures
-    c.entries.ensures c.entries-then-branch.ensures
+    c.entries.ensures.entries c.entries-then-branch.ensures.entries
 
 pub returns-in_ok-are_same_entries-clause-same : goal.returns-in_ok-are_same_entries-clause-same
 returns-in_ok-are_same_entries-clause-same c = decided (state_of c.args.self.now) (state_of c.args.other.now) c.in_ok-are_same_entries.field-0 (returns-in_ok-are_same_entries-clause-value c)
