@@ -1,6 +1,6 @@
 //! Texts of elements, key fields, and paths as conflicts show them.
 
-use crate::given::owned_text;
+use crate::given::{owned_text, push};
 use fieldpath::{Elem, ElemFault, Keys, KeysFault, Path, Scalar};
 use std::alloc::{AllocError, Global};
 use std::cmp::Ordering;
@@ -16,8 +16,8 @@ fn refusal(alloc: Global, text: &str) -> Option<ElemFault> {
 /// A path of two elements, as shown.
 fn shown(alloc: Global, first: &str, second: &str) -> Result<String, Fail> {
     let mut path = Path::new(alloc);
-    path.push(owned_text(alloc, first)?)?;
-    path.push(owned_text(alloc, second)?)?;
+    push(alloc, &mut path, first)?;
+    push(alloc, &mut path, second)?;
     Ok(path.shown(alloc)?)
 }
 
@@ -45,24 +45,24 @@ fn keys(alloc: Global, first: &str, second: &str) -> Result<Result<Keys, KeysFau
 }
 
 /// The path and one element more.
-fn longer(alloc: Global, path: &Path, elem: &Elem) -> Result<Path, AllocError> {
+fn longer(alloc: Global, path: &Path, elem: &Elem) -> Result<Path, Fail> {
     let mut longer = path.try_copy(alloc)?;
-    longer.push_elem(alloc, elem)?;
+    push(alloc, &mut longer, elem.text(alloc)?.as_str())?;
     Ok(longer)
 }
 
-fn spec(alloc: Global) -> Result<Path, AllocError> {
+fn spec(alloc: Global) -> Result<Path, Fail> {
     let field = Elem::Field(owned_text(alloc, "spec")?);
     longer(alloc, &Path::new(alloc), &field)
 }
 
-fn number_in_spec(alloc: Global, number: i64) -> Result<Path, AllocError> {
+fn number_in_spec(alloc: Global, number: i64) -> Result<Path, Fail> {
     let value = Elem::Value(Scalar::Int(number));
     longer(alloc, &spec(alloc)?, &value)
 }
 
 /// The path of `spec`, or of a number below it.
-fn spec_path(alloc: Global, number: Option<i64>) -> Result<Path, AllocError> {
+fn spec_path(alloc: Global, number: Option<i64>) -> Result<Path, Fail> {
     match number {
         Some(number) => number_in_spec(alloc, number),
         None => spec(alloc),
@@ -74,13 +74,13 @@ fn compared(
     alloc: Global,
     one: Option<i64>,
     other: Option<i64>,
-) -> Result<(Ordering, bool), AllocError> {
+) -> Result<(Ordering, bool), Fail> {
     let one = spec_path(alloc, one)?;
     let other = spec_path(alloc, other)?;
     Ok((one.cmp(&other), one == other))
 }
 
-fn is_last(alloc: Global, number: Option<i64>, last: &str) -> Result<bool, AllocError> {
+fn is_last(alloc: Global, number: Option<i64>, last: &str) -> Result<bool, Fail> {
     let path = spec_path(alloc, number)?;
     let text = path.texts().last().map_or("", |text| text.as_str());
     Ok(text == last)

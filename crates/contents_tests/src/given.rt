@@ -1,6 +1,6 @@
 //! What several tests are given: texts, paths, and a types file of widgets.
 
-use fieldpath::Path;
+use fieldpath::{ElemText, Path};
 use fieldset::FieldSet;
 use schema::{Schema, Types};
 use serde_json::Value;
@@ -42,12 +42,18 @@ pub fn owned_text(alloc: Global, text: &str) -> Result<String, AllocError> {
 }
 
 /// The path whose elements stand between blanks; the empty text is the empty path.
-pub fn path(alloc: Global, elements: &str) -> Result<Path, AllocError> {
+pub fn path(alloc: Global, elements: &str) -> Result<Path, Fail> {
     let mut path = Path::new(alloc);
     for element in elements.split_whitespace() {
-        path.push(String::from_str(alloc, element)?)?;
+        push(alloc, &mut path, element)?;
     }
     Ok(path)
+}
+
+/// Puts the element of this text behind a path.
+pub fn push(alloc: Global, path: &mut Path, element: &str) -> Result<(), Fail> {
+    let text = ElemText::read(alloc, element).ok().ok_or("no element")?;
+    Ok(path.push(alloc, &text)?)
 }
 
 /// Puts the paths as conflicts show them, each behind a blank.

@@ -9,7 +9,7 @@ use std::collections::BTreeMap;
 use std::test::Fail;
 
 /// The set of the paths between commas.
-fn set(alloc: Global, paths: &str) -> Result<FieldSet, AllocError> {
+fn set(alloc: Global, paths: &str) -> Result<FieldSet, Fail> {
     let mut set = FieldSet::new(alloc);
     for elements in paths.split(',') {
         set.insert(alloc, &path(alloc, elements)?)?;
@@ -63,7 +63,7 @@ fn set_operations(rt: HostRuntime) -> Result<(), Fail> {
 }
 
 /// Whether the set of these paths has a path, has one at or below it, and has none.
-fn looked(alloc: Global, paths: &str, elements: &str) -> Result<(bool, bool, bool), AllocError> {
+fn looked(alloc: Global, paths: &str, elements: &str) -> Result<(bool, bool, bool), Fail> {
     let set = FieldSet::of(set(alloc, paths)?.map().marks(alloc)?).try_copy(alloc)?;
     let path = path(alloc, elements)?;
     Ok((
@@ -112,13 +112,13 @@ fn value_of(alloc: Global, text: &str) -> Result<Held, AllocError> {
     }
 }
 
-fn put(alloc: Global, map: &mut PathMap, elements: &str, value: &str) -> Result<(), AllocError> {
+fn put(alloc: Global, map: &mut PathMap, elements: &str, value: &str) -> Result<(), Fail> {
     let path = path(alloc, elements)?;
-    map.insert(alloc, &path, value_of(alloc, value)?)
+    Ok(map.insert(alloc, &path, value_of(alloc, value)?)?)
 }
 
 /// The map that has these values, each behind its path and `=`.
-fn map(alloc: Global, values: &str) -> Result<PathMap, AllocError> {
+fn map(alloc: Global, values: &str) -> Result<PathMap, Fail> {
     let mut map = PathMap::empty(alloc);
     for value in values.split(',') {
         let (elements, value) = value.split_once('=').unwrap_or((value, ""));
@@ -148,7 +148,7 @@ fn is_number_at(
     map: &PathMap,
     elements: &str,
     number: i64,
-) -> Result<bool, AllocError> {
+) -> Result<bool, Fail> {
     let path = path(alloc, elements)?;
     match map.get(&path) {
         Some(held) => Ok(held.try_copy()?.same(&Held::Whole(number))),
@@ -156,15 +156,15 @@ fn is_number_at(
     }
 }
 
-fn paths_in(alloc: Global, name: &str) -> Result<String, AllocError> {
+fn paths_in(alloc: Global, name: &str) -> Result<String, Fail> {
     let one = map(alloc, "f:a=x,f:b=1,f:c f:d=2")?;
     let other = map(alloc, "f:a=y,f:b=1,f:c=3")?;
     let made = joined(alloc, &one, name, &other)?;
-    shown(alloc, &FieldSet::of(made))
+    Ok(shown(alloc, &FieldSet::of(made))?)
 }
 
 /// Whether 1 stands at the first path of two, and at the second.
-fn numbers_found(alloc: Global) -> Result<(bool, bool), AllocError> {
+fn numbers_found(alloc: Global) -> Result<(bool, bool), Fail> {
     let map = map(alloc, "f:a=1,f:b=x")?;
     Ok((
         is_number_at(alloc, &map, "f:a", 1)?,

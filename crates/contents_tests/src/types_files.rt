@@ -226,7 +226,7 @@ fn read_past_and_sorted(rt: HostRuntime) -> Result<(), Fail> {
 
 /// The place that the first type's schema gives the path whose elements stand between blanks.
 fn place_in(alloc: Global, types: &Types, elements: &str) -> Result<Option<Place>, Fail> {
-    Ok(first_schema(types)?.place(alloc, &path(alloc, elements)?)?)
+    Ok(first_schema(types)?.place(&path(alloc, elements)?))
 }
 
 #[test]

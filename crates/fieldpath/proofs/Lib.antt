@@ -4,3 +4,4 @@ pub mod Texts
 pub mod KeyFields
 pub mod Shown
 pub mod Spelled
+pub mod ElemTexts

@@ -1,9 +1,10 @@
--- The texts of a path, shown one after another.
-use Rattle.std.proofs.Common.{◌≡◌, ℕ, suc, ◌+◌, ◌<◌, ◌≤◌, List, [], ◌∷◌, ◌++◌, map, length, drop, get_or, drop-cons, add-one, append_assoc, append-nil, String, Global, string_bytes, refl, sym, ap, ◌∙◌}
-use Rattle.std.proofs.lemmas.List.{drop_all}
-use Rattle.fieldpath.specs.Elements.{shown, shown_read, read_element}
+-- The elements of a path, shown one after another.
+use Rattle.std.proofs.Common.{◌≡◌, List, ℕ, [], ◌∷◌, ◌++◌, flat_map, map, Ok, Result, refl, sym, ap, ap₂, ◌∙◌}
+use Rattle.fieldpath.specs.Elements.{Element, NoElement, shown, shown_element, shown_read, read_element}
+use Rattle.fieldpath.specs.Elems.{element}
+use Rattle.fieldpath.specs.declared.elem.Elem.{Elem}
 
-shown-cons : (t : List ℕ) (ts : List (List ℕ)) → shown (t ∷ ts) ≡ shown_read t (read_element t) ++ shown ts
+shown-cons : (t : List ℕ) (ts : List (List ℕ)) → shown (t ∷ ts) ≡ shown_read (read_element t) ++ shown ts
 unfolding shown
 shown-cons t ts = refl
 
@@ -11,18 +12,17 @@ shown-none : shown [] ≡ []
 unfolding shown
 shown-none = refl
 
-pub text_more : (old new name whole : List ℕ) (ts : List (String Global)) (i : ℕ) (x : String Global) → i < length ts → x ≡ get_or ts i x → name ≡ string_bytes x
-    → new ≡ old ++ shown_read name (read_element name) → old ++ shown (map string_bytes (drop i ts)) ≡ whole
-    → new ++ shown (map string_bytes (drop (i + 1) ts)) ≡ whole
-text_more old new name whole ts i x lt is named pushed so_far =
-    let rest = shown (map string_bytes (drop (i + 1) ts)) in
-    let t = string_bytes x in
-    ap (λ s. s ++ rest) (pushed ∙ ap (λ n. old ++ shown_read n (read_element n)) named) ∙ append_assoc old (shown_read t (read_element t)) rest
-    ∙ ap (λ s. old ++ s) (sym (ap (λ l. shown (map string_bytes l)) (drop-next ts i x lt is) ∙ shown-cons t (map string_bytes (drop (i + 1) ts)))) ∙ so_far
-  where
-    drop-next : (ts : List (String Global)) (i : ℕ) (x : String Global) → i < length ts → x ≡ get_or ts i x → drop i ts ≡ x ∷ drop (i + 1) ts
-    drop-next ts i x lt is = rw add-one (drop-cons ts i x lt ∙ ap (λ y. y ∷ drop (suc i) ts) (sym is))
+abbrev first_or : Result Element NoElement → List (Result Element NoElement) → Result Element NoElement
+first_or r [] = r
+first_or r (x ∷ xs) = x
 
-pub texts_end : (s whole : List ℕ) (i : ℕ) (ts : List (String Global)) → length ts ≤ i → s ++ shown (map string_bytes (drop i ts)) ≡ whole → s ≡ whole
-texts_end s whole i ts le so_far =
-    sym (append-nil s) ∙ ap (λ l. s ++ l) (sym shown-none) ∙ sym (ap (λ l. s ++ shown (map string_bytes l)) (drop_all i ts le)) ∙ so_far
+abbrev rest_of : List (Result Element NoElement) → List (Result Element NoElement)
+rest_of [] = []
+rest_of (x ∷ xs) = xs
+
+pub shown-elems : (es : List Elem) (ts : List (List ℕ)) → map Ok (map element es) ≡ map read_element ts → flat_map (λ e. shown_element (element e)) es ≡ shown ts
+shown-elems [] [] h = sym shown-none
+shown-elems [] (t ∷ ts) h = absurd cc
+shown-elems (e ∷ es) [] h = absurd cc
+shown-elems (e ∷ es) (t ∷ ts) h =
+    ap₂ (λ a b. a ++ b) (ap (λ rs. shown_read (first_or (Ok (element e)) rs)) h) (shown-elems es ts (ap rest_of h)) ∙ sym (shown-cons t ts)

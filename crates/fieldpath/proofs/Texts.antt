@@ -4,7 +4,7 @@ use Rattle.std.proofs.lemmas.Slice.Eq.{bytes_eq-Decides}
 use Rattle.std.specs.Str.{bytes_eq}
 use Rattle.std.specs.Str.Pattern.{FindsTextPrefix, LacksTextAt, StripsPrefix}
 use Rattle.serde_json.specs.Read.{read}
-use Rattle.fieldpath.specs.Elements.{Element, field, value, NoElement, no_prefix, has_prefix, read_json, read_element, keys_of, scalar_of}
+use Rattle.fieldpath.specs.Elements.{Element, field, name_text, value, NoElement, no_prefix, has_prefix, read_json, read_element, keys_of, scalar_of}
 use Rattle.fieldpath.specs.Elems.{element, Gives}
 use Rattle.fieldpath.specs.declared.elem.Elem.{Elem}
 use Rattle.fieldpath.specs.declared.elem.ElemFault.{ElemFault}
@@ -84,3 +84,8 @@ gives-as r a b is h = subst (Gives element r) (sym is) h
 pub not_some : (r : Option (Bor (List ℕ))) (o : Option (List ℕ)) → ((x : Bor (List ℕ)) → r ≢ Some x) → option_map (λ s. s.now) r ≡ o → None ≡ o
 not_some None o differs h = h
 not_some (Some x) o differs h = absurd (differs x refl)
+
+-- a field's text reads as the field
+pub name-read : (f : List ℕ) → read_element (name_text f) ≡ Ok (field f)
+unfolding read_element name_text
+name-read f = refl

@@ -1,6 +1,6 @@
 -- The elements of paths, their texts, and how a path is shown.
 -- FieldsV1 (Kubernetes API reference, ObjectMeta v1): `f:<name>`, `v:<value>`, `k:<keys>`.
-use Rattle.std.specs.Prelude.{ℕ, ℤ, Bool, List, [], ◌∷◌, ◌++◌, Option, Some, None, if◌then◌else◌, option_map, take, drop}
+use Rattle.std.specs.Prelude.{◌≡◌, ℕ, ℤ, Bool, List, [], ◌∷◌, ◌++◌, Option, Some, None, if◌then◌else◌, option_map, take, drop}
 use Rattle.std.specs.declared.result.Result.{Result}
 use Rattle.std.specs.declared.result.Result.TheVariants.{Ok, Err}
 use Rattle.std.specs.Str.{bytes_eq}
@@ -118,6 +118,18 @@ read_element s =
     else if has_prefix 118 s then read_json s (λ d. option_map value (scalar_of d)) (read (drop 2 s))
     else Err no_prefix
 
+-- a text that some element has
+abbrev pub IsElementText : List ℕ → Type 0
+IsElementText s = (e : Element) × (read_element s ≡ Ok e)
+
+-- the text of a set item's element, if the value is a scalar
+abbrev pub set_item_text : Data → Option (List ℕ)
+set_item_text d = option_map (λ v. scalar_text d) (scalar_of d)
+
+-- the text of a map list item's element, if the value is an object of one or more scalars
+abbrev pub list_item_text : Data → Option (List ℕ)
+list_item_text d = option_map (λ e. 107 ∷ 58 ∷ compact_text d) (keys_of d)
+
 -- ---- showing (Server-Side Apply, "Conflicts": `.spec.ports[name="web"].port`)
 
 -- `name=value`
@@ -136,11 +148,11 @@ shown_element (field f) = 46 ∷ f
 shown_element (key ks) = 91 ∷ shown_keys ks ++ 93 ∷ []
 shown_element (value s) = 91 ∷ 61 ∷ compact_text (scalar_data s) ++ 93 ∷ []
 
--- a text that is no element's is shown as it is
-abbrev pub shown_read : List ℕ → Result Element NoElement → List ℕ
-shown_read s (Ok e) = shown_element e
-shown_read s (Err e) = s
+-- no path has a text that is no element's
+abbrev pub shown_read : Result Element NoElement → List ℕ
+shown_read (Ok e) = shown_element e
+shown_read (Err e) = []
 
 unfoldable pub shown : PathTexts → List ℕ
 shown [] = []
-shown (s ∷ ss) = shown_read s (read_element s) ++ shown ss
+shown (s ∷ ss) = shown_read (read_element s) ++ shown ss

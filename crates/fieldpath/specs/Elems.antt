@@ -1,9 +1,10 @@
 -- The element that an `Elem` stands for, and what reading one answers.
-use Rattle.std.specs.Prelude.{◌≡◌, Option, Some, None, string_bytes}
+use Rattle.std.specs.Prelude.{◌≡◌, ℕ, List, map, Option, Some, None, String, string_bytes}
+use Rattle.std.specs.declared.alloc.Global.{Global}
 use Rattle.std.specs.declared.result.Result.{Result}
 use Rattle.std.specs.declared.result.Result.TheVariants.{Ok, Err}
 use Rattle.serde_json.specs.Data.{Data}
-use Rattle.fieldpath.specs.Elements.{Element, field, key, value, NoElement, no_prefix, bad_json, not_canonical}
+use Rattle.fieldpath.specs.Elements.{Element, field, key, value, NoElement, no_prefix, bad_json, not_canonical, IsElementText, read_element}
 use Rattle.fieldpath.specs.Scalars.{scalar}
 use Rattle.fieldpath.specs.declared.elem.Elem.{Elem}
 use Rattle.fieldpath.specs.declared.elem.Elem.TheVariants as made
@@ -22,6 +23,18 @@ Gives view (Err faults.NoPrefix) read = read ≡ Err no_prefix
 Gives view (Err faults.BadJson) read = read ≡ Err bad_json
 Gives view (Err faults.NotCanonical) read = read ≡ Err not_canonical
 Gives view (Err faults.Memory) read = Unit {0}
+
+-- Each text is the one of its element.
+abbrev pub AreTextsOf : List Elem → List (String Global) → Type 0
+AreTextsOf es ts = map Ok (map element es) ≡ map read_element (map string_bytes ts)
+
+-- What a call returned is this text, where it is an element's.
+abbrev pub GivesText : List ℕ → Result (String Global) ElemFault → Result Element NoElement → Type 0
+GivesText text (Ok s) read = (string_bytes s ≡ text) × IsElementText text
+GivesText text (Err faults.NoPrefix) read = read ≡ Err no_prefix
+GivesText text (Err faults.BadJson) read = read ≡ Err bad_json
+GivesText text (Err faults.NotCanonical) read = read ≡ Err not_canonical
+GivesText text (Err faults.Memory) read = Unit {0}
 
 -- JSON, or that there is none
 abbrev pub json_or_bad : Option Data → Result Data NoElement

@@ -84,6 +84,17 @@ impl Elem {
         Err(ElemFault::NoPrefix)
     }
 
+    /// A copy with texts of its own.
+    pub fn try_copy(&self, alloc: Global) -> Result<Elem, AllocError>
+        ensures { IfOk result (λ e. element e ≡ element self.now) }
+    {
+        match self {
+            Elem::Field(name) => Ok(Elem::Field(name.clone()?)),
+            Elem::Key(keys) => Ok(Elem::Key(keys.try_copy(alloc)?)),
+            Elem::Value(scalar) => Ok(Elem::Value(scalar.try_copy()?)),
+        }
+    }
+
     /// Shows the element behind what is shown already: `.name`, `[a=1,b="x"]`, `[="a"]`.
     pub(crate) fn push_shown(&self, alloc: Global, shown: &mut String) -> Result<(), AllocError>
         ensures { OnOk result (string_bytes shown.new ≡ string_bytes shown.old ++ shown_element (element self.now)) }
@@ -108,7 +119,7 @@ impl Elem {
     }
 }
 
-fn prefixed(alloc: Global, prefix: &str, text: &str) -> Result<String, AllocError>
+pub(crate) fn prefixed(alloc: Global, prefix: &str, text: &str) -> Result<String, AllocError>
     ensures { IfOk result (λ s. string_bytes s ≡ prefix.now ++ text.now) }
 {
     let mut whole = String::from_str(alloc, prefix)?;

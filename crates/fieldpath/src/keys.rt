@@ -1,11 +1,11 @@
-ghost use Rattle.std.specs.Prelude.{◌≡◌, ◌++◌, Ok, Err, IfOk, OnOk, IfSome, map, option_map, if◌then◌else◌, string_bytes, true};
+ghost use Rattle.std.specs.Prelude.{◌≡◌, ◌++◌, Ok, Err, IfOk, OnOk, IfSome, is_some, map, option_map, if◌then◌else◌, string_bytes, true};
 ghost use Rattle.serde_json.specs.Data.{object};
-ghost use Rattle.serde_json.specs.View.{members_view};
+ghost use Rattle.serde_json.specs.View.{members_view, view};
 ghost use Rattle.serde_json.specs.Written.{compact_text};
-ghost use Rattle.fieldpath.specs.Elements.{key_members, keys_of_members, shown_field, shown_keys};
+ghost use Rattle.fieldpath.specs.Elements.{key_members, keys_of, keys_of_members, shown_field, shown_keys, some_keys};
 ghost use Rattle.fieldpath.specs.Scalars.{are_keys, ascend, key_fields, names, scalar};
 
-use crate::scalar::Scalar;
+use crate::scalar::{Scalar, is_scalar};
 use serde_json::{Map, Value};
 use std::alloc::{AllocError, Global};
 use std::marker::Model;
@@ -56,6 +56,14 @@ impl Keys {
         &self.fields
     }
 
+    pub(crate) fn try_copy(&self, alloc: Global) -> Result<Keys, AllocError>
+        ensures { IfOk result (λ k. k ≡ self.now) }
+    {
+        Ok(Keys {
+            fields: copy_fields(&self.fields, alloc)?,
+        })
+    }
+
     /// The fields as a compact JSON object.
     pub(crate) fn json(&self, alloc: Global) -> Result<String, AllocError>
         ensures { IfOk result (λ s. string_bytes s ≡ compact_text (object (key_members self.now))) }
@@ -69,6 +77,19 @@ impl Keys {
     {
         push_fields(&self.fields, alloc, shown)
     }
+}
+
+fn copy_fields(
+    fields: &[(String, Scalar)],
+    alloc: Global,
+) -> Result<Vec<(String, Scalar)>, AllocError>
+    ensures { IfOk result (λ v. key_fields v.items ≡ key_fields fields.now) }
+{
+    let mut copy = Vec::new(alloc);
+    for (name, value) in fields {
+        copy.push((name.clone()?, value.try_copy()?))?;
+    }
+    Ok(copy)
 }
 
 fn ascends(fields: &[(String, Scalar)]) -> bool
@@ -111,6 +132,29 @@ pub(crate) fn fields_of(
         }
     }
     Ok(Some(fields))
+}
+
+fn are_key_fields(members: &Map<String, Value>) -> bool
+    ensures { result ≡ is_some (some_keys (keys_of_members (members_view members.now.entries))) }
+{
+    let mut is_some = false;
+    for (_, value) in members.iter() {
+        if !is_scalar(value) {
+            return false;
+        }
+        is_some = true;
+    }
+    is_some
+}
+
+/// Whether the value is an object of one or more scalars.
+pub(crate) fn is_key_object(value: &Value) -> bool
+    ensures { result ≡ is_some (keys_of (view value.now)) }
+{
+    match value.as_object() {
+        Some(members) => are_key_fields(members),
+        None => false,
+    }
 }
 
 fn push_field(field: &(String, Scalar), alloc: Global, shown: &mut String) -> Result<(), AllocError>

@@ -6,12 +6,14 @@
 #![tactic(auto)]
 
 mod elem;
+mod elem_text;
 mod json_law;
 mod keys;
 mod path;
 mod scalar;
 
 pub use elem::{Elem, ElemFault};
+pub use elem_text::ElemText;
 pub use json_law::{compact_texts_read_back, readings_are_spelled};
 pub use keys::{Keys, KeysFault};
 pub use path::Path;

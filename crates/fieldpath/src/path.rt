@@ -1,31 +1,36 @@
-ghost use Rattle.std.specs.Prelude.{◌≡◌, [], ◌∷◌, ◌++◌, map, IfOk, OnOk, OnErr, string_bytes};
+ghost use Rattle.std.specs.Prelude.{◌≡◌, [], ◌∷◌, ◌++◌, flat_map, map, IfOk, Ok, OnOk, OnErr, string_bytes};
 ghost use Rattle.std.specs.Prelude.{refl};
 ghost use Rattle.std.specs.Cmp.{eq_by_cmp_equiv, partial_equiv_from_equiv, partial_order_from_total};
 ghost use Rattle.std.specs.Ordering.{as_partial_cmp, eq_by_cmp};
-ghost use Rattle.fieldpath.specs.Elements.{element_text, read_element, shown, shown_read};
+ghost use Rattle.fieldpath.specs.Elements.{read_element, shown, shown_element};
 ghost use Rattle.fieldpath.specs.Elems.{element};
 ghost use Rattle.fieldpath.specs.Paths.{path_cmp, path_cmp_total};
 
-use crate::elem::{Elem, ElemFault};
+use crate::elem::Elem;
+use crate::elem_text::ElemText;
 use std::alloc::{AllocError, Global};
 use std::cmp::Ordering;
 use std::marker::Model;
 
-/// A path into an object, as the texts of its elements.
+/// A path into an object: its elements, and their texts, by which paths are ordered and looked up.
 #[derive(Debug, Drop)]
 pub struct Path {
-    elems: Vec<String>,
+    elems: Vec<Elem>,
+    texts: Vec<ElemText>,
 }
 
 impl Model for Path {
     ghost use Rattle.std.specs.Prelude.{List, ℕ, map, string_bytes};
     ghost use Rattle.std.specs.Coded.{coded_ℕ, coded_list};
+    ghost use Rattle.fieldpath.specs.Elems.{AreTextsOf};
 
     ghost Value = { List (List ℕ) };
 
     ghost coded = { coded_list (coded_list coded_ℕ) };
 
-    ghost view = { λ p. map string_bytes p.elems.items };
+    ghost view = { λ p. map string_bytes p.texts.items };
+
+    ghost invariant = { λ p. AreTextsOf p.elems.items p.texts.items };
 }
 
 impl Path {
@@ -35,39 +40,46 @@ impl Path {
     {
         Path {
             elems: Vec::new(alloc),
+            texts: Vec::new(alloc),
         }
     }
 
     /// One element more, by its text. A refused push changes nothing.
-    pub fn push(&mut self, text: String) -> Result<(), AllocError>
-        ensures ok { OnOk result (self.new ≡ self.old ++ string_bytes text ∷ []) }
+    pub fn push(&mut self, alloc: Global, text: &ElemText) -> Result<(), AllocError>
+        ensures ok { OnOk result (self.new ≡ self.old ++ string_bytes text.now ∷ []) }
         ensures err { OnErr result (self.new ≡ self.old) }
     {
-        self.elems.push(text)?;
-        Ok(())
+        let elem = text.elem(alloc)?;
+        self.texts.push(text.try_copy()?)?;
+        match self.elems.push(elem) {
+            Ok(()) => Ok(()),
+            Err(_) => {
+                drop(self.texts.pop());
+                Err(AllocError)
+            }
+        }
     }
 
-    /// The texts of its elements.
-    pub fn texts(&self) -> &[String]
-        ensures { map string_bytes result.now ≡ self.now }
+    /// Its elements.
+    pub fn elems(&self) -> &[Elem]
+        ensures { map Ok (map element result.now) ≡ map read_element self.now }
     {
         &self.elems
     }
 
+    /// The texts of its elements.
+    pub fn texts(&self) -> &[ElemText]
+        ensures { map string_bytes result.now ≡ self.now }
+    {
+        &self.texts
+    }
+
     /// The path as conflicts show it: `.spec.ports[name="web"].port`, `.spec.tags[="a"]`
-    /// (Server-Side Apply, "Conflicts"). A text that is no element's is shown as it is.
+    /// (Server-Side Apply, "Conflicts").
     pub fn shown(&self, alloc: Global) -> Result<String, AllocError>
         ensures { IfOk result (λ s. string_bytes s ≡ shown self.now) }
     {
-        show_texts(alloc, &self.elems)
-    }
-
-    /// One element more, by its text. A refused push changes nothing.
-    pub fn push_elem(&mut self, alloc: Global, elem: &Elem) -> Result<(), AllocError>
-        ensures ok { OnOk result (self.new ≡ self.old ++ element_text (element elem.now) ∷ []) }
-        ensures err { OnErr result (self.new ≡ self.old) }
-    {
-        self.push(elem.text(alloc)?)
+        show_elems(alloc, &self.elems)
     }
 
     /// A copy with texts of its own.
@@ -75,7 +87,8 @@ impl Path {
         ensures { IfOk result (λ p. p ≡ self.now) }
     {
         Ok(Path {
-            elems: copy_texts(alloc, &self.elems)?,
+            elems: copy_elems(alloc, &self.elems)?,
+            texts: copy_texts(alloc, &self.texts)?,
         })
     }
 }
@@ -115,39 +128,36 @@ impl Ord for Path {
     ghost matches_eq = { λ x y. refl };
 
     fn cmp(&self, other: &Path) -> Ordering {
-        self.elems.cmp(&other.elems)
+        self.texts.cmp(&other.texts)
     }
 }
 
-fn push_shown(alloc: Global, text: &str, shown: &mut String) -> Result<(), AllocError>
-    ensures { OnOk result (string_bytes shown.new ≡ string_bytes shown.old ++ shown_read text.now (read_element text.now)) }
-{
-    match Elem::read(alloc, text) {
-        Ok(elem) => elem.push_shown(alloc, shown),
-        Err(ElemFault::Memory) => Err(AllocError),
-        Err(_) => {
-            shown.push_str(text)?;
-            Ok(())
-        }
-    }
-}
-
-fn show_texts(alloc: Global, texts: &[String]) -> Result<String, AllocError>
-    ensures { IfOk result (λ s. string_bytes s ≡ shown (map string_bytes texts.now)) }
+fn show_elems(alloc: Global, elems: &[Elem]) -> Result<String, AllocError>
+    ensures { IfOk result (λ s. string_bytes s ≡ flat_map (λ e. shown_element (element e)) elems.now) }
 {
     let mut shown = String::new(alloc);
-    for text in texts {
-        push_shown(alloc, text.as_str(), &mut shown)?;
+    for elem in elems {
+        elem.push_shown(alloc, &mut shown)?;
     }
     Ok(shown)
 }
 
-fn copy_texts(alloc: Global, texts: &[String]) -> Result<Vec<String>, AllocError>
+fn copy_elems(alloc: Global, elems: &[Elem]) -> Result<Vec<Elem>, AllocError>
+    ensures { IfOk result (λ v. map element v.items ≡ map element elems.now) }
+{
+    let mut copy = Vec::new(alloc);
+    for elem in elems {
+        copy.push(elem.try_copy(alloc)?)?;
+    }
+    Ok(copy)
+}
+
+fn copy_texts(alloc: Global, texts: &[ElemText]) -> Result<Vec<ElemText>, AllocError>
     ensures { IfOk result (λ v. map string_bytes v.items ≡ map string_bytes texts.now) }
 {
     let mut copy = Vec::new(alloc);
     for text in texts {
-        copy.push(text.clone()?)?;
+        copy.push(text.try_copy()?)?;
     }
     Ok(copy)
 }

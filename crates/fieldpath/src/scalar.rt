@@ -1,4 +1,4 @@
-ghost use Rattle.std.specs.Prelude.{◌≡◌, IfOk, option_map, string_bytes};
+ghost use Rattle.std.specs.Prelude.{◌≡◌, IfOk, is_some, option_map, string_bytes};
 ghost use Rattle.serde_json.specs.View.{view};
 ghost use Rattle.serde_json.specs.Written.{compact_text};
 ghost use Rattle.fieldpath.specs.Elements.{scalar_data, scalar_of};
@@ -15,6 +15,16 @@ pub enum Scalar {
     Bool(bool),
 }
 
+/// Whether the value is a text, a whole number within 64 bits signed, or a truth value.
+pub(crate) fn is_scalar(value: &Value) -> bool
+    ensures { result ≡ is_some (scalar_of (view value.now)) }
+{
+    if value.as_str().is_some() || value.as_bool().is_some() {
+        return true;
+    }
+    value.as_i64().is_some()
+}
+
 impl Scalar {
     pub(crate) fn to_value(&self, alloc: Global) -> Result<Value, AllocError>
         ensures { IfOk result (λ v. view v ≡ scalar_data (scalar self.now)) }
@@ -23,6 +33,16 @@ impl Scalar {
             Scalar::Str(text) => Value::try_from_str(alloc, text.as_str()),
             Scalar::Int(whole) => Ok(Value::from(*whole)),
             Scalar::Bool(truth) => Ok(Value::from(*truth)),
+        }
+    }
+
+    pub(crate) fn try_copy(&self) -> Result<Scalar, AllocError>
+        ensures { IfOk result (λ s. scalar s ≡ scalar self.now) }
+    {
+        match self {
+            Scalar::Str(text) => Ok(Scalar::Str(text.clone()?)),
+            Scalar::Int(whole) => Ok(Scalar::Int(*whole)),
+            Scalar::Bool(truth) => Ok(Scalar::Bool(*truth)),
         }
     }
 

@@ -9,6 +9,7 @@ ghost use Rattle.schema.specs.Shape.{shape, shape_at, fields_in};
 ghost use Rattle.fieldset.specs.FieldsV1.{leaf, members_of, put_names};
 ghost use Rattle.fieldset.specs.Below.{as_item, is_leaf, members_some, shape_below};
 
+use fieldpath::ElemText;
 use pathmap::PathMap;
 use schema::{ListKind, Schema};
 use serde_json::{Map, Value};
@@ -26,10 +27,10 @@ fn is_leaf(schema: &Schema) -> bool
 }
 
 /// The text of an element less its prefix.
-fn after_prefix(element: &String) -> &[u8]
+fn after_prefix(element: &ElemText) -> &[u8]
     ensures { result.now ≡ drop 2 (string_bytes element.now) }
 {
-    let bytes = element.as_bytes();
+    let bytes = element.as_str().as_bytes();
     if bytes.len() < 2 { &[] } else { &bytes[2..] }
 }
 
@@ -44,7 +45,7 @@ fn field_schema<'a>(fields: &'a [(String, Schema)], name: &[u8]) -> Option<&'a S
     None
 }
 
-fn schema_below<'a>(schema: &'a Schema, element: &String) -> Option<&'a Schema>
+fn schema_below<'a>(schema: &'a Schema, element: &ElemText) -> Option<&'a Schema>
     ensures { option_map (λ s. shape s.now) result ≡ shape_below (shape schema.now) (string_bytes element.now) }
 {
     match schema {
@@ -129,7 +130,8 @@ pub(crate) fn members(
         }
         let mut below = members(inner, alloc, schema_below(schema, name))?;
         put_as_item(&mut below, alloc, schema, inner.held.is_some())?;
-        drop(all.insert(name.clone()?, Value::Object(below))?);
+        let text = String::from_str(alloc, name.as_str())?;
+        drop(all.insert(text, Value::Object(below))?);
     }
     Ok(all)
 }

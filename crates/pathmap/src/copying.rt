@@ -4,6 +4,7 @@ ghost use Rattle.pathmap.specs.Maps.{at_top, content, contents_in};
 
 use crate::held::Held;
 use crate::pathmap::PathMap;
+use fieldpath::ElemText;
 use std::alloc::{AllocError, Global};
 use std::collections::BTreeMap;
 
@@ -18,15 +19,15 @@ fn copy_held(held: &Option<Held>) -> Result<Option<Held>, AllocError>
 
 #[cycle(copies)]
 pub(crate) fn copy_below(
-    below: &BTreeMap<String, PathMap>,
+    below: &BTreeMap<ElemText, PathMap>,
     alloc: Global,
-) -> Result<BTreeMap<String, PathMap>, AllocError>
+) -> Result<BTreeMap<ElemText, PathMap>, AllocError>
     ensures { IfOk result (λ m. gather (contents_in m.entries) ≡ gather (contents_in below.now.entries)) }
 {
     let mut copies = BTreeMap::new(alloc);
     for (name, inner) in below.iter() {
         let made = copy(inner, alloc)?;
-        drop(copies.insert(name.clone()?, made)?);
+        drop(copies.insert(name.try_copy()?, made)?);
     }
     Ok(copies)
 }

@@ -8,7 +8,7 @@ ghost use Rattle.pathmap.specs.Maps.{content, content_or_nothing, standing};
 
 use crate::held::Held;
 use crate::pathmap::PathMap;
-use fieldpath::Path;
+use fieldpath::{ElemText, Path};
 
 impl PathMap {
     /// Whether it has no path.
@@ -54,7 +54,7 @@ impl PathMap {
     }
 
     /// The map at a path, of its elements' texts.
-    fn at(&self, texts: &[String]) -> Option<&PathMap>
+    fn at(&self, texts: &[ElemText]) -> Option<&PathMap>
         ensures { (q : PathTexts) → fin.get (content_or_nothing (option_map (λ m. m.now) result)) q ≡ fin.get (content self.now) (map string_bytes texts.now ++ q) }
     {
         let mut here = self;
@@ -68,7 +68,7 @@ impl PathMap {
     }
 
     /// What stands below an element.
-    pub(crate) fn child(&self, name: &String) -> Option<&PathMap>
+    pub(crate) fn child(&self, name: &ElemText) -> Option<&PathMap>
         ensures { (q : PathTexts) → fin.get (content_or_nothing (option_map (λ m. m.now) result)) q ≡ fin.get (content self.now) (string_bytes name.now ∷ q) }
     {
         if self.below.len() == 0 {

@@ -8,16 +8,16 @@ ghost use Rattle.pathmap.specs.Maps.{at_name, content, content_at, standing};
 
 use crate::held::Held;
 use crate::pathmap::PathMap;
-use fieldpath::Path;
+use fieldpath::{ElemText, Path};
 use std::alloc::{AllocError, Global};
 use std::collections::BTreeMap;
 
 #[cycle(insert)]
 fn insert_below(
-    below: &mut BTreeMap<String, PathMap>,
+    below: &mut BTreeMap<ElemText, PathMap>,
     alloc: Global,
-    name: &String,
-    rest: &[String],
+    name: &ElemText,
+    rest: &[ElemText],
     held: Held,
 ) -> Result<(), AllocError>
     ensures ok { OnOk result (content_at (string_bytes name.now) below.new.entries ≡ fin.insert (content_at (string_bytes name.now) below.old.entries) (map string_bytes rest.now) (standing held)) }
@@ -31,7 +31,7 @@ fn insert_below(
     }
     let mut made = PathMap::empty(alloc);
     insert_at(&mut made, alloc, rest, held)?;
-    drop(below.insert(name.clone()?, made)?);
+    drop(below.insert(name.try_copy()?, made)?);
     Ok(())
 }
 
@@ -39,7 +39,7 @@ fn insert_below(
 fn insert_at(
     here: &mut PathMap,
     alloc: Global,
-    texts: &[String],
+    texts: &[ElemText],
     held: Held,
 ) -> Result<(), AllocError>
     ensures ok { OnOk result (content here.new ≡ fin.insert (content here.old) (map string_bytes texts.now) (standing held)) }

@@ -9,6 +9,7 @@ ghost use Rattle.pathmap.specs.Maps.{at_name, at_top, content, content_at, conte
 use crate::copying::copy_below;
 use crate::held::Held;
 use crate::pathmap::PathMap;
+use fieldpath::ElemText;
 use std::alloc::{AllocError, Global};
 use std::collections::BTreeMap;
 
@@ -38,8 +39,8 @@ fn put_held(theirs: &Option<Held>, mine: &mut Option<Held>) -> Result<(), AllocE
 fn put_at(
     theirs: &PathMap,
     alloc: Global,
-    below: &mut BTreeMap<String, PathMap>,
-    name: &String,
+    below: &mut BTreeMap<ElemText, PathMap>,
+    name: &ElemText,
 ) -> Result<(), AllocError>
     ensures here { OnOk result (content_at (string_bytes name.now) below.new.entries ≡ over (content theirs.now) (content_at (string_bytes name.now) below.old.entries)) }
     ensures others { (g : List ℕ) → is_eq (slice_cmp nat_cmp g (string_bytes name.now)) ≡ false → at_name g below.new.entries ≡ at_name g below.old.entries }
@@ -49,15 +50,15 @@ fn put_at(
         return put_into(theirs, alloc, child);
     }
     let made = theirs.try_copy(alloc)?;
-    drop(below.insert(name.clone()?, made)?);
+    drop(below.insert(name.try_copy()?, made)?);
     Ok(())
 }
 
 #[cycle(put)]
 fn put_all(
-    theirs: &BTreeMap<String, PathMap>,
+    theirs: &BTreeMap<ElemText, PathMap>,
     alloc: Global,
-    below: &mut BTreeMap<String, PathMap>,
+    below: &mut BTreeMap<ElemText, PathMap>,
 ) -> Result<(), AllocError>
     ensures { OnOk result (gather (contents_in below.new.entries) ≡ over (gather (contents_in theirs.now.entries)) (gather (contents_in below.old.entries))) }
 {

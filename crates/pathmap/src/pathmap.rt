@@ -3,6 +3,7 @@ ghost use Rattle.pathmap.specs.Contents.{gather, here, nothing};
 ghost use Rattle.pathmap.specs.Maps.{content, contents_in, standing};
 
 use crate::held::Held;
+use fieldpath::ElemText;
 use std::alloc::Global;
 use std::collections::BTreeMap;
 
@@ -12,7 +13,7 @@ pub struct PathMap {
     /// What stands at the empty path.
     pub held: Option<Held>,
     /// What stands below, by the text of the first element.
-    pub below: BTreeMap<String, PathMap>,
+    pub below: BTreeMap<ElemText, PathMap>,
 }
 
 impl PathMap {
@@ -37,7 +38,7 @@ impl PathMap {
     }
 
     /// Maps under their elements, with nothing at the empty path.
-    pub fn branch(below: BTreeMap<String, PathMap>) -> PathMap
+    pub fn branch(below: BTreeMap<ElemText, PathMap>) -> PathMap
         ensures { content result ≡ gather (contents_in below.entries) }
     {
         PathMap { held: None, below }

@@ -4,7 +4,7 @@ ghost use Rattle.pathmap.specs.Maps.{content, contents_in};
 
 use crate::held::Held;
 use crate::pathmap::PathMap;
-use fieldpath::Path;
+use fieldpath::{ElemText, Path};
 use std::alloc::{AllocError, Global};
 use std::collections::BTreeMap;
 
@@ -24,7 +24,7 @@ fn list_held(
 
 #[cycle(list)]
 fn list_below(
-    below: &BTreeMap<String, PathMap>,
+    below: &BTreeMap<ElemText, PathMap>,
     alloc: Global,
     front: &Path,
     all: &mut Vec<Path>,
@@ -33,7 +33,7 @@ fn list_below(
 {
     for (name, inner) in below.iter() {
         let mut path = front.try_copy(alloc)?;
-        path.push(name.clone()?)?;
+        path.push(alloc, name)?;
         list(inner, alloc, &path, all)?;
     }
     Ok(())

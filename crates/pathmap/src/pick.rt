@@ -14,6 +14,7 @@ ghost use Rattle.pathmap.specs.Picks.{IsGuess, picked, picks, picks_alone, picks
 
 use crate::held::Held;
 use crate::pathmap::PathMap;
+use fieldpath::ElemText;
 use std::alloc::{AllocError, Global};
 use std::collections::BTreeMap;
 
@@ -79,8 +80,8 @@ fn pick_held(rule: Rule, mine: &Option<Held>, theirs: Option<&PathMap>) -> Optio
 /// give them in the same order, and then none is looked for.
 fn child_beside<'a>(
     theirs: &'a PathMap,
-    guess: Option<(&'a String, &'a PathMap)>,
-    name: &String,
+    guess: Option<(&'a ElemText, &'a PathMap)>,
+    name: &ElemText,
 ) -> Option<&'a PathMap>
     requires { IsGuess (content theirs.now) (option_map (λ e. (string_bytes e.0.now, content e.1.now)) guess) }
     ensures { (q : PathTexts) → fin.get (content_or_nothing (option_map (λ m. m.now) result)) q ≡ fin.get (content theirs.now) (string_bytes name.now ∷ q) }
@@ -95,8 +96,8 @@ fn child_beside<'a>(
 
 /// Puts a map under an element that has none, unless it is hollow.
 fn put_in(
-    below: &mut BTreeMap<String, PathMap>,
-    name: &String,
+    below: &mut BTreeMap<ElemText, PathMap>,
+    name: &ElemText,
     map: PathMap,
 ) -> Result<(), AllocError>
     ensures put { OnOk result (at_name (string_bytes name.now) below.old.entries ≡ None → content_at (string_bytes name.now) below.new.entries ≡ content map) }
@@ -104,7 +105,7 @@ fn put_in(
     ensures ordered { IsOrdered string_cmp below.old → IsOrdered string_cmp below.new }
 {
     if !map.is_hollow() {
-        drop(below.insert(name.clone()?, map)?);
+        drop(below.insert(name.try_copy()?, map)?);
     }
     Ok(())
 }
@@ -112,10 +113,10 @@ fn put_in(
 /// What is picked where there is nothing beside it.
 #[cycle(pick)]
 fn pick_alone(
-    mine: &BTreeMap<String, PathMap>,
+    mine: &BTreeMap<ElemText, PathMap>,
     alloc: Global,
     rule: Rule,
-) -> Result<BTreeMap<String, PathMap>, AllocError>
+) -> Result<BTreeMap<ElemText, PathMap>, AllocError>
     ensures { IfOk result (λ m. dom (gather (contents_in m.entries)) ≡ picked rule (gather (contents_in mine.now.entries)) nothing) }
 {
     let mut below = BTreeMap::new(alloc);
@@ -129,11 +130,11 @@ fn pick_alone(
 /// What is picked beside another map.
 #[cycle(pick)]
 fn pick_beside(
-    mine: &BTreeMap<String, PathMap>,
+    mine: &BTreeMap<ElemText, PathMap>,
     alloc: Global,
     theirs: &PathMap,
     rule: Rule,
-) -> Result<BTreeMap<String, PathMap>, AllocError>
+) -> Result<BTreeMap<ElemText, PathMap>, AllocError>
     ensures { IfOk result (λ m. dom (gather (contents_in m.entries)) ≡ picked rule (gather (contents_in mine.now.entries)) (content theirs.now)) }
 {
     let mut below = BTreeMap::new(alloc);
@@ -149,11 +150,11 @@ fn pick_beside(
 
 #[cycle(pick)]
 fn pick_below(
-    mine: &BTreeMap<String, PathMap>,
+    mine: &BTreeMap<ElemText, PathMap>,
     alloc: Global,
     theirs: Option<&PathMap>,
     rule: Rule,
-) -> Result<BTreeMap<String, PathMap>, AllocError>
+) -> Result<BTreeMap<ElemText, PathMap>, AllocError>
     ensures { IfOk result (λ m. dom (gather (contents_in m.entries)) ≡ picked rule (gather (contents_in mine.now.entries)) (content_or_nothing (option_map (λ m. m.now) theirs.entry))) }
 {
     match theirs {

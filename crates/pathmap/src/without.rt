@@ -8,11 +8,12 @@ ghost use Rattle.pathmap.specs.Beside.{without};
 ghost use Rattle.pathmap.specs.Maps.{at_name, content, content_at, contents_in};
 
 use crate::pathmap::PathMap;
+use fieldpath::ElemText;
 use std::collections::BTreeMap;
 
 /// Whether what is left below the element is hollow.
 #[cycle(cut)]
-fn cut_at(set: &PathMap, below: &mut BTreeMap<String, PathMap>, name: &String) -> bool
+fn cut_at(set: &PathMap, below: &mut BTreeMap<ElemText, PathMap>, name: &ElemText) -> bool
     ensures here { content_at (string_bytes name.now) below.new.entries ≡ without (content_at (string_bytes name.now) below.old.entries) (dom (content set.now)) }
     ensures others { (g : List ℕ) → is_eq (slice_cmp nat_cmp g (string_bytes name.now)) ≡ false → at_name g below.new.entries ≡ at_name g below.old.entries }
     ensures ordered { IsOrdered string_cmp below.old → IsOrdered string_cmp below.new }
@@ -28,7 +29,7 @@ fn cut_at(set: &PathMap, below: &mut BTreeMap<String, PathMap>, name: &String) -
 }
 
 #[cycle(cut)]
-fn cut_child(set: &PathMap, below: &mut BTreeMap<String, PathMap>, name: &String)
+fn cut_child(set: &PathMap, below: &mut BTreeMap<ElemText, PathMap>, name: &ElemText)
     ensures here { content_at (string_bytes name.now) below.new.entries ≡ without (content_at (string_bytes name.now) below.old.entries) (dom (content set.now)) }
     ensures others { (g : List ℕ) → is_eq (slice_cmp nat_cmp g (string_bytes name.now)) ≡ false → at_name g below.new.entries ≡ at_name g below.old.entries }
     ensures ordered { IsOrdered string_cmp below.old → IsOrdered string_cmp below.new }
@@ -39,7 +40,7 @@ fn cut_child(set: &PathMap, below: &mut BTreeMap<String, PathMap>, name: &String
 }
 
 #[cycle(cut)]
-fn cut_below(set: &BTreeMap<String, PathMap>, below: &mut BTreeMap<String, PathMap>)
+fn cut_below(set: &BTreeMap<ElemText, PathMap>, below: &mut BTreeMap<ElemText, PathMap>)
     ensures { gather (contents_in below.new.entries) ≡ without (gather (contents_in below.old.entries)) (dom (gather (contents_in set.now.entries))) }
 {
     if below.len() == 0 {

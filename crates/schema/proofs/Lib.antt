@@ -7,4 +7,4 @@ pub mod Shapes
 pub mod Sorting
 pub mod Texts
 pub mod TypeByType
-pub mod Walks
+pub mod Steps

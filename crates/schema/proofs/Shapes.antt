@@ -23,3 +23,6 @@ shape-MapOf b a = search (rules, the_lemmas)
 
 pub shape-List : (b : Box Schema Global) (k : ListKind) → shape (made.List b k) ≡ list_of (shape b.value) (kind_of k)
 shape-List b k = search (rules, the_lemmas)
+
+pub struct_is : (s : Schema) (fields : Vec (String Global × Schema) Global) (b : Bool) (fs : List (String Global × Schema)) → s ≡ Struct fields b → fs ≡ fields.items → shape s ≡ struct_of (fields_in fs) b
+struct_is s fields b fs is there = ap shape is ∙ shape-Struct fields b ∙ ap (λ l. struct_of (fields_in l) b) (sym there)

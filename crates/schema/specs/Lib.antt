@@ -1,5 +1,7 @@
 pub mod Shape
 pub mod Place
+pub mod Steps
+pub mod Spots
 pub mod Lawful
 pub mod Depths
 pub mod Names

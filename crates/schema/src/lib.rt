@@ -14,12 +14,13 @@ mod place;
 mod read;
 mod schema;
 mod served;
+mod step;
 mod type_names;
 mod types;
-mod walk;
 
 pub use fault::TypesFault;
 pub use place::Place;
 pub use schema::{ListKind, Schema};
 pub use served::Served;
+pub use step::Spot;
 pub use types::Types;

@@ -4,13 +4,13 @@ use Rattle.std.specs.List.{list_any}
 use Rattle.std.specs.Str.{bytes_eq}
 use Rattle.serde_json.specs.Data.{Data, null, boolean, number, string, array, object, Items, no_items, item, Members, no_members, member, depth, items_depth, members_depth}
 use Rattle.serde_json.specs.Find.{as_array, as_object}
-use Rattle.fieldpath.specs.Elements.{name_text}
+use Rattle.fieldpath.specs.Elements.{name_text, set_item_text, list_item_text}
 use Rattle.pathmap.specs.Contents.{Content, nothing, under}
 use Rattle.schema.specs.Lawful.{depth_of, fields_depth}
 use Rattle.schema.specs.Shape.{Kind, atomic, set, keyed, Shape, text, whole, truth, struct_of, map_of, list_of, Fields, no_fields, field}
 use Rattle.typed.specs.declared.fault.Cause.TheVariants.{NotAnObject, WrongType, DuplicateItem, KeyFieldMissing}
 use Rattle.typed.specs.Faults.{Read, below, and_then, some_or, shown_name, shown_place}
-use Rattle.typed.specs.Reading.{is_null, text_in, whole_in, truth_in, have_keys, plain_members, plain_items, plain_item, plain_of, plain_of_field, leaf, joined, one_member, members_at, marked, one_item, items_at, set_item, keyed_item, beside_keys, content_of, content_of_item, content_of_field}
+use Rattle.typed.specs.Reading.{is_null, text_in, whole_in, truth_in, have_keys, keys_in, plain_members, plain_items, plain_item, plain_of, plain_of_field, leaf, joined, one_member, members_at, marked, one_item, items_at, named_item, set_item, keyed_item, beside_keys, content_of, content_of_item, content_of_field}
 use Rattle.typed.proofs.Floats.{err_not_ok, below_ok, and_then_ok, joined_ok, either_ok}
 
 at_most : (a b n : ℕ) → a ≤ n → b ≤ n → max a b ≤ n
@@ -171,7 +171,7 @@ atomic_deep : (s : Shape) (d : Data) (c : Content) → below [] leaf (plain_of s
 atomic_deep s d c h = let found = below_ok [] leaf (plain_of s d) c h in plain_deep s d found.0 found.1
 
 set_deep : (s : Shape) (d : Data) (e : List ℕ × Content) → set_item (plain_of s) d ≡ Ok e → depth d ≤ depth_of s
-set_deep s d e h = let found = below_ok [] _ (plain_of s d) e h in plain_deep s d found.0 found.1
+set_deep s d e h = let found = and_then_ok (plain_of s d) (λ x. named_item (set_item_text x) nothing) e h in plain_deep s d found.0 found.1
 
 keyed_deep : (n : ℕ) (names : List (List ℕ)) (inner : Members → Read Content) → ((ms : Members) (c : Content) → inner ms ≡ Ok c → suc (members_depth ms) ≤ n) → (d : Data) (e : List ℕ × Content) → keyed_item names inner d ≡ Ok e → depth d ≤ n
 keyed_deep n names inner deep null e h = any_least n
@@ -180,7 +180,7 @@ keyed_deep n names inner deep (number y) e h = any_least n
 keyed_deep n names inner deep (string s) e h = any_least n
 keyed_deep n names inner deep (array ds) e h = absurd (err_not_ok _ e h)
 keyed_deep n names inner deep (object ms) e h =
-    either_ok (suc (members_depth ms) ≤ n) (have_keys names ms) _ _ e h (λ reads. let found = below_ok [] _ (inner ms) e reads in deep ms found.0 found.1) (λ wrong. absurd (err_not_ok _ e wrong))
+    either_ok (suc (members_depth ms) ≤ n) (have_keys names ms) _ _ e h (λ reads. let found = and_then_ok (inner ms) (named_item (list_item_text (object (keys_in names ms)))) e reads in deep ms found.0 found.1) (λ wrong. absurd (err_not_ok _ e wrong))
 
 beside_deep : (n : ℕ) (names : List (List ℕ)) (inner : List ℕ → Data → Read Content) → ((k : List ℕ) (d : Data) (c : Content) → inner k d ≡ Ok c → depth d ≤ n) → (k : List ℕ) (d : Data) (c : Content) → beside_keys names inner k d ≡ Ok c → depth d ≤ n
 beside_deep n names inner deep k d c h =

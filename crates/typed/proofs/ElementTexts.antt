@@ -8,7 +8,7 @@ use Rattle.serde_json.specs.Data.{Num, unsigned, negative, float, Data, null, bo
 use Rattle.serde_json.specs.Find.{as_i64, as_object, of_integer}
 use Rattle.serde_json.specs.Read.{read}
 use Rattle.serde_json.specs.Written.{compact_text, number_text}
-use Rattle.fieldpath.specs.Elements.{Scalar, KeyFields, Element, NoElement, scalar_data, scalar_of, whole_scalar, key_members, key_text, scalar_text, element_text, one_more, keys_of_members, some_keys, keys_of, if_canonical, read_json, has_prefix, read_element}
+use Rattle.fieldpath.specs.Elements.{Scalar, KeyFields, Element, NoElement, scalar_data, scalar_of, whole_scalar, key_members, key_text, scalar_text, element_text, keys_of_members, some_keys, keys_of, if_canonical, read_json, has_prefix, read_element}
 use Rattle.fieldpath.specs.Elements as element
 use Rattle.pathmap.specs.Contents.{Content, here}
 use Rattle.pathmap.specs.Contents as standing
@@ -109,7 +109,7 @@ members_of (array ds) ks h = absurd (true≢false (sym (ap is_some h)))
 members_of (object ms) ks h = (ms, refl, some_is (keys_of_members ms) ks h)
 
 abbrev pub SpellsKeys : List ℕ → KeyFields → Type 0
-SpellsKeys e ks = (ms : Members) × (keys_in e ≡ Some ms) × (keys_of_members ms ≡ Some ks) × (key_text (key_members ks) ≡ e)
+SpellsKeys e ks = (ms : Members) × (keys_in e ≡ Some ms) × (keys_of_members ms ≡ Some ks) × (key_text (key_members ks) ≡ e) × (keys_of (object ms) ≡ Some (element.key ks))
 
 pub key_element : (e : List ℕ) (ks : KeyFields) → read_element e ≡ Ok (element.key ks) → SpellsKeys e ks
 unfolding read_element
@@ -122,7 +122,7 @@ key_element e ks h = by_prefix (has_prefix 102 e) (has_prefix 107 e) refl (has_p
     by_prefix false true t c (Some d) is h =
         let found = canonical e (keys_of d) (element.key ks) h in
         let spelled = members_of d ks found.0 in
-        (spelled.0, ap (λ b. option_and_then as_object (option_and_then read (cond b (Some (drop 2 e)) None))) t ∙ ap (option_and_then as_object) is ∙ ap as_object spelled.1, spelled.2, found.1)
+        (spelled.0, ap (λ b. option_and_then as_object (option_and_then read (cond b (Some (drop 2 e)) None))) t ∙ ap (option_and_then as_object) is ∙ ap as_object spelled.1, spelled.2, found.1, ap keys_of (sym spelled.1) ∙ found.0)
     by_prefix false false t true None is h = absurd (true≢false (sym (ap is_ok h)))
     by_prefix false false t true (Some d) is h = absurd (true≢false (sym (ap is_key (canonical e (option_map element.value (scalar_of d)) (element.key ks) h).0) ∙ value-not_key (scalar_of d)))
     by_prefix false false t false r is h = absurd (true≢false (sym (ap is_ok h)))

@@ -7,11 +7,12 @@ use Rattle.std.specs.Str.{bytes_eq}
 use Rattle.serde_json.specs.Data.{unsigned, negative, float, Data, null, boolean, number, string, array, object, Items, no_items, item, Members, no_members, member, put}
 use Rattle.serde_json.specs.Find.{get_member, as_array, as_object}
 use Rattle.serde_json.specs.Written.{has_float, items_have_float, members_have_float}
+use Rattle.fieldpath.specs.Elements.{set_item_text, list_item_text}
 use Rattle.pathmap.specs.Contents.{Content, nothing}
 use Rattle.schema.specs.Shape.{Kind, atomic, set, keyed, Shape, text, whole, truth, struct_of, map_of, list_of, Fields, no_fields, field}
 use Rattle.typed.specs.declared.fault.Cause.TheVariants.{NotAnObject, WrongType, DuplicateItem, KeyFieldMissing}
 use Rattle.typed.specs.Faults.{Fault, Read, below, and_then, some_or, shown_name, shown_place}
-use Rattle.typed.specs.Reading.{is_null, text_in, whole_in, truth_in, have_keys, put_some, keys_in, plain_members, plain_items, plain_item, plain_of, plain_of_field, leaf, joined, one_member, members_at, marked, one_item, items_at, set_item, keyed_item, beside_keys, content_of, content_of_item, content_of_field}
+use Rattle.typed.specs.Reading.{is_null, text_in, whole_in, truth_in, have_keys, put_some, keys_in, plain_members, plain_items, plain_item, plain_of, plain_of_field, leaf, joined, one_member, members_at, marked, one_item, items_at, named_item, set_item, keyed_item, beside_keys, content_of, content_of_item, content_of_field}
 
 -- ---- what read well
 
@@ -32,6 +33,10 @@ below_ok s f (Err e) y h = absurd (err_not_ok _ y h)
 pub and_then_ok : {X Y : Type 0} (r : Read X) (g : X → Read Y) (y : Y) → and_then r g ≡ Ok y → (x : X) × (r ≡ Ok x) × (g x ≡ Ok y)
 and_then_ok (Ok x) g y h = (x, refl, h)
 and_then_ok (Err e) g y h = absurd (err_not_ok e y h)
+
+-- an item that has an element
+pub named_is : (o : Option (List ℕ)) (t : List ℕ) (c : Content) (p : List ℕ × Content) → o ≡ Some t → named_item o c ≡ Ok p → p ≡ (t, c)
+named_is o t c p is h = ok_is p (t, c) (sym h ∙ ap (λ q. named_item q c) is)
 
 pub joined_ok : (a b : Read Content) (c : Content) → joined a b ≡ Ok c → ((x : Content) × (a ≡ Ok x)) × ((y : Content) × (b ≡ Ok y))
 joined_ok (Err e) b c h = absurd (err_not_ok e c h)
@@ -224,7 +229,7 @@ atomic_whole : (s : Shape) (d : Data) (c : Content) → below [] leaf (plain_of 
 atomic_whole s d c h = let found = below_ok [] leaf (plain_of s d) c h in (plain_clean s d found.0 found.1).0
 
 set_whole : (s : Shape) (d : Data) (e : List ℕ × Content) → set_item (plain_of s) d ≡ Ok e → has_float d ≡ false
-set_whole s d e h = let found = below_ok [] _ (plain_of s d) e h in (plain_clean s d found.0 found.1).0
+set_whole s d e h = let found = and_then_ok (plain_of s d) (λ x. named_item (set_item_text x) nothing) e h in (plain_clean s d found.0 found.1).0
 
 keyed_whole : (names : List (List ℕ)) (inner : Members → Read Content) → ((ms : Members) (c : Content) → inner ms ≡ Ok c → members_have_float ms ≡ false) → (d : Data) (e : List ℕ × Content) → keyed_item names inner d ≡ Ok e → has_float d ≡ false
 keyed_whole names inner cleans null e h = refl
@@ -233,7 +238,7 @@ keyed_whole names inner cleans (number n) e h = absurd (err_not_ok _ e h)
 keyed_whole names inner cleans (string s) e h = refl
 keyed_whole names inner cleans (array ds) e h = absurd (err_not_ok _ e h)
 keyed_whole names inner cleans (object ms) e h =
-    either_ok (members_have_float ms ≡ false) (have_keys names ms) _ _ e h (λ read. let found = below_ok [] _ (inner ms) e read in cleans ms found.0 found.1) (λ wrong. absurd (err_not_ok _ e wrong))
+    either_ok (members_have_float ms ≡ false) (have_keys names ms) _ _ e h (λ read. let found = and_then_ok (inner ms) (named_item (list_item_text (object (keys_in names ms)))) e read in cleans ms found.0 found.1) (λ wrong. absurd (err_not_ok _ e wrong))
 
 beside_whole : (names : List (List ℕ)) (inner : List ℕ → Data → Read Content) → ((k : List ℕ) (d : Data) (c : Content) → inner k d ≡ Ok c → has_float d ≡ false) → (k : List ℕ) (d : Data) (c : Content) → beside_keys names inner k d ≡ Ok c → has_float d ≡ false
 beside_whole names inner cleans k d c h =

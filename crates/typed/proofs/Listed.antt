@@ -5,10 +5,10 @@ use Rattle.std.specs.Str.{bytes_eq}
 use Rattle.std.specs.BTreeMap.{insert_entry}
 use Rattle.std.proofs.lemmas.Map.Text.{is_eq-slice_cmp}
 use Rattle.std.proofs.Common.{nat_cmp, string_cmp, is_eq, ◌≡◌, ℕ, ◌+◌, ◌<◌, Bool, true, false, ◌||◌, cond, List, [], ◌∷◌, length, drop, get_or, drop-cons, add-one, Option, Some, None, is_some, Ok, Err, String, Global, string_bytes, refl, sym, ap, ap₂, subst, ◌∙◌}
-use Rattle.serde_json.specs.Data.{Data, Members}
+use Rattle.serde_json.specs.Data.{Data, Members, object}
 use Rattle.serde_json.specs.View.{view, items_view}
 use Rattle.serde_json.specs.declared.value.Value.{Value}
-use Rattle.fieldpath.specs.Elements.{key_text}
+use Rattle.fieldpath.specs.Elements.{list_item_text}
 use Rattle.pathmap.specs.Contents.{Content, over, gather}
 use Rattle.pathmap.specs.Maps.{at_name, contents_in}
 use Rattle.pathmap.specs.declared.pathmap.PathMap.{PathMap}
@@ -16,7 +16,7 @@ use Rattle.pathmap.proofs.Trees.{at_name-insert_entry}
 use Rattle.typed.specs.declared.fault.Cause.TheVariants.{DuplicateItem, KeyFieldMissing}
 use Rattle.typed.specs.declared.fault.ReadFault.{ReadFault}
 use Rattle.typed.specs.Faults.{Read, Tells, fault_in, below, and_then, shown_place}
-use Rattle.typed.specs.Reading.{joined, marked, one_item, items_at, have_keys, keys_in, keyed_item, object_item}
+use Rattle.typed.specs.Reading.{joined, marked, one_item, items_at, have_keys, keys_in, keyed_item, named_item, object_item}
 use Rattle.typed.proofs.Floats.{ok_is, err_not_ok}
 use Rattle.typed.specs.Steps.{Entries, AreSeen}
 use Rattle.typed.proofs.Joins.{joined-nothing, joined-none, joined-joined, tells-after}
@@ -81,15 +81,15 @@ module _ (inner : Data → Read (List ℕ × Content)) (whole : Read Content) (e
 -- ---- an item of a map list, once its key fields are there
 
 pub keyed_is : (names : List (List ℕ)) (inner : Members → Read Content) (d : Data) (ms : Members) → and_then (object_item d) (λ ms. cond (have_keys names ms) (Ok ms) (Err (KeyFieldMissing, []))) ≡ Ok ms
-    → keyed_item names inner d ≡ below [] (λ c. (key_text (keys_in names ms), c)) (inner ms)
+    → keyed_item names inner d ≡ and_then (inner ms) (named_item (list_item_text (object (keys_in names ms))))
 keyed_is names inner d ms h = by_object (object_item d) h
   where
     by_keys : (ns : Members) (b : Bool) → ◌≡◌ {A = Read Members} (cond b (Ok ns) (Err (KeyFieldMissing, []))) (Ok ms)
-        → ◌≡◌ {A = Read (List ℕ × Content)} (cond b (below [] (λ c. (key_text (keys_in names ns), c)) (inner ns)) (Err (KeyFieldMissing, []))) (below [] (λ c. (key_text (keys_in names ms), c)) (inner ms))
-    by_keys ns true is = ap (λ m. below [] (λ c. (key_text (keys_in names m), c)) (inner m)) (ok_is ns ms is)
+        → ◌≡◌ {A = Read (List ℕ × Content)} (cond b (and_then (inner ns) (named_item (list_item_text (object (keys_in names ns))))) (Err (KeyFieldMissing, []))) (and_then (inner ms) (named_item (list_item_text (object (keys_in names ms)))))
+    by_keys ns true is = ap (λ m. and_then (inner m) (named_item (list_item_text (object (keys_in names m))))) (ok_is ns ms is)
     by_keys ns false is = absurd (err_not_ok (KeyFieldMissing, []) ms is)
 
     by_object : (r : Read Members) → and_then r (λ ms. cond (have_keys names ms) (Ok ms) (Err (KeyFieldMissing, []))) ≡ Ok ms
-        → and_then {Y = List ℕ × Content} r (λ ms. cond (have_keys names ms) (below [] (λ c. (key_text (keys_in names ms), c)) (inner ms)) (Err (KeyFieldMissing, []))) ≡ below [] (λ c. (key_text (keys_in names ms), c)) (inner ms)
+        → and_then {Y = List ℕ × Content} r (λ ms. cond (have_keys names ms) (and_then (inner ms) (named_item (list_item_text (object (keys_in names ms))))) (Err (KeyFieldMissing, []))) ≡ and_then (inner ms) (named_item (list_item_text (object (keys_in names ms))))
     by_object (Err e) is = absurd (err_not_ok e ms is)
     by_object (Ok ns) is = by_keys ns (have_keys names ns) is

@@ -15,7 +15,7 @@ use Rattle.serde_json.specs.Data.{Num, unsigned, negative, float, Data, null, bo
 use Rattle.serde_json.specs.Find.{get_member, as_array, as_i64, as_number, as_object}
 use Rattle.serde_json.specs.Read.{read, max_depth}
 use Rattle.serde_json.specs.Written.{compact_text, has_float, members_have_float}
-use Rattle.fieldpath.specs.Elements.{Scalar, KeyFields, Element, has_prefix, key_members, key_text, keys_of, keys_of_members, name_text, one_more, read_element, read_json, scalar_of, scalar_text, some_keys, whole_scalar, if_canonical, element_text, scalar_data}
+use Rattle.fieldpath.specs.Elements.{Scalar, KeyFields, has_prefix, key_members, key_text, keys_of, keys_of_members, name_text, one_more, read_element, read_json, scalar_of, scalar_text, set_item_text, list_item_text, some_keys, whole_scalar, if_canonical, scalar_data}
 use Rattle.fieldpath.specs.Elements as element
 use Rattle.fieldpath.specs.Paths.{PathTexts}
 use Rattle.fieldpath.specs.Scalars.{ascend, ascend_from}
@@ -33,9 +33,9 @@ use Rattle.schema.specs.Shape.{atomic, set, keyed, Shape, text, whole, truth, st
 use Rattle.typed.specs.declared.fault.Cause.TheVariants.{NotAnObject, WrongType, DuplicateItem, KeyFieldMissing}
 use Rattle.typed.specs.Faults.{Read, below, and_then, some_or, shown_name, shown_place}
 use Rattle.typed.specs.Placed.{IsWithin, IsAtomic, is_field, IsSetItem, HasKeys, IsItem, IsPlaced, ArePlaced, ReadingsArePlaced}
-use Rattle.typed.specs.Reading.{is_null, is_there, text_in, whole_in, truth_in, have_keys, put_some, keys_in, plain_of, leaf, at_field, joined, one_member, members_at, marked, one_item, items_at, set_item, keyed_item, beside_keys, content_of, content_of_item, content_of_field}
+use Rattle.typed.specs.Reading.{is_null, is_there, text_in, whole_in, truth_in, have_keys, put_some, keys_in, plain_of, leaf, at_field, joined, one_member, members_at, marked, one_item, items_at, named_item, set_item, keyed_item, beside_keys, content_of, content_of_item, content_of_field}
 use Rattle.typed.proofs.ElementTexts.{scalar_same}
-use Rattle.typed.proofs.Floats.{ok_is, err_not_ok, below_ok, plain_clean, content_item_clean, keys_clean}
+use Rattle.typed.proofs.Floats.{ok_is, err_not_ok, below_ok, and_then_ok, named_is, plain_clean, content_item_clean, keys_clean}
 use Rattle.typed.proofs.Insides.{get-inside, inside-nothing, itself}
 use Rattle.typed.proofs.KeyFields.{AreRising, ascend_rising, keys_text, field-at}
 use Rattle.typed.proofs.PlainAgain.{ascend_skip, ascend_rest, plain_leaf}
@@ -443,7 +443,7 @@ pair_text p = p.0
 set_each : (s : Shape) (e : List ℕ) (x : Content) → is_scalar s ≡ true → NoneOrItem (set_item (plain_of s)) e x → (x ≡ nothing) ⊎ IsSetItem s e x
 set_each s e x is (inl none) = inl none
 set_each s e x is (inr (d, y, good, reads, stands)) =
-    let k = below_ok [] (λ z. pair (scalar_text z) nothing) (plain_of s d) (pair e y) reads in
+    let k = and_then_ok (plain_of s d) (λ x. named_item (set_item_text x) nothing) (pair e y) reads in
     let z = k.0 in
     let one = plain_scalar s d z is k.1 in
     let v = one.1.0 in
@@ -451,7 +451,8 @@ set_each s e x is (inr (d, y, good, reads, stands)) =
     let clean : has_float z ≡ false = (plain_clean s d z k.1).1 in
     let good_z : Good z = subst Good (sym one.0) good in
     let back = compact-read z good_z.0 clean good_z.1 in
-    inr (v, ap read_element (ap pair_text k.2) ∙ scalar_read z v back scalar, one.1.2, stands ∙ ap (λ p. over (here standing.mark) p.1) k.2 ∙ over-nothing (here standing.mark))
+    let named = named_is (set_item_text z) (scalar_text z) nothing (pair e y) (ap (option_map (λ w. scalar_text z)) scalar) k.2 in
+    inr (v, ap read_element (ap pair_text named) ∙ scalar_read z v back scalar, one.1.2, stands ∙ ap (λ p. over (here standing.mark) p.1) named ∙ over-nothing (here standing.mark))
 
 set_placed : (s : Shape) (ds : Items) (c : Content) → is_scalar s ≡ true → Good (array ds) → items_at (set_item (plain_of s)) 0 [] ds ≡ Ok c → IsPlaced (list_of s set) c
 set_placed s ds c is good h =
@@ -620,6 +621,15 @@ module _ (names : List (List ℕ)) (all : Fields) (some : is_some_name names ≡
             subst (FieldAt all f) (sym (inside-marked (name_text f) y)) (item_each names all f (inside (name_text f) y) (each (name_text f)))),
       )
 
+  -- the key fields that are read name the item
+  keys_named : (ms : Members) (y : Content) → Good (object ms) → have_keys names ms ≡ true → members_at (item_members names all) ms ≡ Ok y → list_item_text (object (keys_in names ms)) ≡ Some (key_text (keys_in names ms))
+  unfolding key_text
+  keys_named ms y good keys h =
+      let deep : depth (object ms) ≤ max_depth = good.1 in
+      let shallow : members_depth ms ≤ max_depth = omega (arith, deep) in
+      let ks = keys_are names all ms (ascend_rising names rise) (key_is names all ms y scalars keys h good.0.1 shallow) in
+      ap (option_map (λ x. 107 ∷ 58 ∷ compact_text (object (keys_in names ms)))) (ap some_keys ks.are ∙ some_key names all ks.keys some ks.fit)
+
   keyed_at : (b : Bool) (d : Data) (e : List ℕ) (y x : Content) → Good d → keyed_item names (λ ms. content_of_item (struct_of all b) names ms) d ≡ Ok (e, y) → x ≡ over (here standing.mark) y → IsKeyed e x
   keyed_at b null e y x good h is = absurd (err_not_ok _ (e, y) h)
   keyed_at b (boolean t) e y x good h is = absurd (err_not_ok _ (e, y) h)
@@ -628,13 +638,14 @@ module _ (names : List (List ℕ)) (all : Fields) (some : is_some_name names ≡
   keyed_at b (array ds) e y x good h is = absurd (err_not_ok _ (e, y) h)
   keyed_at b (object ms) e y x good h is = by_keys (have_keys names ms) refl h
     where
-      of_members : below [] (pair (key_text (keys_in names ms))) (members_at (item_members names all) ms) ≡ Ok (e, y) → have_keys names ms ≡ true → IsKeyed e x
+      of_members : and_then (members_at (item_members names all) ms) (named_item (list_item_text (object (keys_in names ms)))) ≡ Ok (e, y) → have_keys names ms ≡ true → IsKeyed e x
       of_members h keys =
-          let k = below_ok [] (pair (key_text (keys_in names ms))) (members_at (item_members names all) ms) (pair e y) h in
+          let k = and_then_ok (members_at (item_members names all) ms) (named_item (list_item_text (object (keys_in names ms)))) (pair e y) h in
+          let named = named_is (list_item_text (object (keys_in names ms))) (key_text (keys_in names ms)) k.0 (pair e y) (keys_named ms k.0 good keys k.1) k.2 in
           let made = item_of ms k.0 good keys k.1 (content_item_clean (struct_of all b) names ms k.0 k.1) in
-          subst (λ z. IsKeyed e z) (sym (is ∙ ap (λ p. over (here standing.mark) p.1) k.2)) (subst (λ f. IsKeyed f (over (here standing.mark) k.0)) (sym (ap pair_text k.2)) made)
+          subst (λ z. IsKeyed e z) (sym (is ∙ ap (λ p. over (here standing.mark) p.1) named)) (subst (λ f. IsKeyed f (over (here standing.mark) k.0)) (sym (ap pair_text named)) made)
 
-      by_keys : (t : Bool) → have_keys names ms ≡ t → cond t (below [] (pair (key_text (keys_in names ms))) (members_at (item_members names all) ms)) (Err (KeyFieldMissing, [])) ≡ Ok (e, y) → IsKeyed e x
+      by_keys : (t : Bool) → have_keys names ms ≡ t → cond t (and_then (members_at (item_members names all) ms) (named_item (list_item_text (object (keys_in names ms))))) (Err (KeyFieldMissing, [])) ≡ Ok (e, y) → IsKeyed e x
       by_keys true keys h = of_members h keys
       by_keys false keys h = absurd (err_not_ok _ (e, y) h)
 

@@ -13,7 +13,7 @@ use Rattle.std.proofs.lemmas.Slice.Eq.{bytes_eq-Decides}
 use Rattle.serde_json.specs.Data.{Data, null, boolean, number, string, array, object, Items, no_items, item, Members, no_members, member}
 use Rattle.serde_json.specs.Find.{of_integer, as_i64, get_member}
 use Rattle.serde_json.specs.Written.{compact_text}
-use Rattle.fieldpath.specs.Elements.{has_prefix, name_text, key_text, scalar_text}
+use Rattle.fieldpath.specs.Elements.{has_prefix, name_text, key_text, scalar_text, set_item_text, list_item_text}
 use Rattle.pathmap.specs.Contents.{Content, nothing, here, under, over}
 use Rattle.pathmap.specs.Contents as standing
 use Rattle.pathmap.specs.Insides.{inside, heads}
@@ -23,11 +23,11 @@ use Rattle.fieldpath.specs.Scalars.{ascend}
 use Rattle.schema.specs.Lawful.{names_of, item_is_lawful, has_keys, is_some_name, is_well_formed, are_well_formed}
 use Rattle.schema.specs.Shape.{atomic, set, keyed, Shape, text, whole, truth, struct_of, map_of, list_of, Fields, no_fields, field}
 use Rattle.typed.specs.declared.fault.Cause.TheVariants.{WrongType, DuplicateItem, KeyFieldMissing}
-use Rattle.typed.specs.Faults.{Read, below, some_or, shown_place}
+use Rattle.typed.specs.Faults.{Read, below, and_then, some_or, shown_place}
 use Rattle.typed.specs.Placed.{IsWithin, IsAtomic, IsBelow, is_field, IsSetItem, HasKeys, IsItem, ArePlaced, ReadsBack, RoundTrip}
 use Rattle.typed.specs.Printing.{value_at, value_of, object_or_none, array_or_none, with_member, with_named, with_item, after, each_member, each_item, scalar_in, print, print_item, print_fields}
 use Rattle.typed.specs.Printing as printing
-use Rattle.typed.specs.Reading.{is_null, plain_of, leaf, joined, members_at, marked, one_item, items_at, set_item, keyed_item, beside_keys, keys_in, content_of, content_of_item, content_of_field}
+use Rattle.typed.specs.Reading.{is_null, plain_of, leaf, joined, members_at, marked, one_item, items_at, named_item, set_item, keyed_item, beside_keys, keys_in, content_of, content_of_item, content_of_field}
 use Rattle.typed.proofs.ElementTexts.{value_element, key_element, scalar_same, scalar_reads}
 use Rattle.typed.proofs.Insides.{heads-inside, has_path, nothing_path, itself, rising, get-inside}
 use Rattle.typed.proofs.KeyFields.{AreRising, ascend_rising, AreKeys, keys_text, keys_fit, keys_there, keys_same, keys_found, keys_absent, keys_read, fields_keep}
@@ -238,7 +238,8 @@ set_reads s c e (v, is, fit, there) =
       d,
       nothing,
       spelled.1,
-      ap (below [] (λ x. (scalar_text x, nothing))) (scalar_reads s d v fit spelled.2).1 ∙ ap (λ t. Ok (t, nothing)) (ap (λ t. 118 ∷ 58 ∷ t) (sym (scalar_same d v spelled.2)) ∙ spelled.3),
+      ap (λ r. and_then r (λ x. named_item (set_item_text x) nothing)) (scalar_reads s d v fit spelled.2).1
+          ∙ ap (λ o. named_item (option_map (λ w. scalar_text d) o) nothing) spelled.2 ∙ ap (λ t. Ok (t, nothing)) (ap (λ t. 118 ∷ 58 ∷ t) (sym (scalar_same d v spelled.2)) ∙ spelled.3),
       over-nothing (here standing.mark) ∙ sym there,
     )
 
@@ -288,6 +289,7 @@ is_all all c none g rest h = none g rest (sym (is_field-any (names_of all) g) �
 
 item_reads : (names : List (List ℕ)) (all : Fields) (is_atomic : Bool) (c : Content) (e : List ℕ) → AreRising names → AreRising (names_of all) → HasKeys names all e (inside e c) → Back all (inside e c)
     → Reads (keyed_item names (λ ms. content_of_item (struct_of all is_atomic) names ms)) (λ g. option_map (λ ms. object (print_item (struct_of all is_atomic) (inside g c) ms)) (printing.keys_in g)) c e
+unfolding key_text
 item_reads names all is_atomic c e rise fields_rise (ks, is, fit, top, none, bare) back =
     let below_e = inside e c in
     let spelled = key_element e ks is in
@@ -296,14 +298,17 @@ item_reads names all is_atomic c e rise fields_rise (ks, is, fit, top, none, bar
     let keys = keys_fit names all ms ks spelled.2 fit in
     let found = keys_found names all ms printed rise keys (λ n t. fields_keep all below_e ms n (bare n t)) in
     let fields_found = all_found all all fields_rise (λ k d t. refl) in
+    let read_back = with_parts (elements (names_of all)) below_e nothing in
     let reads = fields_read (beside_keys names (λ k e. content_of_field all k e)) below_e all ms nothing fields_rise (gave_beside names all below_e bare all fields_found back) (new_beside names all below_e bare all ms keys)
     (keys_read names all names ms (λ n t. t) keys) in (
       object printed,
       with_parts (elements (names_of all)) below_e nothing,
       ap (option_map (λ xs. object (print_item (struct_of all is_atomic) below_e xs))) spelled.1,
-      ap (λ b. cond b (below [] (λ x. (key_text (keys_in names printed), x)) (members_at (beside_keys names (λ k e. content_of_field all k e)) printed)) (Err (KeyFieldMissing, []))) (keys_there names all ms printed keys found)
-          ∙ ap (below [] (λ x. (key_text (keys_in names printed), x))) reads
-          ∙ ap (λ t. Ok (t, with_parts (elements (names_of all)) below_e nothing)) (ap key_text (keys_same names all ms printed rise keys found) ∙ sym (keys_text ms ks spelled.2) ∙ spelled.3),
+      ap (λ b. cond b (and_then (members_at (beside_keys names (λ k e. content_of_field all k e)) printed) (named_item (list_item_text (object (keys_in names printed))))) (Err (KeyFieldMissing, []))) (keys_there names all ms printed keys found)
+          ∙ ap (λ r. and_then r (named_item (list_item_text (object (keys_in names printed))))) reads
+          ∙ ap (λ m. named_item (list_item_text (object m)) read_back) (keys_same names all ms printed rise keys found)
+          ∙ ap (λ o. named_item (option_map (λ x. 107 ∷ 58 ∷ compact_text (object ms)) o) read_back) spelled.4
+          ∙ ap (λ t. Ok (t, read_back)) (sym (keys_text ms ks spelled.2) ∙ spelled.3),
       marked_parts-all (elements (names_of all)) below_e top (is_all all below_e none),
     )
 

@@ -8,8 +8,8 @@ use Rattle.std.specs.List.{list_any}
 use Rattle.serde_json.specs.Data.{Data, array, object, Items, no_items, item, Members, no_members, member, put}
 use Rattle.serde_json.specs.Find.{get_member, as_null, as_bool, as_number, as_i64, as_str, as_object, as_array}
 use Rattle.serde_json.specs.Written.{compact_text}
-use Rattle.fieldpath.specs.Elements.{name_text, key_text, scalar_text}
-use Rattle.pathmap.specs.Contents.{Standing, Content, nothing, here, under, over}
+use Rattle.fieldpath.specs.Elements.{name_text, set_item_text, list_item_text}
+use Rattle.pathmap.specs.Contents.{Content, nothing, here, under, over}
 use Rattle.pathmap.specs.Contents as standing
 use Rattle.schema.specs.Shape.{Kind, atomic, set, keyed, Shape, text, whole, truth, struct_of, map_of, list_of, Fields, no_fields, field}
 use Rattle.typed.specs.declared.fault.Cause.TheVariants.{NotAnObject, UnknownField, WrongType, DuplicateItem, KeyFieldMissing}
@@ -122,13 +122,18 @@ abbrev pub items_at : (Data → Read (List ℕ × Content)) → ℕ → List (Li
 items_at inner i seen no_items = Ok nothing
 items_at inner i seen (item d ds) = one_item seen (below (shown_place i) (λ e. e) (inner d)) (λ more. items_at inner (suc i) more ds)
 
+-- the element of an item, if it has one, and what stands below it
+abbrev pub named_item : Option (List ℕ) → Content → Read (List ℕ × Content)
+named_item None c = Err (WrongType, [])
+named_item (Some e) c = Ok (e, c)
+
 -- an item of a set is its scalar
 abbrev pub set_item : (Data → Read Data) → Data → Read (List ℕ × Content)
-set_item inner d = below [] (λ x. (scalar_text x, nothing)) (inner d)
+set_item inner d = and_then (inner d) (λ x. named_item (set_item_text x) nothing)
 
 -- an item of a map list: its kind, a missing key field, its members
 abbrev pub keyed_item : List (List ℕ) → (Members → Read Content) → Data → Read (List ℕ × Content)
-keyed_item names inner d = and_then (object_item d) (λ ms. if have_keys names ms then below [] (λ c. (key_text (keys_in names ms), c)) (inner ms) else Err (KeyFieldMissing, []))
+keyed_item names inner d = and_then (object_item d) (λ ms. if have_keys names ms then and_then (inner ms) (named_item (list_item_text (object (keys_in names ms)))) else Err (KeyFieldMissing, []))
 
 -- a key field stands in the item's element alone
 abbrev pub beside_keys : List (List ℕ) → (List ℕ → Data → Read Content) → List ℕ → Data → Read Content

@@ -1,20 +1,21 @@
 ghost use Rattle.std.specs.Prelude.{◌≡◌, ℕ, List, [], None, Err, Ok, IfOk, OnOk, false, if◌then◌else◌, map, option_map, string_bytes};
-ghost use Rattle.serde_json.specs.Written.{has_float, members_have_float};
-ghost use Rattle.fieldpath.specs.Elements.{key_text, name_text, scalar_text};
-ghost use Rattle.pathmap.specs.Contents.{Content};
+ghost use Rattle.fieldpath.specs.Elements.{list_item_text, name_text, set_item_text};
+ghost use Rattle.pathmap.specs.Contents.{Content, gather, nothing};
 ghost use Rattle.std.specs.List.{list_any};
 ghost use Rattle.std.specs.Ordering.{is_eq, nat_cmp};
 ghost use Rattle.std.specs.Cmp.Lexicographic.{slice_cmp};
 ghost use Rattle.std.specs.Str.{bytes_eq};
-ghost use Rattle.pathmap.specs.Maps.{at_name, content};
+ghost use Rattle.pathmap.specs.Maps.{at_name, content, contents_in};
+ghost use Rattle.serde_json.specs.Data.{object};
 ghost use Rattle.serde_json.specs.Find.{as_array, as_object, get_member};
 ghost use Rattle.serde_json.specs.View.{items_view, members_view, view};
 ghost use Rattle.typed.specs.declared.fault.Cause.TheVariants.{KeyFieldMissing, NotAnObject, WrongType};
 ghost use Rattle.typed.specs.Faults.{Gives, Read, and_then, some_or};
-ghost use Rattle.typed.specs.Reading.{at_field, have_keys, is_there, keys_in, object_item, put_some};
+ghost use Rattle.typed.specs.Reading.{at_field, have_keys, is_there, keys_in, named_item, object_item, put_some};
 ghost use Rattle.typed.specs.Steps.{AddsItem, AreSeen, Joins, item_view, unless_key};
 
 use crate::fault::{Cause, ReadFault, wrong};
+use fieldpath::ElemText;
 use pathmap::{Held, PathMap};
 use serde_json::{Map, Value};
 use std::alloc::{AllocError, Global};
@@ -23,8 +24,8 @@ use std::collections::BTreeMap;
 /// An item of a set or of a map list: its element's text, and what stands below it.
 #[derive(Drop)]
 pub(crate) struct Item {
-    pub(crate) element: String,
-    pub(crate) below: BTreeMap<String, PathMap>,
+    pub(crate) element: ElemText,
+    pub(crate) below: BTreeMap<ElemText, PathMap>,
 }
 
 /// The members of an object.
@@ -101,13 +102,17 @@ pub(crate) fn keyed_object<'a>(
     }
 }
 
-/// The text of a scalar's element.
-pub(crate) fn scalar_text(alloc: Global, scalar: &Value) -> Result<String, AllocError>
-    ensures { IfOk result (λ s. has_float (view scalar.now) ≡ false → string_bytes s ≡ scalar_text (view scalar.now)) }
+/// An item of a set, by its scalar.
+pub(crate) fn set_item(alloc: Global, scalar: &Value) -> Result<Item, ReadFault>
+    ensures { Gives item_view result (named_item (set_item_text (view scalar.now)) nothing) }
 {
-    let mut text = String::from_str(alloc, "v:")?;
-    text.push_str(scalar.to_string(alloc)?.as_str())?;
-    Ok(text)
+    match ElemText::of_set_item(alloc, scalar)? {
+        Some(element) => Ok(Item {
+            element,
+            below: BTreeMap::new(alloc),
+        }),
+        None => Err(wrong(alloc, Cause::WrongType)),
+    }
 }
 
 fn put_key(
@@ -142,25 +147,27 @@ fn key_members(
     Ok(keys)
 }
 
-/// The text of an item's element, by its key fields.
-pub(crate) fn key_text(
+/// An item of a map list, by its key fields and what stands below it.
+pub(crate) fn list_item(
     names: &[String],
     alloc: Global,
     members: &Map<String, Value>,
-) -> Result<String, AllocError>
-    ensures { IfOk result (λ s. members_have_float (members_view members.now.entries) ≡ false
-        → string_bytes s ≡ key_text (keys_in (map string_bytes names.now) (members_view members.now.entries))) }
+    below: BTreeMap<ElemText, PathMap>,
+) -> Result<Item, ReadFault>
+    ensures { Gives item_view result
+        (named_item (list_item_text (object (keys_in (map string_bytes names.now) (members_view members.now.entries)))) (gather (contents_in below.entries))) }
 {
     let keys = Value::Object(key_members(names, alloc, members)?);
-    let mut text = String::from_str(alloc, "k:")?;
-    text.push_str(keys.to_string(alloc)?.as_str())?;
-    Ok(text)
+    match ElemText::of_list_item(alloc, &keys)? {
+        Some(element) => Ok(Item { element, below }),
+        None => Err(wrong(alloc, Cause::WrongType)),
+    }
 }
 
 /// Takes what was read of an item; an earlier one with its element is a fault of the list.
 pub(crate) fn add_item(
     alloc: Global,
-    below: &mut BTreeMap<String, PathMap>,
+    below: &mut BTreeMap<ElemText, PathMap>,
     place: usize,
     read: Result<Item, ReadFault>,
 ) -> Result<(), ReadFault>
@@ -195,18 +202,10 @@ fn is_key(names: &[String], name: &str) -> bool
     false
 }
 
-fn name_text(alloc: Global, name: &str) -> Result<String, AllocError>
-    ensures { IfOk result (λ s. string_bytes s ≡ name_text name.now) }
-{
-    let mut text = String::from_str(alloc, "f:")?;
-    text.push_str(name)?;
-    Ok(text)
-}
-
 /// Takes what was read of a member. Of a key field only a fault counts, since its value stands in the item's element.
 pub(crate) fn add_member(
     alloc: Global,
-    below: &mut BTreeMap<String, PathMap>,
+    below: &mut BTreeMap<ElemText, PathMap>,
     names: &[String],
     name: &str,
     read: Result<PathMap, ReadFault>,
@@ -220,7 +219,7 @@ pub(crate) fn add_member(
             if is_key(names, name) {
                 return Ok(());
             }
-            drop(below.insert(name_text(alloc, name)?, map)?);
+            drop(below.insert(ElemText::of_field(alloc, name)?, map)?);
             Ok(())
         }
         Err(fault) => Err(fault.in_field(alloc, name)),

@@ -10,6 +10,7 @@ ghost use Rattle.typed.specs.Printing.{after, each_item, each_member, keys_in, p
 use crate::print_parts::{
     array_of, keys_of, object_of, print_top, push_item, put_member, scalar_of, text_after,
 };
+use fieldpath::ElemText;
 use pathmap::PathMap;
 use schema::{ListKind, Schema};
 use serde_json::{Map, Value};
@@ -40,9 +41,7 @@ fn field_in<'a>(
     if map.below.len() == 0 {
         return Ok(None);
     }
-    let mut element = String::new(alloc);
-    element.push_str("f:")?;
-    element.push_str(name)?;
+    let element = ElemText::of_field(alloc, name)?;
     Ok(map.below.get(&element))
 }
 

@@ -9,9 +9,10 @@ ghost use Rattle.typed.specs.Steps.{is_empty, item_view};
 
 use crate::fault::{Cause, ReadFault, wrong};
 use crate::items::{
-    Item, add_item, add_member, array_of, key_text, keyed_object, object_of, scalar_text,
+    Item, add_item, add_member, array_of, keyed_object, list_item, object_of, set_item,
 };
 use crate::plain::read_plain;
+use fieldpath::ElemText;
 use pathmap::{Held, PathMap};
 use schema::{ListKind, Schema};
 use serde_json::{Map, Value};
@@ -69,17 +70,14 @@ fn read_scalar_item(inner: &Schema, alloc: Global, item: &Value) -> Result<Item,
     ensures { Gives item_view result (set_item (plain_of (shape inner.now)) (view item.now)) }
 {
     let scalar = read_plain(inner, alloc, item)?;
-    Ok(Item {
-        element: scalar_text(alloc, &scalar)?,
-        below: BTreeMap::new(alloc),
-    })
+    set_item(alloc, &scalar)
 }
 
 fn read_set(
     inner: &Schema,
     alloc: Global,
     items: &[Value],
-) -> Result<BTreeMap<String, PathMap>, ReadFault>
+) -> Result<BTreeMap<ElemText, PathMap>, ReadFault>
     ensures { Gives (λ m. gather (contents_in m.entries)) result (items_at (set_item (plain_of (shape inner.now))) 0 [] (items_view items.now)) }
 {
     let mut below = BTreeMap::new(alloc);
@@ -96,7 +94,7 @@ fn read_list(
     alloc: Global,
     names: &[String],
     items: &[Value],
-) -> Result<BTreeMap<String, PathMap>, ReadFault>
+) -> Result<BTreeMap<ElemText, PathMap>, ReadFault>
     ensures { Gives (λ m. gather (contents_in m.entries)) result
         (items_at (keyed_item (map string_bytes names.now) (λ ms. content_of_item (shape inner.now) (map string_bytes names.now) ms)) 0 [] (items_view items.now)) }
 {
@@ -122,8 +120,7 @@ fn read_item(
     match inner {
         Schema::Struct(fields, _) => {
             let below = read_struct(fields, alloc, names, members)?;
-            let element = key_text(names, alloc, members)?;
-            Ok(Item { element, below })
+            list_item(names, alloc, members, below)
         }
         _ => Err(wrong(alloc, Cause::WrongType)),
     }
@@ -134,7 +131,7 @@ fn read_values(
     inner: &Schema,
     alloc: Global,
     members: &Map<String, Value>,
-) -> Result<BTreeMap<String, PathMap>, ReadFault>
+) -> Result<BTreeMap<ElemText, PathMap>, ReadFault>
     ensures { Gives (λ m. gather (contents_in m.entries)) result
         (members_at (λ k e. content_of (shape inner.now) e) (members_view members.now.entries)) }
 {
@@ -172,7 +169,7 @@ fn read_struct(
     alloc: Global,
     names: &[String],
     members: &Map<String, Value>,
-) -> Result<BTreeMap<String, PathMap>, ReadFault>
+) -> Result<BTreeMap<ElemText, PathMap>, ReadFault>
     ensures { Gives (λ m. gather (contents_in m.entries)) result
         (members_at (beside_keys (map string_bytes names.now) (λ k e. content_of_field (fields_in fields.now) k e)) (members_view members.now.entries)) }
 {

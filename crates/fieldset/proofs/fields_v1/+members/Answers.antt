@@ -24,8 +24,8 @@ loop-name-preserved t c =
     let below = c.put_as_item.new.members in
     let ms = members_view c.loop-name.all.entries in
     let inner = c.in_ok-put_as_item.ensures ∙ ap₂ (as_item s) (c.is_some.ensures ∙ sym (marks-top e.1)) (c.in_ok-below.ensures ∙ ap (λ o. members_some o (marks_in e.1)) c.schema_below.ensures) in
-    let added = ap members_view c.in_ok-insert.ensures.entries ∙ members_view-insert_entry c.loop-name.all.entries c.in_ok-clone.field-0 (Object below)
-    ∙ ap₂ (λ k d. put k d ms) c.in_ok-clone.ensures.cases (view-Object below ∙ ap object inner) in
+    let added = ap members_view c.in_ok-insert.ensures.entries ∙ members_view-insert_entry c.loop-name.all.entries c.in_ok-text.text (Object below)
+    ∙ ap₂ (λ k d. put k d ms) (c.in_ok-text.ensures.ok ∙ c.as_str.ensures.value) (view-Object below ∙ ap object inner) in
     puts_full (members_under s) c.loop-name.name-iterator c.next.new.self e c.in-Some-2.ensures.steps (full e.1 (λ bare. true≢false (sym (c.is_bare.ensures.1 bare) ∙ c.if-is_bare.false))) ms
     (members_view c.insert.new.self.entries) added
     ∙ c.loop-name.invariant

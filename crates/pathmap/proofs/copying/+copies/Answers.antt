@@ -24,7 +24,7 @@ copy_below-loop-name-preserved t c =
     let es = c.loop-name.copies.entries in
     let all = c.args.below.now.entries in
     let sorted = subst (λ l. IsStrictlySortedBy string_cmp (keys_of l)) c.in-Some.ensures.steps c.loop-name.invariant.1 in (
-      copies_more e left sorted es c.insert.new.self.entries all c.in_ok-clone.field-0 c.in_ok-made.made c.in_ok-insert.ensures.entries c.in_ok-clone.ensures.cases c.in_ok-made.ensures
+      copies_more e left sorted es c.insert.new.self.entries all c.in_ok-try_copy.field-0 c.in_ok-made.made c.in_ok-insert.ensures.entries c.in_ok-try_copy.ensures c.in_ok-made.ensures
           (subst (λ l. Copies l es all) c.in-Some.ensures.steps c.loop-name.invariant.0),
       sorted_tail string_cmp e.0 (keys_of left) sorted,
       c.in_ok-insert.ensures.ordered,

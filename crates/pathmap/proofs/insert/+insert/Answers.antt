@@ -14,7 +14,7 @@ insert_below-returns-in-Some-clause-others t c = λ g apart. ap (at_name g) (c.g
 
 pub insert_below-returns-clause-others : goal.insert_below-returns-clause-others
 insert_below-returns-clause-others t c = λ g apart.
-    ap (at_name g) c.in_ok-insert.ensures.entries ∙ untouched g c.get_mut.follows.lender-at-none.entries c.in_ok-clone.field-0 c.insert_at-2.new.here (ap (λ f. is_eq (slice_cmp nat_cmp g f)) c.in_ok-clone.ensures.cases ∙ apart)
+    ap (at_name g) c.in_ok-insert.ensures.entries ∙ untouched g c.get_mut.follows.lender-at-none.entries c.in_ok-try_copy.field-0 c.insert_at-2.new.here (ap (λ f. is_eq (slice_cmp nat_cmp g f)) c.in_ok-try_copy.ensures ∙ apart)
     ∙ ap (λ m. at_name g m.entries) c.get_mut.follows.holds-at-none
 
 pub insert_at-returns-in_default-clause-ok : goal.insert_at-returns-in_default-clause-ok

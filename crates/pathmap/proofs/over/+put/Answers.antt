@@ -25,14 +25,14 @@ put_at-returns-clause-here t c =
     let theirs = content c.args.theirs.now in
     let es = c.get_mut.follows.lender-at-none.entries in
     let made = c.in_ok-made.made in
-    let found = at_name-insert_entry name es c.in_ok-clone.field-0 made ∙ ap (λ s. cond (is_eq (slice_cmp nat_cmp name s)) (Some made) (at_name name es)) c.in_ok-clone.ensures.cases
+    let found = at_name-insert_entry name es c.in_ok-try_copy.field-0 made ∙ ap (λ s. cond (is_eq (slice_cmp nat_cmp name s)) (Some made) (at_name name es)) c.in_ok-try_copy.ensures
     ∙ ap (λ b. cond b (Some made) (at_name name es)) (ap is_eq (tied_itself nat_list_cmp_total name)) in
     ap (content_at name) c.in_ok-insert.ensures.entries ∙ ap content_or_nothing found ∙ c.in_ok-made.ensures
     ∙ sym (ap (over theirs) (ap content_or_nothing (sym c.in_default.ensures.value)) ∙ over-nothing theirs)
 
 pub put_at-returns-clause-others : goal.put_at-returns-clause-others
 put_at-returns-clause-others t c = λ g apart.
-    ap (at_name g) c.in_ok-insert.ensures.entries ∙ untouched g c.get_mut.follows.lender-at-none.entries c.in_ok-clone.field-0 c.in_ok-made.made (ap (λ f. is_eq (slice_cmp nat_cmp g f)) c.in_ok-clone.ensures.cases ∙ apart)
+    ap (at_name g) c.in_ok-insert.ensures.entries ∙ untouched g c.get_mut.follows.lender-at-none.entries c.in_ok-try_copy.field-0 c.in_ok-made.made (ap (λ f. is_eq (slice_cmp nat_cmp g f)) c.in_ok-try_copy.ensures ∙ apart)
     ∙ ap (λ m. at_name g m.entries) c.get_mut.follows.holds-at-none
 
 pub put_all-returns-then-len-eq0 : goal.put_all-returns-then-len-eq0

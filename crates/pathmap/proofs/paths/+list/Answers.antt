@@ -1,4 +1,4 @@
-use Rattle.std.proofs.Common.{◌≡◌, ◌++◌, ◌∷◌, [], OnOk, String, Global, string_cmp, sym, ap, ap₂, ◌∙◌, subst}
+use Rattle.std.proofs.Common.{◌≡◌, ◌++◌, ◌∷◌, [], OnOk, String, Global, string_bytes, string_cmp, sym, ap, ◌∙◌, subst}
 use Rattle.std.specs.List.Sorted.{IsStrictlySortedBy}
 use Rattle.std.specs.Map.{keys_of}
 use Rattle.std.proofs.lemmas.Map.Keys.{sorted_tail}
@@ -12,7 +12,7 @@ list_below-loop-name-preserved t c =
     let left = c.next.new.self in
     let front = c.args.front.now in
     let sorted = subst (λ l. IsStrictlySortedBy string_cmp (keys_of l)) c.in-Some.ensures.steps c.loop-name.invariant.1 in
-    let next = c.in_ok-push.ensures.ok ∙ ap₂ (λ p f. p ++ f ∷ []) c.in_ok-path.ensures c.in_ok-clone.ensures.cases in (
+    let next = c.in_ok-push.ensures.ok ∙ ap (λ p. p ++ string_bytes c.in-Some.name.now ∷ []) c.in_ok-path.ensures in (
       listed_more front c.push.new.self e left sorted next c.loop-name.all.items c.list.new.all.items c.in_ok-list.ensures
           ∙ ap (λ es. c.loop-name.all.items ++ after_front front (paths_below es)) (sym c.in-Some.ensures.steps) ∙ c.loop-name.invariant.0,
       sorted_tail string_cmp e.0 (keys_of left) sorted,

@@ -7,4 +7,4 @@ use Rattle.pathmap.proofs.pick.put_in.Goals as goal
 pub returns-in_ok-insert-clause-others : goal.returns-in_ok-insert-clause-others
 returns-in_ok-insert-clause-others c = λ g apart.
     ap (at_name g) c.in_ok-insert.ensures.entries
-    ∙ untouched g c.args.below.now.entries c.in_ok-clone.field-0 c.args.map (ap (λ f. is_eq (slice_cmp nat_cmp g f)) c.in_ok-clone.ensures.cases ∙ apart)
+    ∙ untouched g c.args.below.now.entries c.in_ok-try_copy.field-0 c.args.map (ap (λ f. is_eq (slice_cmp nat_cmp g f)) c.in_ok-try_copy.ensures ∙ apart)

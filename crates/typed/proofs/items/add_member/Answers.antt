@@ -15,13 +15,13 @@ returns-then-is_key-clause-joins c answer none gives =
 pub returns-in_ok-insert-in-Ok-clause-joins : goal.returns-in_ok-insert-in-Ok-clause-joins
 returns-in_ok-insert-in-Ok-clause-joins c answer none gives =
     let old = c.args.below.now.entries in
-    let name = c.in_ok-name_text-in-Ok.field-0 in
-    let named : string_bytes name ≡ name_text c.args.name.now = c.in_ok-name_text-in-Ok.ensures in
+    let name = c.in_ok-of_field-in-Ok.field-0 in
+    let named : string_bytes name ≡ name_text c.args.name.now = c.in_ok-of_field-in-Ok.ensures in
     let inserted = gather-insert old c.insert.new.self.entries name c.in-Ok.map c.in_ok-insert-in-Ok.ensures.was_ordered c.in_ok-insert-in-Ok.ensures.ordered c.in_ok-insert-in-Ok.ensures.entries (ap (λ f. at_name f old) named ∙ none) in
     ap Ok (inserted ∙ ap (λ f. over (gather (contents_in old)) (under f (content c.in-Ok.map))) named)
     ∙ other_joins (gather (contents_in old)) (map string_bytes c.args.names.now) c.args.name.now answer (content c.in-Ok.map) (subst (λ r. Gives content r answer) c.in-Ok.is gives) (sym c.is_key.ensures ∙ c.if-is_key.false)
 
 pub returns-in_ok-insert-in-Ok-clause-others : goal.returns-in_ok-insert-in-Ok-clause-others
 returns-in_ok-insert-in-Ok-clause-others c g apart =
-    let named : string_bytes c.in_ok-name_text-in-Ok.field-0 ≡ name_text c.args.name.now = c.in_ok-name_text-in-Ok.ensures in
-    ap (at_name g) c.in_ok-insert-in-Ok.ensures.entries ∙ untouched g c.args.below.now.entries c.in_ok-name_text-in-Ok.field-0 c.in-Ok.map (ap (λ f. is_eq (slice_cmp nat_cmp g f)) named ∙ apart)
+    let named : string_bytes c.in_ok-of_field-in-Ok.field-0 ≡ name_text c.args.name.now = c.in_ok-of_field-in-Ok.ensures in
+    ap (at_name g) c.in_ok-insert-in-Ok.ensures.entries ∙ untouched g c.args.below.now.entries c.in_ok-of_field-in-Ok.field-0 c.in-Ok.map (ap (λ f. is_eq (slice_cmp nat_cmp g f)) named ∙ apart)

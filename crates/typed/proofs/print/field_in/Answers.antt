@@ -1,5 +1,4 @@
-use Rattle.std.proofs.Common.{ap, sym, ◌∙◌, ◌++◌}
-use Rattle.std.specs.Prelude.{codes}
+use Rattle.std.proofs.Common.{ap, sym, ◌∙◌}
 use Rattle.pathmap.specs.Maps.{content_or_nothing, content_at}
 use Rattle.pathmap.specs.declared.pathmap.PathMap.{out-PathMap}
 use Rattle.pathmap.proofs.Levels.{no_entries}
@@ -14,9 +13,8 @@ returns-then-len-eq0 c =
     sym (inside-map c.args.map.now c.len.ensures.ordered name ∙ ap (content_at name) none)
 
 pub returns : goal.returns
-unfolding name_text
 returns c =
     let es = (out-PathMap c.args.map.now).below.entries in
     ap content_or_nothing c.get.ensures.value
-    ∙ ap (λ g. content_at g es) (c.in_ok-push_str-2.ensures.bytes ∙ ap (λ s. s ++ c.args.name.now) (c.in_ok-push_str.ensures.bytes ∙ ap (λ s. s ++ codes "f:") c.new-element.ensures.bytes))
+    ∙ ap (λ g. content_at g es) c.in_ok-element.ensures
     ∙ sym (inside-map c.args.map.now c.len.ensures.ordered (name_text c.args.name.now))

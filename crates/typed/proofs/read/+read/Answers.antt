@@ -1,17 +1,16 @@
 use Rattle.std.proofs.Common.{◌≡◌, ℕ, List, [], Ok, drop, map, string_bytes, sym, subst, ap, ◌∙◌}
 use Rattle.std.proofs.lemmas.List.{drop_all}
 use Rattle.std.proofs.lemmas.Result.{err_from_is_err_and}
-use Rattle.serde_json.specs.Data.{Data, Members}
+use Rattle.serde_json.specs.Data.{Data, Members, object}
 use Rattle.serde_json.specs.View.{items_view, members_view, view}
-use Rattle.fieldpath.specs.Elements.{key_text}
+use Rattle.fieldpath.specs.Elements.{list_item_text}
 use Rattle.pathmap.specs.Contents.{Content, gather}
 use Rattle.pathmap.specs.Maps.{content, contents_in}
 use Rattle.schema.specs.Shape.{fields_in, shape}
-use Rattle.typed.specs.Faults.{Read, Tells, fault_in, below}
-use Rattle.typed.specs.Reading.{beside_keys, content_of, content_of_field, content_of_item, items_at, keyed_item, keys_in, members_at}
+use Rattle.typed.specs.Faults.{Gives, Read, Tells, and_then, fault_in}
+use Rattle.typed.specs.Reading.{beside_keys, content_of, content_of_field, content_of_item, items_at, keyed_item, keys_in, members_at, named_item}
 use Rattle.typed.specs.Steps.{item_view}
-use Rattle.typed.proofs.Faults.{passed_on, tells-within}
-use Rattle.typed.proofs.Floats.{content_item_clean}
+use Rattle.typed.proofs.Faults.{passed_on, tells-and_then}
 use Rattle.typed.proofs.Listed.{item_added, item_failed, items_begin, items_end, keyed_is}
 use Rattle.typed.proofs.Members.{member_added, member_new, member_null, members_begin, members_end}
 use Rattle.typed.proofs.Plains.{Entry}
@@ -97,18 +96,21 @@ read_item-returns-in_err-below-in-Struct t c =
     let p = err_from_is_err_and c.from_residual-in_err-below-in-Struct.result c.from_residual-in_err-below-in-Struct.ensures.1 in
     let f = c.in_err-below-in-Struct.field-0.0 in
     passed_on item_view p.0 f c.from_residual-in_err-below-in-Struct.result _ p.1 p.2
-    (subst (λ r. Tells f (fault_in r)) (sym (keyed_is names inner (view c.args.item.now) ms c.in_ok-members.ensures ∙ ap (below [] (λ x. (key_text (keys_in names ms), x))) (item_struct c.args.inner.now c.in-Struct.fields c.in-Struct.field-1 c.deref.result.now names ms c.in-Struct.is c.deref.ensures.value)))
-    (tells-within f (λ x. (key_text (keys_in names ms), x)) _ c.in_err-below-in-Struct.ensures))
+    (subst (λ r. Tells f (fault_in r))
+    (sym (keyed_is names inner (view c.args.item.now) ms c.in_ok-members.ensures
+    ∙ ap (λ r. and_then r (named_item (list_item_text (object (keys_in names ms))))) (item_struct c.args.inner.now c.in-Struct.fields c.in-Struct.field-1 c.deref.result.now names ms c.in-Struct.is c.deref.ensures.value)))
+    (tells-and_then f _ (named_item (list_item_text (object (keys_in names ms)))) c.in_err-below-in-Struct.ensures))
 
-pub read_item-returns-in_ok-element-in-Struct : goal.read_item-returns-in_ok-element-in-Struct
-read_item-returns-in_ok-element-in-Struct t c =
+pub read_item-returns-in_ok-below-in-Struct : goal.read_item-returns-in_ok-below-in-Struct
+read_item-returns-in_ok-below-in-Struct t c =
     let names = map string_bytes c.args.names.now in
     let ms = members_view c.in_ok-members.members.now.entries in
     let inner : Members → Read Content = λ ms. content_of_item (shape c.args.inner.now) names ms in
     let made = gather (contents_in c.in_ok-below-in-Struct.below.entries) in
     let read : content_of_item (shape c.args.inner.now) names ms ≡ Ok made = item_struct c.args.inner.now c.in-Struct.fields c.in-Struct.field-1 c.deref.result.now names ms c.in-Struct.is c.deref.ensures.value ∙ c.in_ok-below-in-Struct.ensures in
-    keyed_is names inner (view c.args.item.now) ms c.in_ok-members.ensures ∙ ap (below [] (λ x. (key_text (keys_in names ms), x))) read
-    ∙ ap (λ s. Ok (s, made)) (sym (c.in_ok-element-in-Struct.ensures (content_item_clean (shape c.args.inner.now) names ms made read)))
+    subst (Gives item_view c.list_item.result)
+    (sym (keyed_is names inner (view c.args.item.now) ms c.in_ok-members.ensures ∙ ap (λ r. and_then r (named_item (list_item_text (object (keys_in names ms))))) read))
+    c.list_item.ensures
 
 pub read_map-returns-in_ok-read_struct-in-Struct :
     goal.read_map-returns-in_ok-read_struct-in-Struct

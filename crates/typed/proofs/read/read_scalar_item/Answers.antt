@@ -1,16 +1,11 @@
-use Rattle.std.proofs.Common.{[], Ok, sym, ap, ap₂, ◌∙◌}
-use Rattle.serde_json.specs.View.{view}
-use Rattle.fieldpath.specs.Elements.{scalar_text}
-use Rattle.pathmap.specs.Contents.{gather, nothing}
-use Rattle.pathmap.specs.Maps.{contents_in}
-use Rattle.schema.specs.Shape.{shape}
-use Rattle.typed.specs.Faults.{below}
-use Rattle.typed.proofs.Floats.{plain_clean}
+use Rattle.std.proofs.Common.{sym, subst, ap}
+use Rattle.fieldpath.specs.Elements.{set_item_text}
+use Rattle.pathmap.specs.Contents.{nothing}
+use Rattle.typed.specs.Faults.{Gives, and_then}
+use Rattle.typed.specs.Reading.{named_item}
+use Rattle.typed.specs.Steps.{item_view}
 use Rattle.typed.proofs.read.read_scalar_item.Goals as goal
 
 pub returns : goal.returns
 returns c =
-    let x = view c.in_ok-scalar.scalar in
-    let clean = plain_clean (shape c.args.inner.now) (view c.args.item.now) x c.in_ok-scalar.ensures in
-    ap (below [] (λ d. (scalar_text d, nothing))) c.in_ok-scalar.ensures
-    ∙ sym (ap₂ (λ s es. Ok (s, gather (contents_in es))) (c.in_ok-scalar_text.ensures clean.1) c.new.ensures.empty)
+    subst (Gives item_view c.set_item.result) (sym (ap (λ r. and_then r (λ x. named_item (set_item_text x) nothing)) c.in_ok-scalar.ensures)) c.set_item.ensures

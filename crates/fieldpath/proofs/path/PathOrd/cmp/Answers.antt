@@ -6,4 +6,4 @@ use Rattle.fieldpath.proofs.Orders.{cmp-map}
 use Rattle.fieldpath.proofs.path.PathOrd.cmp.Goals as goal
 
 pub returns : goal.returns
-returns c = c.cmp.ensures ∙ cmp-map (slice_cmp nat_cmp) string_bytes c.self.inside.elems.items c.other.inside.elems.items ∙ ap₂ path_cmp c.self.view_is c.other.view_is
+returns c = c.cmp.ensures ∙ cmp-map (slice_cmp nat_cmp) string_bytes c.self.inside.texts.items c.other.inside.texts.items ∙ ap₂ path_cmp c.self.view_is c.other.view_is

@@ -1,0 +1,249 @@
+//! One step down a schema, and the place of a path, which is the fold of its steps.
+ghost use Rattle.std.specs.Prelude.{◌≡◌, Some, map, option_map, string_bytes};
+ghost use Rattle.std.specs.List.{list_any};
+ghost use Rattle.std.specs.Str.{bytes_eq};
+ghost use Rattle.fieldpath.specs.Elems.{element};
+ghost use Rattle.fieldpath.specs.Scalars.{key_fields, scalar};
+ghost use Rattle.schema.specs.Shape.{shape, fields_in, shape_at};
+ghost use Rattle.schema.specs.Place.{fit_keys, fits, fits_some, place_of};
+ghost use Rattle.schema.specs.Spots.{spot};
+ghost use Rattle.schema.specs.Steps.{is_leaf, value_of, place_from, place_here, step, step_beside, step_field, step_item, step_key, step_scalar, step_value};
+
+use crate::place::Place;
+use crate::schema::{ListKind, Schema};
+use fieldpath::{Elem, Keys, Path, Scalar};
+
+/// Where a front of a path leads.
+#[derive(Clone, Copy)]
+pub enum Spot<'a> {
+    /// To a value of this schema.
+    Value(&'a Schema),
+    /// To an item of a set; nothing stands below it.
+    SetItem,
+    /// To an item of a map list, which has these fields but for the key fields of these names.
+    MapItem(&'a [(String, Schema)], &'a [String]),
+}
+
+fn is_key(names: &[String], name: &str) -> bool
+    ensures { result ≡ list_any (bytes_eq name.now) (map string_bytes names.now) }
+{
+    for known in names {
+        if name == known.as_str() {
+            return true;
+        }
+    }
+    false
+}
+
+fn field_at<'a>(fields: &'a [(String, Schema)], name: &str) -> Option<&'a Schema>
+    ensures { option_map (λ s. shape s.now) result ≡ shape_at name.now (fields_in fields.now) }
+{
+    for (known, inner) in fields {
+        if known.as_str() == name {
+            return Some(inner);
+        }
+    }
+    None
+}
+
+fn fits_field(fields: &[(String, Schema)], name: &str, value: &Scalar) -> bool
+    ensures { result ≡ fits_some (shape_at name.now (fields_in fields.now)) (scalar value.now) }
+{
+    match field_at(fields, name) {
+        Some(inner) => inner.fits(value),
+        None => false,
+    }
+}
+
+/// Whether the key fields are just those named, each of its field's type.
+fn fit_keys(names: &[String], fields: &[(String, Schema)], keys: &[(String, Scalar)]) -> bool
+    ensures { result ≡ fit_keys (map string_bytes names.now) (fields_in fields.now) (key_fields keys.now) }
+{
+    let Some((name, more)) = names.split_first() else {
+        return keys.is_empty();
+    };
+    let Some((key, rest)) = keys.split_first() else {
+        return false;
+    };
+    name.as_str() == key.0.as_str()
+        && fits_field(fields, name.as_str(), &key.1)
+        && fit_keys(more, fields, rest)
+}
+
+fn field_spot<'a>(fields: &'a [(String, Schema)], name: &str) -> Option<Spot<'a>>
+    ensures { option_map spot result ≡ option_map value_of (shape_at name.now (fields_in fields.now)) }
+{
+    match field_at(fields, name) {
+        Some(inner) => Some(Spot::Value(inner)),
+        None => None,
+    }
+}
+
+/// A field of an item of a map list; the key fields stand in the item's element alone.
+fn step_beside<'a>(
+    fields: &'a [(String, Schema)],
+    names: &'a [String],
+    elem: &Elem,
+) -> Option<Spot<'a>>
+    ensures { option_map spot result ≡ step_beside (map string_bytes names.now) (fields_in fields.now) (element elem.now) }
+{
+    match elem {
+        Elem::Field(name) => {
+            if is_key(names, name.as_str()) {
+                return None;
+            }
+            field_spot(fields, name.as_str())
+        }
+        Elem::Key(_) | Elem::Value(_) => None,
+    }
+}
+
+impl<'a> Spot<'a> {
+    /// Where one element more leads, if the schema has it there (Server-Side Apply, "Merge strategy").
+    pub fn step(self, elem: &Elem) -> Option<Spot<'a>>
+        ensures { option_map spot result ≡ step (spot self.entry) (element elem.now) }
+    {
+        match self {
+            Spot::Value(schema) => schema.step(elem),
+            Spot::SetItem => None,
+            Spot::MapItem(fields, names) => step_beside(fields, names, elem),
+        }
+    }
+
+    /// The place of a path that ends here.
+    pub fn place(self) -> Option<Place>
+        ensures { result ≡ place_here (spot self.entry) }
+    {
+        match self {
+            Spot::Value(schema) => {
+                if schema.is_leaf() {
+                    Some(Place::Leaf)
+                } else {
+                    None
+                }
+            }
+            Spot::SetItem => Some(Place::SetItem),
+            Spot::MapItem(_, _) => Some(Place::MapItem),
+        }
+    }
+}
+
+fn place_from(here: Spot<'_>, elems: &[Elem]) -> Option<Place>
+    ensures { result ≡ place_from (Some (spot here.entry)) (map element elems.now) }
+{
+    let Some((elem, rest)) = elems.split_first() else {
+        return here.place();
+    };
+    match here.step(elem) {
+        Some(next) => place_from(next, rest),
+        None => None,
+    }
+}
+
+impl Schema {
+    /// Whether a scalar is of this type.
+    fn fits(&self, value: &Scalar) -> bool
+        ensures { result ≡ fits (shape self.now) (scalar value.now) }
+    {
+        match self {
+            Schema::Text => matches!(value, Scalar::Str(_)),
+            Schema::Whole => matches!(value, Scalar::Int(_)),
+            Schema::Truth => matches!(value, Scalar::Bool(_)),
+            _ => false,
+        }
+    }
+
+    /// Whether its values are leaves: scalars and atomic values.
+    pub fn is_leaf(&self) -> bool
+        ensures { result ≡ is_leaf (shape self.now) }
+    {
+        match self {
+            Schema::Text | Schema::Whole | Schema::Truth => true,
+            Schema::Struct(_, is_atomic) | Schema::MapOf(_, is_atomic) => *is_atomic,
+            Schema::List(_, ListKind::Atomic) => true,
+            Schema::List(_, ListKind::Set | ListKind::Keyed(_)) => false,
+        }
+    }
+
+    fn step_field(&self, name: &str) -> Option<Spot<'_>>
+        ensures { option_map spot result ≡ step_field (shape self.now) name.now }
+    {
+        match self {
+            Schema::Struct(fields, is_atomic) => {
+                if *is_atomic {
+                    return None;
+                }
+                field_spot(fields, name)
+            }
+            Schema::MapOf(inner, is_atomic) => {
+                if *is_atomic {
+                    return None;
+                }
+                Some(Spot::Value(inner))
+            }
+            _ => None,
+        }
+    }
+
+    fn step_item<'a>(&'a self, names: &'a [String], keys: &Keys) -> Option<Spot<'a>>
+        ensures { option_map spot result ≡ step_item (map string_bytes names.now) (shape self.now) keys.now }
+    {
+        match self {
+            Schema::Struct(fields, _) => {
+                if fit_keys(names, fields, keys.fields()) {
+                    Some(Spot::MapItem(fields, names))
+                } else {
+                    None
+                }
+            }
+            _ => None,
+        }
+    }
+
+    fn step_key(&self, keys: &Keys) -> Option<Spot<'_>>
+        ensures { option_map spot result ≡ step_key (shape self.now) keys.now }
+    {
+        match self {
+            Schema::List(inner, kind) => match kind {
+                ListKind::Keyed(names) => inner.step_item(names, keys),
+                _ => None,
+            },
+            _ => None,
+        }
+    }
+
+    fn step_scalar(&self, value: &Scalar) -> Option<Spot<'_>>
+        ensures { option_map spot result ≡ step_scalar (shape self.now) (scalar value.now) }
+    {
+        match self {
+            Schema::List(inner, kind) => match kind {
+                ListKind::Set => {
+                    if inner.fits(value) {
+                        Some(Spot::SetItem)
+                    } else {
+                        None
+                    }
+                }
+                _ => None,
+            },
+            _ => None,
+        }
+    }
+
+    fn step(&self, elem: &Elem) -> Option<Spot<'_>>
+        ensures { option_map spot result ≡ step_value (shape self.now) (element elem.now) }
+    {
+        match elem {
+            Elem::Field(name) => self.step_field(name.as_str()),
+            Elem::Key(keys) => self.step_key(keys),
+            Elem::Value(scalar) => self.step_scalar(scalar),
+        }
+    }
+
+    /// The place that the schema gives a path, if any (Server-Side Apply, "Merge strategy").
+    pub fn place(&self, path: &Path) -> Option<Place>
+        ensures { result ≡ place_of (shape self.now) path.now }
+    {
+        place_from(Spot::Value(self), path.elems())
+    }
+}
