@@ -1,8 +1,11 @@
+pub mod Deciding
 pub mod BodyCuts
+pub mod Connected
 pub mod Cuts
 pub mod Heading
 pub mod Numbers
-pub mod Pieces
+pub mod Outcomes
+pub mod Hearing
 pub mod Running
 pub mod Targets
 pub mod Told

@@ -6,7 +6,7 @@ use Rattle.httpedge.specs.declared.fault.HubFault.{HubFault}
 use Rattle.httpedge.specs.declared.fault.HubFault.TheVariants.{IdNotAbove, UnknownId, Memory}
 use Rattle.httpedge.specs.declared.hub.Hub.{Hub}
 use Rattle.httpedge.specs.Hub.{Connections, Event, State, Steps, Takes, Runs, refusal_of}
-use Rattle.httpedge.specs.HubSeen.{HubStands, connections_in, number_of}
+use Rattle.httpedge.specs.HubSeen.{HubStands, connections_in, refusal_number}
 
 some_none : {n : ℕ} → Some n ≡ None → ⊥
 some_none e = cc
@@ -17,7 +17,7 @@ refused_here types s e old new n stands refused same =
     (s, inr (n, sym (refused ∙ ap (λ (all : Connections). refusal_of all e) stands.1), refl), subst (λ (h : Hub). HubStands h types s) (sym same) stands)
 
 pub takes_well : {A : Type 0} (types : List ServedShape) (s : State) (e : Event) (old new : Hub) (r : Result A HubFault) → HubStands old types s
-    → OnOk r ((t : State) × Steps types s e t × HubStands new types t) → number_of r ≡ refusal_of (connections_in old) e → (number_of r ≢ None → new ≡ old) → r ≢ Err Memory
+    → OnOk r ((t : State) × Steps types s e t × HubStands new types t) → refusal_number r ≡ refusal_of (connections_in old) e → (refusal_number r ≢ None → new ≡ old) → r ≢ Err Memory
     → (t : State) × Takes types s e t × HubStands new types t
 takes_well types s e old new (Ok a) stands ok refused same alive =
     (ok.0, inl (sym (refused ∙ ap (λ (all : Connections). refusal_of all e) stands.1), ok.1), ok.2)

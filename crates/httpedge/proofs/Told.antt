@@ -8,14 +8,16 @@ use Rattle.schema.specs.TypesFile.{ServedShape}
 use Rattle.verbs.specs.declared.reason.Reason.{Reason}
 use Rattle.verbs.specs.declared.api.Api.{Api}
 use Rattle.verbs.specs.Machine.{Machine}
-use Rattle.verbs.specs.Seen.{Stands, types_of}
+use Rattle.verbs.specs.Seen.{Stands, call_of, types_of}
 use Rattle.verbs.specs.Status.{status_value}
-use Rattle.httpedge.specs.declared.asking.Asked as askings
+use Rattle.httpedge.specs.declared.decision.Decision as decisions
+use Rattle.verbs.specs.declared.calls.Call.{Call}
 use Rattle.httpedge.specs.declared.connection.Connection as conns
 use Rattle.httpedge.specs.Asks.{Asks}
 use Rattle.httpedge.specs.Answers.{Answers}
 use Rattle.httpedge.specs.Hub.{Connection, Connections, State, Steps, Dies, Hears, waiting, ended, connection_after, opened, opens, comes, place_from, place_of}
-use Rattle.httpedge.specs.Standing.{asked_of, connection_of, connections_of, StandsAnswered, StandsHeard, StandsHeardAt, Waited, IsDeadAt}
+use Rattle.httpedge.specs.Views.{decision_of}
+use Rattle.httpedge.specs.Standing.{connection_of, connections_of, StandsAnswered, StandsHeard, StandsHeardAt, Waited, IsDeadAt}
 
 pub on_err : {A E P : Type 0} (r : Result A E) → P → OnErr r P
 on_err (Ok a) p = tt {0}
@@ -24,9 +26,9 @@ on_err (Err e) p = p
 pub status_plain : (r : Reason) (message : List ℕ) → has_float (status_value r message) ≡ false
 status_plain r message = refl
 
-pub asks_by : (api : Api) (types : List ServedShape) (bytes : List ℕ) (a b : askings.Asked) → types_of api ≡ types → a ≡ b → Asks (types_of api) bytes (asked_of a) → Asks types bytes (asked_of b)
+pub asks_by : (api : Api) (types : List ServedShape) (bytes : List ℕ) (a b : decisions.Decision Call) → types_of api ≡ types → a ≡ b → Asks (types_of api) bytes (decision_of call_of a) → Asks types bytes (decision_of call_of b)
 asks_by api types bytes a b serves is asks =
-    subst (λ (ts : List ServedShape). Asks ts bytes (asked_of b)) serves (subst (λ (x : askings.Asked). Asks (types_of api) bytes (asked_of x)) is asks)
+    subst (λ (ts : List ServedShape). Asks ts bytes (decision_of call_of b)) serves (subst (λ (x : decisions.Decision Call). Asks (types_of api) bytes (decision_of call_of x)) is asks)
 
 pub heard_more : (types : List ServedShape) (m : Machine) (front bytes whole : List ℕ) (o : Option (List ℕ)) (api : Api) (c : Connection) → whole ≡ front ++ bytes
     → StandsAnswered types m whole o api → c ≡ connection_after whole o → StandsHeard types m (waiting front) bytes c api

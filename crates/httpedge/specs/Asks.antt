@@ -1,36 +1,29 @@
 -- What a connection asks, by all the bytes that came on it.
-use Rattle.std.specs.Prelude.{◌≡◌, ℕ, List, Option}
-use Rattle.std.specs.declared.result.Result.{Result}
-use Rattle.std.specs.declared.result.Result.TheVariants.{Ok, Err}
-use Rattle.serde_json.specs.Data.{Data}
+use Rattle.std.specs.Prelude.{◌≡◌, ℕ, List}
 use Rattle.schema.specs.TypesFile.{ServedShape}
 use Rattle.verbs.specs.Admit.{admitted}
-use Rattle.verbs.specs.Calls.{Call, Denied, Target}
-use Rattle.httpedge.specs.Refusals.{Front, undecided, refused, told, denied_by}
-use Rattle.httpedge.specs.Heads.{Request, Said, Says}
-use Rattle.httpedge.specs.Bodies.{body_in, judged_media, path_of, query_of}
+use Rattle.verbs.specs.Calls.{Call, Target}
+use Rattle.httpedge.specs.Decision.{Decision, accepted, and_then, decided_by}
+use Rattle.httpedge.specs.Heads.{Request, HeadDecision, ReadsHead}
+use Rattle.httpedge.specs.Bodies.{body_in, checked_media, path_of, query_of}
 
--- more bytes are needed, or it is refused, or it is a call
-pub data Asked : Type 0 where
-  waits : Asked
-  refuses : Denied → Asked
-  calls : Call → Asked
+-- undecided while more bytes are needed, refused, or a call
+abbrev pub Asked : Type 0
+Asked = Decision Call
 
-abbrev pub with_body : Target → Request → Front (Option Data) → Asked
-with_body target request undecided = waits
-with_body target request (refused r) = refuses (denied_by r)
-with_body target request (told body) = calls (record { target = target; query = query_of request.target; body = body })
+-- a call of this target, by the request's head and the bytes after it
+abbrev pub call_with : Request → List ℕ → Target → Asked
+call_with request rest target =
+    and_then (body_in request rest) (λ body. accepted (record { target = target; query = query_of request.request_target; body = body }))
 
--- the body is judged after the route, the method and the media type
-abbrev pub with_target : Request → List ℕ → Result Target Denied → Asked
-with_target request rest (Err denied) = refuses denied
-with_target request rest (Ok target) = with_body target request (body_in request rest)
+-- first the request's route, method and media type are checked, then its body
+abbrev pub call_in : List ServedShape → Request → List ℕ → Asked
+call_in types request rest = and_then (decided_by (admitted types request.method (path_of request.request_target) (checked_media request))) (call_with request rest)
 
-abbrev pub with_head : List ServedShape → Said → Asked
-with_head types undecided = waits
-with_head types (refused r) = refuses (denied_by r)
-with_head types (told (request, rest)) = with_target request rest (admitted types request.method (path_of request.target) (judged_media request))
+-- what a head and the bytes after it ask, by these types
+abbrev pub asked_by : List ServedShape → HeadDecision → Asked
+asked_by types head = and_then head (λ r. call_in types r.0 r.1)
 
 -- by these types the bytes ask this
 abbrev pub Asks : List ServedShape → List ℕ → Asked → Type 0
-Asks types bytes asked = (said : Said) × Says bytes said × (asked ≡ with_head types said)
+Asks types bytes asked = (head : HeadDecision) × ReadsHead bytes head × (asked ≡ asked_by types head)

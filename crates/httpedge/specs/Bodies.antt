@@ -5,7 +5,8 @@ use Rattle.std.specs.List.{before_first, after_first}
 use Rattle.std.specs.Str.{bytes_eq, is_utf8}
 use Rattle.serde_json.specs.Data.{Data}
 use Rattle.serde_json.specs.Read.{read}
-use Rattle.httpedge.specs.Refusals.{encoded, no_length, bad_length, body_too_large, not_json, Front, undecided, refused, told}
+use Rattle.httpedge.specs.Decision.{Decision, undecided, accepted}
+use Rattle.httpedge.specs.Refusals.{transfer_encoding, no_length, bad_length, body_too_large, not_json, refuse}
 use Rattle.httpedge.specs.Heads.{Length, missing, malformed, digits, Request}
 
 -- this server's own limit (its refusal: RFC 9110, section 15.5.14)
@@ -17,8 +18,8 @@ abbrev pub number_after : ℕ → List ℕ → ℕ
 number_after n [] = n
 number_after n (b ∷ bytes) = number_after (n * 10 + (b - 48)) bytes
 
-abbrev pub number_of : List ℕ → ℕ
-number_of ds = number_after 0 ds
+abbrev pub decimal_value : List ℕ → ℕ
+decimal_value ds = number_after 0 ds
 
 -- a body is read by POST, PUT, PATCH and DELETE; only DELETE may go without
 abbrev pub needs_body : List ℕ → Bool
@@ -28,48 +29,48 @@ abbrev pub may_have_body : List ℕ → Bool
 may_have_body method = bytes_eq method (codes "DELETE")
 
 -- the value that these bytes are as JSON
-abbrev pub value_in : List ℕ → Option Data
-value_in bytes = if is_utf8 bytes then read bytes else None
+abbrev pub json_in : List ℕ → Option Data
+json_in bytes = if is_utf8 bytes then read bytes else None
 
-abbrev pub some_or_refused : Option Data → Front (Option Data)
-some_or_refused None = refused not_json
-some_or_refused (Some value) = told (Some value)
+abbrev pub some_json : Option Data → Decision (Option Data)
+some_json None = refuse not_json
+some_json (Some value) = accepted (Some value)
 
 -- a body of so many bytes, of which these came
-abbrev pub body_of : ℕ → List ℕ → Front (Option Data)
+abbrev pub body_of : ℕ → List ℕ → Decision (Option Data)
 body_of n rest =
-    if nat_lt max_body n then refused body_too_large
+    if nat_lt max_body n then refuse body_too_large
     else if nat_lt (length rest) n then undecided
-    else some_or_refused (value_in (take n rest))
+    else some_json (json_in (take n rest))
 
 -- a body that is needed
-abbrev pub needed_body : Length → List ℕ → Front (Option Data)
-needed_body missing rest = refused no_length
-needed_body malformed rest = refused bad_length
-needed_body (digits ds) rest = body_of (number_of ds) rest
+abbrev pub needed_body : Length → List ℕ → Decision (Option Data)
+needed_body missing rest = refuse no_length
+needed_body malformed rest = refuse bad_length
+needed_body (digits ds) rest = body_of (decimal_value ds) rest
 
 -- a body that may be left out; one of no bytes is left out
-abbrev pub optional_body : Length → List ℕ → Front (Option Data)
-optional_body missing rest = told None
-optional_body malformed rest = refused bad_length
-optional_body (digits ds) rest = if number_of ds == 0 then told None else body_of (number_of ds) rest
+abbrev pub optional_body : Length → List ℕ → Decision (Option Data)
+optional_body missing rest = accepted None
+optional_body malformed rest = refuse bad_length
+optional_body (digits ds) rest = if decimal_value ds == 0 then accepted None else body_of (decimal_value ds) rest
 
 -- the body by the head and the bytes after it
-abbrev pub body_in : Request → List ℕ → Front (Option Data)
+abbrev pub body_in : Request → List ℕ → Decision (Option Data)
 body_in request rest =
-    if needs_body request.method then (if request.encoded then refused encoded else needed_body request.length rest)
-    else if may_have_body request.method then (if request.encoded then refused encoded else optional_body request.length rest)
-    else told None
+    if needs_body request.method then (if request.transfer_encoded then refuse transfer_encoding else needed_body request.length rest)
+    else if may_have_body request.method then (if request.transfer_encoded then refuse transfer_encoding else optional_body request.length rest)
+    else accepted None
 
 -- whether a DELETE has a length other than 0
 abbrev pub has_length : Length → Bool
 has_length missing = false
 has_length malformed = true
-has_length (digits ds) = nat_lt 0 (number_of ds)
+has_length (digits ds) = nat_lt 0 (decimal_value ds)
 
 -- the media type that is judged: a DELETE without a body has none
-abbrev pub judged_media : Request → Option (List ℕ)
-judged_media request = if may_have_body request.method && not (has_length request.length) then None else request.media
+abbrev pub checked_media : Request → Option (List ℕ)
+checked_media request = if may_have_body request.method && not (has_length request.length) then None else request.media
 
 -- the target is cut at its first question mark
 abbrev pub path_of : List ℕ → List ℕ

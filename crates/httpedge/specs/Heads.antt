@@ -5,7 +5,8 @@ use Rattle.std.specs.List.{list_all, list_any, starts_with, filter}
 use Rattle.std.specs.Str.{bytes_eq, str_eq_ignore_ascii_case}
 use Rattle.httparse.specs.Grammar.{RequestHead, ReadsRequest}
 use Rattle.httparse.specs.Spans.{name_and_value}
-use Rattle.httpedge.specs.Refusals.{head_too_large, bad_head, wrong_version, not_one_host, Front, undecided, refused, told}
+use Rattle.httpedge.specs.Decision.{Decision, undecided, refused, accepted}
+use Rattle.httpedge.specs.Refusals.{head_too_large, bad_head, wrong_version, not_one_host, refuse}
 
 -- this server's own limits (their refusal: RFC 6585, section 5)
 abbrev pub max_head : ℕ
@@ -51,8 +52,8 @@ abbrev pub media_in : List Named → Option (List ℕ)
 media_in [] = None
 media_in (field ∷ fields) = if has_name (codes "content-type") field then Some field.1 else media_in fields
 
-abbrev pub is_encoded : List Named → Bool
-is_encoded fields = list_any (has_name (codes "transfer-encoding")) fields
+abbrev pub is_transfer_encoded : List Named → Bool
+is_transfer_encoded fields = list_any (has_name (codes "transfer-encoding")) fields
 
 -- ---- its length
 
@@ -89,53 +90,53 @@ length_after said (field ∷ fields) = length_after (if has_name (codes "content
 -- what the server takes from a head
 pub record Request : Type 0 where
   pub method : List ℕ
-  pub target : List ℕ
+  pub request_target : List ℕ
   pub media : Option (List ℕ)
-  pub encoded : Bool
+  pub transfer_encoded : Bool
   pub length : Length
 
 abbrev pub request_of : List ℕ → List ℕ → List Named → Request
 request_of method target fields = record {
   method = method;
-  target = target;
+  request_target = target;
   media = media_in fields;
-  encoded = is_encoded fields;
+  transfer_encoded = is_transfer_encoded fields;
   length = length_after missing fields;
 }
 
--- a head of the grammar is judged in this order: the version (RFC 9110, section 15.6.6), one Host (RFC 9112, section 3.2), a target that is a path
+-- a head of the grammar is validated in this order: the version (RFC 9110, section 15.6.6), one Host (RFC 9112, section 3.2), a target that is a path
 -- (section 3.2.1); rest is what came after it
-abbrev pub judged : List ℕ → List ℕ → ℕ → List Named → List ℕ → Front (Request × List ℕ)
-judged method target minor fields rest =
-    if nat_lt max_fields (length fields) then refused head_too_large
-    else if not (minor == 1) then refused wrong_version
-    else if not (length (filter is_host fields) == 1) then refused not_one_host
-    else if not (starts_with nat_eq target (codes "/")) then refused bad_head
-    else told (request_of method target fields, rest)
+abbrev pub validated : List ℕ → List ℕ → ℕ → List Named → List ℕ → Decision (Request × List ℕ)
+validated method target minor fields rest =
+    if nat_lt max_fields (length fields) then refuse head_too_large
+    else if not (minor == 1) then refuse wrong_version
+    else if not (length (filter is_host fields) == 1) then refuse not_one_host
+    else if not (starts_with nat_eq target (codes "/")) then refuse bad_head
+    else accepted (request_of method target fields, rest)
 
 -- the same with more bytes after it
-abbrev pub with_more : List ℕ → Front (Request × List ℕ) → Front (Request × List ℕ)
+abbrev pub with_more : List ℕ → Decision (Request × List ℕ) → Decision (Request × List ℕ)
 with_more more undecided = undecided
 with_more more (refused r) = refused r
-with_more more (told (request, rest)) = told (request, rest ++ more)
+with_more more (accepted (request, rest)) = accepted (request, rest ++ more)
 
-abbrev pub judged_head : RequestHead → List ℕ → Front (Request × List ℕ)
-judged_head h rest = judged h.method h.target h.minor (map name_and_value h.fields) rest
+abbrev pub validated_head : RequestHead → List ℕ → Decision (Request × List ℕ)
+validated_head h rest = validated h.method h.target h.minor (map name_and_value h.fields) rest
 
 -- what can be said of a head: the request, and the bytes after it
-abbrev pub Said : Type 0
-Said = Front (Request × List ℕ)
+abbrev pub HeadDecision : Type 0
+HeadDecision = Decision (Request × List ℕ)
 
 -- these bytes are the head of a request, or no head, and this is what they say with the rest
-abbrev pub SaysWhole : List ℕ → List ℕ → Front (Request × List ℕ) → Type 0
-SaysWhole bytes rest front =
-    ((h : RequestHead) × ReadsRequest bytes h [] × (front ≡ judged_head h rest))
-    ⊎ (((h : RequestHead) → ¬ (ReadsRequest bytes h [])) × (front ≡ refused bad_head))
+abbrev pub ReadsWholeHead : List ℕ → List ℕ → Decision (Request × List ℕ) → Type 0
+ReadsWholeHead bytes rest front =
+    ((h : RequestHead) × ReadsRequest bytes h [] × (front ≡ validated_head h rest))
+    ⊎ (((h : RequestHead) → ¬ (ReadsRequest bytes h [])) × (front ≡ refuse bad_head))
 
-abbrev pub SaysAt : List ℕ → Option ℕ → Front (Request × List ℕ) → Type 0
-SaysAt bytes None front = front ≡ (if nat_lt max_head (length bytes) then refused head_too_large else undecided)
-SaysAt bytes (Some n) front = SaysWhole (take n bytes) (drop n bytes) front
+abbrev pub ReadsHeadAt : List ℕ → Option ℕ → Decision (Request × List ℕ) → Type 0
+ReadsHeadAt bytes None front = front ≡ (if nat_lt max_head (length bytes) then refuse head_too_large else undecided)
+ReadsHeadAt bytes (Some n) front = ReadsWholeHead (take n bytes) (drop n bytes) front
 
 -- what the bytes that came on a connection say of the request's head
-abbrev pub Says : List ℕ → Front (Request × List ℕ) → Type 0
-Says bytes front = SaysAt bytes (head_end (take max_head bytes)) front
+abbrev pub ReadsHead : List ℕ → Decision (Request × List ℕ) → Type 0
+ReadsHead bytes front = ReadsHeadAt bytes (head_end (take max_head bytes)) front

@@ -3,8 +3,9 @@ use Rattle.std.specs.Prelude.{◌≡◌, ◌⊎◌, ℕ, ◌+◌, Bool, true, fa
 use Rattle.std.specs.List.{filter, list_any}
 use Rattle.schema.specs.TypesFile.{ServedShape}
 use Rattle.verbs.specs.Machine.{Machine}
-use Rattle.httpedge.specs.Refusals.{denied_by, too_many_connections}
-use Rattle.httpedge.specs.Answers.{Answers, refusal_bytes}
+use Rattle.httpedge.specs.Refusals.{as_denied, too_many_connections}
+use Rattle.httpedge.specs.Answers.{Answers}
+use Rattle.httpedge.specs.Steps.{refusal_reply}
 
 -- these bytes came and what they ask isn't decided; or it has ended, and this was written
 pub data Connection : Type 0 where
@@ -46,7 +47,7 @@ max_open = 1024
 
 -- a new one; where so many are open it is told so and has ended
 abbrev pub opened : Connections → Connection
-opened all = if nat_le max_open (length (filter is_open all)) then ended (refusal_bytes (denied_by too_many_connections)) else waiting []
+opened all = if nat_le max_open (length (filter is_open all)) then ended (refusal_reply (as_denied too_many_connections)) else waiting []
 
 -- the place of an id, counted from i
 abbrev pub place_from : ℕ → ℕ → Connections → Option ℕ

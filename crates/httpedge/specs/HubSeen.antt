@@ -24,8 +24,8 @@ abbrev pub HubStands : hubs.Hub → List ServedShape → State → Type 0
 HubStands hub types s = verbs.Stands hub.api types s.machine × (connections_in hub ≡ s.connections)
 
 -- the number of a refusal; done, or want of memory, is none
-abbrev pub number_of : {A : Type 0} → Result A faults.HubFault → Option ℕ
-number_of (Ok a) = None
-number_of (Err fault.IdNotAbove) = Some 1
-number_of (Err fault.UnknownId) = Some 2
-number_of (Err fault.Memory) = None
+abbrev pub refusal_number : {A : Type 0} → Result A faults.HubFault → Option ℕ
+refusal_number (Ok a) = None
+refusal_number (Err fault.IdNotAbove) = Some 1
+refusal_number (Err fault.UnknownId) = Some 2
+refusal_number (Err fault.Memory) = None

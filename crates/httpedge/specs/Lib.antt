@@ -1,8 +1,13 @@
+pub mod Decision
 pub mod Refusals
 pub mod Heads
 pub mod Bodies
 pub mod ReplyBytes
 pub mod Asks
+pub mod Watches
+pub mod Connections
+pub mod Steps
+pub mod Runs
 pub mod Answers
 pub mod Hub
 pub mod Views

@@ -1,12 +1,13 @@
--- Requests that are refused before a call is made of them, and what a front of a connection's bytes may say.
+-- Requests that are refused before a call is made of them.
 use Rattle.std.specs.Prelude.{ℕ, List, None, codes}
 use Rattle.verbs.specs.declared.reason.Reason.{Reason}
 use Rattle.verbs.specs.declared.reason.Reason.TheVariants.{BadRequest, LengthRequired, RequestEntityTooLarge, RequestHeaderFieldsTooLarge, NotImplemented, ServiceUnavailable, HttpVersionNotSupported}
 use Rattle.verbs.specs.Calls.{Denied}
+use Rattle.httpedge.specs.Decision.{Decision, refused}
 
 pub data Refusal : Type 0 where
   head_too_large bad_head wrong_version not_one_host : Refusal
-  encoded no_length bad_length body_too_large not_json : Refusal
+  transfer_encoding no_length bad_length body_too_large not_json : Refusal
   too_many_connections : Refusal
 
 -- its reason, which has the status code
@@ -15,7 +16,7 @@ reason_of head_too_large = RequestHeaderFieldsTooLarge
 reason_of bad_head = BadRequest
 reason_of wrong_version = HttpVersionNotSupported
 reason_of not_one_host = BadRequest
-reason_of encoded = NotImplemented
+reason_of transfer_encoding = NotImplemented
 reason_of no_length = LengthRequired
 reason_of bad_length = BadRequest
 reason_of body_too_large = RequestEntityTooLarge
@@ -27,7 +28,7 @@ message_of head_too_large = codes "request head too large"
 message_of bad_head = codes "bad request head"
 message_of wrong_version = codes "HTTP/1.1 is needed"
 message_of not_one_host = codes "one Host field is needed"
-message_of encoded = codes "Transfer-Encoding is not served"
+message_of transfer_encoding = codes "Transfer-Encoding is not served"
 message_of no_length = codes "Content-Length is needed"
 message_of bad_length = codes "bad Content-Length"
 message_of body_too_large = codes "body over 65536 bytes"
@@ -35,11 +36,8 @@ message_of not_json = codes "body is not JSON"
 message_of too_many_connections = codes "too many connections"
 
 -- as a call's route, method or media type is denied
-abbrev pub denied_by : Refusal → Denied
-denied_by r = record { reason = reason_of r; message = message_of r; allow = None }
+abbrev pub as_denied : Refusal → Denied
+as_denied r = record { reason = reason_of r; message = message_of r; allow = None }
 
--- what the bytes that came say: not enough came, a refusal, or this
-pub data Front (A : Type 0) : Type 0 where
-  undecided : Front A
-  refused : Refusal → Front A
-  told : A → Front A
+abbrev pub refuse : {A : Type 0} → Refusal → Decision A
+refuse r = refused (as_denied r)

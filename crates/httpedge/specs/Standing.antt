@@ -6,18 +6,10 @@ use Rattle.verbs.specs.Calls.{Call}
 use Rattle.verbs.specs.Machine.{Machine, after}
 use Rattle.verbs.specs.Seen as verbs
 use Rattle.verbs.specs.Step.{planned}
-use Rattle.httpedge.specs.declared.asking.Asked as askings
-use Rattle.httpedge.specs.declared.asking.Asked.TheVariants as asking
 use Rattle.httpedge.specs.declared.connection.Connection as conns
 use Rattle.httpedge.specs.declared.connection.Connection.TheVariants as conn
 use Rattle.httpedge.specs.Hub.{Connection, Connections, waiting, ended, Hears}
-use Rattle.httpedge.specs.Asks.{Asked, waits, refuses, calls}
 use Rattle.httpedge.specs.Answers.{Answers, IsAnswerBytes}
-
-abbrev pub asked_of : askings.Asked → Asked
-asked_of asking.Waits = waits
-asked_of (asking.Refuses d) = refuses (verbs.denied_of d)
-asked_of (asking.Calls c) = calls (verbs.call_of c)
 
 -- these bytes answer the call, and the API then stands for the machine after it
 abbrev pub Serves : List ServedShape → Machine → Call → List ℕ → Api → Type 0

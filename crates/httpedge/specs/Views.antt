@@ -7,14 +7,16 @@ use Rattle.httparse.specs.Spans.{IsRequestAt}
 use Rattle.serde_json.specs.declared.value.Value.{Value}
 use Rattle.serde_json.specs.View.{view}
 use Rattle.serde_json.specs.Data.{Data}
+use Rattle.verbs.specs.Seen.{denied_of}
 use Rattle.httpedge.specs.declared.refusal.Refusal as refusals
 use Rattle.httpedge.specs.declared.refusal.Refusal.TheVariants as refusal
-use Rattle.httpedge.specs.declared.refusal.Front as fronts
-use Rattle.httpedge.specs.declared.refusal.Front.TheVariants as front
+use Rattle.httpedge.specs.declared.decision.Decision as decisions
+use Rattle.httpedge.specs.declared.decision.Decision.TheVariants as decision
 use Rattle.httpedge.specs.declared.head.Length as lengths
 use Rattle.httpedge.specs.declared.head.Length.TheVariants as some_length
 use Rattle.httpedge.specs.declared.head.Head as heads
-use Rattle.httpedge.specs.Refusals.{Refusal, head_too_large, bad_head, wrong_version, not_one_host, encoded, no_length, bad_length, body_too_large, not_json, too_many_connections, Front, undecided, refused, told}
+use Rattle.httpedge.specs.Refusals.{Refusal, head_too_large, bad_head, wrong_version, not_one_host, transfer_encoding, no_length, bad_length, body_too_large, not_json, too_many_connections}
+use Rattle.httpedge.specs.Decision.{Decision, undecided, refused, accepted}
 use Rattle.httpedge.specs.Heads.{Length, missing, malformed, digits, Request}
 
 abbrev pub refusal_of : refusals.Refusal → Refusal
@@ -22,17 +24,17 @@ refusal_of refusal.HeadTooLarge = head_too_large
 refusal_of refusal.BadHead = bad_head
 refusal_of refusal.WrongVersion = wrong_version
 refusal_of refusal.NotOneHost = not_one_host
-refusal_of refusal.Encoded = encoded
+refusal_of refusal.TransferEncoding = transfer_encoding
 refusal_of refusal.NoLength = no_length
 refusal_of refusal.BadLength = bad_length
 refusal_of refusal.BodyTooLarge = body_too_large
 refusal_of refusal.NotJson = not_json
 refusal_of refusal.TooManyConnections = too_many_connections
 
-abbrev pub front_of : {A B : Type 0} → (A → B) → fronts.Front A → Front B
-front_of view front.Undecided = undecided
-front_of view (front.Refused r) = refused (refusal_of r)
-front_of view (front.Told a) = told (view a)
+abbrev pub decision_of : {A B : Type 0} → (A → B) → decisions.Decision A → Decision B
+decision_of view decision.Undecided = undecided
+decision_of view (decision.Refused d) = refused (denied_of d)
+decision_of view (decision.Accepted a) = accepted (view a)
 
 abbrev pub length_of : lengths.Length → Length
 length_of some_length.Missing = missing
@@ -42,9 +44,9 @@ length_of (some_length.Digits ds) = digits ds.now
 abbrev pub request_in : heads.Head → Request
 request_in h = record {
   method = h.method.now;
-  target = h.target.now;
+  request_target = h.request_target.now;
   media = option_map (λ m. m.now) h.media;
-  encoded = h.is_encoded;
+  transfer_encoded = h.is_transfer_encoded;
   length = length_of h.length;
 }
 

@@ -4,17 +4,19 @@ ghost use Rattle.std.specs.Prelude.{◌≡◌, List, IfOk, IfSome, OnOk, OnErr, 
 ghost use Rattle.schema.specs.TypesFile.{ServedShape};
 ghost use Rattle.verbs.specs.Machine.{IsNext, Machine, after};
 ghost use Rattle.verbs.specs.Seen.{Stands, answer_of, call_of, change_of, denied_of};
-ghost use Rattle.httpedge.specs.Answers.{IsAnswerBytes, refusal_bytes};
+ghost use Rattle.httpedge.specs.Answers.{IsAnswerBytes};
+ghost use Rattle.httpedge.specs.Steps.{refusal_reply};
 ghost use Rattle.httpedge.specs.Standing.{Serves, StandsAnswered};
 
-use crate::asking::{Asked, ask};
+use crate::asking::ask;
+use crate::decision::Decision;
 use crate::reply::reply_bytes;
 use std::alloc::{AllocError, Global};
 use verbs::{Answer, Api, Call, Change, Denied, Fault, status_value};
 
 /// The reply of a refusal.
-pub(crate) fn refusal_bytes(alloc: Global, denied: Denied) -> Result<Vec<u8>, AllocError>
-    ensures { IfOk result (λ v. v.items ≡ refusal_bytes (denied_of denied)) }
+pub(crate) fn refusal_reply(alloc: Global, denied: Denied) -> Result<Vec<u8>, AllocError>
+    ensures { IfOk result (λ v. v.items ≡ refusal_reply (denied_of denied)) }
 {
     let status = status_value(alloc, denied.reason, denied.message)?;
     let text = status.to_string(alloc)?;
@@ -55,12 +57,12 @@ pub(crate) fn answer(alloc: Global, api: &mut Api, bytes: &[u8]) -> Result<Optio
     ensures err { (types : List ServedShape) (m : Machine) → Stands api.old types m → OnErr result (Stands api.new types m) }
 {
     match ask(alloc, api, bytes)? {
-        Asked::Waits => Ok(None),
-        Asked::Refuses(denied) => {
-            let reply = refusal_bytes(alloc, denied)?;
+        Decision::Undecided => Ok(None),
+        Decision::Refused(denied) => {
+            let reply = refusal_reply(alloc, denied)?;
             Ok(Some(reply))
         }
-        Asked::Calls(call) => {
+        Decision::Accepted(call) => {
             let reply = serve(alloc, api, &call)?;
             Ok(Some(reply))
         }

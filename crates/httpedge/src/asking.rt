@@ -1,29 +1,17 @@
 //! What a connection asks, by all the bytes that came on it.
 
 ghost use Rattle.std.specs.Prelude.{◌≡◌, IfOk};
-ghost use Rattle.verbs.specs.Admit.{admitted};
 ghost use Rattle.verbs.specs.Seen.{call_of, target_of, types_of};
-ghost use Rattle.httpedge.specs.Asks.{Asks, with_body, with_target};
-ghost use Rattle.httpedge.specs.Bodies.{body_in, judged_media, path_of};
-ghost use Rattle.httpedge.specs.Standing.{asked_of};
-ghost use Rattle.httpedge.specs.Views.{data_of, request_in};
+ghost use Rattle.httpedge.specs.Asks.{Asks, call_with, call_in};
+ghost use Rattle.httpedge.specs.Views.{data_of, decision_of, request_in};
 
 use crate::body::read_body;
+use crate::decision::Decision;
 use crate::head::{Head, read_head};
-use crate::refusal::Front;
-use crate::target::{judged_media, path_of, query_of};
+use crate::target::{checked_media, path_of, query_of};
 use serde_json::Value;
 use std::alloc::{AllocError, Global};
-use verbs::{Api, Call, Denied, Target};
-
-/// What a connection asks.
-#[derive(Debug, Drop)]
-pub(crate) enum Asked {
-    /// More bytes are needed.
-    Waits,
-    Refuses(Denied),
-    Calls(Call),
-}
+use verbs::{Api, Call, Target};
 
 fn call_of(
     alloc: Global,
@@ -41,36 +29,40 @@ fn call_of(
     })
 }
 
-fn with_body(alloc: Global, target: Target, head: &Head<'_>) -> Result<Asked, AllocError>
-    ensures { IfOk result (λ a. asked_of a ≡ with_body (target_of target) (request_in head.now) (body_in (request_in head.now) head.now.rest.now)) }
+fn call_with(alloc: Global, target: Target, head: &Head<'_>) -> Result<Decision<Call>, AllocError>
+    ensures { IfOk result (λ a. decision_of call_of a ≡ call_with (request_in head.now) head.now.rest.now (target_of target)) }
 {
     match read_body(alloc, head)? {
-        Front::Undecided => Ok(Asked::Waits),
-        Front::Refused(refusal) => Ok(Asked::Refuses(refusal.denied())),
-        Front::Told(body) => {
-            let call = call_of(alloc, target, query_of(head.target), body)?;
-            Ok(Asked::Calls(call))
+        Decision::Undecided => Ok(Decision::Undecided),
+        Decision::Refused(denied) => Ok(Decision::Refused(denied)),
+        Decision::Accepted(body) => {
+            let call = call_of(alloc, target, query_of(head.request_target), body)?;
+            Ok(Decision::Accepted(call))
         }
     }
 }
 
-fn with_target(alloc: Global, api: &Api, head: &Head<'_>) -> Result<Asked, AllocError>
-    ensures { IfOk result (λ a. asked_of a ≡ with_target (request_in head.now) head.now.rest.now (admitted (types_of api.now) head.now.method.now (path_of head.now.target.now) (judged_media (request_in head.now)))) }
+fn call_in(alloc: Global, api: &Api, head: &Head<'_>) -> Result<Decision<Call>, AllocError>
+    ensures { IfOk result (λ a. decision_of call_of a ≡ call_in (types_of api.now) (request_in head.now) head.now.rest.now) }
 {
-    match api.admit(head.method, path_of(head.target), judged_media(head)) {
-        Ok(target) => with_body(alloc, target, head),
-        Err(verbs::Refusal::Denied(denied)) => Ok(Asked::Refuses(denied)),
+    match api.admit(
+        head.method,
+        path_of(head.request_target),
+        checked_media(head),
+    ) {
+        Ok(target) => call_with(alloc, target, head),
+        Err(verbs::Refusal::Denied(denied)) => Ok(Decision::Refused(denied)),
         Err(verbs::Refusal::Memory) => Err(AllocError),
     }
 }
 
 /// What the bytes that came on a connection ask.
-pub(crate) fn ask(alloc: Global, api: &Api, bytes: &[u8]) -> Result<Asked, AllocError>
-    ensures { IfOk result (λ a. Asks (types_of api.now) bytes.now (asked_of a)) }
+pub(crate) fn ask(alloc: Global, api: &Api, bytes: &[u8]) -> Result<Decision<Call>, AllocError>
+    ensures { IfOk result (λ a. Asks (types_of api.now) bytes.now (decision_of call_of a)) }
 {
     match read_head(bytes) {
-        Front::Undecided => Ok(Asked::Waits),
-        Front::Refused(refusal) => Ok(Asked::Refuses(refusal.denied())),
-        Front::Told(head) => with_target(alloc, api, &head),
+        Decision::Undecided => Ok(Decision::Undecided),
+        Decision::Refused(denied) => Ok(Decision::Refused(denied)),
+        Decision::Accepted(head) => call_in(alloc, api, &head),
     }
 }

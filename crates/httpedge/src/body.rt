@@ -1,12 +1,13 @@
 //! The body of a request.
 
 ghost use Rattle.std.specs.Prelude.{◌≡◌, ◌≢◌, ◌<◌, ◌≤◌, ◌++◌, ℕ, List, IfOk, MatchOption};
-ghost use Rattle.httpedge.specs.Bodies.{max_body, needs_body, may_have_body, number_of, value_in, some_or_refused, body_of, needed_body, optional_body, body_in};
-ghost use Rattle.httpedge.specs.Refusals.{undecided};
-ghost use Rattle.httpedge.specs.Views.{front_of, length_of, request_in, data_of};
+ghost use Rattle.httpedge.specs.Bodies.{max_body, needs_body, may_have_body, decimal_value, json_in, some_json, body_of, needed_body, optional_body, body_in};
+ghost use Rattle.httpedge.specs.Decision.{undecided};
+ghost use Rattle.httpedge.specs.Views.{decision_of, length_of, request_in, data_of};
 
+use crate::decision::Decision;
 use crate::head::{Head, Length};
-use crate::refusal::{Front, Refusal};
+use crate::refusal::Refusal;
 use serde_json::Value;
 use std::alloc::{AllocError, Global};
 
@@ -25,8 +26,8 @@ pub(crate) fn may_have_body(method: &str) -> bool
 }
 
 /// The number that digits write, where it isn't above the limit.
-pub(crate) fn number_of(digits: &[u8]) -> Option<usize>
-    ensures { MatchOption result (max_body < number_of digits.now) (λ n. (n ≡ number_of digits.now) × (n ≤ max_body)) }
+pub(crate) fn decimal_value(digits: &[u8]) -> Option<usize>
+    ensures { MatchOption result (max_body < decimal_value digits.now) (λ n. (n ≡ decimal_value digits.now) × (n ≤ max_body)) }
 {
     let mut number = 0;
     for digit in digits {
@@ -38,38 +39,38 @@ pub(crate) fn number_of(digits: &[u8]) -> Option<usize>
     Some(number)
 }
 
-fn value_in(alloc: Global, bytes: &[u8]) -> Result<Front<Option<Value>>, AllocError>
-    ensures { IfOk result (λ f. front_of data_of f ≡ some_or_refused (value_in bytes.now)) }
+fn json_in(alloc: Global, bytes: &[u8]) -> Result<Decision<Option<Value>>, AllocError>
+    ensures { IfOk result (λ f. decision_of data_of f ≡ some_json (json_in bytes.now)) }
 {
     match Value::from_slice(alloc, bytes) {
-        Ok(value) => Ok(Front::Told(Some(value))),
+        Ok(value) => Ok(Decision::Accepted(Some(value))),
         Err(error) if error.is_memory() => Err(AllocError),
-        Err(_) => Ok(Front::Refused(Refusal::NotJson)),
+        Err(_) => Ok(Decision::Refused(Refusal::NotJson.denied())),
     }
 }
 
-fn body_of(alloc: Global, length: usize, rest: &[u8]) -> Result<Front<Option<Value>>, AllocError>
+fn body_of(alloc: Global, length: usize, rest: &[u8]) -> Result<Decision<Option<Value>>, AllocError>
     requires { length ≤ max_body }
-    ensures { IfOk result (λ f. front_of data_of f ≡ body_of length rest.now) }
+    ensures { IfOk result (λ f. decision_of data_of f ≡ body_of length rest.now) }
 {
     if rest.len() < length {
-        return Ok(Front::Undecided);
+        return Ok(Decision::Undecided);
     }
-    value_in(alloc, &rest[..length])
+    json_in(alloc, &rest[..length])
 }
 
 fn needed_body(
     alloc: Global,
     length: Length<'_>,
     rest: &[u8],
-) -> Result<Front<Option<Value>>, AllocError>
-    ensures { IfOk result (λ f. front_of data_of f ≡ needed_body (length_of length.entry) rest.now) }
+) -> Result<Decision<Option<Value>>, AllocError>
+    ensures { IfOk result (λ f. decision_of data_of f ≡ needed_body (length_of length.entry) rest.now) }
 {
     match length {
-        Length::Missing => Ok(Front::Refused(Refusal::NoLength)),
-        Length::Malformed => Ok(Front::Refused(Refusal::BadLength)),
-        Length::Digits(digits) => match number_of(digits) {
-            None => Ok(Front::Refused(Refusal::BodyTooLarge)),
+        Length::Missing => Ok(Decision::Refused(Refusal::NoLength.denied())),
+        Length::Malformed => Ok(Decision::Refused(Refusal::BadLength.denied())),
+        Length::Digits(digits) => match decimal_value(digits) {
+            None => Ok(Decision::Refused(Refusal::BodyTooLarge.denied())),
             Some(number) => body_of(alloc, number, rest),
         },
     }
@@ -79,29 +80,29 @@ fn optional_body(
     alloc: Global,
     length: Length<'_>,
     rest: &[u8],
-) -> Result<Front<Option<Value>>, AllocError>
-    ensures { IfOk result (λ f. front_of data_of f ≡ optional_body (length_of length.entry) rest.now) }
+) -> Result<Decision<Option<Value>>, AllocError>
+    ensures { IfOk result (λ f. decision_of data_of f ≡ optional_body (length_of length.entry) rest.now) }
 {
     match length {
-        Length::Missing => Ok(Front::Told(None)),
-        Length::Malformed => Ok(Front::Refused(Refusal::BadLength)),
-        Length::Digits(digits) => match number_of(digits) {
-            None => Ok(Front::Refused(Refusal::BodyTooLarge)),
-            Some(0) => Ok(Front::Told(None)),
+        Length::Missing => Ok(Decision::Accepted(None)),
+        Length::Malformed => Ok(Decision::Refused(Refusal::BadLength.denied())),
+        Length::Digits(digits) => match decimal_value(digits) {
+            None => Ok(Decision::Refused(Refusal::BodyTooLarge.denied())),
+            Some(0) => Ok(Decision::Accepted(None)),
             Some(number) => body_of(alloc, number, rest),
         },
     }
 }
 
-fn body_in(alloc: Global, head: &Head<'_>) -> Result<Front<Option<Value>>, AllocError>
-    ensures { IfOk result (λ f. front_of data_of f ≡ body_in (request_in head.now) head.now.rest.now) }
+fn body_in(alloc: Global, head: &Head<'_>) -> Result<Decision<Option<Value>>, AllocError>
+    ensures { IfOk result (λ f. decision_of data_of f ≡ body_in (request_in head.now) head.now.rest.now) }
 {
     let needs = needs_body(head.method);
     if !needs && !may_have_body(head.method) {
-        return Ok(Front::Told(None));
+        return Ok(Decision::Accepted(None));
     }
-    if head.is_encoded {
-        return Ok(Front::Refused(Refusal::Encoded));
+    if head.is_transfer_encoded {
+        return Ok(Decision::Refused(Refusal::TransferEncoding.denied()));
     }
     if needs {
         needed_body(alloc, head.length, head.rest)
@@ -112,9 +113,9 @@ fn body_in(alloc: Global, head: &Head<'_>) -> Result<Front<Option<Value>>, Alloc
 
 /// The body of a request, by its head and the bytes that came after it, however they were cut. Only POST,
 /// PUT, PATCH and DELETE have one, and only DELETE may go without.
-pub fn read_body(alloc: Global, head: &Head<'_>) -> Result<Front<Option<Value>>, AllocError>
-    ensures says { IfOk result (λ f. front_of data_of f ≡ body_in (request_in head.now) head.now.rest.now) }
-    ensures stays { (more : List ℕ) → IfOk result (λ f. front_of data_of f ≢ undecided → body_in (request_in head.now) (head.now.rest.now ++ more) ≡ front_of data_of f) }
+pub fn read_body(alloc: Global, head: &Head<'_>) -> Result<Decision<Option<Value>>, AllocError>
+    ensures says { IfOk result (λ f. decision_of data_of f ≡ body_in (request_in head.now) head.now.rest.now) }
+    ensures stays { (more : List ℕ) → IfOk result (λ f. decision_of data_of f ≢ undecided → body_in (request_in head.now) (head.now.rest.now ++ more) ≡ decision_of data_of f) }
 {
     body_in(alloc, head)
 }

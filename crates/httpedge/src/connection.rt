@@ -6,10 +6,10 @@ ghost use Rattle.schema.specs.TypesFile.{ServedShape};
 ghost use Rattle.verbs.specs.Machine.{Machine};
 ghost use Rattle.verbs.specs.Seen.{Stands};
 ghost use Rattle.httpedge.specs.Hub.{waiting, is_open, is_taken, opened, place_of, out_of, has_ended};
-ghost use Rattle.httpedge.specs.HubSeen.{number_of};
+ghost use Rattle.httpedge.specs.HubSeen.{refusal_number};
 ghost use Rattle.httpedge.specs.Standing.{connection_of, connections_of, StandsHeard, StandsHeardAt, Waited, IsDeadAt};
 
-use crate::answering::{answer, refusal_bytes};
+use crate::answering::{answer, refusal_reply};
 use crate::fault::HubFault;
 use crate::refusal::Refusal;
 use std::alloc::{AllocError, Global};
@@ -79,14 +79,14 @@ fn opened(alloc: Global, all: &[(u64, Connection)]) -> Result<Connection, AllocE
     if open_count(all) < MAX_OPEN {
         return Ok(Connection::Waiting(Vec::new(alloc)));
     }
-    let reply = refusal_bytes(alloc, Refusal::TooManyConnections.denied())?;
+    let reply = refusal_reply(alloc, Refusal::TooManyConnections.denied())?;
     Ok(Connection::Ended(reply))
 }
 
 /// Opens a connection, whose id has to be above all earlier ones.
 pub(crate) fn open(alloc: Global, all: &mut Vec<(u64, Connection)>, id: u64) -> Result<(), HubFault>
-    ensures refused { number_of result ≡ (if is_taken id (connections_of all.old.items) then Some 1 else None) }
-    ensures untouched { number_of result ≢ None → all.new ≡ all.old }
+    ensures refused { refusal_number result ≡ (if is_taken id (connections_of all.old.items) then Some 1 else None) }
+    ensures untouched { refusal_number result ≢ None → all.new ≡ all.old }
     ensures ok { OnOk result (connections_of all.new.items ≡ connections_of all.old.items ++ (id, opened (connections_of all.old.items)) ∷ []) }
     ensures err { OnErr result (all.new.items ≡ all.old.items) }
 {

@@ -5,11 +5,12 @@ ghost use Rattle.std.specs.List.{All, list_all, list_any, filter};
 ghost use Rattle.std.specs.Char.{is_ascii_digit};
 ghost use Rattle.httparse.specs.Grammar.{RequestHead, ReadsRequest};
 ghost use Rattle.httparse.specs.Spans.{header_bytes, span_bytes, IsHeaderWithin, IsWithin, IsRequestWithin};
-ghost use Rattle.httpedge.specs.Heads.{max_head, end_inside, head_end, has_name, is_host, media_in, is_encoded, without_zeros, length_in, agreed, length_after, missing, digits, judged, SaysWhole, SaysAt, Said, Says, with_more};
-ghost use Rattle.httpedge.specs.Refusals.{undecided};
-ghost use Rattle.httpedge.specs.Views.{front_of, head_of, length_of, IsWholeAt};
+ghost use Rattle.httpedge.specs.Heads.{max_head, end_inside, head_end, has_name, is_host, media_in, is_transfer_encoded, without_zeros, length_in, agreed, length_after, missing, digits, validated, ReadsWholeHead, ReadsHeadAt, HeadDecision, ReadsHead, with_more};
+ghost use Rattle.httpedge.specs.Decision.{undecided};
+ghost use Rattle.httpedge.specs.Views.{decision_of, head_of, length_of, IsWholeAt};
 
-use crate::refusal::{Front, Refusal};
+use crate::decision::Decision;
+use crate::refusal::Refusal;
 use httparse::Status;
 use httparse::spans::{EMPTY_HEADER_SPAN, HeaderSpan, RequestSpans, parse_request};
 
@@ -35,11 +36,11 @@ pub enum Length<'b> {
 #[derive(Clone, Copy, Debug)]
 pub struct Head<'b> {
     pub method: &'b str,
-    pub target: &'b str,
+    pub request_target: &'b str,
     /// The value of the first Content-Type.
     pub media: Option<&'b [u8]>,
     /// Whether there is a Transfer-Encoding.
-    pub is_encoded: bool,
+    pub is_transfer_encoded: bool,
     pub length: Length<'b>,
     pub rest: &'b [u8],
 }
@@ -109,9 +110,9 @@ fn media_in<'b>(head: &'b [u8], fields: &[HeaderSpan]) -> Option<&'b [u8]>
     None
 }
 
-fn is_encoded(head: &[u8], fields: &[HeaderSpan]) -> bool
+fn is_transfer_encoded(head: &[u8], fields: &[HeaderSpan]) -> bool
     requires { All (IsHeaderWithin (length head.now)) fields.now }
-    ensures { result ≡ is_encoded (map (header_bytes head.now) fields.now) }
+    ensures { result ≡ is_transfer_encoded (map (header_bytes head.now) fields.now) }
 {
     for field in fields {
         if has_name(head, field, b"transfer-encoding") {
@@ -204,37 +205,37 @@ fn text_of(bytes: &[u8]) -> &str
 }
 
 /// The judgement of a head of the grammar.
-fn judged<'b>(
+fn validated<'b>(
     head: &'b [u8],
     parts: RequestSpans,
     fields: &[HeaderSpan],
     rest: &'b [u8],
-) -> Front<Head<'b>>
+) -> Decision<Head<'b>>
     requires method { IsWithin (length head.now) parts.method }
     requires path { IsWithin (length head.now) parts.path }
     requires method_text { IsUtf8 (span_bytes head.now parts.method) }
     requires path_text { IsUtf8 (span_bytes head.now parts.path) }
     requires fields { All (IsHeaderWithin (length head.now)) fields.now }
-    ensures { front_of head_of result ≡ judged (span_bytes head.now parts.method) (span_bytes head.now parts.path) parts.version (map (header_bytes head.now) fields.now) rest.now }
+    ensures { decision_of head_of result ≡ validated (span_bytes head.now parts.method) (span_bytes head.now parts.path) parts.version (map (header_bytes head.now) fields.now) rest.now }
 {
     if fields.len() > MAX_FIELDS {
-        return Front::Refused(Refusal::HeadTooLarge);
+        return Decision::Refused(Refusal::HeadTooLarge.denied());
     }
     if parts.version != 1 {
-        return Front::Refused(Refusal::WrongVersion);
+        return Decision::Refused(Refusal::WrongVersion.denied());
     }
     if hosts_in(head, fields) != 1 {
-        return Front::Refused(Refusal::NotOneHost);
+        return Decision::Refused(Refusal::NotOneHost.denied());
     }
     let target = parts.path.of(head);
     if !target.starts_with(b"/") {
-        return Front::Refused(Refusal::BadHead);
+        return Decision::Refused(Refusal::BadHead.denied());
     }
-    Front::Told(Head {
+    Decision::Accepted(Head {
         method: text_of(parts.method.of(head)),
-        target: text_of(target),
+        request_target: text_of(target),
         media: media_in(head, fields),
-        is_encoded: is_encoded(head, fields),
+        is_transfer_encoded: is_transfer_encoded(head, fields),
         length: length_of(head, fields),
         rest,
     })
@@ -262,14 +263,14 @@ fn parts_of(head: &[u8], spans: &mut [HeaderSpan]) -> Option<RequestSpans>
 }
 
 /// The judgement of the bytes up to the first empty line.
-fn judge<'b>(head: &'b [u8], rest: &'b [u8]) -> Front<Head<'b>>
+fn validate<'b>(head: &'b [u8], rest: &'b [u8]) -> Decision<Head<'b>>
     requires { length head.now ≤ max_head }
-    ensures { SaysWhole head.now rest.now (front_of head_of result) }
+    ensures { ReadsWholeHead head.now rest.now (decision_of head_of result) }
 {
     let mut spans = [EMPTY_HEADER_SPAN; ROOM];
     match parts_of(head, &mut spans) {
-        Some(parts) => judged(head, parts, &spans[..parts.headers], rest),
-        None => Front::Refused(Refusal::BadHead),
+        Some(parts) => validated(head, parts, &spans[..parts.headers], rest),
+        None => Decision::Refused(Refusal::BadHead.denied()),
     }
 }
 
@@ -292,30 +293,30 @@ fn end_of(bytes: &[u8]) -> Option<usize>
     head_end(front_of(bytes))
 }
 
-fn judge_at(bytes: &[u8], end: usize) -> Front<Head<'_>>
+fn validate_at(bytes: &[u8], end: usize) -> Decision<Head<'_>>
     requires within { end ≤ length bytes.now }
     requires short { end ≤ max_head }
-    ensures { SaysAt bytes.now (Some end) (front_of head_of result) }
+    ensures { ReadsHeadAt bytes.now (Some end) (decision_of head_of result) }
 {
-    judge(&bytes[..end], &bytes[end..])
+    validate(&bytes[..end], &bytes[end..])
 }
 
-fn read_front(bytes: &[u8]) -> Front<Head<'_>>
-    ensures { Says bytes.now (front_of head_of result) }
+fn read_front(bytes: &[u8]) -> Decision<Head<'_>>
+    ensures { ReadsHead bytes.now (decision_of head_of result) }
 {
     match end_of(bytes) {
-        Some(end) => judge_at(bytes, end),
-        None if bytes.len() > MAX_HEAD => Front::Refused(Refusal::HeadTooLarge),
-        None => Front::Undecided,
+        Some(end) => validate_at(bytes, end),
+        None if bytes.len() > MAX_HEAD => Decision::Refused(Refusal::HeadTooLarge.denied()),
+        None => Decision::Undecided,
     }
 }
 
 /// What the bytes that came on a connection say of the request's head, however they were cut: once decided,
 /// bytes that come later change nothing but what stands after the head.
-pub fn read_head(bytes: &[u8]) -> Front<Head<'_>>
-    ensures says { Says bytes.now (front_of head_of result) }
-    ensures alone { (front : Said) → Says bytes.now front → front ≡ front_of head_of result }
-    ensures stays { (more : List ℕ) → front_of head_of result ≢ undecided → Says (bytes.now ++ more) (with_more more (front_of head_of result)) }
+pub fn read_head(bytes: &[u8]) -> Decision<Head<'_>>
+    ensures says { ReadsHead bytes.now (decision_of head_of result) }
+    ensures alone { (front : HeadDecision) → ReadsHead bytes.now front → front ≡ decision_of head_of result }
+    ensures stays { (more : List ℕ) → decision_of head_of result ≢ undecided → ReadsHead (bytes.now ++ more) (with_more more (decision_of head_of result)) }
 {
     read_front(bytes)
 }

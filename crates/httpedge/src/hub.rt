@@ -6,7 +6,7 @@ ghost use Rattle.verbs.specs.Machine.{Machine};
 ghost use Rattle.verbs.specs.Seen.{Stands};
 ghost use Rattle.httpedge.specs.Hub.{State, Steps, Runs, Dies, comes, no_connections, refusal_of, written_on, is_ended, is_waiting};
 ghost use Rattle.httpedge.specs.Hub as hub;
-ghost use Rattle.httpedge.specs.HubSeen.{HubStands, connections_in, event_of, number_of};
+ghost use Rattle.httpedge.specs.HubSeen.{HubStands, connections_in, event_of, refusal_number};
 
 use crate::connection::{Connection, has_ended, hear_at, open, out_of, place_of};
 use crate::event::Event;
@@ -36,8 +36,8 @@ impl Hub {
 
     fn step(&mut self, event: &Event) -> Result<(), HubFault>
         ensures ok { (types : List ServedShape) (s : State) → HubStands self.old types s → OnOk result ((t : State) × Steps types s (event_of event.now) t × HubStands self.new types t) }
-        ensures refused { number_of result ≡ refusal_of (connections_in self.old) (event_of event.now) }
-        ensures unchanged { number_of result ≢ None → self.new ≡ self.old }
+        ensures refused { refusal_number result ≡ refusal_of (connections_in self.old) (event_of event.now) }
+        ensures unchanged { refusal_number result ≢ None → self.new ≡ self.old }
         ensures memory { (types : List ServedShape) (s : State) → HubStands self.old types s → result ≡ Err HubFault.Memory → (t : State) × Dies s (event_of event.now) t × HubStands self.new types t }
     {
         match event {
@@ -58,8 +58,8 @@ impl Hub {
     pub fn on(&mut self, event: &Event) -> Result<(), HubFault>
         ensures ok { (types : List ServedShape) (s : State) → HubStands self.old types s → OnOk result ((t : State) × Steps types s (event_of event.now) t × HubStands self.new types t) }
         ensures pieces { (types : List ServedShape) (r s : State) (id : ℕ) (first second : List ℕ) → event_of event.now ≡ comes id second → Steps types r (comes id first) s → HubStands self.old types s → OnOk result ((t : State) × Steps types r (comes id (first ++ second)) t × HubStands self.new types t) }
-        ensures refused { number_of result ≡ refusal_of (connections_in self.old) (event_of event.now) }
-        ensures unchanged { number_of result ≢ None → self.new ≡ self.old }
+        ensures refused { refusal_number result ≡ refusal_of (connections_in self.old) (event_of event.now) }
+        ensures unchanged { refusal_number result ≢ None → self.new ≡ self.old }
         ensures runs { (types : List ServedShape) (r s : State) (before : List hub.Event) → Runs types r before s → HubStands self.old types s → result ≢ Err HubFault.Memory → (t : State) × Runs types r (before ++ event_of event.now ∷ []) t × HubStands self.new types t }
         ensures memory { (types : List ServedShape) (s : State) → HubStands self.old types s → result ≡ Err HubFault.Memory → (t : State) × Dies s (event_of event.now) t × HubStands self.new types t }
     {

@@ -11,22 +11,26 @@ mod answering;
 mod asking;
 mod body;
 mod connection;
+mod decision;
 mod event;
 mod fault;
 mod head;
 mod hub;
+mod laws;
 mod refusal;
 mod reply;
 mod target;
 
 pub use body::read_body;
+pub use decision::Decision;
 pub use event::Event;
 pub use fault::HubFault;
 pub use head::{Head, Length, read_head};
 pub use hub::Hub;
-pub use refusal::{Front, Refusal};
+pub use laws::{each_changes, one_asked, one_outcome, pieces};
+pub use refusal::Refusal;
 pub use reply::reply_bytes;
-pub use target::{judged_media, path_of, query_of};
+pub use target::{checked_media, path_of, query_of};
 
 #[cfg(test)]
 mod tests;

@@ -1,7 +1,7 @@
 //! Requests that are refused before a call is made of them.
 
 ghost use Rattle.std.specs.Prelude.{◌≡◌};
-ghost use Rattle.httpedge.specs.Refusals.{denied_by, reason_of, message_of};
+ghost use Rattle.httpedge.specs.Refusals.{as_denied, reason_of, message_of};
 ghost use Rattle.httpedge.specs.Views.{refusal_of};
 ghost use Rattle.verbs.specs.Seen.{denied_of};
 
@@ -14,21 +14,12 @@ pub enum Refusal {
     BadHead,
     WrongVersion,
     NotOneHost,
-    Encoded,
+    TransferEncoding,
     NoLength,
     BadLength,
     BodyTooLarge,
     NotJson,
     TooManyConnections,
-}
-
-/// What the bytes that came on a connection say.
-#[derive(Debug, Drop)]
-pub enum Front<A> {
-    /// Not enough came.
-    Undecided,
-    Refused(Refusal),
-    Told(A),
 }
 
 impl Refusal {
@@ -43,7 +34,7 @@ impl Refusal {
             Refusal::NoLength => Reason::LengthRequired,
             Refusal::BodyTooLarge => Reason::RequestEntityTooLarge,
             Refusal::HeadTooLarge => Reason::RequestHeaderFieldsTooLarge,
-            Refusal::Encoded => Reason::NotImplemented,
+            Refusal::TransferEncoding => Reason::NotImplemented,
             Refusal::TooManyConnections => Reason::ServiceUnavailable,
             Refusal::WrongVersion => Reason::HttpVersionNotSupported,
         }
@@ -58,7 +49,7 @@ impl Refusal {
             Refusal::BadHead => "bad request head",
             Refusal::WrongVersion => "HTTP/1.1 is needed",
             Refusal::NotOneHost => "one Host field is needed",
-            Refusal::Encoded => "Transfer-Encoding is not served",
+            Refusal::TransferEncoding => "Transfer-Encoding is not served",
             Refusal::NoLength => "Content-Length is needed",
             Refusal::BadLength => "bad Content-Length",
             Refusal::BodyTooLarge => "body over 65536 bytes",
@@ -69,7 +60,7 @@ impl Refusal {
 
     /// The refusal as a call is denied.
     pub fn denied(self) -> Denied
-        ensures { denied_of result ≡ denied_by (refusal_of self) }
+        ensures { denied_of result ≡ as_denied (refusal_of self) }
     {
         Denied {
             reason: self.reason(),

@@ -1,10 +1,10 @@
 //! The target of a request, and the media type of its body.
 
 ghost use Rattle.std.specs.Prelude.{◌≡◌, option_map};
-ghost use Rattle.httpedge.specs.Bodies.{number_of, has_length, judged_media, path_of, query_of};
+ghost use Rattle.httpedge.specs.Bodies.{decimal_value, has_length, checked_media, path_of, query_of};
 ghost use Rattle.httpedge.specs.Views.{length_of, request_in};
 
-use crate::body::{may_have_body, number_of};
+use crate::body::{decimal_value, may_have_body};
 use crate::head::{Head, Length};
 
 /// What stands before the first question mark (RFC 9112, section 3.2.1).
@@ -34,13 +34,13 @@ fn has_length(length: Length<'_>) -> bool
     match length {
         Length::Missing => false,
         Length::Malformed => true,
-        Length::Digits(digits) => number_of(digits) != Some(0),
+        Length::Digits(digits) => decimal_value(digits) != Some(0),
     }
 }
 
 /// The media type that is judged: a DELETE without a body has none.
-pub fn judged_media<'b>(head: &Head<'b>) -> Option<&'b [u8]>
-    ensures { option_map (λ m. m.now) result ≡ judged_media (request_in head.now) }
+pub fn checked_media<'b>(head: &Head<'b>) -> Option<&'b [u8]>
+    ensures { option_map (λ m. m.now) result ≡ checked_media (request_in head.now) }
 {
     if may_have_body(head.method) && !has_length(head.length) {
         None

@@ -1,7 +1,7 @@
 //! Requests and replies by their bytes, and connections over an API of widgets.
 
 use super::{
-    Event, Front, Head, Hub, HubFault, Refusal, judged_media, path_of, query_of, read_body,
+    Decision, Event, Head, Hub, HubFault, Refusal, checked_media, path_of, query_of, read_body,
     read_head, reply_bytes,
 };
 use schema::Types;
@@ -53,7 +53,7 @@ fn comes_by_bytes(alloc: Global, hub: &mut Hub, id: u64, text: &str) -> Result<b
 
 fn head_of(bytes: &[u8]) -> Option<Head<'_>> {
     match read_head(bytes) {
-        Front::Told(head) => Some(head),
+        Decision::Accepted(head) => Some(head),
         _ => None,
     }
 }
@@ -61,7 +61,7 @@ fn head_of(bytes: &[u8]) -> Option<Head<'_>> {
 /// The text of a request's body, empty where there is none.
 fn body_text(alloc: Global, head: &Head<'_>) -> Result<String, AllocError> {
     match read_body(alloc, head)? {
-        Front::Told(Some(value)) => value.to_string(alloc),
+        Decision::Accepted(Some(value)) => value.to_string(alloc),
         _ => Ok(String::new(alloc)),
     }
 }
@@ -74,9 +74,9 @@ fn request_and_reply(rt: HostRuntime) -> Result<(), Fail> {
     let head = head_of(request.as_bytes());
     assert!(rt; head.is_some());
     if let Some(head) = head {
-        assert_eq!(rt; path_of(head.target), "/a");
-        assert_eq!(rt; query_of(head.target), "b=c");
-        assert!(rt; judged_media(&head) == Some(b"t/u".as_slice()));
+        assert_eq!(rt; path_of(head.request_target), "/a");
+        assert_eq!(rt; query_of(head.request_target), "b=c");
+        assert!(rt; checked_media(&head) == Some(b"t/u".as_slice()));
         let body = body_text(alloc, &head)?;
         assert_eq!(rt; body.as_str(), "{}");
     }

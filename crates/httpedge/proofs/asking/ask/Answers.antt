@@ -1,7 +1,7 @@
 use Rattle.std.proofs.lemmas.Result.{IfOk-weaker}
-use Rattle.httpedge.specs.Refusals.{told}
+use Rattle.httpedge.specs.Decision.{accepted}
 use Rattle.httpedge.specs.Views.{head_of}
 use Rattle.httpedge.proofs.asking.ask.Goals as goal
 
-pub returns-in-Told : goal.returns-in-Told
-returns-in-Told c = IfOk-weaker c.with_target.result _ _ (λ a e. (told (head_of c.in-Told.head), c.in-Told.ensures.says, e)) c.with_target.ensures
+pub returns-in-Accepted : goal.returns-in-Accepted
+returns-in-Accepted c = IfOk-weaker c.call_in.result _ _ (λ a e. (accepted (head_of c.in-Accepted.head), c.in-Accepted.ensures.says, e)) c.call_in.ensures

@@ -1,6 +1,6 @@
 use Rattle.std.proofs.Common.{◌∙◌, sym, subst, ◌≢◌}
 use Rattle.std.proofs.lemmas.Result.{IfOk-weaker}
-use Rattle.httpedge.specs.Refusals.{undecided}
+use Rattle.httpedge.specs.Decision.{undecided}
 use Rattle.httpedge.specs.Views.{request_in}
 use Rattle.httpedge.proofs.BodyCuts.{Body, body_more}
 use Rattle.httpedge.proofs.body.read_body.Goals as goal

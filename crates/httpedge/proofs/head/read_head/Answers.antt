@@ -1,9 +1,9 @@
-use Rattle.httpedge.specs.Views.{front_of, head_of}
-use Rattle.httpedge.proofs.Cuts.{says_more, says_one}
+use Rattle.httpedge.specs.Views.{decision_of, head_of}
+use Rattle.httpedge.proofs.Cuts.{reads_more, reads_one}
 use Rattle.httpedge.proofs.head.read_head.Goals as goal
 
 pub returns-clause-alone : goal.returns-clause-alone
-returns-clause-alone c = λ front says. says_one c.args.bytes.now front (front_of head_of c.read_front.result) says c.read_front.ensures
+returns-clause-alone c = λ front says. reads_one c.args.bytes.now front (decision_of head_of c.read_front.result) says c.read_front.ensures
 
 pub returns-clause-stays : goal.returns-clause-stays
-returns-clause-stays c = λ more decided. says_more c.args.bytes.now more (front_of head_of c.read_front.result) c.read_front.ensures decided
+returns-clause-stays c = λ more decided. reads_more c.args.bytes.now more (decision_of head_of c.read_front.result) c.read_front.ensures decided

@@ -2,7 +2,7 @@ use Rattle.std.proofs.Common.{subst}
 use Rattle.std.proofs.lemmas.Result.{on_ok_weaker}
 use Rattle.httpedge.specs.Hub.{Event, Steps}
 use Rattle.httpedge.specs.HubSeen.{event_of}
-use Rattle.httpedge.proofs.Pieces.{steps_pieces}
+use Rattle.httpedge.proofs.Hearing.{steps_pieces}
 use Rattle.httpedge.proofs.Running.{takes_well, runs_on}
 use Rattle.httpedge.proofs.hub.Hub.on.Goals as goal
 

@@ -1,6 +1,6 @@
 use Rattle.std.proofs.Common.{◌∙◌}
 use Rattle.httpedge.proofs.Numbers.{above_limit}
-use Rattle.httpedge.proofs.body.number_of.Goals as goal
+use Rattle.httpedge.proofs.body.decimal_value.Goals as goal
 
 pub returns-then-number-gt-MAX_BODY : goal.returns-then-number-gt-MAX_BODY
 returns-then-number-gt-MAX_BODY c =

@@ -2,52 +2,27 @@
 use Rattle.std.proofs.Common.{◌≡◌, ◌≢◌, List, ℕ, zero, suc, ◌+◌, cond, eqb, [], ◌∷◌, ◌++◌, Option, Some, None, Result, Ok, Err, refl, sym, ap, subst, ◌∙◌, append_assoc}
 use Rattle.std.specs.Prelude.{slice_get, slice_set}
 use Rattle.schema.specs.TypesFile.{ServedShape}
-use Rattle.verbs.specs.Calls.{Denied, Target}
 use Rattle.verbs.specs.Machine.{Machine}
-use Rattle.httpedge.specs.Refusals.{undecided, refused, told}
-use Rattle.httpedge.specs.Heads.{Request, Said, with_more}
-use Rattle.httpedge.specs.Asks.{Asked, waits, refuses, calls, Asks, with_body, with_target, with_head}
+use Rattle.httpedge.specs.Decision.{undecided, refused, accepted}
+use Rattle.httpedge.specs.Asks.{Asked, Asks}
 use Rattle.httpedge.specs.Answers.{Answers}
 use Rattle.httpedge.specs.Hub.{Connection, Connections, State, Steps, Hears, waiting, ended, connection_after, comes, place_from, place_of}
-use Rattle.httpedge.proofs.Cuts.{says_more, says_one}
-use Rattle.httpedge.proofs.BodyCuts.{body_more}
-
-target_more : (request : Request) (rest more : List ℕ) (admission : Result Target Denied) → with_target request rest admission ≢ waits
-    → with_target request (rest ++ more) admission ≡ with_target request rest admission
-target_more request rest more (Err denied) decided = refl
-target_more request rest more (Ok target) decided = ap (with_body target request) (body_more request rest more (λ u. decided (ap (with_body target request) u)))
-
-head_more : (types : List ServedShape) (said : Said) (more : List ℕ) → with_head types said ≢ waits → with_head types (with_more more said) ≡ with_head types said
-head_more types undecided more decided = absurd (decided refl)
-head_more types (refused r) more decided = refl
-head_more types (told (request, rest)) more decided = target_more request rest more _ decided
-
--- what is asked stays asked, whatever bytes follow
-pub asks_more : (types : List ServedShape) (bytes more : List ℕ) (asked : Asked) → Asks types bytes asked → asked ≢ waits → Asks types (bytes ++ more) asked
-asks_more types bytes more asked (said, says, is) decided = (
-  with_more more said,
-  says_more bytes more said says (λ u. decided (is ∙ ap (with_head types) u)),
-  is ∙ sym (head_more types said more (λ w. decided (is ∙ w))),
-)
-
--- and nothing else is asked
-pub asks_one : (types : List ServedShape) (bytes : List ℕ) (x y : Asked) → Asks types bytes x → Asks types bytes y → x ≡ y
-asks_one types bytes x y (said, says, is) (other, also, that) = is ∙ ap (with_head types) (says_one bytes said other says also) ∙ sym that
+use Rattle.httpedge.proofs.Deciding.{asks_more}
 
 none_some : {A : Type 0} {o : Option A} {x : A} → o ≡ None → o ≡ Some x → ⊥
 none_some is isnt = cc
 
 -- a reply that was written stays the reply
 answers_more : (types : List ServedShape) (m n : Machine) (bytes more out : List ℕ) → Answers types m bytes (Some out) n → Answers types m (bytes ++ more) (Some out) n
-answers_more types m n bytes more out (waits, asks, replies) = absurd (none_some replies.0 refl)
-answers_more types m n bytes more out (refuses denied, asks, replies) = (refuses denied, asks_more types bytes more (refuses denied) asks (λ e. absurd cc), replies)
-answers_more types m n bytes more out (calls call, asks, replies) = (calls call, asks_more types bytes more (calls call) asks (λ e. absurd cc), replies)
+answers_more types m n bytes more out (undecided, asks, replies) = absurd (none_some replies.0 refl)
+answers_more types m n bytes more out (refused denied, asks, replies) = (refused denied, asks_more types bytes more (refused denied) asks (λ e. absurd cc), replies)
+answers_more types m n bytes more out (accepted call, asks, replies) = (accepted call, asks_more types bytes more (accepted call) asks (λ e. absurd cc), replies)
 
 -- while more bytes are needed the machine stays
 waits_still : (types : List ServedShape) (m n : Machine) (bytes : List ℕ) → Answers types m bytes None n → n ≡ m
-waits_still types m n bytes (waits, asks, replies) = replies.1
-waits_still types m n bytes (refuses denied, asks, replies) = absurd (none_some refl replies.0)
-waits_still types m n bytes (calls call, asks, replies) = absurd (none_some refl replies.2)
+waits_still types m n bytes (undecided, asks, replies) = replies.1
+waits_still types m n bytes (refused denied, asks, replies) = absurd (none_some refl replies.0)
+waits_still types m n bytes (accepted call, asks, replies) = absurd (none_some refl replies.2)
 
 two_pieces : (types : List ServedShape) (m n k : Machine) (front first second : List ℕ) (o : Option (List ℕ)) (new : Connection)
     → Answers types m (front ++ first) o n → Hears types n (connection_after (front ++ first) o) second new k → Hears types m (waiting front) (first ++ second) new k

@@ -1,6 +1,6 @@
 use Rattle.std.proofs.Common.{◌≡◌, ◌≤◌, drop}
 use Rattle.httpedge.specs.Bodies.{number_after, max_body}
-use Rattle.httpedge.proofs.body.number_of.Given as goal
+use Rattle.httpedge.proofs.body.decimal_value.Given as goal
 
 abbrev pub invariant-loop-digit : goal.invariant-loop-digit
 invariant-loop-digit l = record {

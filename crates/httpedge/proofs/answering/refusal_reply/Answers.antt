@@ -4,7 +4,7 @@ use Rattle.std.proofs.lemmas.Result.{IfOk-weaker}
 use Rattle.serde_json.specs.Written.{compact_text, has_float}
 use Rattle.httpedge.specs.ReplyBytes.{reply}
 use Rattle.httpedge.proofs.Told.{status_plain}
-use Rattle.httpedge.proofs.answering.refusal_bytes.Goals as goal
+use Rattle.httpedge.proofs.answering.refusal_reply.Goals as goal
 
 pub returns : goal.returns
 returns c =

@@ -1,0 +1,102 @@
+-- The connections of a hub (RFC 9112, section 9: one request on each, and the server closes it).
+use Rattle.std.specs.Prelude.{ℕ, ◌+◌, Bool, true, false, nat_lt, if◌then◌else◌, List, [], ◌++◌, length, map, drop, min, Option, Some, None, unwrap_or, option_map}
+use Rattle.std.specs.List.{filter, list_all}
+use Rattle.std.specs.Ordering.{nat_cmp}
+use Rattle.std.specs.FinMap as fin
+use Rattle.httpedge.specs.Watches.{Watch}
+
+-- what has become of a connection: these bytes came and what they ask is undecided; it watches; nothing more is written on it;
+-- its peer has gone
+pub data Standing : Type 0 where
+  waiting : List ℕ → Standing
+  watching : Watch → Standing
+  ended gone : Standing
+
+-- all that was written on it, how many bytes of that were taken, and how it stands
+pub record Connection : Type 0 where
+  pub written : List ℕ
+  pub taken : ℕ
+  pub standing : Standing
+
+-- by their ids: each that was ever opened
+abbrev pub Connections : Type 0
+Connections = fin.FinMap nat_cmp Connection
+
+-- ---- one connection
+
+-- nothing came on it yet
+abbrev pub opened : Connection
+opened = record { written = []; taken = 0; standing = waiting [] }
+
+abbrev pub with_standing : Connection → Standing → Connection
+with_standing c standing = record { written = c.written; taken = c.taken; standing = standing }
+
+-- more is written on it, and then it stands so
+abbrev pub with_written : Connection → List ℕ → Standing → Connection
+with_written c bytes standing = record { written = c.written ++ bytes; taken = c.taken; standing = standing }
+
+-- the next n bytes are taken, at most all
+abbrev pub with_taken : Connection → ℕ → Connection
+with_taken c n = record { written = c.written; taken = min (c.taken + n) (length c.written); standing = c.standing }
+
+-- ---- how it stands
+
+abbrev pub has_ended : Standing → Bool
+has_ended (waiting bytes) = false
+has_ended (watching w) = false
+has_ended ended = true
+has_ended gone = false
+
+-- it is open, and what its bytes ask is undecided
+abbrev pub is_waiting : Standing → Bool
+is_waiting (waiting bytes) = true
+is_waiting (watching w) = false
+is_waiting ended = false
+is_waiting gone = false
+
+abbrev pub is_open : Standing → Bool
+is_open (waiting bytes) = true
+is_open (watching w) = true
+is_open ended = false
+is_open gone = false
+
+-- what was written and not taken; nothing where the peer has gone
+abbrev pub left_out : Standing → List ℕ → List ℕ
+left_out (waiting bytes) out = out
+left_out (watching w) out = out
+left_out ended out = out
+left_out gone out = []
+
+abbrev pub out_of : Connection → List ℕ
+out_of c = left_out c.standing (drop c.taken c.written)
+
+-- ---- all connections
+
+abbrev pub is_known : Connections → ℕ → Bool
+is_known all id = fin.contains_key all id
+
+-- an id is new where it is above each that is known
+abbrev pub is_new : Connections → ℕ → Bool
+is_new all id = list_all (λ known. nat_lt known id) (fin.keys all)
+
+abbrev pub open_count : Connections → ℕ
+open_count all = length (filter (λ c. is_open c.standing) (fin.values all))
+
+-- how many may be open, by this server's own limit
+abbrev pub max_open : ℕ
+max_open = 1024
+
+-- each connection by what becomes of it and its id
+abbrev pub each : (ℕ → Connection → Connection) → Connections → Connections
+each f all = fin.from_sorted (map (λ e. (e.0, f e.0 e.1)) (fin.entries all))
+
+-- ---- what a caller sees: nothing is out on an unknown connection, and it has neither ended nor waits
+
+abbrev pub out_on : Connections → ℕ → List ℕ
+out_on all id = unwrap_or (option_map out_of (fin.get all id)) []
+
+abbrev pub ended_on : Connections → ℕ → Bool
+ended_on all id = unwrap_or (option_map (λ c. has_ended c.standing) (fin.get all id)) false
+
+abbrev pub waiting_on : Connections → ℕ → Bool
+waiting_on all id = unwrap_or (option_map (λ c. is_waiting c.standing) (fin.get all id)) false

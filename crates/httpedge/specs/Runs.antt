@@ -1,0 +1,102 @@
+-- Events in turn: what the bytes of each ask, and the state after all of them.
+use Rattle.std.specs.Prelude.{◌≡◌, ◌≤◌, ℕ, Bool, true, false, ◌&&◌, List, [], ◌∷◌, ◌++◌, take, Option, Some, None, option_and_then, option_map, unwrap_or}
+use Rattle.std.specs.List.{list_any}
+use Rattle.std.specs.FinMap as fin
+use Rattle.serde_json.specs.Data.{Data, depth}
+use Rattle.serde_json.specs.Read.{max_depth, read}
+use Rattle.serde_json.specs.Written.{compact_text, has_float}
+use Rattle.verbs.specs.Calls.{Call}
+use Rattle.verbs.specs.Step.{planned}
+use Rattle.httpedge.specs.Asks.{Asked, Asks}
+use Rattle.httpedge.specs.Connections.{Connections, Connection, Standing, waiting, watching, ended, gone, is_open, is_waiting, waiting_on}
+use Rattle.httpedge.specs.Decision.{undecided, refused, accepted}
+use Rattle.httpedge.specs.Steps.{State, Event, opens, comes, goes, pumps, ticks, compacts, refusal, stepped, starved}
+
+-- ---- what an event asks
+
+-- the bytes that came before on a connection that waits, and these
+abbrev pub all_bytes : Standing → List ℕ → Option (List ℕ)
+all_bytes (waiting front) bytes = Some (front ++ bytes)
+all_bytes (watching w) bytes = None
+all_bytes ended bytes = None
+all_bytes gone bytes = None
+
+-- all the bytes of the connection on which an event brings some, where it waits for them
+abbrev pub bytes_at : State → Event → Option (List ℕ)
+bytes_at s (comes id bytes) = option_and_then (λ c. all_bytes c.standing bytes) (fin.get s.connections id)
+bytes_at s (opens id) = None
+bytes_at s (goes id) = None
+bytes_at s (pumps id max) = None
+bytes_at s (ticks ms) = None
+bytes_at s (compacts c) = None
+
+-- what bytes ask; where none came nothing is decided
+abbrev pub AsksIf : State → Option (List ℕ) → Asked → Type 0
+AsksIf s None asked = asked ≡ undecided
+AsksIf s (Some bytes) asked = Asks s.types bytes asked
+
+-- ---- how an answer is written
+
+-- the text is the value's compact JSON, and reads back as the value
+pub record IsTextOf (d : Data) (text : List ℕ) : Type 0 where
+  pub compact : has_float d ≡ false → text ≡ compact_text d
+  pub reads_back : depth d ≤ max_depth → read text ≡ Some d
+
+-- the text of the answer to what is asked; where no call is made there is none
+abbrev pub IsAnswerText : State → Asked → List ℕ → Type 0
+IsAnswerText s undecided text = text ≡ []
+IsAnswerText s (refused d) text = text ≡ []
+IsAnswerText s (accepted call) text = IsTextOf (planned s.types s.machine call).answer.body text
+
+-- ---- one event
+
+-- the event leads to this state
+abbrev pub Steps : State → Event → State → Type 0
+Steps s e t = (asked : Asked) × (text : List ℕ) × AsksIf s (bytes_at s e) asked × IsAnswerText s asked text × (t ≡ stepped s e asked text)
+
+abbrev pub is_watching : Standing → Bool
+is_watching (watching w) = true
+is_watching (waiting bytes) = false
+is_watching ended = false
+is_watching gone = false
+
+abbrev pub watching_on : Connections → ℕ → Bool
+watching_on all id = unwrap_or (option_map (λ c. is_watching c.standing) (fin.get all id)) false
+
+-- which events take memory: bytes only where the connection waits for them, a pump only where it watches, a tick where some watch found none
+abbrev pub takes_memory : State → Event → (ℕ → Bool) → Bool
+takes_memory s (opens id) found_none = true
+takes_memory s (comes id bytes) found_none = waiting_on s.connections id
+takes_memory s (goes id) found_none = false
+takes_memory s (pumps id max) found_none = watching_on s.connections id
+takes_memory s (ticks ms) found_none = list_any (λ e. found_none e.0 && is_watching e.1.standing) (fin.entries s.connections)
+takes_memory s (compacts c) found_none = true
+
+-- an event that is not refused finds no memory, and leads to this state
+abbrev pub Starves : State → Event → (ℕ → Bool) → State → Type 0
+Starves s e found_none t = (refusal s e ≡ None) × (takes_memory s e found_none ≡ true) × (t ≡ starved s e found_none)
+
+-- ---- events in turn
+
+-- what happens to a hub: an event, or one that finds no memory, at a tick on these connections
+pub data Happening : Type 0 where
+  happens : Event → Happening
+  starves : Event → (ℕ → Bool) → Happening
+
+abbrev pub Follows : State → Happening → State → Type 0
+Follows s (happens e) t = Steps s e t
+Follows s (starves e found_none) t = Starves s e found_none t
+
+abbrev pub Runs : State → List Happening → State → Type 0
+Runs s [] t = t ≡ s
+Runs s (h ∷ hs) t = (mid : State) × Follows s h mid × Runs mid hs t
+
+-- ---- when there is one outcome
+
+-- no answer at this state has a number with a point or an exponent, of which more than one text reads back
+abbrev pub AnswersHaveNoFloat : State → Type 0
+AnswersHaveNoFloat s = (call : Call) → has_float (planned s.types s.machine call).answer.body ≡ false
+
+-- neither here nor after any of these happenings
+abbrev pub NoFloatOnTheWay : State → List Happening → Type 0
+NoFloatOnTheWay s hs = (n : ℕ) (mid : State) → Runs s (take n hs) mid → AnswersHaveNoFloat mid

@@ -1,0 +1,161 @@
+-- The hub: what each event makes of its machine and its connections.
+use Rattle.std.specs.Prelude.{◌≡◌, ℕ, Bool, true, false, ◌&&◌, ◌==◌, nat_lt, nat_le, if◌then◌else◌, List, [], ◌++◌, Option, Some, None}
+use Rattle.std.specs.Ordering.{nat_cmp}
+use Rattle.std.specs.FinMap as fin
+use Rattle.serde_json.specs.Written.{compact_text}
+use Rattle.schema.specs.TypesFile.{ServedShape}
+use Rattle.verbs.specs.Calls.{Call, Denied, Plan}
+use Rattle.verbs.specs.Machine.{Machine, after}
+use Rattle.verbs.specs.Reasons.{code_of}
+use Rattle.verbs.specs.Status.{status_value}
+use Rattle.verbs.specs.Step.{planned}
+use Rattle.httpedge.specs.Asks.{Asked}
+use Rattle.httpedge.specs.Connections.{Connection, Connections, Standing, waiting, watching, ended, gone, opened, with_standing, with_written, is_known, is_new, is_open, open_count, max_open, each}
+use Rattle.httpedge.specs.Decision.{undecided, refused, accepted}
+use Rattle.httpedge.specs.Refusals.{as_denied, too_many_connections}
+use Rattle.httpedge.specs.ReplyBytes.{reply}
+use Rattle.httpedge.specs.Watches.{Watch, Turn, pumped, ticked}
+
+pub record State : Type 0 where
+  pub types : List ServedShape
+  pub machine : Machine
+  -- the time of the last tick, in milliseconds after the start
+  pub last_tick : ℕ
+  pub connections : Connections
+
+abbrev pub start : List ServedShape → Machine → State
+start types m = record { types = types; machine = m; last_tick = 0; connections = fin.empty }
+
+-- a connection opens; bytes come on it; its peer goes; a watch may write so many lines; so many milliseconds have passed since the start;
+-- changes up to a revision may be forgotten
+pub data Event : Type 0 where
+  opens : ℕ → Event
+  comes : ℕ → List ℕ → Event
+  goes : ℕ → Event
+  pumps : ℕ → ℕ → Event
+  ticks : ℕ → Event
+  compacts : ℕ → Event
+
+-- ---- why an event is refused
+
+abbrev pub unless_known : Connections → ℕ → Option ℕ → Option ℕ
+unless_known all id other = if is_known all id then other else Some 2
+
+-- by the number of the cause, and of several by the least: 1 the id is not above all earlier ones; 2 it is unknown; 3 a pump of no lines;
+-- 4 a tick that goes back; 5 a compaction below the compacted number or past the current one
+abbrev pub refusal : State → Event → Option ℕ
+refusal s (opens id) = if is_new s.connections id then None else Some 1
+refusal s (comes id bytes) = unless_known s.connections id None
+refusal s (goes id) = unless_known s.connections id None
+refusal s (pumps id max) = unless_known s.connections id (if max == 0 then Some 3 else None)
+refusal s (ticks ms) = if nat_lt ms s.last_tick then Some 4 else None
+refusal s (compacts c) = if nat_le s.machine.compacted c && nat_le c s.machine.current then None else Some 5
+
+-- ---- parts of a state
+
+abbrev pub with_machine : State → Machine → State
+with_machine s m = record { types = s.types; machine = m; last_tick = s.last_tick; connections = s.connections }
+
+abbrev pub with_connections : State → Connections → State
+with_connections s all = record { types = s.types; machine = s.machine; last_tick = s.last_tick; connections = all }
+
+abbrev pub with_connection : State → ℕ → Connection → State
+with_connection s id c = with_connections s (fin.insert s.connections id c)
+
+-- by the connection of this id, if there is one
+abbrev pub by_connection : State → Option Connection → (Connection → State) → State
+by_connection s None f = s
+by_connection s (Some c) f = f c
+
+abbrev pub on_connection : State → ℕ → (Connection → State) → State
+on_connection s id f = by_connection s (fin.get s.connections id) f
+
+-- a compaction changes the compacted number alone: no change is lost
+abbrev pub compacted_to : ℕ → Machine → Machine
+compacted_to c m = record { changes = m.changes; current = m.current; compacted = c }
+
+-- ---- an opening
+
+-- the reply of a refusal: its Status as compact JSON
+abbrev pub refusal_reply : Denied → List ℕ
+refusal_reply d = reply (code_of d.reason) d.allow (compact_text (status_value d.reason d.message))
+
+-- a new connection; where as many are open as may be, it gets the reply that says so, and has ended
+abbrev pub opening : Connections → Connection
+opening all = if nat_le max_open (open_count all) then with_written opened (refusal_reply (as_denied too_many_connections)) ended else opened
+
+-- ---- bytes that come
+
+-- a call's answer is written as this text, its change is made, and the connection has ended
+abbrev pub answered : State → ℕ → Connection → Plan → List ℕ → State
+answered s id c plan text = with_connection (with_machine s (after s.machine plan.change)) id (with_written c (reply plan.answer.status None text) ended)
+
+-- by what all the bytes of a connection ask: it waits for more, or gets its reply and has ended
+abbrev pub received : State → ℕ → Connection → List ℕ → Asked → List ℕ → State
+received s id c bytes undecided text = with_connection s id (with_standing c (waiting bytes))
+received s id c bytes (refused d) text = with_connection s id (with_written c (refusal_reply d) ended)
+received s id c bytes (accepted call) text = answered s id c (planned s.types s.machine call) text
+
+-- only a connection that waits receives bytes
+abbrev pub received_by : State → ℕ → Connection → Standing → List ℕ → Asked → List ℕ → State
+received_by s id c (waiting front) bytes asked text = received s id c (front ++ bytes) asked text
+received_by s id c (watching w) bytes asked text = s
+received_by s id c ended bytes asked text = s
+received_by s id c gone bytes asked text = s
+
+-- ---- watches
+
+abbrev pub standing_after : Option Watch → Standing
+standing_after None = ended
+standing_after (Some w) = watching w
+
+-- a watch at its turn; any other connection stays as it is
+abbrev pub after_turn : (Watch → Turn) → Connection → Standing → Connection
+after_turn turn c (watching w) = with_written c (turn w).bytes (standing_after (turn w).next)
+after_turn turn c (waiting bytes) = c
+after_turn turn c ended = c
+after_turn turn c gone = c
+
+abbrev pub with_turn : (Watch → Turn) → Connection → Connection
+with_turn turn c = after_turn turn c c.standing
+
+-- ---- one event
+
+abbrev pub with_tick : State → ℕ → Connections → State
+with_tick s ms all = record { types = s.types; machine = s.machine; last_tick = ms; connections = all }
+
+-- the state after an event that is not refused: asked is what the bytes of its connection ask, and text is the text of the answer to a call
+abbrev pub taken : State → Event → Asked → List ℕ → State
+taken s (opens id) asked text = with_connection s id (opening s.connections)
+taken s (comes id bytes) asked text = on_connection s id (λ c. received_by s id c c.standing bytes asked text)
+taken s (goes id) asked text = on_connection s id (λ c. with_connection s id (with_standing c gone))
+taken s (pumps id max) asked text = on_connection s id (λ c. with_connection s id (with_turn (pumped s.types s.machine max) c))
+taken s (ticks ms) asked text = with_tick s ms (each (λ id c. with_turn (ticked ms) c) s.connections)
+taken s (compacts c) asked text = with_machine s (compacted_to c s.machine)
+
+abbrev pub unless_refused : Option ℕ → State → State → State
+unless_refused None s t = t
+unless_refused (Some n) s t = s
+
+-- a refused event changes nothing
+abbrev pub stepped : State → Event → Asked → List ℕ → State
+stepped s e asked text = unless_refused (refusal s e) s (taken s e asked text)
+
+-- ---- out of memory
+
+-- an open connection dies: no further byte is written on it, and what was written stays until it is taken
+abbrev pub dead : Connection → Connection
+dead c = if is_open c.standing then with_standing c ended else c
+
+-- one of those that found no room is dead, and the others have their turn
+abbrev pub dead_or_ticked : ℕ → Bool → Connection → Connection
+dead_or_ticked ms found_none c = if found_none then dead c else with_turn (ticked ms) c
+
+-- the state after an event that found no memory; at a tick it is these connections that found none
+abbrev pub starved : State → Event → (ℕ → Bool) → State
+starved s (opens id) found_none = s
+starved s (comes id bytes) found_none = on_connection s id (λ c. with_connection s id (dead c))
+starved s (goes id) found_none = s
+starved s (pumps id max) found_none = on_connection s id (λ c. with_connection s id (dead c))
+starved s (ticks ms) found_none = with_tick s ms (each (λ id c. dead_or_ticked ms (found_none id) c) s.connections)
+starved s (compacts c) found_none = s
