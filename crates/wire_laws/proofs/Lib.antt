@@ -1,0 +1,6 @@
+mod Fields
+mod Heading
+mod PrintedReplies
+mod PrintedRequests
+mod Queries
+mod Statuses

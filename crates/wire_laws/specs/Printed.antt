@@ -1,0 +1,49 @@
+-- What each end may print, and what a printed request says.
+use Rattle.std.specs.Prelude.{◌≡◌, ℕ, ◌+◌, ◌<◌, ◌≤◌, ◌^◌, Bool, true, false, ◌==◌, List, ◌∷◌, length, Option, None, Some, codes, nat_eq, IsUtf8}
+use Rattle.std.specs.Fmt.{decimal}
+use Rattle.std.specs.List.{All, starts_with}
+use Rattle.httparse.specs.Grammar.{AllPass, IsToken, is_uri_byte, is_value_byte, trim_ows}
+use Rattle.httpedge.specs.Heads.{Length, missing, digits, Request, max_head, without_zeros}
+use Rattle.wireclient.specs.Request.{body_bytes, request}
+
+-- the methods that a reply allows: a field's value (RFC 9112, section 5), for which a head has room
+abbrev pub IsAllowed : Option (List ℕ) → Type 0
+IsAllowed None = Unit {0}
+IsAllowed (Some methods) = AllPass is_value_byte methods × (length methods ≤ 16000)
+
+-- a media type is a field's value without blanks at its ends; body is its media type and its bytes
+abbrev pub IsMedia : Option (List ℕ × List ℕ) → Type 0
+IsMedia None = Unit {0}
+IsMedia (Some (media, bytes)) = AllPass is_value_byte media × (trim_ows (32 ∷ media) ≡ media) × (length bytes < 2 ^ 64)
+
+-- a method of the grammar, a target that is a path with or without a query, and a head that is not too long
+pub record IsPrinted (method target : List ℕ) (body : Option (List ℕ × List ℕ)) : Type 0 where
+  pub token : IsToken method
+  pub path : starts_with nat_eq target (codes "/") ≡ true
+  pub visible : AllPass is_uri_byte target
+  pub text : IsUtf8 target
+  pub media : IsMedia body
+  pub fits : length (request method target body) ≤ max_head + length (body_bytes body)
+
+abbrev pub media_of : Option (List ℕ × List ℕ) → Option (List ℕ)
+media_of None = None
+media_of (Some (media, bytes)) = Some media
+
+abbrev pub length_of : Option (List ℕ × List ℕ) → Length
+length_of None = missing
+length_of (Some (media, bytes)) = digits (without_zeros (decimal (length bytes)))
+
+-- what the server takes from the head of such a request
+abbrev pub said_of : List ℕ → List ℕ → Option (List ℕ × List ℕ) → Request
+said_of method target body = record { method = method; target = target; media = media_of body; encoded = false; length = length_of body }
+
+-- a question mark, which ends the path
+abbrev pub is_question : ℕ → Bool
+is_question b = b == 63
+
+-- the bytes of a text
+abbrev pub IsText : List ℕ → Type 0
+IsText bytes = IsUtf8 bytes × All (λ b. b < 256) bytes
+
+abbrev pub IsTextPair : List ℕ × List ℕ → Type 0
+IsTextPair pair = IsText pair.0 × IsText pair.1

@@ -1,0 +1,12 @@
+//! Laws that join the two ends of the wire: what each end prints, the other reads. Each function does nothing; what it
+//! promises is the law.
+//!
+//! Stands on `httpedge` for the bytes of a reply and what a request's bytes say, on `wireclient` for the bytes of a
+//! request and the items that a reply's bytes hold.
+#![tactic(auto)]
+
+mod replies;
+mod requests;
+
+pub use replies::replies_are_read;
+pub use requests::{bodies_are_read, queries_are_read, requests_are_read};

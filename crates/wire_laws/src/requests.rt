@@ -1,0 +1,30 @@
+//! What the client prints, the server reads.
+
+ghost use Rattle.std.specs.Prelude.{◌≡◌, ◌≤◌, ℕ, List, [], ◌∷◌, ◌++◌, length, true, false, Option, Some};
+ghost use Rattle.std.specs.List.{All, list_any};
+ghost use Rattle.form_urlencoded.specs.Form.{extend_pairs};
+ghost use Rattle.params.specs.Query.{pairs_in};
+ghost use Rattle.httpedge.specs.Bodies.{body_in, max_body, needs_body, path_of, query_of, some_or_refused, value_in};
+ghost use Rattle.httpedge.specs.Heads.{Says};
+ghost use Rattle.httpedge.specs.Refusals.{told};
+ghost use Rattle.wireclient.specs.Request.{body_bytes, request};
+ghost use Rattle.wire_laws.specs.Printed.{IsPrinted, IsTextPair, is_question, said_of};
+
+/// A request that the client prints (RFC 9112, section 3) says on the server this method, this target and this media
+/// type, and its body stands after the head.
+pub fn requests_are_read()
+    ensures { (method target : List ℕ) (body : Option (List ℕ × List ℕ)) → IsPrinted method target body
+        → Says (request method target body) (told (said_of method target body, body_bytes body)) }
+{}
+
+/// The body of such a request, where its method needs one, is read as what these bytes are as JSON.
+pub fn bodies_are_read()
+    ensures { (method target media bytes : List ℕ) → needs_body method ≡ true → length bytes ≤ max_body
+        → body_in (said_of method target (Some (media, bytes))) bytes ≡ some_or_refused (value_in bytes) }
+{}
+
+/// A path and a form of pairs after a question mark: the path and the pairs come back.
+pub fn queries_are_read()
+    ensures path { (path query : List ℕ) → list_any is_question path ≡ false → path_of (path ++ 63 ∷ query) ≡ path }
+    ensures pairs { (path : List ℕ) (pairs : List (List ℕ × List ℕ)) → list_any is_question path ≡ false → All IsTextPair pairs → pairs_in (query_of (path ++ 63 ∷ extend_pairs [] pairs)) ≡ pairs }
+{}
