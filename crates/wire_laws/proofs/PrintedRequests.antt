@@ -15,9 +15,10 @@ use Rattle.std.specs.Str.Parse.{AllDigits, digits_value_after}
 use Rattle.serde_json.specs.Data.{Data}
 use Rattle.httparse.specs.Grammar as grammar
 use Rattle.httparse.specs.Grammar.{AllPass, is_token_byte, is_uri_byte, is_value_byte, Field, IsField, print_section, RequestHead, IsRequestHead, print_request, trim_ows}
-use Rattle.httpedge.specs.Bodies.{body_in, body_of, max_body, needs_body, number_after, number_of, some_or_refused, value_in}
-use Rattle.httpedge.specs.Heads.{Length, length_in, digits, malformed, max_head, head_end, Request, judged_head, Says, SaysAt, without_zeros}
-use Rattle.httpedge.specs.Refusals.{Front, undecided, refused, told, bad_head, body_too_large}
+use Rattle.httpedge.specs.Bodies.{body_in, body_of, max_body, needs_body, number_after, decimal_value, some_json, json_in}
+use Rattle.httpedge.specs.Heads.{Length, length_in, digits, malformed, max_head, head_end, Request, validated_head, ReadsHead, ReadsHeadAt, without_zeros}
+use Rattle.httpedge.specs.Decision.{Decision, undecided, accepted}
+use Rattle.httpedge.specs.Refusals.{refuse, bad_head, body_too_large}
 use Rattle.wireclient.specs.Request.{body_bytes, body_fields, crlf, request}
 use Rattle.wire_laws.specs.Printed.{IsMedia, IsPrinted, said_of}
 use Rattle.wire_laws.proofs.Fields.{digit_is_digit, decimal_is_value, field, is_field, passes_each, trimmed}
@@ -179,19 +180,19 @@ length_said : (ds : List ℕ) → 0 < length ds → list_all is_ascii_digit ds �
 length_said [] some all = absurd (omega (arith, some))
 length_said (b ∷ ds) some all = ap (λ (t : Bool). if t then digits (without_zeros (b ∷ ds)) else malformed) all
 
-passed : (t : Bool) (front : Front (Request × List ℕ)) → t ≡ true → (if not t then refused bad_head else front) ≡ front
+passed : (t : Bool) (front : Decision (Request × List ℕ)) → t ≡ true → (if not t then refuse bad_head else front) ≡ front
 passed true front is = refl
 passed false front is = absurd cc
 
 judged_so : (method target : List ℕ) (body : Option (List ℕ × List ℕ)) (rest : List ℕ) → starts_with nat_eq target (codes "/") ≡ true → IsMedia body
-    → judged_head (head_of method target body) rest ≡ told (said_of method target body, rest)
-judged_so method target None rest path media = passed (starts_with nat_eq target (codes "/")) (told (said_of method target None, rest)) path
+    → validated_head (head_of method target body) rest ≡ accepted (said_of method target body, rest)
+judged_so method target None rest path media = passed (starts_with nat_eq target (codes "/")) (accepted (said_of method target None, rest)) path
 judged_so method target (Some (media, bytes)) rest path is =
     let numeral = decimal_is_IsNumeral (length bytes) is.2 in
     let counted : length_in (trim_ows (32 ∷ decimal (length bytes))) ≡ digits (without_zeros (decimal (length bytes))) =
     ap length_in (trimmed (length bytes) is.2) ∙ length_said (decimal (length bytes)) numeral.0.0 (all_digits (decimal (length bytes)) numeral.0.1) in
     passed (starts_with nat_eq target (codes "/")) _ path
-    ∙ ap₂ (λ (m : List ℕ) (l : Length). told (record { method = method; target = target; media = Some m; encoded = false; length = l }, rest)) is.1 counted
+    ∙ ap₂ (λ (m : List ℕ) (l : Length). accepted (record { method = method; request_target = target; media = Some m; transfer_encoded = false; length = l }, rest)) is.1 counted
 
 ends_so : (method target : List ℕ) (body : Option (List ℕ × List ℕ)) → IsPrinted method target body
     → head_end (take max_head (request method target body)) ≡ Some (length (print_request (head_of method target body)))
@@ -214,25 +215,25 @@ ends_so method target body is =
         let inner = length-append (lines_text (other_lines body)) crlf in
         ap (λ (xs : List ℕ). length xs) (head_in_lines method target body) ∙ omega (arith, outer, inner)
 
-pub request_says : (method target : List ℕ) (body : Option (List ℕ × List ℕ)) → IsPrinted method target body → Says (request method target body) (told (said_of method target body, body_bytes body))
+pub request_says : (method target : List ℕ) (body : Option (List ℕ × List ℕ)) → IsPrinted method target body → ReadsHead (request method target body) (accepted (said_of method target body, body_bytes body))
 request_says method target body is =
     let same = whole method target body in
     let front : take (length (print_request (head_of method target body))) (request method target body) ≡ print_request (head_of method target body) ++ [] =
     ap (take _) same ∙ take-append_seam (print_request (head_of method target body)) (body_bytes body) ∙ sym (append-nil _) in
     let rest : drop (length (print_request (head_of method target body))) (request method target body) ≡ body_bytes body =
     ap (drop _) same ∙ drop-append_seam (print_request (head_of method target body)) (body_bytes body) in
-    let said : told (said_of method target body, body_bytes body) ≡ judged_head (head_of method target body) (drop (length (print_request (head_of method target body))) (request method target body)) =
-    sym (ap (judged_head (head_of method target body)) rest ∙ judged_so method target body (body_bytes body) is.path is.media) in
-    subst (λ (o : Option ℕ). SaysAt (request method target body) o (told (said_of method target body, body_bytes body))) (sym (ends_so method target body is))
+    let said : accepted (said_of method target body, body_bytes body) ≡ validated_head (head_of method target body) (drop (length (print_request (head_of method target body))) (request method target body)) =
+    sym (ap (validated_head (head_of method target body)) rest ∙ judged_so method target body (body_bytes body) is.path is.media) in
+    subst (λ (o : Option ℕ). ReadsHeadAt (request method target body) o (accepted (said_of method target body, body_bytes body))) (sym (ends_so method target body is))
     (inl (head_of method target body, (is_head method target body is, front), said))
 
 -- ---- its body
 
-zeros : (ds : List ℕ) → number_of (without_zeros ds) ≡ number_of ds
+zeros : (ds : List ℕ) → decimal_value (without_zeros ds) ≡ decimal_value ds
 zeros [] = refl
 zeros (b ∷ ds) = go (zeros ds) (b == 48) refl
   where
-    go : number_of (without_zeros ds) ≡ number_of ds → (t : Bool) → (b == 48) ≡ t → number_of (if t then without_zeros ds else b ∷ ds) ≡ number_of (b ∷ ds)
+    go : decimal_value (without_zeros ds) ≡ decimal_value ds → (t : Bool) → (b == 48) ≡ t → decimal_value (if t then without_zeros ds else b ∷ ds) ≡ decimal_value (b ∷ ds)
     go later true is = let same = eqb-true b 48 is in later ∙ ap (λ (n : ℕ). number_after n ds) (omega (arith, same))
     go later false is = refl
 
@@ -242,20 +243,20 @@ number_value n (b ∷ ds) all =
     let value : digit_value b + 48 ≡ b = digit_value_digit b (digit_from_value b all.0) in
     ap (λ (k : ℕ). number_after k ds) (omega (arith, value)) ∙ number_value (n * 10 + digit_value b) ds all.1
 
-counted : (n : ℕ) → n < 2 ^ 64 → number_of (without_zeros (decimal n)) ≡ n
+counted : (n : ℕ) → n < 2 ^ 64 → decimal_value (without_zeros (decimal n)) ≡ n
 counted n wide = let numeral = decimal_is_IsNumeral n wide in zeros (decimal n) ∙ number_value 0 (decimal n) numeral.0.1 ∙ numeral.1
 
-body_whole : (bytes : List ℕ) → length bytes ≤ max_body → body_of (length bytes) bytes ≡ some_or_refused (value_in bytes)
+body_whole : (bytes : List ℕ) → length bytes ≤ max_body → body_of (length bytes) bytes ≡ some_json (json_in bytes)
 body_whole bytes small = go (ltb max_body (length bytes)) (ltb (length bytes) (length bytes)) (le-ltb _ _ small) (le-ltb _ _ (omega arith))
   where
-    go : (s t : Bool) → s ≡ false → t ≡ false → (if s then refused body_too_large else (if t then undecided else some_or_refused (value_in (take (length bytes) bytes)))) ≡ some_or_refused (value_in bytes)
+    go : (s t : Bool) → s ≡ false → t ≡ false → (if s then refuse body_too_large else (if t then undecided else some_json (json_in (take (length bytes) bytes)))) ≡ some_json (json_in bytes)
     go true t s-is t-is = absurd cc
     go false true s-is t-is = absurd cc
-    go false false s-is t-is = ap (λ (xs : List ℕ). some_or_refused (value_in xs)) (take_all (length bytes) bytes (omega arith))
+    go false false s-is t-is = ap (λ (xs : List ℕ). some_json (json_in xs)) (take_all (length bytes) bytes (omega arith))
 
-pub body_back : (method target media bytes : List ℕ) → needs_body method ≡ true → length bytes ≤ max_body → body_in (said_of method target (Some (media, bytes))) bytes ≡ some_or_refused (value_in bytes)
+pub body_back : (method target media bytes : List ℕ) → needs_body method ≡ true → length bytes ≤ max_body → body_in (said_of method target (Some (media, bytes))) bytes ≡ some_json (json_in bytes)
 body_back method target media bytes needs small = go (needs_body method) needs _
   where
-    go : (t : Bool) → t ≡ true → (other : Front (Option Data)) → (if t then body_of (number_of (without_zeros (decimal (length bytes)))) bytes else other) ≡ some_or_refused (value_in bytes)
+    go : (t : Bool) → t ≡ true → (other : Decision (Option Data)) → (if t then body_of (decimal_value (without_zeros (decimal (length bytes)))) bytes else other) ≡ some_json (json_in bytes)
     go true is other = ap (λ (n : ℕ). body_of n bytes) (counted (length bytes) (omega (arith, small))) ∙ body_whole bytes small
     go false is other = absurd cc

@@ -35,7 +35,7 @@ length_of (Some (media, bytes)) = digits (without_zeros (decimal (length bytes))
 
 -- what the server takes from the head of such a request
 abbrev pub said_of : List ℕ → List ℕ → Option (List ℕ × List ℕ) → Request
-said_of method target body = record { method = method; target = target; media = media_of body; encoded = false; length = length_of body }
+said_of method target body = record { method = method; request_target = target; media = media_of body; transfer_encoded = false; length = length_of body }
 
 -- a question mark, which ends the path
 abbrev pub is_question : ℕ → Bool

@@ -4,9 +4,9 @@ ghost use Rattle.std.specs.Prelude.{◌≡◌, ◌≤◌, ℕ, List, [], ◌∷�
 ghost use Rattle.std.specs.List.{All, list_any};
 ghost use Rattle.form_urlencoded.specs.Form.{extend_pairs};
 ghost use Rattle.params.specs.Query.{pairs_in};
-ghost use Rattle.httpedge.specs.Bodies.{body_in, max_body, needs_body, path_of, query_of, some_or_refused, value_in};
-ghost use Rattle.httpedge.specs.Heads.{Says};
-ghost use Rattle.httpedge.specs.Refusals.{told};
+ghost use Rattle.httpedge.specs.Bodies.{body_in, max_body, needs_body, path_of, query_of, some_json, json_in};
+ghost use Rattle.httpedge.specs.Heads.{ReadsHead};
+ghost use Rattle.httpedge.specs.Decision.{accepted};
 ghost use Rattle.wireclient.specs.Request.{body_bytes, request};
 ghost use Rattle.wire_laws.specs.Printed.{IsPrinted, IsTextPair, is_question, said_of};
 
@@ -14,13 +14,13 @@ ghost use Rattle.wire_laws.specs.Printed.{IsPrinted, IsTextPair, is_question, sa
 /// type, and its body stands after the head.
 pub fn requests_are_read()
     ensures { (method target : List ℕ) (body : Option (List ℕ × List ℕ)) → IsPrinted method target body
-        → Says (request method target body) (told (said_of method target body, body_bytes body)) }
+        → ReadsHead (request method target body) (accepted (said_of method target body, body_bytes body)) }
 {}
 
 /// The body of such a request, where its method needs one, is read as what these bytes are as JSON.
 pub fn bodies_are_read()
     ensures { (method target media bytes : List ℕ) → needs_body method ≡ true → length bytes ≤ max_body
-        → body_in (said_of method target (Some (media, bytes))) bytes ≡ some_or_refused (value_in bytes) }
+        → body_in (said_of method target (Some (media, bytes))) bytes ≡ some_json (json_in bytes) }
 {}
 
 /// A path and a form of pairs after a question mark: the path and the pairs come back.
