@@ -54,7 +54,7 @@ is_tied Less e = absurd cc
 is_tied Equal e = refl
 is_tied Greater e = absurd cc
 
-tied_same : (id k : ℕ) → eq_by_cmp nat_cmp id k ≡ true → id ≡ k
+pub tied_same : (id k : ℕ) → eq_by_cmp nat_cmp id k ≡ true → id ≡ k
 tied_same id k e = fin.nat_cmp-IsAntisymmetric id k (is_tied (nat_cmp id k) e)
 
 found : (f : ℕ → Connection → Connection) (id : ℕ) (es : Entries) → entries.find nat_cmp id (changed f es) ≡ option_map (f id) (entries.find nat_cmp id es)

@@ -5,8 +5,7 @@ pub mod Cuts
 pub mod Heading
 pub mod Numbers
 pub mod Outcomes
-pub mod Hearing
-pub mod Running
+pub mod Representing
+pub mod Saying
 pub mod Targets
-pub mod Told
 pub mod Whole

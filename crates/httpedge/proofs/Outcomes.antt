@@ -13,7 +13,7 @@ use Rattle.httpedge.specs.Connections.{Connection, Connections, Standing, waitin
 use Rattle.httpedge.specs.Decision.{undecided, refused, accepted}
 use Rattle.httpedge.specs.ReplyBytes.{reply}
 use Rattle.httpedge.specs.Runs.{AsksIf, all_bytes, bytes_at, IsTextOf, IsAnswerText, Steps, Starves, Happening, happens, starves, Follows, Runs, AnswersHaveNoFloat, NoFloatOnTheWay}
-use Rattle.httpedge.specs.Steps.{State, Event, comes, by_connection, received, received_by, refusal_reply, stepped, with_connection, with_connections, with_machine, unless_refused}
+use Rattle.httpedge.specs.Steps.{State, Event, comes, by_connection, connection_after, machine_after, received, received_by, refusal_reply, stepped, with_connection, with_connections, with_machine, unless_refused}
 use Rattle.httpedge.proofs.Deciding.{asks_more, asks_one}
 use Rattle.httpedge.proofs.Connected.{put_there, put_again}
 
@@ -22,31 +22,36 @@ use Rattle.httpedge.proofs.Connected.{put_there, put_again}
 -- bytes come on this connection, if there is one
 abbrev pub ComesBy : State → ℕ → Option Connection → List ℕ → State → Type 0
 ComesBy s id o bytes t =
-    (asked : Asked) × (text : List ℕ) × AsksIf s (option_and_then (λ c. all_bytes c.standing bytes) o) asked × IsAnswerText s asked text
+    (asked : Asked) × (text : List ℕ) × AsksIf s (option_and_then (λ c. all_bytes c.standing bytes) o) asked × IsAnswerText s.types s.machine asked text
     × (t ≡ unless_refused (cond (is_some o) None (Some 2)) s (by_connection s o (λ c. received_by s id c c.standing bytes asked text)))
 
 -- the same of a connection that stands so
 abbrev pub ComesOn : State → ℕ → Connection → Standing → List ℕ → State → Type 0
-ComesOn s id c st bytes t = (asked : Asked) × (text : List ℕ) × AsksIf s (all_bytes st bytes) asked × IsAnswerText s asked text × (t ≡ received_by s id c st bytes asked text)
+ComesOn s id c st bytes t = (asked : Asked) × (text : List ℕ) × AsksIf s (all_bytes st bytes) asked × IsAnswerText s.types s.machine asked text × (t ≡ received_by s id c st bytes asked text)
 
 again : (s : State) (id : ℕ) (c d : Connection) → with_connection (with_connection s id c) id d ≡ with_connection s id d
 again s id c d = ap (with_connections s) (put_again s.connections id c d)
 
 -- more bytes, after those that left it undecided
+connection_later : (types : List ServedShape) (m : Machine) (c : Connection) (front bytes text : List ℕ) (asked : Asked)
+    → connection_after types m (with_standing c (waiting front)) bytes asked text ≡ connection_after types m c bytes asked text
+connection_later types m c front bytes text undecided = refl
+connection_later types m c front bytes text (refused d) = refl
+connection_later types m c front bytes text (accepted call) = refl
+
 received_after : (s : State) (id : ℕ) (c : Connection) (front bytes text : List ℕ) (asked : Asked)
     → received (with_connection s id (with_standing c (waiting front))) id (with_standing c (waiting front)) bytes asked text ≡ received s id c bytes asked text
-received_after s id c front bytes text undecided = again s id (with_standing c (waiting front)) (with_standing c (waiting bytes))
-received_after s id c front bytes text (refused d) = again s id (with_standing c (waiting front)) (with_written c (refusal_reply d) ended)
-received_after s id c front bytes text (accepted call) =
-    let plan = planned s.types s.machine call in
-    again (with_machine s (after s.machine plan.change)) id (with_standing c (waiting front)) (with_written c (reply plan.answer.status None text) ended)
+received_after s id c front bytes text asked =
+    let m = machine_after s.types s.machine asked in
+    again (with_machine s m) id (with_standing c (waiting front)) (connection_after s.types s.machine (with_standing c (waiting front)) bytes asked text)
+    ∙ ap (with_connection (with_machine s m) id) (connection_later s.types s.machine c front bytes text asked)
 
 -- after a reply the rest changes nothing
 on_ended : (s t : State) (id : ℕ) (c : Connection) (reply second : List ℕ) → ComesBy s id (Some (with_written c reply ended)) second t → t ≡ s
 on_ended s t id c reply second (asked, text, asks, told, is) = is
 
 -- the text of an answer is that at any state with these types and this machine
-answer_text : (s r : State) (asked : Asked) (text : List ℕ) → r.types ≡ s.types → r.machine ≡ s.machine → IsAnswerText r asked text → IsAnswerText s asked text
+answer_text : (s r : State) (asked : Asked) (text : List ℕ) → r.types ≡ s.types → r.machine ≡ s.machine → IsAnswerText r.types r.machine asked text → IsAnswerText s.types s.machine asked text
 answer_text s r undecided text types machine is = is
 answer_text s r (refused d) text types machine is = is
 answer_text s r (accepted call) text types machine is =
@@ -68,7 +73,7 @@ then_waits s t id c front first second (asked, text, asks, told, is) =
 
 -- what the first piece asked, the whole asks too
 then_ended : (s t : State) (id : ℕ) (c : Connection) (front first second text written : List ℕ) (asked : Asked) (r : State)
-    → asked ≢ undecided → Asks s.types (front ++ first) asked → IsAnswerText s asked text → received s id c (front ++ first) asked text ≡ with_connection r id (with_written c written ended)
+    → asked ≢ undecided → Asks s.types (front ++ first) asked → IsAnswerText s.types s.machine asked text → received s id c (front ++ first) asked text ≡ with_connection r id (with_written c written ended)
     → received s id c (front ++ (first ++ second)) asked text ≡ with_connection r id (with_written c written ended)
     → ComesBy (with_connection r id (with_written c written ended)) id (Some (with_written c written ended)) second t → ComesOn s id c (waiting front) (first ++ second) t
 then_ended s t id c front first second text written asked r decided asks told is too later = (
@@ -87,7 +92,7 @@ found r id d second t later = subst (λ (o : Option Connection). ComesBy (with_c
 abbrev pub ThenComes : State → ℕ → List ℕ → State → Type 0
 ThenComes mid id second t = ComesBy mid id (fin.get mid.connections id) second t
 
-by_asked : (s mid t : State) (id : ℕ) (c : Connection) (front first second text : List ℕ) (asked : Asked) → Asks s.types (front ++ first) asked → IsAnswerText s asked text
+by_asked : (s mid t : State) (id : ℕ) (c : Connection) (front first second text : List ℕ) (asked : Asked) → Asks s.types (front ++ first) asked → IsAnswerText s.types s.machine asked text
     → mid ≡ received s id c (front ++ first) asked text → ThenComes mid id second t → ComesOn s id c (waiting front) (first ++ second) t
 by_asked s mid t id c front first second text undecided asks told is later =
     let d = with_standing c (waiting (front ++ first)) in
@@ -143,7 +148,7 @@ one_asked : (s : State) (o : Option (List ℕ)) (a b : Asked) → AsksIf s o a �
 one_asked s None a b is that = is ∙ sym that
 one_asked s (Some bytes) a b is that = asks_one s.types bytes a b is that
 
-one_text : (s : State) (asked : Asked) (x y : List ℕ) → AnswersHaveNoFloat s → IsAnswerText s asked x → IsAnswerText s asked y → x ≡ y
+one_text : (s : State) (asked : Asked) (x y : List ℕ) → AnswersHaveNoFloat s → IsAnswerText s.types s.machine asked x → IsAnswerText s.types s.machine asked y → x ≡ y
 one_text s undecided x y plain is that = is ∙ sym that
 one_text s (refused d) x y plain is that = is ∙ sym that
 one_text s (accepted call) x y plain is that = is.compact (plain call) ∙ sym (that.compact (plain call))
@@ -151,7 +156,7 @@ one_text s (accepted call) x y plain is that = is.compact (plain call) ∙ sym (
 pub one_step : (s t u : State) (e : Event) → AnswersHaveNoFloat s → Steps s e t → Steps s e u → t ≡ u
 one_step s t u e plain (a, x, asks, told, is) (b, y, also, too, that) =
     let same = one_asked s (bytes_at s e) a b asks also in
-    let text = one_text s b x y plain (subst (λ (z : Asked). IsAnswerText s z x) same told) too in
+    let text = one_text s b x y plain (subst (λ (z : Asked). IsAnswerText s.types s.machine z x) same told) too in
     is ∙ ap (λ (z : Asked). stepped s e z x) same ∙ ap (stepped s e b) text ∙ sym that
 
 one_follows : (s t u : State) (h : Happening) → AnswersHaveNoFloat s → Follows s h t → Follows s h u → t ≡ u

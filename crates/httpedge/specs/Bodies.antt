@@ -5,8 +5,11 @@ use Rattle.std.specs.List.{before_first, after_first}
 use Rattle.std.specs.Str.{bytes_eq, is_utf8}
 use Rattle.serde_json.specs.Data.{Data}
 use Rattle.serde_json.specs.Read.{read}
-use Rattle.httpedge.specs.Decision.{Decision, undecided, accepted}
-use Rattle.httpedge.specs.Refusals.{transfer_encoding, no_length, bad_length, body_too_large, not_json, refuse}
+use Rattle.std.specs.declared.result.Result.{Result}
+use Rattle.std.specs.declared.result.Result.TheVariants.{Ok, Err}
+use Rattle.verbs.specs.Calls.{Denied}
+use Rattle.httpedge.specs.Decision.{Decision, undecided, accepted, and_then, decided_by}
+use Rattle.httpedge.specs.Refusals.{transfer_encoding, no_length, bad_length, body_too_large, not_json, as_denied, refuse}
 use Rattle.httpedge.specs.Heads.{Length, missing, malformed, digits, Request}
 
 -- this server's own limit (its refusal: RFC 9110, section 15.5.14)
@@ -36,31 +39,42 @@ abbrev pub some_json : Option Data → Decision (Option Data)
 some_json None = refuse not_json
 some_json (Some value) = accepted (Some value)
 
+-- ---- how many bytes of a body a head declares, or that there is none
+
+abbrev pub sized : ℕ → Result (Option ℕ) Denied
+sized n = if nat_lt max_body n then Err (as_denied body_too_large) else Ok (Some n)
+
+-- of a body that is needed
+abbrev pub needed_length : Length → Result (Option ℕ) Denied
+needed_length missing = Err (as_denied no_length)
+needed_length malformed = Err (as_denied bad_length)
+needed_length (digits ds) = sized (decimal_value ds)
+
+-- of a body that may be left out; one of no bytes is left out
+abbrev pub optional_length : Length → Result (Option ℕ) Denied
+optional_length missing = Ok None
+optional_length malformed = Err (as_denied bad_length)
+optional_length (digits ds) = if decimal_value ds == 0 then Ok None else sized (decimal_value ds)
+
+abbrev pub declared_length : Request → Result (Option ℕ) Denied
+declared_length request =
+    if needs_body request.method then (if request.transfer_encoded then Err (as_denied transfer_encoding) else needed_length request.length)
+    else if may_have_body request.method then (if request.transfer_encoded then Err (as_denied transfer_encoding) else optional_length request.length)
+    else Ok None
+
+-- ---- the body
+
 -- a body of so many bytes, of which these came
 abbrev pub body_of : ℕ → List ℕ → Decision (Option Data)
-body_of n rest =
-    if nat_lt max_body n then refuse body_too_large
-    else if nat_lt (length rest) n then undecided
-    else some_json (json_in (take n rest))
+body_of n rest = if nat_lt (length rest) n then undecided else some_json (json_in (take n rest))
 
--- a body that is needed
-abbrev pub needed_body : Length → List ℕ → Decision (Option Data)
-needed_body missing rest = refuse no_length
-needed_body malformed rest = refuse bad_length
-needed_body (digits ds) rest = body_of (decimal_value ds) rest
-
--- a body that may be left out; one of no bytes is left out
-abbrev pub optional_body : Length → List ℕ → Decision (Option Data)
-optional_body missing rest = accepted None
-optional_body malformed rest = refuse bad_length
-optional_body (digits ds) rest = if decimal_value ds == 0 then accepted None else body_of (decimal_value ds) rest
+abbrev pub declared_body : Option ℕ → List ℕ → Decision (Option Data)
+declared_body None rest = accepted None
+declared_body (Some n) rest = body_of n rest
 
 -- the body by the head and the bytes after it
 abbrev pub body_in : Request → List ℕ → Decision (Option Data)
-body_in request rest =
-    if needs_body request.method then (if request.transfer_encoded then refuse transfer_encoding else needed_body request.length rest)
-    else if may_have_body request.method then (if request.transfer_encoded then refuse transfer_encoding else optional_body request.length rest)
-    else accepted None
+body_in request rest = and_then (decided_by (declared_length request)) (λ n. declared_body n rest)
 
 -- whether a DELETE has a length other than 0
 abbrev pub has_length : Length → Bool
@@ -68,7 +82,7 @@ has_length missing = false
 has_length malformed = true
 has_length (digits ds) = nat_lt 0 (decimal_value ds)
 
--- the media type that is judged: a DELETE without a body has none
+-- the media type that is checked: a DELETE without a body has none
 abbrev pub checked_media : Request → Option (List ℕ)
 checked_media request = if may_have_body request.method && not (has_length request.length) then None else request.media
 

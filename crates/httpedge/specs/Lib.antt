@@ -8,8 +8,7 @@ pub mod Watches
 pub mod Connections
 pub mod Steps
 pub mod Runs
-pub mod Answers
-pub mod Hub
 pub mod Views
-pub mod Standing
+pub mod Pendings
+pub mod Held
 pub mod HubSeen

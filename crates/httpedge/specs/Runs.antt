@@ -5,7 +5,9 @@ use Rattle.std.specs.FinMap as fin
 use Rattle.serde_json.specs.Data.{Data, depth}
 use Rattle.serde_json.specs.Read.{max_depth, read}
 use Rattle.serde_json.specs.Written.{compact_text, has_float}
+use Rattle.schema.specs.TypesFile.{ServedShape}
 use Rattle.verbs.specs.Calls.{Call}
+use Rattle.verbs.specs.Machine.{Machine}
 use Rattle.verbs.specs.Step.{planned}
 use Rattle.httpedge.specs.Asks.{Asked, Asks}
 use Rattle.httpedge.specs.Connections.{Connections, Connection, Standing, waiting, watching, ended, gone, is_open, is_waiting, waiting_on}
@@ -43,16 +45,16 @@ pub record IsTextOf (d : Data) (text : List ℕ) : Type 0 where
   pub reads_back : depth d ≤ max_depth → read text ≡ Some d
 
 -- the text of the answer to what is asked; where no call is made there is none
-abbrev pub IsAnswerText : State → Asked → List ℕ → Type 0
-IsAnswerText s undecided text = text ≡ []
-IsAnswerText s (refused d) text = text ≡ []
-IsAnswerText s (accepted call) text = IsTextOf (planned s.types s.machine call).answer.body text
+abbrev pub IsAnswerText : List ServedShape → Machine → Asked → List ℕ → Type 0
+IsAnswerText types m undecided text = text ≡ []
+IsAnswerText types m (refused d) text = text ≡ []
+IsAnswerText types m (accepted call) text = IsTextOf (planned types m call).answer.body text
 
 -- ---- one event
 
 -- the event leads to this state
 abbrev pub Steps : State → Event → State → Type 0
-Steps s e t = (asked : Asked) × (text : List ℕ) × AsksIf s (bytes_at s e) asked × IsAnswerText s asked text × (t ≡ stepped s e asked text)
+Steps s e t = (asked : Asked) × (text : List ℕ) × AsksIf s (bytes_at s e) asked × IsAnswerText s.types s.machine asked text × (t ≡ stepped s e asked text)
 
 abbrev pub is_watching : Standing → Bool
 is_watching (watching w) = true

@@ -4,13 +4,13 @@ use Rattle.std.specs.Ordering.{nat_cmp}
 use Rattle.std.specs.FinMap as fin
 use Rattle.serde_json.specs.Written.{compact_text}
 use Rattle.schema.specs.TypesFile.{ServedShape}
-use Rattle.verbs.specs.Calls.{Call, Denied, Plan}
+use Rattle.verbs.specs.Calls.{Denied}
 use Rattle.verbs.specs.Machine.{Machine, after}
 use Rattle.verbs.specs.Reasons.{code_of}
 use Rattle.verbs.specs.Status.{status_value}
 use Rattle.verbs.specs.Step.{planned}
 use Rattle.httpedge.specs.Asks.{Asked}
-use Rattle.httpedge.specs.Connections.{Connection, Connections, Standing, waiting, watching, ended, gone, opened, with_standing, with_written, is_known, is_new, is_open, open_count, max_open, each}
+use Rattle.httpedge.specs.Connections.{Connection, Connections, Standing, waiting, watching, ended, gone, opened, with_standing, with_written, with_taken, is_known, is_new, is_open, open_count, max_open, each}
 use Rattle.httpedge.specs.Decision.{undecided, refused, accepted}
 use Rattle.httpedge.specs.Refusals.{as_denied, too_many_connections}
 use Rattle.httpedge.specs.ReplyBytes.{reply}
@@ -86,15 +86,21 @@ opening all = if nat_le max_open (open_count all) then with_written opened (refu
 
 -- ---- bytes that come
 
--- a call's answer is written as this text, its change is made, and the connection has ended
-abbrev pub answered : State → ℕ → Connection → Plan → List ℕ → State
-answered s id c plan text = with_connection (with_machine s (after s.machine plan.change)) id (with_written c (reply plan.answer.status None text) ended)
+-- by what all the bytes of a connection ask it waits for more, or gets its reply and has ended; the answer of a call is written as this text
+abbrev pub connection_after : List ServedShape → Machine → Connection → List ℕ → Asked → List ℕ → Connection
+connection_after types m c bytes undecided text = with_standing c (waiting bytes)
+connection_after types m c bytes (refused d) text = with_written c (refusal_reply d) ended
+connection_after types m c bytes (accepted call) text = with_written c (reply (planned types m call).answer.status None text) ended
 
--- by what all the bytes of a connection ask: it waits for more, or gets its reply and has ended
+-- a call makes its change
+abbrev pub machine_after : List ServedShape → Machine → Asked → Machine
+machine_after types m undecided = m
+machine_after types m (refused d) = m
+machine_after types m (accepted call) = after m (planned types m call).change
+
 abbrev pub received : State → ℕ → Connection → List ℕ → Asked → List ℕ → State
-received s id c bytes undecided text = with_connection s id (with_standing c (waiting bytes))
-received s id c bytes (refused d) text = with_connection s id (with_written c (refusal_reply d) ended)
-received s id c bytes (accepted call) text = answered s id c (planned s.types s.machine call) text
+received s id c bytes asked text =
+    with_connection (with_machine s (machine_after s.types s.machine asked)) id (connection_after s.types s.machine c bytes asked text)
 
 -- only a connection that waits receives bytes
 abbrev pub received_by : State → ℕ → Connection → Standing → List ℕ → Asked → List ℕ → State
@@ -159,3 +165,9 @@ starved s (goes id) found_none = s
 starved s (pumps id max) found_none = on_connection s id (λ c. with_connection s id (dead c))
 starved s (ticks ms) found_none = with_tick s ms (each (λ id c. dead_or_ticked ms (found_none id) c) s.connections)
 starved s (compacts c) found_none = s
+
+-- ---- bytes that are taken
+
+-- the next n bytes that were written on a connection are taken, at most all
+abbrev pub with_bytes_taken : State → ℕ → ℕ → State
+with_bytes_taken s id n = on_connection s id (λ c. with_connection s id (with_taken c n))

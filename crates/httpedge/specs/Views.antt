@@ -7,6 +7,10 @@ use Rattle.httparse.specs.Spans.{IsRequestAt}
 use Rattle.serde_json.specs.declared.value.Value.{Value}
 use Rattle.serde_json.specs.View.{view}
 use Rattle.serde_json.specs.Data.{Data}
+use Rattle.std.specs.declared.result.Result.{Result}
+use Rattle.std.specs.declared.result.Result.TheVariants.{Ok, Err}
+use Rattle.verbs.specs.declared.admitting.Denied.{Denied as TheDenied}
+use Rattle.verbs.specs.Calls.{Denied}
 use Rattle.verbs.specs.Seen.{denied_of}
 use Rattle.httpedge.specs.declared.refusal.Refusal as refusals
 use Rattle.httpedge.specs.declared.refusal.Refusal.TheVariants as refusal
@@ -60,3 +64,8 @@ head_of h = (request_in h, h.rest.now)
 
 abbrev pub data_of : Option Value → Option Data
 data_of o = option_map view o
+
+-- what a head declares of its body
+abbrev pub declared_of : Result (Option ℕ) TheDenied → Result (Option ℕ) Denied
+declared_of (Ok length) = Ok length
+declared_of (Err d) = Err (denied_of d)

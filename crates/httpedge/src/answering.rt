@@ -4,12 +4,9 @@ ghost use Rattle.std.specs.Prelude.{◌≡◌, List, IfOk, IfSome, OnOk, OnErr, 
 ghost use Rattle.schema.specs.TypesFile.{ServedShape};
 ghost use Rattle.verbs.specs.Machine.{IsNext, Machine, after};
 ghost use Rattle.verbs.specs.Seen.{Stands, answer_of, call_of, change_of, denied_of};
-ghost use Rattle.httpedge.specs.Answers.{IsAnswerBytes};
+ghost use Rattle.httpedge.specs.Held.{IsAnswerBytes, Serves};
 ghost use Rattle.httpedge.specs.Steps.{refusal_reply};
-ghost use Rattle.httpedge.specs.Standing.{Serves, StandsAnswered};
 
-use crate::asking::ask;
-use crate::decision::Decision;
 use crate::reply::reply_bytes;
 use std::alloc::{AllocError, Global};
 use verbs::{Answer, Api, Call, Change, Denied, Fault, status_value};
@@ -41,7 +38,7 @@ fn make(api: &mut Api, change: Option<Change>) -> Result<(), Fault>
 }
 
 /// Makes a call: its reply is there before its change is made.
-fn serve(alloc: Global, api: &mut Api, call: &Call) -> Result<Vec<u8>, Fault>
+pub(crate) fn serve(alloc: Global, api: &mut Api, call: &Call) -> Result<Vec<u8>, Fault>
     ensures ok { (types : List ServedShape) (m : Machine) → Stands api.old types m → IfOk result (λ v. Serves types m (call_of call.now) v.items api.new) }
     ensures err { (types : List ServedShape) (m : Machine) → Stands api.old types m → OnErr result (Stands api.new types m) }
 {
@@ -49,22 +46,4 @@ fn serve(alloc: Global, api: &mut Api, call: &Call) -> Result<Vec<u8>, Fault>
     let reply = answer_bytes(alloc, &plan.answer)?;
     make(api, plan.change)?;
     Ok(reply)
-}
-
-/// The reply to all the bytes that came on a connection, or none while more are needed.
-pub(crate) fn answer(alloc: Global, api: &mut Api, bytes: &[u8]) -> Result<Option<Vec<u8>>, Fault>
-    ensures ok { (types : List ServedShape) (m : Machine) → Stands api.old types m → IfOk result (λ o. StandsAnswered types m bytes.now (option_map (λ v. v.items) o) api.new) }
-    ensures err { (types : List ServedShape) (m : Machine) → Stands api.old types m → OnErr result (Stands api.new types m) }
-{
-    match ask(alloc, api, bytes)? {
-        Decision::Undecided => Ok(None),
-        Decision::Refused(denied) => {
-            let reply = refusal_reply(alloc, denied)?;
-            Ok(Some(reply))
-        }
-        Decision::Accepted(call) => {
-            let reply = serve(alloc, api, &call)?;
-            Ok(Some(reply))
-        }
-    }
 }

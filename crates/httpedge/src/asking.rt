@@ -1,68 +1,144 @@
 //! What a connection asks, by all the bytes that came on it.
 
-ghost use Rattle.std.specs.Prelude.{◌≡◌, IfOk};
-ghost use Rattle.verbs.specs.Seen.{call_of, target_of, types_of};
-ghost use Rattle.httpedge.specs.Asks.{Asks, call_with, call_in};
-ghost use Rattle.httpedge.specs.Views.{data_of, decision_of, request_in};
+ghost use Rattle.std.specs.Prelude.{◌≡◌, ◌++◌, IfOk};
+ghost use Rattle.verbs.specs.Seen.{target_of, types_of};
+ghost use Rattle.httpedge.specs.Asks.{call_by, call_with, call_in};
+ghost use Rattle.httpedge.specs.Pendings.{Carries, FindsAll, asked_of, pending_call, sized_call};
+ghost use Rattle.httpedge.specs.Views.{request_in};
 
-use crate::body::read_body;
+use crate::body::{body_of, declared_length};
 use crate::decision::Decision;
 use crate::head::{Head, read_head};
 use crate::target::{checked_media, path_of, query_of};
-use serde_json::Value;
 use std::alloc::{AllocError, Global};
-use verbs::{Api, Call, Target};
+use verbs::{Api, Call, Denied, Target};
 
-fn call_of(
-    alloc: Global,
+/// A request whose head has come, and of its body this much.
+#[derive(Debug, Drop)]
+pub(crate) struct Pending {
     target: Target,
-    query: &str,
-    body: Option<Value>,
-) -> Result<Call, AllocError>
-    ensures { IfOk result (λ c. call_of c ≡ record { target = target_of target; query = query.now; body = data_of body }) }
-{
-    let query = Vec::from_slice(alloc, query.as_bytes())?;
-    Ok(Call {
-        target,
-        query,
-        body,
-    })
+    query: Vec<u8>,
+    /// How many bytes the body has.
+    length: usize,
+    body: Vec<u8>,
 }
 
-fn call_with(alloc: Global, target: Target, head: &Head<'_>) -> Result<Decision<Call>, AllocError>
-    ensures { IfOk result (λ a. decision_of call_of a ≡ call_with (request_in head.now) head.now.rest.now (target_of target)) }
+/// What a request asks once its head has come.
+#[derive(Debug, Drop)]
+pub(crate) enum Asked {
+    /// More bytes of its body are needed.
+    Pending(Pending),
+    Refused(Denied),
+    Call(Call),
+}
+
+/// More bytes of the body.
+pub(crate) fn ask_on(alloc: Global, pending: Pending, bytes: &[u8]) -> Result<Asked, AllocError>
+    ensures asks { IfOk result (λ a. asked_of a ≡ pending_call pending (pending.body.items ++ bytes.now)) }
+    ensures carries { IfOk result (Carries (pending_call pending) (pending.body.items ++ bytes.now)) }
 {
-    match read_body(alloc, head)? {
-        Decision::Undecided => Ok(Decision::Undecided),
-        Decision::Refused(denied) => Ok(Decision::Refused(denied)),
-        Decision::Accepted(body) => {
-            let call = call_of(alloc, target, query_of(head.request_target), body)?;
-            Ok(Decision::Accepted(call))
-        }
+    let Pending {
+        target,
+        query,
+        length,
+        mut body,
+    } = pending;
+    body.extend_from_slice(bytes)?;
+    match body_of(alloc, length, &body)? {
+        Decision::Undecided => Ok(Asked::Pending(Pending {
+            target,
+            query,
+            length,
+            body,
+        })),
+        Decision::Refused(denied) => Ok(Asked::Refused(denied)),
+        Decision::Accepted(body) => Ok(Asked::Call(Call {
+            target,
+            query,
+            body,
+        })),
     }
 }
 
-fn call_in(alloc: Global, api: &Api, head: &Head<'_>) -> Result<Decision<Call>, AllocError>
-    ensures { IfOk result (λ a. decision_of call_of a ≡ call_in (types_of api.now) (request_in head.now) head.now.rest.now) }
+/// A body of so many bytes, of which these came with the head.
+fn ask_sized(
+    alloc: Global,
+    target: Target,
+    query: Vec<u8>,
+    length: usize,
+    rest: &[u8],
+) -> Result<Asked, AllocError>
+    ensures asks { IfOk result (λ a. asked_of a ≡ sized_call (target_of target) query.items length rest.now) }
+    ensures carries { IfOk result (Carries (sized_call (target_of target) query.items length) rest.now) }
+{
+    match body_of(alloc, length, rest)? {
+        Decision::Undecided => Ok(Asked::Pending(Pending {
+            target,
+            query,
+            length,
+            body: Vec::from_slice(alloc, rest)?,
+        })),
+        Decision::Refused(denied) => Ok(Asked::Refused(denied)),
+        Decision::Accepted(body) => Ok(Asked::Call(Call {
+            target,
+            query,
+            body,
+        })),
+    }
+}
+
+fn ask_declared(
+    alloc: Global,
+    target: Target,
+    head: &Head<'_>,
+    length: Option<usize>,
+) -> Result<Asked, AllocError>
+    ensures asks { IfOk result (λ a. asked_of a ≡ call_by (request_in head.now) (target_of target) length head.now.rest.now) }
+    ensures carries { IfOk result (Carries (call_by (request_in head.now) (target_of target) length) head.now.rest.now) }
+{
+    let query = Vec::from_slice(alloc, query_of(head.request_target).as_bytes())?;
+    match length {
+        None => Ok(Asked::Call(Call {
+            target,
+            query,
+            body: None,
+        })),
+        Some(length) => ask_sized(alloc, target, query, length, head.rest),
+    }
+}
+
+fn ask_of(alloc: Global, target: Target, head: &Head<'_>) -> Result<Asked, AllocError>
+    ensures asks { IfOk result (λ a. asked_of a ≡ call_with (request_in head.now) (target_of target) head.now.rest.now) }
+    ensures carries { IfOk result (Carries (call_with (request_in head.now) (target_of target)) head.now.rest.now) }
+{
+    match declared_length(head) {
+        Ok(length) => ask_declared(alloc, target, head, length),
+        Err(denied) => Ok(Asked::Refused(denied)),
+    }
+}
+
+fn ask_in(alloc: Global, api: &Api, head: &Head<'_>) -> Result<Asked, AllocError>
+    ensures asks { IfOk result (λ a. asked_of a ≡ call_in (types_of api.now) (request_in head.now) head.now.rest.now) }
+    ensures carries { IfOk result (Carries (call_in (types_of api.now) (request_in head.now)) head.now.rest.now) }
 {
     match api.admit(
         head.method,
         path_of(head.request_target),
         checked_media(head),
     ) {
-        Ok(target) => call_with(alloc, target, head),
-        Err(verbs::Refusal::Denied(denied)) => Ok(Decision::Refused(denied)),
+        Ok(target) => ask_of(alloc, target, head),
+        Err(verbs::Refusal::Denied(denied)) => Ok(Asked::Refused(denied)),
         Err(verbs::Refusal::Memory) => Err(AllocError),
     }
 }
 
-/// What the bytes that came on a connection ask.
-pub(crate) fn ask(alloc: Global, api: &Api, bytes: &[u8]) -> Result<Decision<Call>, AllocError>
-    ensures { IfOk result (λ a. Asks (types_of api.now) bytes.now (decision_of call_of a)) }
+/// What the bytes that came on a connection ask; none while the head hasn't come whole.
+pub(crate) fn ask(alloc: Global, api: &Api, bytes: &[u8]) -> Result<Option<Asked>, AllocError>
+    ensures { IfOk result (λ o. FindsAll (types_of api.now) bytes.now o) }
 {
     match read_head(bytes) {
-        Decision::Undecided => Ok(Decision::Undecided),
-        Decision::Refused(denied) => Ok(Decision::Refused(denied)),
-        Decision::Accepted(head) => call_in(alloc, api, &head),
+        Decision::Undecided => Ok(None),
+        Decision::Refused(denied) => Ok(Some(Asked::Refused(denied))),
+        Decision::Accepted(head) => Ok(Some(ask_in(alloc, api, &head)?)),
     }
 }

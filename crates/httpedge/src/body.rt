@@ -1,15 +1,16 @@
 //! The body of a request.
 
 ghost use Rattle.std.specs.Prelude.{◌≡◌, ◌≢◌, ◌<◌, ◌≤◌, ◌++◌, ℕ, List, IfOk, MatchOption};
-ghost use Rattle.httpedge.specs.Bodies.{max_body, needs_body, may_have_body, decimal_value, json_in, some_json, body_of, needed_body, optional_body, body_in};
+ghost use Rattle.httpedge.specs.Bodies.{max_body, needs_body, may_have_body, decimal_value, json_in, some_json, sized, needed_length, optional_length, declared_length, body_of, declared_body, body_in};
 ghost use Rattle.httpedge.specs.Decision.{undecided};
-ghost use Rattle.httpedge.specs.Views.{decision_of, length_of, request_in, data_of};
+ghost use Rattle.httpedge.specs.Views.{data_of, decision_of, declared_of, length_of, request_in};
 
 use crate::decision::Decision;
 use crate::head::{Head, Length};
 use crate::refusal::Refusal;
 use serde_json::Value;
 use std::alloc::{AllocError, Global};
+use verbs::Denied;
 
 const MAX_BODY: usize = 65_536;
 
@@ -49,8 +50,64 @@ fn json_in(alloc: Global, bytes: &[u8]) -> Result<Decision<Option<Value>>, Alloc
     }
 }
 
-fn body_of(alloc: Global, length: usize, rest: &[u8]) -> Result<Decision<Option<Value>>, AllocError>
-    requires { length ≤ max_body }
+fn sized(digits: &[u8]) -> Result<Option<usize>, Denied>
+    ensures { declared_of result ≡ sized (decimal_value digits.now) }
+{
+    match decimal_value(digits) {
+        None => Err(Refusal::BodyTooLarge.denied()),
+        Some(length) => Ok(Some(length)),
+    }
+}
+
+fn needed_length(length: Length<'_>) -> Result<Option<usize>, Denied>
+    ensures { declared_of result ≡ needed_length (length_of length.entry) }
+{
+    match length {
+        Length::Missing => Err(Refusal::NoLength.denied()),
+        Length::Malformed => Err(Refusal::BadLength.denied()),
+        Length::Digits(digits) => sized(digits),
+    }
+}
+
+fn optional_length(length: Length<'_>) -> Result<Option<usize>, Denied>
+    ensures { declared_of result ≡ optional_length (length_of length.entry) }
+{
+    match length {
+        Length::Missing => Ok(None),
+        Length::Malformed => Err(Refusal::BadLength.denied()),
+        Length::Digits(digits) => match decimal_value(digits) {
+            None => Err(Refusal::BodyTooLarge.denied()),
+            Some(0) => Ok(None),
+            Some(length) => Ok(Some(length)),
+        },
+    }
+}
+
+/// How many bytes of a body a head declares, or that there is none: only POST, PUT, PATCH and DELETE have one,
+/// and only DELETE may go without.
+pub(crate) fn declared_length(head: &Head<'_>) -> Result<Option<usize>, Denied>
+    ensures { declared_of result ≡ declared_length (request_in head.now) }
+{
+    let needs = needs_body(head.method);
+    if !needs && !may_have_body(head.method) {
+        return Ok(None);
+    }
+    if head.is_transfer_encoded {
+        return Err(Refusal::TransferEncoding.denied());
+    }
+    if needs {
+        needed_length(head.length)
+    } else {
+        optional_length(head.length)
+    }
+}
+
+/// A body of so many bytes, of which these came.
+pub(crate) fn body_of(
+    alloc: Global,
+    length: usize,
+    rest: &[u8],
+) -> Result<Decision<Option<Value>>, AllocError>
     ensures { IfOk result (λ f. decision_of data_of f ≡ body_of length rest.now) }
 {
     if rest.len() < length {
@@ -59,60 +116,29 @@ fn body_of(alloc: Global, length: usize, rest: &[u8]) -> Result<Decision<Option<
     json_in(alloc, &rest[..length])
 }
 
-fn needed_body(
+fn declared_body(
     alloc: Global,
-    length: Length<'_>,
+    length: Option<usize>,
     rest: &[u8],
 ) -> Result<Decision<Option<Value>>, AllocError>
-    ensures { IfOk result (λ f. decision_of data_of f ≡ needed_body (length_of length.entry) rest.now) }
+    ensures { IfOk result (λ f. decision_of data_of f ≡ declared_body length rest.now) }
 {
     match length {
-        Length::Missing => Ok(Decision::Refused(Refusal::NoLength.denied())),
-        Length::Malformed => Ok(Decision::Refused(Refusal::BadLength.denied())),
-        Length::Digits(digits) => match decimal_value(digits) {
-            None => Ok(Decision::Refused(Refusal::BodyTooLarge.denied())),
-            Some(number) => body_of(alloc, number, rest),
-        },
-    }
-}
-
-fn optional_body(
-    alloc: Global,
-    length: Length<'_>,
-    rest: &[u8],
-) -> Result<Decision<Option<Value>>, AllocError>
-    ensures { IfOk result (λ f. decision_of data_of f ≡ optional_body (length_of length.entry) rest.now) }
-{
-    match length {
-        Length::Missing => Ok(Decision::Accepted(None)),
-        Length::Malformed => Ok(Decision::Refused(Refusal::BadLength.denied())),
-        Length::Digits(digits) => match decimal_value(digits) {
-            None => Ok(Decision::Refused(Refusal::BodyTooLarge.denied())),
-            Some(0) => Ok(Decision::Accepted(None)),
-            Some(number) => body_of(alloc, number, rest),
-        },
+        None => Ok(Decision::Accepted(None)),
+        Some(length) => body_of(alloc, length, rest),
     }
 }
 
 fn body_in(alloc: Global, head: &Head<'_>) -> Result<Decision<Option<Value>>, AllocError>
     ensures { IfOk result (λ f. decision_of data_of f ≡ body_in (request_in head.now) head.now.rest.now) }
 {
-    let needs = needs_body(head.method);
-    if !needs && !may_have_body(head.method) {
-        return Ok(Decision::Accepted(None));
-    }
-    if head.is_transfer_encoded {
-        return Ok(Decision::Refused(Refusal::TransferEncoding.denied()));
-    }
-    if needs {
-        needed_body(alloc, head.length, head.rest)
-    } else {
-        optional_body(alloc, head.length, head.rest)
+    match declared_length(head) {
+        Ok(length) => declared_body(alloc, length, head.rest),
+        Err(denied) => Ok(Decision::Refused(denied)),
     }
 }
 
-/// The body of a request, by its head and the bytes that came after it, however they were cut. Only POST,
-/// PUT, PATCH and DELETE have one, and only DELETE may go without.
+/// The body of a request, by its head and the bytes that came after it, however they were cut.
 pub fn read_body(alloc: Global, head: &Head<'_>) -> Result<Decision<Option<Value>>, AllocError>
     ensures says { IfOk result (λ f. decision_of data_of f ≡ body_in (request_in head.now) head.now.rest.now) }
     ensures stays { (more : List ℕ) → IfOk result (λ f. decision_of data_of f ≢ undecided → body_in (request_in head.now) (head.now.rest.now ++ more) ≡ decision_of data_of f) }

@@ -1,17 +1,21 @@
 //! The hub: connections over one API.
 
-ghost use Rattle.std.specs.Prelude.{◌≡◌, ◌≢◌, ◌++◌, ◌∷◌, [], ℕ, List, None, OnOk};
+ghost use Rattle.std.specs.Prelude.{◌≡◌, ◌≢◌, ◌++◌, ◌∷◌, [], List, None, cond, false, OnOk};
 ghost use Rattle.schema.specs.TypesFile.{ServedShape};
 ghost use Rattle.verbs.specs.Machine.{Machine};
 ghost use Rattle.verbs.specs.Seen.{Stands};
-ghost use Rattle.httpedge.specs.Hub.{State, Steps, Runs, Dies, comes, no_connections, refusal_of, written_on, is_ended, is_waiting};
-ghost use Rattle.httpedge.specs.Hub as hub;
-ghost use Rattle.httpedge.specs.HubSeen.{HubStands, connections_in, event_of, refusal_number};
+ghost use Rattle.httpedge.specs.Connections.{ended_on, out_on, waiting_on};
+ghost use Rattle.httpedge.specs.Held.{is_above};
+ghost use Rattle.httpedge.specs.HubSeen.{IsIn, event_of, happening, refusal_number};
+ghost use Rattle.httpedge.specs.Runs.{Follows, Happening, Runs, Starves, Steps};
+ghost use Rattle.httpedge.specs.Steps.{State, comes, opens, refusal, start};
 
-use crate::connection::{Connection, has_ended, hear_at, open, out_of, place_of};
+use crate::connection::{Connection, count_with, opening};
+use crate::connections::{open_at, open_count, out_at, put, receive_at};
 use crate::event::Event;
 use crate::fault::HubFault;
 use std::alloc::Global;
+use std::collections::BTreeMap;
 use verbs::Api;
 
 /// Connections over one API: bytes in, reply bytes out.
@@ -19,80 +23,112 @@ use verbs::Api;
 pub struct Hub {
     alloc: Global,
     api: Api,
-    connections: Vec<(u64, Connection)>,
+    connections: BTreeMap<u64, Connection>,
+    /// How many of them are open.
+    open_count: usize,
+    /// The highest id so far.
+    highest: Option<u64>,
+}
+
+fn is_above(highest: Option<u64>, id: u64) -> bool
+    ensures { result ≡ is_above highest id }
+{
+    match highest {
+        Some(highest) => highest < id,
+        None => true,
+    }
 }
 
 impl Hub {
     /// A hub without connections.
     pub fn new(alloc: Global, api: Api) -> Hub
-        ensures { (types : List ServedShape) (m : Machine) → Stands api types m → HubStands result types (no_connections m) }
+        ensures { (types : List ServedShape) (m : Machine) → Stands api types m → IsIn result (start types m) }
     {
         Hub {
             alloc,
             api,
-            connections: Vec::new(alloc),
+            connections: BTreeMap::new(alloc),
+            open_count: 0,
+            highest: None,
         }
+    }
+
+    fn open(&mut self, id: u64) -> Result<(), HubFault>
+        ensures ok { (s : State) → IsIn self.old s → OnOk result ((t : State) × Steps s (opens id) t × IsIn self.new t) }
+        ensures refused { (s : State) → IsIn self.old s → refusal_number result ≡ refusal s (opens id) }
+        ensures unchanged { refusal_number result ≢ None → self.new ≡ self.old }
+        ensures memory { (s : State) → IsIn self.old s → result ≡ Err HubFault.Memory → (t : State) × Starves s (opens id) (λ q. false) t × IsIn self.new t }
+    {
+        if !is_above(self.highest, id) {
+            return Err(HubFault::IdNotAbove);
+        }
+        let connection = opening(self.alloc, self.open_count)?;
+        let count = count_with(self.open_count, &connection);
+        put(&mut self.connections, id, connection)?;
+        self.open_count = count;
+        self.highest = Some(id);
+        Ok(())
+    }
+
+    fn receive(&mut self, id: u64, bytes: &[u8]) -> Result<(), HubFault>
+        ensures ok { (s : State) → IsIn self.old s → OnOk result ((t : State) × Steps s (comes id bytes.now) t × IsIn self.new t) }
+        ensures refused { (s : State) → IsIn self.old s → refusal_number result ≡ refusal s (comes id bytes.now) }
+        ensures unchanged { refusal_number result ≢ None → self.new ≡ self.old }
+        ensures memory { (s : State) → IsIn self.old s → result ≡ Err HubFault.Memory → (t : State) × Starves s (comes id bytes.now) (λ q. false) t × IsIn self.new t }
+    {
+        let Some(was_open) = open_at(&self.connections, id) else {
+            return Err(HubFault::UnknownId);
+        };
+        let received = receive_at(self.alloc, &mut self.api, &mut self.connections, id, bytes);
+        self.open_count = open_count(self.open_count, was_open, &self.connections, id);
+        Ok(received?)
     }
 
     fn step(&mut self, event: &Event) -> Result<(), HubFault>
-        ensures ok { (types : List ServedShape) (s : State) → HubStands self.old types s → OnOk result ((t : State) × Steps types s (event_of event.now) t × HubStands self.new types t) }
-        ensures refused { refusal_number result ≡ refusal_of (connections_in self.old) (event_of event.now) }
+        ensures ok { (s : State) → IsIn self.old s → OnOk result ((t : State) × Steps s (event_of event.now) t × IsIn self.new t) }
+        ensures refused { (s : State) → IsIn self.old s → refusal_number result ≡ refusal s (event_of event.now) }
         ensures unchanged { refusal_number result ≢ None → self.new ≡ self.old }
-        ensures memory { (types : List ServedShape) (s : State) → HubStands self.old types s → result ≡ Err HubFault.Memory → (t : State) × Dies s (event_of event.now) t × HubStands self.new types t }
+        ensures memory { (s : State) → IsIn self.old s → result ≡ Err HubFault.Memory → (t : State) × Starves s (event_of event.now) (λ q. false) t × IsIn self.new t }
     {
         match event {
-            Event::Open(id) => open(self.alloc, &mut self.connections, *id),
-            Event::In(id, bytes) => {
-                let Some(at) = place_of(&self.connections, *id) else {
-                    return Err(HubFault::UnknownId);
-                };
-                Ok(hear_at(self.alloc, &mut self.api, &mut self.connections, at, bytes)?)
-            }
+            Event::Open(id) => self.open(*id),
+            Event::In(id, bytes) => self.receive(*id, bytes),
         }
     }
 
-    /// Takes an event. Bytes may come in any pieces: in the event that decides what they ask, the reply is
-    /// written and the connection has ended; two pieces, with no event between them, leave the hub as in one.
-    /// Refused by its id, an event changes nothing; without memory an opening changes nothing, and a
+    /// Takes an event: in the event that decides what the bytes of a connection ask, the reply is written and the
+    /// connection has ended. Refused, an event changes nothing; without memory an opening changes nothing, and a
     /// connection that waits is dead where bytes come on it. Bytes on one that has ended want no memory.
     pub fn on(&mut self, event: &Event) -> Result<(), HubFault>
-        ensures ok { (types : List ServedShape) (s : State) → HubStands self.old types s → OnOk result ((t : State) × Steps types s (event_of event.now) t × HubStands self.new types t) }
-        ensures pieces { (types : List ServedShape) (r s : State) (id : ℕ) (first second : List ℕ) → event_of event.now ≡ comes id second → Steps types r (comes id first) s → HubStands self.old types s → OnOk result ((t : State) × Steps types r (comes id (first ++ second)) t × HubStands self.new types t) }
-        ensures refused { refusal_number result ≡ refusal_of (connections_in self.old) (event_of event.now) }
+        ensures follows { (s : State) → IsIn self.old s → (t : State) × Follows s (happening (event_of event.now) result) t × IsIn self.new t }
+        ensures runs { (r s : State) (before : List Happening) → Runs r before s → IsIn self.old s → (t : State) × Runs r (before ++ happening (event_of event.now) result ∷ []) t × IsIn self.new t }
+        ensures refused { (s : State) → IsIn self.old s → refusal_number result ≡ refusal s (event_of event.now) }
         ensures unchanged { refusal_number result ≢ None → self.new ≡ self.old }
-        ensures runs { (types : List ServedShape) (r s : State) (before : List hub.Event) → Runs types r before s → HubStands self.old types s → result ≢ Err HubFault.Memory → (t : State) × Runs types r (before ++ event_of event.now ∷ []) t × HubStands self.new types t }
-        ensures memory { (types : List ServedShape) (s : State) → HubStands self.old types s → result ≡ Err HubFault.Memory → (t : State) × Dies s (event_of event.now) t × HubStands self.new types t }
     {
         self.step(event)
     }
 
-    /// What was written on a connection; nothing for an unknown id.
+    /// What was written on a connection and not yet taken; nothing for an unknown id.
     pub fn out(&self, id: u64) -> &[u8]
-        ensures { result.now ≡ written_on id (connections_in self.now) }
+        ensures { (s : State) → IsIn self.now s → result.now ≡ out_on s.connections id }
     {
-        match place_of(&self.connections, id) {
-            Some(at) => out_of(&self.connections[at].1),
-            None => &[],
-        }
+        out_at(&self.connections, id)
     }
 
     /// Whether a connection has ended.
     pub fn ended(&self, id: u64) -> bool
-        ensures { result ≡ is_ended id (connections_in self.now) }
+        ensures { (s : State) → IsIn self.now s → result ≡ ended_on s.connections id }
     {
-        match place_of(&self.connections, id) {
-            Some(at) => has_ended(&self.connections[at].1),
+        match open_at(&self.connections, id) {
+            Some(is_open) => !is_open,
             None => false,
         }
     }
 
     /// Whether a connection is open and what it asks isn't decided.
     pub fn wants(&self, id: u64) -> bool
-        ensures { result ≡ is_waiting id (connections_in self.now) }
+        ensures { (s : State) → IsIn self.now s → result ≡ waiting_on s.connections id }
     {
-        match place_of(&self.connections, id) {
-            Some(at) => !has_ended(&self.connections[at].1),
-            None => false,
-        }
+        open_at(&self.connections, id).unwrap_or(false)
     }
 }

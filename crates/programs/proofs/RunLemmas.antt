@@ -1,19 +1,20 @@
 -- Runs grow at their end.
-use Rattle.std.proofs.Common.{◌≡◌, ◌∙◌, ◌<◌, ◌+◌, ◌^◌, ℕ, ap, refl, sym, subst, arith, List, [], ◌∷◌, ◌++◌, length, map, take, Some, append_assoc, append-nil}
+use Rattle.std.proofs.Common.{◌≡◌, ◌∙◌, ◌<◌, ◌+◌, ◌^◌, ℕ, ap, refl, sym, subst, arith, List, [], ◌∷◌, ◌++◌, length, map, take, Bool, true, false, Option, Some, None, append_assoc, append-nil}
+use Rattle.std.specs.Prelude.{is_none}
 use Rattle.std.specs.List.{slice_index_or}
 use Rattle.std.proofs.lemmas.Bool.{lt-ltb}
 use Rattle.std.proofs.lemmas.List.{flat_map_more, map_more, take_more}
-use Rattle.httpedge.specs.Hub.{State, written_on}
-use Rattle.schema.specs.TypesFile.{ServedShape}
+use Rattle.httpedge.specs.Connections.{out_on}
+use Rattle.httpedge.specs.Steps.{State}
 use Rattle.programs.specs.Replays.{Does, Run, Runs, connection_text, connections_text, next_id}
 use Rattle.programs.specs.Script.{Event}
 
-pub runs_more : (types : List ServedShape) (r : Run) (es : List Event) (e : Event) (text more : List ℕ) (p q : Run)
-    → Runs types r es text p → Does types p e more q → Runs types r (es ++ e ∷ []) (text ++ more) q
-runs_more types r [] e text more p q (is_empty, stays) does =
-    (q, more, [], subst (λ x. Does types x e more q) stays does, (refl, refl), ap (λ x. x ++ more) is_empty ∙ sym (append-nil more))
-runs_more types r (d ∷ es) e text more p q (s, first, rest, did, ran, is) does =
-    (s, first, rest ++ more, did, runs_more types s es e rest more p q ran does, ap (λ x. x ++ more) is ∙ append_assoc first rest more)
+pub runs_more : (r : Run) (es : List Event) (e : Event) (text more : List ℕ) (p q : Run)
+    → Runs r es text p → Does p e more q → Runs r (es ++ e ∷ []) (text ++ more) q
+runs_more r [] e text more p q (is_empty, stays) does =
+    (q, more, [], subst (λ x. Does x e more q) stays does, (refl, refl), ap (λ x. x ++ more) is_empty ∙ sym (append-nil more))
+runs_more r (d ∷ es) e text more p q (s, first, rest, did, ran, is) does =
+    (s, first, rest ++ more, did, runs_more s es e rest more p q ran does, ap (λ x. x ++ more) is ∙ append_assoc first rest more)
 
 -- the line of a connection, and the bytes after it
 pub joined : (a b c bytes : List ℕ) → (a ++ (b ++ (32 ∷ (c ++ 10 ∷ []))) ++ bytes) ++ 10 ∷ [] ≡ a ++ (b ++ (32 ∷ (c ++ (10 ∷ (bytes ++ 10 ∷ [])))))
@@ -25,9 +26,9 @@ joined a b c bytes =
 
 -- one connection more
 pub one_more : (s : State) (ids : List ℕ) (i d : ℕ) → i < length ids
-    → connections_text s (take i ids) ++ connection_text (slice_index_or ids i d) (written_on (slice_index_or ids i d) s.connections) ≡ connections_text s (take (i + 1) ids)
+    → connections_text s (take i ids) ++ connection_text (slice_index_or ids i d) (out_on s.connections (slice_index_or ids i d)) ≡ connections_text s (take (i + 1) ids)
 one_more s ids i d lt =
-    flat_map_more (λ (id : ℕ). connection_text id (written_on id s.connections)) [] (take i ids) (slice_index_or ids i d) ∙ ap (connections_text s) (sym (take_more ids i d lt))
+    flat_map_more (λ (id : ℕ). connection_text id (out_on s.connections id)) [] (take i ids) (slice_index_or ids i d) ∙ ap (connections_text s) (sym (take_more ids i d lt))
 
 -- one event more
 pub events_more : {A B : Type 0} (f : A → B) (xs : List A) (i : ℕ) (x : A) → i < length xs → x ≡ slice_index_or xs i x
@@ -39,3 +40,11 @@ events_more f xs i x lt is =
 pub next_is : (old highest id : ℕ) → old ≡ highest → old + 1 < 2 ^ 64 → id ≡ old + 1 → next_id highest ≡ Some id
 next_is old highest id same fits is =
     subst (λ (h : ℕ). next_id h ≡ Some id) same (rw (lt-ltb old 18446744073709551615 (omega arith)) (ap Some (sym is)))
+
+pub none_is : (o : Option ℕ) → is_none o ≡ true → o ≡ None
+none_is None is = refl
+none_is (Some n) is = absurd cc
+
+pub some_is : (o : Option ℕ) → is_none o ≡ false → (n : ℕ) × (o ≡ Some n)
+some_is None is = absurd cc
+some_is (Some n) is = (n, refl)

@@ -4,7 +4,9 @@ use Rattle.std.specs.List.{flat_map}
 use Rattle.std.specs.Fmt.{decimal}
 use Rattle.schema.specs.TypesFile.{ServedShape}
 use Rattle.verbs.specs.Machine.{fresh}
-use Rattle.httpedge.specs.Hub as edge
+use Rattle.httpedge.specs.Connections.{out_on}
+use Rattle.httpedge.specs.Runs as runs
+use Rattle.httpedge.specs.Steps as edge
 use Rattle.wireclient.specs.Reads as reads
 use Rattle.wireclient.specs.Reply as reply
 use Rattle.programs.specs.Script.{Apply, Event, apply, opens, comes}
@@ -36,55 +38,47 @@ pub record Run : Type 0 where
   pub highest : ℕ
   pub others : List ℕ
 
-abbrev pub start : Run
-start = record { hub = edge.no_connections (fresh 1); highest = 0; others = [] }
-
--- the hub takes an event, or refuses it and stays as it is
-abbrev pub Takes : List ServedShape → edge.State → edge.Event → Bool → edge.State → Type 0
-Takes types s e true t = (edge.refusal_of s.connections e ≡ None) × edge.Steps types s e t
-Takes types s e false t = (edge.refusal_of s.connections e ≢ None) × (t ≡ s)
-
-abbrev pub Follows : List ServedShape → edge.State → edge.Event → edge.State → Type 0
-Follows types s e t = (taken : Bool) × Takes types s e taken t
+abbrev pub start : List ServedShape → Run
+start types = record { hub = edge.start types (fresh 1); highest = 0; others = [] }
 
 -- the connection of an apply is the next one, if there is one
 abbrev pub next_id : ℕ → Option ℕ
 next_id highest = if nat_lt highest 18446744073709551615 then Some (highest + 1) else None
 
 -- it opens, the request comes on it, and the text tells its reply
-abbrev pub Answers : List ServedShape → edge.State → ℕ → Apply → List ℕ → edge.State → Type 0
-Answers types s id a text t =
-    (opened : edge.State) × (bytes : List ℕ) × Follows types s (edge.opens id) opened × IsRequestOf a bytes × Follows types opened (edge.comes id bytes) t
-    × TellsReply (edge.written_on id t.connections) text
+abbrev pub Answers : edge.State → ℕ → Apply → List ℕ → edge.State → Type 0
+Answers s id a text t =
+    (opened : edge.State) × (bytes : List ℕ) × runs.Steps s (edge.opens id) opened × IsRequestOf a bytes × runs.Steps opened (edge.comes id bytes) t
+    × TellsReply (out_on t.connections id) text
 
-abbrev pub Applies : List ServedShape → Run → Apply → Option ℕ → List ℕ → Run → Type 0
-Applies types r a None text q = (text ≡ []) × (q ≡ r)
-Applies types r a (Some id) text q = (t : edge.State) × Answers types r.hub id a text t × (q ≡ record { hub = t; highest = id; others = r.others })
+abbrev pub Applies : Run → Apply → Option ℕ → List ℕ → Run → Type 0
+Applies r a None text q = (text ≡ []) × (q ≡ r)
+Applies r a (Some id) text q = (t : edge.State) × Answers r.hub id a text t × (q ≡ record { hub = t; highest = id; others = r.others })
 
--- a connection that opened is one of the others
-abbrev pub noted : Run → ℕ → Bool → edge.State → Run
-noted r id true t = record { hub = t; highest = id; others = r.others ++ id ∷ [] }
-noted r id false t = record { hub = t; highest = r.highest; others = r.others }
+-- a connection that opened, so whose event was not refused, is one of the others
+abbrev pub noted : Run → ℕ → Option ℕ → edge.State → Run
+noted r id None t = record { hub = t; highest = id; others = r.others ++ id ∷ [] }
+noted r id (Some n) t = record { hub = t; highest = r.highest; others = r.others }
 
 -- the event leads from a run to another, and prints the text
-abbrev pub Does : List ServedShape → Run → Event → List ℕ → Run → Type 0
-Does types r (apply a) text q = Applies types r a (next_id r.highest) text q
-Does types r (opens id) text q = (text ≡ []) × ((taken : Bool) × (t : edge.State) × Takes types r.hub (edge.opens id) taken t × (q ≡ noted r id taken t))
-Does types r (comes id bytes) text q = (text ≡ []) × ((t : edge.State) × Follows types r.hub (edge.comes id bytes) t × (q ≡ record { hub = t; highest = r.highest; others = r.others }))
+abbrev pub Does : Run → Event → List ℕ → Run → Type 0
+Does r (apply a) text q = Applies r a (next_id r.highest) text q
+Does r (opens id) text q = (text ≡ []) × ((t : edge.State) × runs.Steps r.hub (edge.opens id) t × (q ≡ noted r id (edge.refusal r.hub (edge.opens id)) t))
+Does r (comes id bytes) text q = (text ≡ []) × ((t : edge.State) × runs.Steps r.hub (edge.comes id bytes) t × (q ≡ record { hub = t; highest = r.highest; others = r.others }))
 
 -- ---- all events
 
-abbrev pub Runs : List ServedShape → Run → List Event → List ℕ → Run → Type 0
-Runs types r [] text q = (text ≡ []) × (q ≡ r)
-Runs types r (e ∷ es) text q = (p : Run) × (first : List ℕ) × (rest : List ℕ) × Does types r e first p × Runs types p es rest q × (text ≡ first ++ rest)
+abbrev pub Runs : Run → List Event → List ℕ → Run → Type 0
+Runs r [] text q = (text ≡ []) × (q ≡ r)
+Runs r (e ∷ es) text q = (p : Run) × (first : List ℕ) × (rest : List ℕ) × Does r e first p × Runs p es rest q × (text ≡ first ++ rest)
 
 -- what was written on these connections
 abbrev pub connections_text : edge.State → List ℕ → List ℕ
-connections_text s ids = flat_map (λ id. connection_text id (edge.written_on id s.connections)) ids
+connections_text s ids = flat_map (λ id. connection_text id (out_on s.connections id)) ids
 
 -- what the events print: the replies to the applies, then what was written on the other connections
 abbrev pub Prints : List ServedShape → List Event → List ℕ → Type 0
-Prints types events text = (q : Run) × (replies : List ℕ) × Runs types start events replies q × (text ≡ replies ++ connections_text q.hub q.others)
+Prints types events text = (q : Run) × (replies : List ℕ) × Runs (start types) events replies q × (text ≡ replies ++ connections_text q.hub q.others)
 
 -- a front of what the first events print
 abbrev pub PrintsFront : List ServedShape → List Event → List ℕ → Type 0

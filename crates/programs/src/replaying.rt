@@ -1,16 +1,16 @@
 //! Runs scripts.
-ghost use Rattle.std.specs.Prelude.{◌≡◌, ◌≢◌, ◌++◌, ℕ, [], List, Bool, IfOk, OnOk, map, take, option_map, string_bytes};
+ghost use Rattle.std.specs.Prelude.{◌≡◌, ◌≢◌, ◌++◌, ℕ, [], List, Bool, IfOk, OnOk, is_none, map, take, option_map, string_bytes};
 ghost use Rattle.std.specs.Io.KnownBytes.{Appends};
 ghost use Rattle.std.specs.List.{flat_map};
 ghost use Rattle.schema.specs.Served.{types_view};
-ghost use Rattle.schema.specs.TypesFile.{ServedShape};
-ghost use Rattle.httpedge.specs.Hub as edge;
-ghost use Rattle.httpedge.specs.HubSeen.{HubStands, event_of};
+ghost use Rattle.httpedge.specs.HubSeen.{IsIn, event_of};
+ghost use Rattle.httpedge.specs.Runs.{Steps};
+ghost use Rattle.httpedge.specs.Steps as edge;
 ghost use Rattle.wireclient.specs.Reply as reply;
 ghost use Rattle.wireclient.specs.Reads as reads;
 ghost use Rattle.wireclient.specs.Views.{told_of};
 ghost use Rattle.programs.specs.ApplyLine.{apply_of, event_view};
-ghost use Rattle.programs.specs.Replays.{Answers, Applies, Does, Follows, Prints, PrintsFront, Runs, Takes, TellsReply, connection_text, connections_text, next_id, start, words_of};
+ghost use Rattle.programs.specs.Replays.{Answers, Applies, Does, Prints, PrintsFront, Runs, TellsReply, connection_text, connections_text, next_id, start, words_of};
 ghost use Rattle.programs.specs.Replays as replays;
 ghost use Rattle.programs.specs.Script.{opens, comes};
 ghost use Rattle.programs.specs.Requests.{IsRequestOf, query_of, target_of};
@@ -159,7 +159,7 @@ fn connection_lines(alloc: Global, id: u64, written: &[u8]) -> Result<Vec<u8>, A
 
 /// Hands an event to the hub: whether it was taken.
 fn is_taken(hub: &mut Hub, event: &httpedge::Event) -> Result<bool, ReplayFault>
-    ensures { (types : List ServedShape) (s : edge.State) → HubStands hub.old types s → IfOk result (λ taken. (t : edge.State) × Takes types s (event_of event.now) taken t × HubStands hub.new types t) }
+    ensures { (s : edge.State) → IsIn hub.old s → IfOk result (λ taken. (taken ≡ is_none (edge.refusal s (event_of event.now))) × ((t : edge.State) × Steps s (event_of event.now) t × IsIn hub.new t)) }
 {
     match hub.on(event) {
         Ok(()) => Ok(true),
@@ -171,7 +171,7 @@ fn is_taken(hub: &mut Hub, event: &httpedge::Event) -> Result<bool, ReplayFault>
 
 /// Opens a connection for an apply line and hands it the request: the line that tells the reply.
 fn answer(alloc: Global, hub: &mut Hub, id: u64, line: &ApplyLine) -> Result<Vec<u8>, ReplayFault>
-    ensures { (types : List ServedShape) (s : edge.State) → HubStands hub.old types s → IfOk result (λ v. (t : edge.State) × Answers types s id (apply_of line.now) v.items t × HubStands hub.new types t) }
+    ensures { (s : edge.State) → IsIn hub.old s → IfOk result (λ v. (t : edge.State) × Answers s id (apply_of line.now) v.items t × IsIn hub.new t) }
 {
     let request = request_of(alloc, line)?;
     is_taken(hub, &httpedge::Event::Open(id))?;
@@ -192,7 +192,7 @@ struct Run {
 
 impl Run {
     fn new(alloc: Global, types: Types) -> Result<Run, Fault>
-        ensures { IfOk result (λ run. RunStands run (types_view types) start) }
+        ensures { IfOk result (λ run. RunStands run (start (types_view types))) }
     {
         Ok(Run {
             alloc,
@@ -203,7 +203,7 @@ impl Run {
     }
 
     fn apply(&mut self, line: &ApplyLine) -> Result<Vec<u8>, ReplayFault>
-        ensures { (types : List ServedShape) (r : replays.Run) → RunStands self.old types r → IfOk result (λ v. (q : replays.Run) × Applies types r (apply_of line.now) (next_id r.highest) v.items q × RunStands self.new types q) }
+        ensures { (r : replays.Run) → RunStands self.old r → IfOk result (λ v. (q : replays.Run) × Applies r (apply_of line.now) (next_id r.highest) v.items q × RunStands self.new q) }
     {
         let Some(id) = self.highest.checked_add(1) else {
             return Ok(Vec::new(self.alloc));
@@ -214,7 +214,7 @@ impl Run {
     }
 
     fn open(&mut self, id: u64) -> Result<(), ReplayFault>
-        ensures { (types : List ServedShape) (r : replays.Run) → RunStands self.old types r → OnOk result ((q : replays.Run) × Does types r (opens id) [] q × RunStands self.new types q) }
+        ensures { (r : replays.Run) → RunStands self.old r → OnOk result ((q : replays.Run) × Does r (opens id) [] q × RunStands self.new q) }
     {
         if is_taken(&mut self.hub, &httpedge::Event::Open(id))? {
             self.highest = id;
@@ -223,8 +223,8 @@ impl Run {
         Ok(())
     }
 
-    fn hear(&mut self, id: u64, text: &str) -> Result<(), ReplayFault>
-        ensures { (types : List ServedShape) (r : replays.Run) → RunStands self.old types r → OnOk result ((q : replays.Run) × Does types r (comes id text.now) [] q × RunStands self.new types q) }
+    fn receive(&mut self, id: u64, text: &str) -> Result<(), ReplayFault>
+        ensures { (r : replays.Run) → RunStands self.old r → OnOk result ((q : replays.Run) × Does r (comes id text.now) [] q × RunStands self.new q) }
     {
         let bytes = Vec::from_slice(self.alloc, text.as_bytes())?;
         is_taken(&mut self.hub, &httpedge::Event::In(id, bytes))?;
@@ -233,7 +233,7 @@ impl Run {
 
     /// Takes one event: what is printed of it.
     fn take(&mut self, event: &Event) -> Result<Vec<u8>, ReplayFault>
-        ensures { (types : List ServedShape) (r : replays.Run) → RunStands self.old types r → IfOk result (λ v. (q : replays.Run) × Does types r (event_view event.now) v.items q × RunStands self.new types q) }
+        ensures { (r : replays.Run) → RunStands self.old r → IfOk result (λ v. (q : replays.Run) × Does r (event_view event.now) v.items q × RunStands self.new q) }
     {
         match event {
             Event::Apply(line) => self.apply(line),
@@ -242,7 +242,7 @@ impl Run {
                 Ok(Vec::new(self.alloc))
             }
             Event::In(id, text) => {
-                self.hear(*id, text.as_str())?;
+                self.receive(*id, text.as_str())?;
                 Ok(Vec::new(self.alloc))
             }
         }
@@ -257,8 +257,8 @@ fn write<W: Write>(writer: &mut W, text: &[u8]) -> Result<(), ReplayFault>
 }
 
 fn take_all<W: Write>(run: &mut Run, events: &[Event], writer: &mut W) -> Result<(), ReplayFault>
-    ensures ok { (types : List ServedShape) (r : replays.Run) → RunStands run.old types r → OnOk result ((q : replays.Run) × (text : List ℕ) × Runs types r (map event_view events.now) text q × RunStands run.new types q × Appends (W.contents writer.old) (W.contents writer.new) text) }
-    ensures memory { (types : List ServedShape) (r : replays.Run) → RunStands run.old types r → result ≡ Err ReplayFault.Memory → (i : ℕ) × (q : replays.Run) × (text : List ℕ) × Runs types r (map event_view (take i events.now)) text q × Appends (W.contents writer.old) (W.contents writer.new) text }
+    ensures ok { (r : replays.Run) → RunStands run.old r → OnOk result ((q : replays.Run) × (text : List ℕ) × Runs r (map event_view events.now) text q × RunStands run.new q × Appends (W.contents writer.old) (W.contents writer.new) text) }
+    ensures memory { (r : replays.Run) → RunStands run.old r → result ≡ Err ReplayFault.Memory → (i : ℕ) × (q : replays.Run) × (text : List ℕ) × Runs r (map event_view (take i events.now)) text q × Appends (W.contents writer.old) (W.contents writer.new) text }
 {
     for event in events {
         let text = run.take(event)?;
@@ -273,8 +273,8 @@ fn write_connections<W: Write>(
     ids: &[u64],
     writer: &mut W,
 ) -> Result<(), ReplayFault>
-    ensures ok { (types : List ServedShape) (s : edge.State) → HubStands hub.now types s → OnOk result (Appends (W.contents writer.old) (W.contents writer.new) (connections_text s ids.now)) }
-    ensures memory { (types : List ServedShape) (s : edge.State) → HubStands hub.now types s → result ≡ Err ReplayFault.Memory → (i : ℕ) × Appends (W.contents writer.old) (W.contents writer.new) (connections_text s (take i ids.now)) }
+    ensures ok { (s : edge.State) → IsIn hub.now s → OnOk result (Appends (W.contents writer.old) (W.contents writer.new) (connections_text s ids.now)) }
+    ensures memory { (s : edge.State) → IsIn hub.now s → result ≡ Err ReplayFault.Memory → (i : ℕ) × Appends (W.contents writer.old) (W.contents writer.new) (connections_text s (take i ids.now)) }
 {
     for id in ids {
         let lines = connection_lines(alloc, *id, hub.out(*id))?;

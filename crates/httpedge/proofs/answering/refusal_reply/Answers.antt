@@ -3,7 +3,7 @@ use Rattle.std.specs.Prelude.{option_map}
 use Rattle.std.proofs.lemmas.Result.{IfOk-weaker}
 use Rattle.serde_json.specs.Written.{compact_text, has_float}
 use Rattle.httpedge.specs.ReplyBytes.{reply}
-use Rattle.httpedge.proofs.Told.{status_plain}
+use Rattle.httpedge.proofs.Saying.{status_plain}
 use Rattle.httpedge.proofs.answering.refusal_reply.Goals as goal
 
 pub returns : goal.returns

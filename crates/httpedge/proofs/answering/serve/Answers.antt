@@ -2,8 +2,8 @@ use Rattle.std.proofs.Common.{subst}
 use Rattle.verbs.specs.Calls.{Plan}
 use Rattle.verbs.specs.Machine.{after}
 use Rattle.verbs.specs.Seen.{Stands}
-use Rattle.httpedge.specs.Answers.{IsAnswerBytes}
-use Rattle.httpedge.proofs.Told.{on_err}
+use Rattle.httpedge.specs.Held.{IsAnswerBytes}
+use Rattle.httpedge.proofs.Saying.{on_err}
 use Rattle.httpedge.proofs.answering.serve.Goals as goal
 
 pub returns-clause-ok : goal.returns-clause-ok

@@ -13,30 +13,30 @@ use Rattle.programs.proofs.replaying.replay.Goals as goal
 
 pub returns-clause-ok : goal.returns-clause-ok
 returns-clause-ok g c =
-    let all = c.in_ok-take_all.ensures.ok (types_view c.args.types) start c.in_ok-run.ensures in
+    let all = c.in_ok-take_all.ensures.ok (start (types_view c.args.types)) c.in_ok-run.ensures in
     let told = connections_text all.0.hub all.0.others in
     let written = subst (λ ids. OnOk c.write_connections.result (Appends (g.W.Write.contents c.take_all.new.writer) (g.W.Write.contents c.write_connections.new.writer) (connections_text all.0.hub ids)))
-    (c.deref.ensures.value ∙ all.3.2) (c.write_connections.ensures.ok (types_view c.args.types) all.0.hub all.3.0) in
+    (c.deref.ensures.value ∙ all.3.2) (c.write_connections.ensures.ok all.0.hub all.3.0) in
     on_ok_weaker c.write_connections.result (λ more. (all.1 ++ told, (all.0, all.1, all.2, refl), Appends-trans _ _ _ _ _ all.4 more)) written
 
 pub returns-in_err-run-clause-memory : goal.returns-in_err-run-clause-memory
 returns-in_err-run-clause-memory g c = λ e.
-    ([], at_event (types_view c.args.types) (map event_view c.args.events.now) 0 start [] (refl, refl), Appends-nil (g.W.Write.contents c.args.writer.now))
+    ([], at_event (types_view c.args.types) (map event_view c.args.events.now) 0 (start (types_view c.args.types)) [] (refl, refl), Appends-nil (g.W.Write.contents c.args.writer.now))
 
 pub returns-in_err-take_all-clause-memory : goal.returns-in_err-take_all-clause-memory
 returns-in_err-take_all-clause-memory g c = λ e.
     let types = types_view c.args.types in
     let p = err_from_is_err_and c.from_residual-in_err-take_all.result c.from_residual-in_err-take_all.ensures.1 in
     let same = sym (subst (λ (x : ReplayFault). c.from_residual-in_err-take_all.result ≡ Err x) p.2 p.1) ∙ e in
-    let all = c.in_err-take_all.ensures.memory types start c.in_ok-run.ensures same in
-    let ran = subst (λ es. Runs types start es all.2 all.1) (sym (take-map event_view all.0 c.args.events.now)) all.3 in
+    let all = c.in_err-take_all.ensures.memory (start types) c.in_ok-run.ensures same in
+    let ran = subst (λ es. Runs (start types) es all.2 all.1) (sym (take-map event_view all.0 c.args.events.now)) all.3 in
     (all.2, at_event types (map event_view c.args.events.now) all.0 all.1 all.2 ran, all.4)
 
 pub returns-clause-memory : goal.returns-clause-memory
 returns-clause-memory g c = λ e.
     let types = types_view c.args.types in
-    let all = c.in_ok-take_all.ensures.ok types start c.in_ok-run.ensures in
-    let some = c.write_connections.ensures.memory types all.0.hub all.3.0 e in
+    let all = c.in_ok-take_all.ensures.ok (start types) c.in_ok-run.ensures in
+    let some = c.write_connections.ensures.memory all.0.hub all.3.0 e in
     let more = subst (λ ids. Appends (g.W.Write.contents c.take_all.new.writer) (g.W.Write.contents c.write_connections.new.writer) (connections_text all.0.hub (take some.0 ids)))
     (c.deref.ensures.value ∙ all.3.2) some.1 in (
       all.1 ++ connections_text all.0.hub (take some.0 all.0.others),

@@ -1,6 +1,5 @@
 use Rattle.std.proofs.Common.{List, ℕ, map, take}
 use Rattle.std.specs.Io.KnownBytes.{Appends}
-use Rattle.schema.specs.TypesFile.{ServedShape}
 use Rattle.programs.specs.ApplyLine.{event_view}
 use Rattle.programs.specs.Replays as replays
 use Rattle.programs.specs.Running.{RunStands}
@@ -8,6 +7,6 @@ use Rattle.programs.proofs.replaying.take_all.Given as goal
 
 abbrev pub invariant-loop-event : goal.invariant-loop-event
 invariant-loop-event g l =
-    (types : List ServedShape) (r : replays.Run) → RunStands l.fn.run types r
-    → (q : replays.Run) × (text : List ℕ) × replays.Runs types r (map event_view (take l.event-index l.events)) text q
-    × RunStands l.run types q × Appends (g.W.Write.contents l.fn.writer) (g.W.Write.contents l.writer) text
+    (r : replays.Run) → RunStands l.fn.run r
+    → (q : replays.Run) × (text : List ℕ) × replays.Runs r (map event_view (take l.event-index l.events)) text q
+    × RunStands l.run q × Appends (g.W.Write.contents l.fn.writer) (g.W.Write.contents l.writer) text

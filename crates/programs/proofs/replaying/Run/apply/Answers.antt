@@ -5,8 +5,8 @@ use Rattle.programs.proofs.RunLemmas.{next_is}
 use Rattle.programs.proofs.replaying.Run.apply.Goals as goal
 
 pub returns : goal.returns
-returns c = λ types r stands.
-    let t = c.in_ok-text.ensures types r.hub stands.0 in
+returns c = λ r stands.
+    let t = c.in_ok-text.ensures r.hub stands.0 in
     let q : Run = record { hub = t.0; highest = c.in-Some.id; others = r.others } in
     let next = next_is c.args.self.now.highest r.highest c.in-Some.id stands.1 c.in-Some.ensures.0 c.in-Some.ensures.1 in
-    (q, subst (λ o. Applies types r (apply_of c.args.line.now) o c.in_ok-text.text.items q) (sym next) (t.0, t.1, refl), (t.2, refl, stands.2))
+    (q, subst (λ o. Applies r (apply_of c.args.line.now) o c.in_ok-text.text.items q) (sym next) (t.0, t.1, refl), (t.2, refl, stands.2))

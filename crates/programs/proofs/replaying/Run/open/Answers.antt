@@ -1,16 +1,20 @@
-use Rattle.std.proofs.Common.{◌∙◌, ◌++◌, ◌∷◌, [], true, false, ap, refl, subst}
-use Rattle.httpedge.specs.Hub as edge
-use Rattle.programs.specs.Replays.{Takes, noted}
+use Rattle.std.proofs.Common.{◌≡◌, ◌∙◌, ◌++◌, ◌∷◌, [], ℕ, true, false, Option, Some, None, ap, refl, subst, sym}
+use Rattle.std.specs.Prelude.{is_none}
+use Rattle.httpedge.specs.Steps as edge
+use Rattle.programs.specs.Replays.{noted}
+use Rattle.programs.proofs.RunLemmas.{none_is, some_is}
 use Rattle.programs.proofs.replaying.Run.open.Goals as goal
 
 pub returns-in_ok-push : goal.returns-in_ok-push
-returns-in_ok-push c = λ types r stands.
-    let t = c.in_ok-is_taken.ensures types r.hub stands.0 in
-    let taken = subst (λ b. Takes types r.hub (edge.opens c.args.id) b t.0) c.if-branch.true t.1 in
-    (noted r c.args.id true t.0, (refl, (true, t.0, taken, refl)), (t.2, refl, c.in_ok-push.ensures.items ∙ ap (λ ids. ids ++ c.args.id ∷ []) stands.2))
+returns-in_ok-push c = λ r stands.
+    let t = c.in_ok-is_taken.ensures r.hub stands.0 in
+    let o = edge.refusal r.hub (edge.opens c.args.id) in
+    let none = none_is o (sym t.0 ∙ c.if-branch.true) in
+    (noted r c.args.id None t.1, (refl, (t.1, t.2, ap (λ n. noted r c.args.id n t.1) (sym none))), (t.3, refl, c.in_ok-push.ensures.items ∙ ap (λ ids. ids ++ c.args.id ∷ []) stands.2))
 
 pub returns-else-branch : goal.returns-else-branch
-returns-else-branch c = λ types r stands.
-    let t = c.in_ok-is_taken.ensures types r.hub stands.0 in
-    let taken = subst (λ b. Takes types r.hub (edge.opens c.args.id) b t.0) c.if-branch.false t.1 in
-    (noted r c.args.id false t.0, (refl, (false, t.0, taken, refl)), (t.2, stands.1, stands.2))
+returns-else-branch c = λ r stands.
+    let t = c.in_ok-is_taken.ensures r.hub stands.0 in
+    let o = edge.refusal r.hub (edge.opens c.args.id) in
+    let some = some_is o (sym t.0 ∙ c.if-branch.false) in
+    (noted r c.args.id (Some some.0) t.1, (refl, (t.1, t.2, ap (λ n. noted r c.args.id n t.1) (sym some.1))), (t.3, stands.1, stands.2))

@@ -1,0 +1,350 @@
+-- What the hub's values stand for, after each event.
+use Rattle.std.proofs.Common.{arith, ◌≡◌, ◌≢◌, ℕ, zero, suc, ◌+◌, ◌-◌, ◌<◌, Bool, true, false, cond, not, ltb, ◌&&◌, List, [], ◌∷◌, ◌++◌, length, drop, Option, Some, None, Result, Ok, Err, refl, sym, ap, ap₂, subst, ◌∙◌}
+use Rattle.std.specs.Prelude.{is_some, option_map, unwrap_or, nat_le, nat_lt, OnOk}
+use Rattle.std.proofs.lemmas.Bool.{ltb-true, lt-ltb}
+use Rattle.std.proofs.lemmas.Bool.Decides.{nat_tests}
+use Rattle.std.specs.BTreeMap.{BTreeMap, get, is_at}
+use Rattle.std.specs.Map.{lookup}
+use Rattle.std.specs.List.{list_all}
+use Rattle.std.specs.Cmp.{nat_cmp_total, eq_by_cmp_equiv}
+use Rattle.std.specs.FinMap as fin
+use Rattle.std.specs.Ordering.{nat_cmp, eq_by_cmp}
+use Rattle.schema.specs.TypesFile.{ServedShape}
+use Rattle.verbs.specs.declared.api.Api.{Api}
+use Rattle.verbs.specs.Machine.{Machine}
+use Rattle.verbs.specs.Seen.{Stands}
+use Rattle.httpedge.specs.declared.connection.Connection as conns
+use Rattle.httpedge.specs.declared.connection.Connection.TheVariants as conn
+use Rattle.httpedge.specs.declared.fault.HubFault.{HubFault}
+use Rattle.httpedge.specs.declared.fault.HubFault.TheVariants.{IdNotAbove, UnknownId, Memory}
+use Rattle.httpedge.specs.Asks.{Asked}
+use Rattle.httpedge.specs.Connections.{Connection, Connections, Standing, waiting, watching, ended, gone, has_ended, is_new, is_open, is_waiting, left_out, open_count, opened, out_of, with_standing, with_written}
+use Rattle.httpedge.specs.Decision.{undecided, refused, accepted}
+use Rattle.httpedge.specs.Held.{DiesAt, Holds, HoldsAt, PutAt, ReceivedAt, ReceivedBy, Represents, count_after, is_above, is_open_in, out_in, waiting_for}
+use Rattle.httpedge.specs.HubSeen.{happening, refusal_number}
+use Rattle.httpedge.specs.Refusals.{as_denied, too_many_connections}
+use Rattle.httpedge.specs.Runs.{Follows, Happening, Runs, Starves, Steps}
+use Rattle.httpedge.specs.Steps.{Event, State, opens, comes, goes, pumps, ticks, compacts, by_connection, connection_after, dead, opening, received, refusal, refusal_reply, start, taken, unless_refused, with_connection}
+use Rattle.httpedge.proofs.Connected.{Entries, above_known, ids, itself, new_put, new_still, one_if, open_put, opens_in, opens_of, tied_same}
+use Rattle.httpedge.proofs.Outcomes.{ComesBy, ComesOn}
+
+abbrev pub Held : Type 0
+Held = BTreeMap ℕ conns.Connection
+
+-- ---- one connection
+
+pub same_open : (types : List ServedShape) (d : conns.Connection) (c : Connection) → Holds types d c → is_open_in d ≡ is_open c.standing
+same_open types (conn.Head front) c is = sym (ap (λ (x : Connection). is_open x.standing) is)
+same_open types (conn.Body p) c (front, is, awaits) = sym (ap (λ (x : Connection). is_open x.standing) is)
+same_open types (conn.Ended out) c (is, rest) = sym (ap is_open is)
+
+pub same_waiting : (types : List ServedShape) (d : conns.Connection) (c : Connection) → Holds types d c → is_open_in d ≡ is_waiting c.standing
+same_waiting types (conn.Head front) c is = sym (ap (λ (x : Connection). is_waiting x.standing) is)
+same_waiting types (conn.Body p) c (front, is, awaits) = sym (ap (λ (x : Connection). is_waiting x.standing) is)
+same_waiting types (conn.Ended out) c (is, rest) = sym (ap is_waiting is)
+
+pub same_ended : (types : List ServedShape) (d : conns.Connection) (c : Connection) → Holds types d c → not (is_open_in d) ≡ has_ended c.standing
+same_ended types (conn.Head front) c is = sym (ap (λ (x : Connection). has_ended x.standing) is)
+same_ended types (conn.Body p) c (front, is, awaits) = sym (ap (λ (x : Connection). has_ended x.standing) is)
+same_ended types (conn.Ended out) c (is, rest) = sym (ap has_ended is)
+
+pub same_out : (types : List ServedShape) (d : conns.Connection) (c : Connection) → Holds types d c → out_in d ≡ out_of c
+same_out types (conn.Head front) c is = sym (ap out_of is)
+same_out types (conn.Body p) c (front, is, awaits) = sym (ap out_of is)
+same_out types (conn.Ended out) c (is, rest) = sym rest ∙ sym (ap (λ (st : Standing). left_out st (drop c.taken c.written)) is)
+
+some_of : {A : Type 0} {x y : A} → Some x ≡ Some y → x ≡ y
+some_of e = cc
+
+false_true : false ≡ true → ⊥
+false_true e = cc
+
+-- one that is held neither watches nor has gone
+abbrev pub is_plain : Standing → Bool
+is_plain (waiting front) = true
+is_plain (watching w) = false
+is_plain ended = true
+is_plain gone = false
+
+plain : (types : List ServedShape) (d : conns.Connection) (c : Connection) → Holds types d c → is_plain c.standing ≡ true
+plain types (conn.Head front) c is = ap (λ (x : Connection). is_plain x.standing) is
+plain types (conn.Body p) c (front, is, awaits) = ap (λ (x : Connection). is_plain x.standing) is
+plain types (conn.Ended out) c (is, rest) = ap is_plain is
+
+-- ---- the connection of an id
+
+pub none_held : (types : List ServedShape) (o : Option conns.Connection) (p : Option Connection) → HoldsAt types o p → o ≡ None → p ≡ None
+none_held types None None holds is = refl
+none_held types None (Some c) holds is = absurd holds
+none_held types (Some d) p holds is = absurd cc
+
+pub some_held : (types : List ServedShape) (o : Option conns.Connection) (p : Option Connection) (d : conns.Connection) → HoldsAt types o p → o ≡ Some d
+    → (c : Connection) × (p ≡ Some c) × Holds types d c
+some_held types None p d holds is = absurd cc
+some_held types (Some e) None d holds is = absurd holds
+some_held types (Some e) (Some c) d holds is = (c, refl, subst (λ (x : conns.Connection). Holds types x c) (some_of is) holds)
+
+holds_by : (types : List ServedShape) (b : Bool) (d : conns.Connection) (c : Connection) (o : Option conns.Connection) (p : Option Connection) → Holds types d c → HoldsAt types o p
+    → HoldsAt types (cond b (Some d) o) (cond b (Some c) p)
+holds_by types true d c o p one other = one
+holds_by types false d c o p one other = other
+
+held_put : (types : List ServedShape) (old new : Held) (all : Connections) (id : ℕ) (d : conns.Connection) (c : Connection)
+    → ((q : ℕ) → HoldsAt types (get nat_cmp old q) (fin.get all q)) → PutAt id d old new → Holds types d c → (q : ℕ) → HoldsAt types (get nat_cmp new q) (fin.get (fin.insert all id c) q)
+held_put types old new all id d c held put holds q =
+    let b = eq_by_cmp nat_cmp id q in
+    let seen : fin.get (fin.insert all id c) q ≡ cond b (Some c) (fin.get all q) =
+    fin.get-insert nat_cmp_total all id c q ∙ ap (λ (t : Bool). cond t (Some c) (fin.get all q)) ((eq_by_cmp_equiv nat_cmp_total).symm q id) in
+    subst (λ (o : Option conns.Connection). HoldsAt types o (fin.get (fin.insert all id c) q)) (sym (put q))
+    (subst (λ (p : Option Connection). HoldsAt types (cond b (Some d) (get nat_cmp old q)) p) (sym seen)
+    (holds_by types b d c (get nat_cmp old q) (fin.get all q) holds (held q)))
+
+there : (b : Bool) (c : Connection) (o : Option Connection) → (b ≡ true → o ≡ Some c) → cond b (Some c) o ≡ o
+there true c o is = sym (is refl)
+there false c o is = refl
+
+-- to put what is there is to change nothing
+put_same : (all : Connections) (id : ℕ) (c : Connection) → fin.get all id ≡ Some c → fin.insert all id c ≡ all
+put_same all id c got = fin.same_map nat_cmp_total fin.nat_cmp-IsAntisymmetric _ _ (λ q.
+    fin.get-insert nat_cmp_total all id c q
+    ∙ there (eq_by_cmp nat_cmp q id) c (fin.get all q) (λ e. ap (fin.get all) (tied_same q id e) ∙ got))
+
+held_here : (old new : Held) (id : ℕ) (d : conns.Connection) → PutAt id d old new → get nat_cmp new id ≡ Some d
+held_here old new id d put = put id ∙ ap (λ (b : Bool). cond b (Some d) (get nat_cmp old id)) (itself id)
+
+-- ---- a hub without connections
+
+no_entry : (es : List (ℕ × Connection)) → length es ≡ 0 → es ≡ []
+no_entry [] e = refl
+no_entry (x ∷ es) e = absurd (omega (arith, e))
+
+no_entries : fin.entries ((fin.empty {X = Connection} {R = nat_cmp})) ≡ []
+no_entries = no_entry (fin.entries (fin.empty {X = Connection} {R = nat_cmp})) (sym (fin.len-entries (fin.empty {X = Connection} {R = nat_cmp})) ∙ fin.len-empty nat_cmp Connection)
+
+nothing_in : (q : ℕ) (held : Held) → held.entries ≡ [] → get nat_cmp held q ≡ None
+nothing_in q held none = ap (lookup (is_at (nat_cmp q))) none
+
+pub start_in : (types : List ServedShape) (m : Machine) (api : Api) (held : Held) → Stands api types m → held.entries ≡ [] → Represents api held 0 None (start types m)
+start_in types m api held stands none = record {
+  machine = stands;
+  connections = λ q. subst (λ (o : Option conns.Connection). HoldsAt types o (fin.get (fin.empty {X = Connection} {R = nat_cmp}) q)) (sym (nothing_in q held none))
+      (subst (λ (p : Option Connection). HoldsAt types None p) (sym (fin.get-empty nat_cmp q)) tt);
+  count_is = sym (ap opens_in no_entries);
+  highest_is = λ q. ap (λ (es : Entries). list_all (λ known. nat_lt known q) (ids es)) no_entries;
+}
+
+-- ---- an opening
+
+not_below : (id : ℕ) → nat_lt id id ≡ true → ⊥
+not_below id e = let low : id < id = ltb-true id id e in omega (arith, low)
+
+unknown : (all : Connections) (id : ℕ) (o : Option Connection) → fin.get all id ≡ o → is_new all id ≡ true → o ≡ None
+unknown all id None got new = refl
+unknown all id (Some c) got new = absurd (not_below id (above_known all id id c got new))
+
+above_both : (highest : Option ℕ) (id q : ℕ) → is_above highest id ≡ true → nat_lt id q ≡ true → is_above highest q ≡ true
+above_both None id q one other = refl
+above_both (Some h) id q one other =
+    let low : h < id = ltb-true h id one in
+    let next : id < q = ltb-true id q other in
+    lt-ltb h q (omega (arith, low, next))
+
+first_alone : (a b : Bool) → (a ≡ true → b ≡ true) → a && b ≡ a
+first_alone true b h = h refl
+first_alone false b h = refl
+
+no_more : (n : ℕ) → n ≡ n + 0
+no_more n = omega arith
+
+abbrev pub refused_opening : Connection
+refused_opening = with_written opened (refusal_reply (as_denied too_many_connections)) ended
+
+opened_count : (full : Bool) (c : Connection) (n : ℕ) → c ≡ cond full refused_opening opened → (full ≡ false → nat_lt n 1024 ≡ true)
+    → cond (is_open c.standing && nat_lt n 1024) (n + 1) n ≡ n + one_if (is_open c.standing)
+opened_count true c n is low = ap (λ (x : Connection). cond (is_open x.standing && nat_lt n 1024) (n + 1) n) is ∙ no_more n ∙ sym (ap (λ (x : Connection). n + one_if (is_open x.standing)) is)
+opened_count false c n is low =
+    ap (λ (x : Connection). cond (is_open x.standing && nat_lt n 1024) (n + 1) n) is ∙ ap (λ (b : Bool). cond b (n + 1) n) (low refl)
+    ∙ sym (ap (λ (x : Connection). n + one_if (is_open x.standing)) is)
+
+not_full : (n : ℕ) → nat_le 1024 n ≡ false → nat_lt n 1024 ≡ true
+not_full n e = grind (arith, nat_tests)
+
+-- the count that the code keeps
+pub count_with : (types : List ServedShape) (all : Connections) (d : conns.Connection) (n : ℕ) → n ≡ open_count all → Holds types d (opening all)
+    → cond (is_open_in d && nat_lt n 1024) (n + 1) n ≡ n + one_if (is_open_in d)
+count_with types all d n is holds =
+    let same = same_open types d (opening all) holds in
+    ap (λ (b : Bool). cond (b && nat_lt n 1024) (n + 1) n) same
+    ∙ opened_count (nat_le 1024 (open_count all)) (opening all) n refl (λ e. not_full n (ap (nat_le 1024) is ∙ e))
+    ∙ sym (ap (λ (b : Bool). n + one_if b) same)
+
+pub opens_well : (s : State) (id count' : ℕ) (api : Api) (old new : Held) (count : ℕ) (highest : Option ℕ) (d : conns.Connection) → Represents api old count highest s
+    → is_above highest id ≡ true → Holds s.types d (opening s.connections) → PutAt id d old new → count' ≡ count + one_if (is_open_in d)
+    → (t : State) × Steps s (opens id) t × Represents api new count' (Some id) t
+opens_well s id count' api old new count highest d held above holds put is =
+    let c = opening s.connections in
+    let isnew : is_new s.connections id ≡ true = held.highest_is id ∙ above in
+    let t = with_connection s id c in
+    let fresh : opens_of (fin.get s.connections id) ≡ 0 = ap opens_of (unknown s.connections id (fin.get s.connections id) refl isnew) in
+    let counted = open_put s.connections id c in
+    let same : one_if (is_open_in d) ≡ one_if (is_open c.standing) = ap one_if (same_open s.types d c holds) in
+    let was = held.count_is in (
+      t,
+      (undecided, [], refl, refl, sym (ap (λ (b : Bool). unless_refused (cond b None (Some 1)) s t) isnew)),
+      record {
+        machine = held.machine;
+        connections = held_put s.types old new s.connections id d c held.connections put holds;
+        count_is = omega (arith, fresh, counted, same, was, is);
+        highest_is = λ q. new_put s.connections id q c ∙ first_alone (nat_lt id q) (is_new s.connections q) (λ next. held.highest_is q ∙ above_both highest id q above next);
+      },
+    )
+
+-- ---- bytes that come
+
+later : (types : List ServedShape) (m : Machine) (front bytes text : List ℕ) (asked : Asked)
+    → connection_after types m opened bytes asked text ≡ connection_after types m (waiting_for front) bytes asked text
+later types m front bytes text undecided = refl
+later types m front bytes text (refused d) = refl
+later types m front bytes text (accepted call) = refl
+
+counted_by : (b : Bool) (count now was : ℕ) → now + 1 ≡ was + one_if b → count ≡ was → count_after count true (Some b) ≡ now
+counted_by true count now was sum is = omega (arith, sum, is)
+counted_by false count now was sum is = omega (arith, sum, is)
+
+count_same : (count count' : ℕ) (was : Bool) (o : Option Bool) → count' ≡ count_after count was o → was ≡ false → count' ≡ count
+count_same count count' was o is none = is ∙ ap (λ (b : Bool). count_after count b o) none
+
+-- the count after a connection that was open became this one
+count_changed : (s : State) (id count count' : ℕ) (old new : Held) (d e : conns.Connection) (c c' : Connection) → count ≡ open_count s.connections → fin.get s.connections id ≡ Some c
+    → is_open_in d ≡ true → is_open c.standing ≡ true → is_open_in e ≡ is_open c'.standing → PutAt id e old new
+    → count' ≡ count_after count (is_open_in d) (option_map is_open_in (get nat_cmp new id)) → count' ≡ open_count (fin.insert s.connections id c')
+count_changed s id count count' old new d e c c' was got were standing now put is =
+    let b = is_open c'.standing in
+    let found : option_map is_open_in (get nat_cmp new id) ≡ Some b = ap (option_map is_open_in) (held_here old new id e put) ∙ ap Some now in
+    let one : opens_of (fin.get s.connections id) ≡ 1 = ap opens_of got ∙ ap one_if standing in
+    let counted = open_put s.connections id c' in
+    let sum : open_count (fin.insert s.connections id c') + 1 ≡ open_count s.connections + one_if b = omega (arith, one, counted) in
+    is ∙ ap₂ (λ (w : Bool) (o : Option Bool). count_after count w o) were found ∙ counted_by b count (open_count (fin.insert s.connections id c')) (open_count s.connections) sum was
+
+abbrev pub Comes : State → ℕ → List ℕ → Api → Held → ℕ → Option ℕ → Type 0
+Comes s id bytes api new count' highest = (t : State) × Steps s (comes id bytes) t × Represents api new count' highest t
+
+steps_on : (s t : State) (id : ℕ) (bytes : List ℕ) (c : Connection) (st : Standing) → fin.get s.connections id ≡ Some c → c.standing ≡ st → ComesOn s id c st bytes t → Steps s (comes id bytes) t
+steps_on s t id bytes c st got stands came =
+    subst (λ (o : Option Connection). ComesBy s id o bytes t) (sym got) (subst (λ (x : Standing). ComesOn s id c x bytes t) (sym stands) came)
+
+comes_by : (s : State) (id : ℕ) (bytes : List ℕ) (api api' : Api) (old new : Held) (count count' : ℕ) (highest : Option ℕ) (c : Connection) (d e : conns.Connection) (st : Standing)
+    → Represents api old count highest s → fin.get s.connections id ≡ Some c → Holds s.types d c → c.standing ≡ st → ReceivedBy s.types s.machine c st bytes e api' → PutAt id e old new
+    → count' ≡ count_after count (is_open_in d) (option_map is_open_in (get nat_cmp new id)) → Comes s id bytes api' new count' highest
+comes_by s id bytes api api' old new count count' highest c d e (waiting front) held got holds stands (is, (asked, text, asks, told, then, serves)) put counts =
+    let c' = connection_after s.types s.machine c (front ++ bytes) asked text in
+    let holds' : Holds s.types e c' =
+    subst (λ (x : Connection). Holds s.types e x)
+    (later s.types s.machine front (front ++ bytes) text asked ∙ sym (ap (λ (x : Connection). connection_after s.types s.machine x (front ++ bytes) asked text) is)) then in
+    let t = received s id c (front ++ bytes) asked text in
+    let was_open = ap is_open stands in (
+      t,
+      steps_on s t id bytes c (waiting front) got stands (asked, text, asks, told, refl),
+      record {
+        machine = serves;
+        connections = held_put s.types old new s.connections id e c' held.connections put holds';
+        count_is = count_changed s id count count' old new d e c c' held.count_is got (same_open s.types d c holds ∙ was_open) was_open (same_open s.types e c' holds') put counts;
+        highest_is = λ q. new_still s.connections id q c c' got ∙ held.highest_is q;
+      },
+    )
+comes_by s id bytes api api' old new count count' highest c d e (watching w) held got holds stands now put counts =
+    absurd (false_true (sym (ap is_plain stands) ∙ plain s.types d c holds))
+comes_by s id bytes api api' old new count count' highest c d e ended held got holds stands (then, serves) put counts = (
+  s,
+  steps_on s s id bytes c ended got stands (undecided, [], refl, refl, refl),
+  record {
+    machine = serves;
+    connections = subst (λ (all : Connections). (q : ℕ) → HoldsAt s.types (get nat_cmp new q) (fin.get all q)) (put_same s.connections id c got)
+        (held_put s.types old new s.connections id e c held.connections put then);
+    count_is = count_same count count' (is_open_in d) (option_map is_open_in (get nat_cmp new id)) counts (same_open s.types d c holds ∙ ap is_open stands) ∙ held.count_is;
+    highest_is = held.highest_is;
+  },
+)
+comes_by s id bytes api api' old new count count' highest c d e gone held got holds stands now put counts =
+    absurd (false_true (sym (ap is_plain stands) ∙ plain s.types d c holds))
+
+pub comes_well : (s : State) (id : ℕ) (bytes : List ℕ) (api api' : Api) (old new : Held) (count count' : ℕ) (highest : Option ℕ) (c : Connection) (d : conns.Connection)
+    → Represents api old count highest s → fin.get s.connections id ≡ Some c → Holds s.types d c → ReceivedAt s.types s.machine c id bytes old new api'
+    → count' ≡ count_after count (is_open_in d) (option_map is_open_in (get nat_cmp new id)) → Comes s id bytes api' new count' highest
+comes_well s id bytes api api' old new count count' highest c d held got holds (e, received, put) counts =
+    comes_by s id bytes api api' old new count count' highest c d e c.standing held got holds refl received put counts
+
+-- ---- out of memory
+
+pub dies_well : (s : State) (id : ℕ) (bytes : List ℕ) (api api' : Api) (old new : Held) (count count' : ℕ) (highest : Option ℕ) (c : Connection) (d : conns.Connection)
+    → Represents api old count highest s → Stands api' s.types s.machine → fin.get s.connections id ≡ Some c → Holds s.types d c → DiesAt s.types d c id old new
+    → count' ≡ count_after count (is_open_in d) (option_map is_open_in (get nat_cmp new id)) → (t : State) × Starves s (comes id bytes) (λ q. false) t × Represents api' new count' highest t
+dies_well s id bytes api api' old new count count' highest c d held serves got holds (were, (e, then, put)) counts =
+    let c' = with_standing c ended in
+    let t = with_connection s id c' in
+    let was_open : is_open c.standing ≡ true = sym (same_open s.types d c holds) ∙ were in
+    let is_dead : dead c ≡ c' = ap (λ (b : Bool). cond b c' c) was_open in (
+      t,
+      (
+        ap (λ (o : Option Connection). cond (is_some o) None (Some 2)) got,
+        ap (λ (o : Option Connection). unwrap_or (option_map (λ x. is_waiting x.standing) o) false) got ∙ sym (same_waiting s.types d c holds) ∙ were,
+        sym (ap (λ (o : Option Connection). by_connection s o (λ x. with_connection s id (dead x))) got ∙ ap (with_connection s id) is_dead),
+      ),
+      record {
+        machine = serves;
+        connections = held_put s.types old new s.connections id e c' held.connections put then;
+        count_is = count_changed s id count count' old new d e c c' held.count_is got were was_open (same_open s.types e c' then) put counts;
+        highest_is = λ q. new_still s.connections id q c c' got ∙ held.highest_is q;
+      },
+    )
+
+-- ---- events in turn
+
+pub comes_refused : (s : State) (id : ℕ) (bytes : List ℕ) (o : Option Connection) (n : ℕ) → fin.get s.connections id ≡ o → cond (is_some o) None (Some 2) ≡ Some n → Steps s (comes id bytes) s
+comes_refused s id bytes None n got is = subst (λ (o : Option Connection). ComesBy s id o bytes s) (sym got) (undecided, [], refl, refl, refl)
+comes_refused s id bytes (Some c) n got is = absurd cc
+
+pub refused_stays : (s : State) (e : Event) (n : ℕ) → refusal s e ≡ Some n → Steps s e s
+refused_stays s (opens id) n is = (undecided, [], refl, refl, sym (ap (λ (o : Option ℕ). unless_refused o s (taken s (opens id) undecided [])) is))
+refused_stays s (comes id bytes) n is = comes_refused s id bytes (fin.get s.connections id) n refl is
+refused_stays s (goes id) n is = (undecided, [], refl, refl, sym (ap (λ (o : Option ℕ). unless_refused o s (taken s (goes id) undecided [])) is))
+refused_stays s (pumps id max) n is = (undecided, [], refl, refl, sym (ap (λ (o : Option ℕ). unless_refused o s (taken s (pumps id max) undecided [])) is))
+refused_stays s (ticks ms) n is = (undecided, [], refl, refl, sym (ap (λ (o : Option ℕ). unless_refused o s (taken s (ticks ms) undecided [])) is))
+refused_stays s (compacts c) n is = (undecided, [], refl, refl, sym (ap (λ (o : Option ℕ). unless_refused o s (taken s (compacts c) undecided [])) is))
+
+runs_on : (r s t : State) (before : List Happening) (h : Happening) → Runs r before s → Follows s h t → Runs r (before ++ h ∷ []) t
+runs_on r s t [] h start follows = (t, subst (λ (x : State). Follows x h t) start follows, refl)
+runs_on r s t (g ∷ before) h (mid, first, rest) follows = (mid, first, runs_on mid s t before h rest follows)
+
+abbrev pub FollowsIn : {H : Type 0} → (H → State → Type 0) → State → Happening → H → Type 0
+FollowsIn {H} In s h new = (t : State) × Follows s h t × In new t
+
+pub follows : {A H : Type 0} (In : H → State → Type 0) (s : State) (e : Event) (old new : H) (result : Result A HubFault) → In old s
+    → OnOk result ((t : State) × Steps s e t × In new t) → refusal_number result ≡ refusal s e → (refusal_number result ≢ None → new ≡ old)
+    → (result ≡ Err Memory → (t : State) × Starves s e (λ q. false) t × In new t) → FollowsIn In s (happening e result) new
+follows In s e old new (Ok a) is ok denied same memory = ok
+follows In s e old new (Err IdNotAbove) is ok denied same memory = (s, refused_stays s e 1 (sym denied), subst (λ h. In h s) (sym (same (λ n. absurd cc))) is)
+follows In s e old new (Err UnknownId) is ok denied same memory = (s, refused_stays s e 2 (sym denied), subst (λ h. In h s) (sym (same (λ n. absurd cc))) is)
+follows In s e old new (Err Memory) is ok denied same memory = memory refl
+
+pub goes_on : {H : Type 0} (In : H → State → Type 0) (r s : State) (before : List Happening) (h : Happening) (new : H) → Runs r before s → FollowsIn In s h new
+    → (t : State) × Runs r (before ++ h ∷ []) t × In new t
+goes_on In r s before h new ran (t, follows, is) = (t, runs_on r s t before h ran follows, is)
+
+-- ---- what the hub's calls find
+
+pub kept_held : (s : State) (api : Api) (old new : Held) (count : ℕ) (highest : Option ℕ) → Represents api old count highest s → ((q : ℕ) → get nat_cmp new q ≡ get nat_cmp old q)
+    → Represents api new count highest s
+kept_held s api old new count highest held same = record {
+  machine = held.machine;
+  connections = λ q. subst (λ (o : Option conns.Connection). HoldsAt s.types o (fin.get s.connections q)) (sym (same q)) (held.connections q);
+  count_is = held.count_is;
+  highest_is = held.highest_is;
+}
+
+pub opens_unrefused : (s : State) (api : Api) (held : Held) (count : ℕ) (highest : Option ℕ) (id : ℕ) → Represents api held count highest s → is_above highest id ≡ true → refusal s (opens id) ≡ None
+opens_unrefused s api held count highest id is above = ap (λ (b : Bool). cond b None (Some 1)) (is.highest_is id ∙ above)
+
+pub mapped_some : (o : Option conns.Connection) (b : Bool) → option_map is_open_in o ≡ Some b → (d : conns.Connection) × (o ≡ Some d) × (is_open_in d ≡ b)
+mapped_some None b is = absurd cc
+mapped_some (Some d) b is = (d, refl, some_of is)

@@ -1,0 +1,80 @@
+//! Connections by their ids.
+
+ghost use Rattle.std.specs.Prelude.{◌≡◌, [], ℕ, List, Some, cond, unwrap_or, option_map, OnOk, OnErr};
+ghost use Rattle.std.specs.BTreeMap.{get};
+ghost use Rattle.std.specs.Ordering.{nat_cmp, eq_by_cmp};
+ghost use Rattle.schema.specs.TypesFile.{ServedShape};
+ghost use Rattle.verbs.specs.Machine.{Machine};
+ghost use Rattle.verbs.specs.Seen.{Stands};
+ghost use Rattle.httpedge.specs.Connections.{Connection as TheConnection};
+ghost use Rattle.httpedge.specs.Held.{DiesAt, Holds, PutAt, ReceivedAt, count_after, is_open_in, out_in};
+ghost use Rattle.httpedge.specs.declared.connection.Connection as held;
+
+use crate::connection::{Connection, is_open, out_of, receive_on};
+use std::alloc::{AllocError, Global};
+use std::collections::BTreeMap;
+use verbs::{Api, Fault};
+
+pub(crate) fn put(
+    all: &mut BTreeMap<u64, Connection>,
+    id: u64,
+    connection: Connection,
+) -> Result<(), AllocError>
+    ensures ok { OnOk result (PutAt id connection all.old all.new) }
+    ensures err { OnErr result ((q : ℕ) → get nat_cmp all.new q ≡ get nat_cmp all.old q) }
+{
+    all.insert(id, connection)?;
+    Ok(())
+}
+
+/// Whether a connection is open, if the id is known.
+pub(crate) fn open_at(all: &BTreeMap<u64, Connection>, id: u64) -> Option<bool>
+    ensures { result ≡ option_map is_open_in (get nat_cmp all.now id) }
+{
+    let connection = all.get(&id)?;
+    Some(is_open(connection))
+}
+
+/// How many are open after one that was open, or not, may have ended.
+pub(crate) fn open_count(
+    count: usize,
+    was_open: bool,
+    all: &BTreeMap<u64, Connection>,
+    id: u64,
+) -> usize
+    ensures { result ≡ count_after count was_open (option_map is_open_in (get nat_cmp all.now id)) }
+{
+    if was_open && !open_at(all, id).unwrap_or(false) {
+        count.saturating_sub(1)
+    } else {
+        count
+    }
+}
+
+/// What was written on a connection and not yet taken; nothing for an unknown id.
+pub(crate) fn out_at(all: &BTreeMap<u64, Connection>, id: u64) -> &[u8]
+    ensures { result.now ≡ unwrap_or (option_map out_in (get nat_cmp all.now id)) [] }
+{
+    match all.get(&id) {
+        Some(connection) => out_of(connection),
+        None => &[],
+    }
+}
+
+/// Bytes come on the connection of an id that is known.
+pub(crate) fn receive_at(
+    alloc: Global,
+    api: &mut Api,
+    all: &mut BTreeMap<u64, Connection>,
+    id: u64,
+    bytes: &[u8],
+) -> Result<(), Fault>
+    ensures ok { (types : List ServedShape) (m : Machine) (d : held.Connection) (c : TheConnection) → Stands api.old types m → get nat_cmp all.old id ≡ Some d → Holds types d c → OnOk result (ReceivedAt types m c id bytes.now all.old all.new api.new) }
+    ensures err { (types : List ServedShape) (m : Machine) → Stands api.old types m → OnErr result (Stands api.new types m) }
+    ensures dead { (types : List ServedShape) (d : held.Connection) (c : TheConnection) → get nat_cmp all.old id ≡ Some d → Holds types d c → OnErr result (DiesAt types d c id all.old all.new) }
+{
+    match all.get_mut(&id) {
+        None => Ok(()),
+        Some(connection) => receive_on(alloc, api, connection, bytes),
+    }
+}
