@@ -8,13 +8,13 @@ use Rattle.std.proofs.lemmas.List.{take_more, map-append, length-map, take-map, 
 use Rattle.std.specs.List.{list_all, insert}
 use Rattle.std.specs.FinMap.{is_sorted, put}
 use Rattle.std.specs.FinMap.Entries.{below_all}
-use Rattle.pathmap.proofs.Contents.{path_cmp_total, path_cmp_antisymmetric}
-use Rattle.fieldpath.specs.Paths.{PathTexts, path_cmp}
+use Rattle.fieldpath.specs.Paths.{path_cmp}
 use Rattle.pathmap.specs.Contents.{PathSet}
-use Rattle.ownership.specs.Owners.{Manager, HavePaths, is_same, is_empty, less, others, with_owner, taken_over}
+use Rattle.ownership.specs.Owners.{Manager, HavePaths, is_same, is_empty, less, others, with_owner, taken_over, manager_cmp}
 use Rattle.ownership.specs.Managers.{pair, pairs}
 use Rattle.ownership.specs.Ranks.{rank}
 use Rattle.ownership.specs.declared.managers.Entry.{Entry}
+use Rattle.ownership.proofs.Orders.{manager_total, manager_antisymmetric}
 
 abbrev pub Pairs : Type 0
 Pairs = List (Manager × PathSet)
@@ -87,49 +87,49 @@ empty_is s false h = by_len (set.len s) refl
     by_len zero is = absurd (true≢false (sym (h.1 (set.empty_of_len s is))))
     by_len (suc n) is = ap (λ k. k == 0) is ∙ not_zero n
 
-pub entries-empty : fin.entries {X = PathSet} (fin.empty {R = path_cmp}) ≡ []
-entries-empty = none (fin.entries fin.empty) (sym (fin.len-entries fin.empty) ∙ fin.len-empty path_cmp PathSet)
+pub entries-empty : fin.entries {X = PathSet} (fin.empty {R = manager_cmp}) ≡ []
+entries-empty = none (fin.entries fin.empty) (sym (fin.len-entries fin.empty) ∙ fin.len-empty manager_cmp PathSet)
   where
     none : (es : Pairs) → length es ≡ 0 → es ≡ []
     none [] e = refl
     none (x ∷ es) e = absurd (omega arith)
 
-pub none_have_paths : HavePaths (fin.from_entries {R = path_cmp} [])
-none_have_paths m paths is = absurd (true≢false (sym (ap is_some (sym (fin.get-from_entries path_cmp_total [] m) ∙ is))))
+pub none_have_paths : HavePaths (fin.from_entries {R = manager_cmp} [])
+none_have_paths m paths is = absurd (true≢false (sym (ap is_some (sym (fin.get-from_entries manager_total [] m) ∙ is))))
 
 -- ---- order
 
 module _ {X Y : Type 0} where
-  below-map : (f : PathTexts × X → Y) (k : PathTexts) (es : List (PathTexts × X)) → T (below_all path_cmp k es) → T (below_all path_cmp k (map (λ e. (e.0, f e)) es))
+  below-map : (f : Manager × X → Y) (k : Manager) (es : List (Manager × X)) → T (below_all manager_cmp k es) → T (below_all manager_cmp k (map (λ e. (e.0, f e)) es))
   below-map f k [] h = tt
   below-map f k (e ∷ es) h = both _ _ (fst _ _ h) (below-map f k es (snd _ _ h))
 
   -- other values under the same keys
-  pub is_sorted-map : (f : PathTexts × X → Y) (es : List (PathTexts × X)) → T (is_sorted path_cmp es) → T (is_sorted path_cmp (map (λ e. (e.0, f e)) es))
+  pub is_sorted-map : (f : Manager × X → Y) (es : List (Manager × X)) → T (is_sorted manager_cmp es) → T (is_sorted manager_cmp (map (λ e. (e.0, f e)) es))
   is_sorted-map f [] h = tt
   is_sorted-map f (e ∷ es) h = both _ _ (below-map f e.0 es (fst _ _ h)) (is_sorted-map f es (snd _ _ h))
 
 module _ {X : Type 0} where
-  below-filter : (p : PathTexts × X → Bool) (k : PathTexts) (es : List (PathTexts × X)) → T (below_all path_cmp k es) → T (below_all path_cmp k (filter p es))
+  below-filter : (p : Manager × X → Bool) (k : Manager) (es : List (Manager × X)) → T (below_all manager_cmp k es) → T (below_all manager_cmp k (filter p es))
   below-filter p k [] h = tt
   below-filter p k (e ∷ es) h =
       let rest = below-filter p k es (snd _ _ h) in
-      elim (p e) as (λ b. T (below_all path_cmp k (cond b (e ∷ filter p es) (filter p es)))) [ true ↦ both _ _ (fst _ _ h) rest | false ↦ rest ]
+      elim (p e) as (λ b. T (below_all manager_cmp k (cond b (e ∷ filter p es) (filter p es)))) [ true ↦ both _ _ (fst _ _ h) rest | false ↦ rest ]
 
-  pub is_sorted-filter : (p : PathTexts × X → Bool) (es : List (PathTexts × X)) → T (is_sorted path_cmp es) → T (is_sorted path_cmp (filter p es))
+  pub is_sorted-filter : (p : Manager × X → Bool) (es : List (Manager × X)) → T (is_sorted manager_cmp es) → T (is_sorted manager_cmp (filter p es))
   is_sorted-filter p [] h = tt
   is_sorted-filter p (e ∷ es) h =
       let rest = is_sorted-filter p es (snd _ _ h) in
-      elim (p e) as (λ b. T (is_sorted path_cmp (cond b (e ∷ filter p es) (filter p es)))) [ true ↦ both _ _ (below-filter p e.0 es (fst _ _ h)) rest | false ↦ rest ]
+      elim (p e) as (λ b. T (is_sorted manager_cmp (cond b (e ∷ filter p es) (filter p es)))) [ true ↦ both _ _ (below-filter p e.0 es (fst _ _ h)) rest | false ↦ rest ]
 
   -- a sorted list is the entries of its map
-  pub entries-sorted : (es : List (PathTexts × X)) → T (is_sorted path_cmp es) → fin.entries (fin.from_entries {R = path_cmp} es) ≡ es
+  pub entries-sorted : (es : List (Manager × X)) → T (is_sorted manager_cmp es) → fin.entries (fin.from_entries {R = manager_cmp} es) ≡ es
   entries-sorted es h =
-      ap fin.entries (fin.same_map path_cmp_total path_cmp_antisymmetric (fin.from_entries {R = path_cmp} es) (fin.from_sorted es) (λ q. fin.get-from_entries path_cmp_total es q ∙ sym (fin.get-from_sorted path_cmp es q h)))
-      ∙ fin.entries-from_sorted path_cmp es h
+      ap fin.entries (fin.same_map manager_total manager_antisymmetric (fin.from_entries {R = manager_cmp} es) (fin.from_sorted es) (λ q. fin.get-from_entries manager_total es q ∙ sym (fin.get-from_sorted manager_cmp es q h)))
+      ∙ fin.entries-from_sorted manager_cmp es h
 
   -- a map is made of its entries
-  pub from-entries : (m : fin.FinMap path_cmp X) → fin.from_entries (fin.entries m) ≡ m
+  pub from-entries : (m : fin.FinMap manager_cmp X) → fin.from_entries (fin.entries m) ≡ m
   from-entries m = fin.same_entries_map _ _ (entries-sorted (fin.entries m) (fin.entries_sorted m))
 
 -- ---- a manager that has no entry
@@ -159,23 +159,23 @@ all-keyed m s (e ∷ es) h = both _ _ (fst _ _ h) (all-keyed m s es (snd _ _ h))
 pub others_apart : (m : Manager) (s : PathSet) (es : Pairs) → T (all_other m (less s (filter (is_other m) es)))
 others_apart m s es = all-filtered (is_other m) (λ e. not (is_empty e.1)) _ (all-keyed m s (filter (is_other m) es) (all-filter (is_other m) es))
 
-pub others_sorted : (m : Manager) (s : PathSet) (es : Pairs) → T (is_sorted path_cmp es) → T (is_sorted path_cmp (less s (filter (is_other m) es)))
+pub others_sorted : (m : Manager) (s : PathSet) (es : Pairs) → T (is_sorted manager_cmp es) → T (is_sorted manager_cmp (less s (filter (is_other m) es)))
 others_sorted m s es h = is_sorted-filter {X = PathSet} (λ e. not (is_empty e.1)) (map (λ e. (e.0, set.difference e.1 s)) (filter (is_other m) es)) (is_sorted-map (λ e. set.difference e.1 s) (filter (is_other m) es) (is_sorted-filter (is_other m) es h))
 
 -- the rank is the place at which an entry is put
-pub put_rank : (m : Manager) (s : PathSet) (es : Pairs) → T (all_other m es) → insert es (rank m es) (m, s) ≡ put path_cmp m s es
+pub put_rank : (m : Manager) (s : PathSet) (es : Pairs) → T (all_other m es) → insert es (rank m es) (m, s) ≡ put manager_cmp m s es
 put_rank m s [] h = refl
-put_rank m s (e ∷ es) h = by_order (path_cmp m e.0) refl (put_rank m s es (snd _ _ h))
+put_rank m s (e ∷ es) h = by_order (manager_cmp m e.0) refl (put_rank m s es (snd _ _ h))
   where
-    by_order : (o : Ordering) → path_cmp m e.0 ≡ o → insert es (rank m es) (m, s) ≡ put path_cmp m s es
-        → insert (e ∷ es) (match_ordering o 0 0 (suc (rank m es))) (m, s) ≡ match_ordering o ((m, s) ∷ e ∷ es) ((e.0, s) ∷ es) (e ∷ put path_cmp m s es)
+    by_order : (o : Ordering) → manager_cmp m e.0 ≡ o → insert es (rank m es) (m, s) ≡ put manager_cmp m s es
+        → insert (e ∷ es) (match_ordering o 0 0 (suc (rank m es))) (m, s) ≡ match_ordering o ((m, s) ∷ e ∷ es) ((e.0, s) ∷ es) (e ∷ put manager_cmp m s es)
     by_order Less is later = refl
     by_order Equal is later = absurd (subst T (ap (λ o. not (is_eq o)) is) (fst _ _ h))
     by_order Greater is later = ap (λ l. e ∷ l) later
 
 pub rank_within : (m : Manager) (es : Pairs) → rank m es ≤ length es
 rank_within m [] = omega arith
-rank_within m (e ∷ es) = by_order (path_cmp m e.0) (rank_within m es)
+rank_within m (e ∷ es) = by_order (manager_cmp m e.0) (rank_within m es)
   where
     by_order : (o : Ordering) → rank m es ≤ length es → match_ordering o 0 0 (suc (rank m es)) ≤ suc (length es)
     by_order Less later = omega arith
@@ -189,24 +189,24 @@ pub pairs-insert : (es : List Entry) (i : ℕ) (e : Entry) → pairs (insert es 
 pairs-insert es i e = map-append pair (take i es) (e ∷ drop i es) ∙ ap₂ (λ xs ys. xs ++ pair e ∷ ys) (sym (take-map pair i es)) (sym (drop-map pair i es))
 
 -- ---- the two ways in which the manager's entry comes in
-pub owners_with : (w : fin.FinMap path_cmp PathSet) (m : Manager) (lost mine : PathSet) (l es : Pairs) → l ≡ less lost (filter (is_other m) (fin.entries w)) → es ≡ insert l (rank m l) (m, mine)
-    → es ≡ fin.entries (fin.insert (fin.from_entries {R = path_cmp} (less lost (filter (is_other m) (fin.entries w)))) m mine)
+pub owners_with : (w : fin.FinMap manager_cmp PathSet) (m : Manager) (lost mine : PathSet) (l es : Pairs) → l ≡ less lost (filter (is_other m) (fin.entries w)) → es ≡ insert l (rank m l) (m, mine)
+    → es ≡ fin.entries (fin.insert (fin.from_entries {R = manager_cmp} (less lost (filter (is_other m) (fin.entries w)))) m mine)
 owners_with w m lost mine l es is put_in =
     let sorted = others_sorted m lost (fin.entries w) (fin.entries_sorted w) in
     let base = less lost (filter (is_other m) (fin.entries w)) in
     put_in ∙ ap (λ x. insert x (rank m x) (m, mine)) is ∙ put_rank m mine base (others_apart m lost (fin.entries w))
-    ∙ sym (fin.entries-insert path_cmp_total (fin.from_entries base) m mine ∙ ap (put path_cmp m mine) (entries-sorted base sorted))
+    ∙ sym (fin.entries-insert manager_total (fin.from_entries base) m mine ∙ ap (put manager_cmp m mine) (entries-sorted base sorted))
 
-pub owners_left : (w : fin.FinMap path_cmp PathSet) (m : Manager) (lost mine : PathSet) (l es : Pairs) → l ≡ less lost (filter (is_other m) (fin.entries w)) → es ≡ l → is_empty mine ≡ true
+pub owners_left : (w : fin.FinMap manager_cmp PathSet) (m : Manager) (lost mine : PathSet) (l es : Pairs) → l ≡ less lost (filter (is_other m) (fin.entries w)) → es ≡ l → is_empty mine ≡ true
     → es ≡ fin.entries (taken_over w m lost mine)
 unfolding taken_over with_owner others
 owners_left w m lost mine l es is same none =
     let base = less lost (filter (is_other m) (fin.entries w)) in
-    same ∙ is ∙ sym (ap (λ b. fin.entries (cond b (fin.from_entries {R = path_cmp} base) (fin.insert (fin.from_entries base) m mine))) none ∙ entries-sorted base (others_sorted m lost (fin.entries w) (fin.entries_sorted w)))
+    same ∙ is ∙ sym (ap (λ b. fin.entries (cond b (fin.from_entries {R = manager_cmp} base) (fin.insert (fin.from_entries base) m mine))) none ∙ entries-sorted base (others_sorted m lost (fin.entries w) (fin.entries_sorted w)))
 
-pub owners_more : (w : fin.FinMap path_cmp PathSet) (m : Manager) (lost mine : PathSet) (l es : Pairs) → l ≡ less lost (filter (is_other m) (fin.entries w)) → es ≡ insert l (rank m l) (m, mine) → is_empty mine ≡ false
+pub owners_more : (w : fin.FinMap manager_cmp PathSet) (m : Manager) (lost mine : PathSet) (l es : Pairs) → l ≡ less lost (filter (is_other m) (fin.entries w)) → es ≡ insert l (rank m l) (m, mine) → is_empty mine ≡ false
     → es ≡ fin.entries (taken_over w m lost mine)
 unfolding taken_over with_owner others
 owners_more w m lost mine l es is put_in some =
     let base = less lost (filter (is_other m) (fin.entries w)) in
-    owners_with w m lost mine l es is put_in ∙ sym (ap (λ b. fin.entries (cond b (fin.from_entries {R = path_cmp} base) (fin.insert (fin.from_entries base) m mine))) some)
+    owners_with w m lost mine l es is put_in ∙ sym (ap (λ b. fin.entries (cond b (fin.from_entries {R = manager_cmp} base) (fin.insert (fin.from_entries base) m mine))) some)

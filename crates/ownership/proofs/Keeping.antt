@@ -14,7 +14,7 @@ use Rattle.pathmap.proofs.Contents.{path_cmp_total, same, either, get-over}
 use Rattle.pathmap.proofs.Order.{dom-marked, is_marked, in_order-nothing}
 use Rattle.pathmap.proofs.Cutting.{nothing-above}
 use Rattle.pathmap.proofs.Sets.{dom-nothing, same_paths, contains-dom, contains-changed, contains-clear_of, get-without, passes_some, passes_one}
-use Rattle.ownership.specs.Owners.{Manager, is_same, owned_by, others, taken_over}
+use Rattle.ownership.specs.Owners.{Manager, is_same, owned_by, others, taken_over, manager_cmp}
 use Rattle.ownership.specs.Apply.{State, Conflict, conflicts_with, conflicts, all_paths, dropped, applied, is_refused}
 use Rattle.ownership.specs.Keeping.{Stands, Owns, OthersKeep, OwnedStand, IsSettled}
 use Rattle.ownership.proofs.Sameness.{left_true, right_true, both_true, none_left, same_value-is, same_value-itself, same_manager-is}
@@ -97,18 +97,18 @@ pub all_start : (s : PathSet) (es : Pairs) (q : PathTexts) → set.contains s q 
 all_start s [] q is = is
 all_start s (e ∷ es) q is = all_start (set.union e.1 s) es q (set.contains-union path_cmp_total e.1 s q ∙ or_right (set.contains e.1 q) _ is)
 
-pub all_found : (s : PathSet) (es : Pairs) (k : Manager) (q : PathTexts) → set.contains (unwrap_or (find path_cmp k es) set.empty) q ≡ true → set.contains (all_paths s es) q ≡ true
+pub all_found : (s : PathSet) (es : Pairs) (k : Manager) (q : PathTexts) → set.contains (unwrap_or (find manager_cmp k es) set.empty) q ≡ true → set.contains (all_paths s es) q ≡ true
 all_found s [] k q is = not_both _ is (set.contains-empty path_cmp q)
-all_found s (e ∷ es) k q is = by_test (eq_by_cmp path_cmp k e.0) is (all_found (set.union e.1 s) es k q)
+all_found s (e ∷ es) k q is = by_test (eq_by_cmp manager_cmp k e.0) is (all_found (set.union e.1 s) es k q)
   where
-    by_test : (b : Bool) → set.contains (unwrap_or (cond b (Some e.1) (find path_cmp k es)) set.empty) q ≡ true
-        → (set.contains (unwrap_or (find path_cmp k es) set.empty) q ≡ true → set.contains (all_paths (set.union e.1 s) es) q ≡ true) → set.contains (all_paths (set.union e.1 s) es) q ≡ true
+    by_test : (b : Bool) → set.contains (unwrap_or (cond b (Some e.1) (find manager_cmp k es)) set.empty) q ≡ true
+        → (set.contains (unwrap_or (find manager_cmp k es) set.empty) q ≡ true → set.contains (all_paths (set.union e.1 s) es) q ≡ true) → set.contains (all_paths (set.union e.1 s) es) q ≡ true
     by_test true is later = all_start (set.union e.1 s) es q (set.contains-union path_cmp_total e.1 s q ∙ or_left (set.contains e.1 q) _ is)
     by_test false is later = later is
 
 -- ---- what the others own
 module _ (live : State) (body : Content) (m k : Manager) (other : is_same m k ≡ false) where
-  pub owned-others : unwrap_or (find path_cmp k (others live.owners m)) set.empty ≡ owned_by live.owners k
+  pub owned-others : unwrap_or (find manager_cmp k (others live.owners m)) set.empty ≡ owned_by live.owners k
   unfolding owned_by
   owned-others = ap (λ o. unwrap_or o set.empty) (find-others live.owners m k ∙ ap (λ b. cond (not b) (fin.get live.owners k) None) other)
 
@@ -156,15 +156,15 @@ module _ (live : State) (body : Content) (m : Manager) where
       bare [] e = refl
       bare (p ∷ ps) e = absurd (true≢false (ap is_cons e))
 
-  no_conflict : (s : PathSet) (es : Pairs) (k : Manager) (q : PathTexts) → conflicts_with s es ≡ [] → set.contains (unwrap_or (find path_cmp k es) set.empty) q ≡ true → set.contains s q ≡ false
+  no_conflict : (s : PathSet) (es : Pairs) (k : Manager) (q : PathTexts) → conflicts_with s es ≡ [] → set.contains (unwrap_or (find manager_cmp k es) set.empty) q ≡ true → set.contains s q ≡ false
   no_conflict s [] k q e is = not_both _ is (set.contains-empty path_cmp q)
-  no_conflict s (x ∷ es) k q e is = by_test (eq_by_cmp path_cmp k x.0) is (no_conflict s es k q (right_none (beside x.0 (in_order (set.intersection x.1 s))) _ e))
+  no_conflict s (x ∷ es) k q e is = by_test (eq_by_cmp manager_cmp k x.0) is (no_conflict s es k q (right_none (beside x.0 (in_order (set.intersection x.1 s))) _ e))
     where
       in_both : (a b : Bool) → (a && b) ≡ false → a ≡ true → b ≡ false
       in_both true b e t = e
       in_both false b e t = absurd (true≢false (sym t))
 
-      by_test : (b : Bool) → set.contains (unwrap_or (cond b (Some x.1) (find path_cmp k es)) set.empty) q ≡ true → (set.contains (unwrap_or (find path_cmp k es) set.empty) q ≡ true → set.contains s q ≡ false) → set.contains s q ≡ false
+      by_test : (b : Bool) → set.contains (unwrap_or (cond b (Some x.1) (find manager_cmp k es)) set.empty) q ≡ true → (set.contains (unwrap_or (find manager_cmp k es) set.empty) q ≡ true → set.contains s q ≡ false) → set.contains s q ≡ false
       by_test true is later =
           in_both (set.contains x.1 q) (set.contains s q)
           (sym (set.contains-intersection path_cmp_total x.1 s q) ∙ none_listed (set.intersection x.1 s) x.0 q (left_none (beside x.0 (in_order (set.intersection x.1 s))) (conflicts_with s es) e)) is

@@ -10,11 +10,11 @@ use Rattle.std.specs.Ordering.{eq_by_cmp, is_eq}
 use Rattle.fieldpath.specs.Paths.{PathTexts, path_cmp}
 use Rattle.pathmap.specs.Contents.{Standing, Content, PathSet, over, dom}
 use Rattle.pathmap.specs.Beside.{same_value, is_front, has_at_or_below, has_at_or_above, changed, clear_of}
-use Rattle.pathmap.proofs.Contents.{path_cmp_total, path_cmp_antisymmetric, either, get-over}
+use Rattle.pathmap.proofs.Contents.{path_cmp_total, either, get-over}
 use Rattle.pathmap.proofs.Sets.{contains-dom, contains-changed, contains-clear_of, get-without}
 use Rattle.schema.specs.Place.{place_of}
 use Rattle.schema.specs.Shape.{Shape}
-use Rattle.ownership.specs.Owners.{Manager, is_same, owned_by, others}
+use Rattle.ownership.specs.Owners.{Manager, is_same, owned_by, others, manager_cmp}
 use Rattle.ownership.specs.Apply.{State, all_paths, applied, dropped}
 use Rattle.ownership.specs.Keeping.{Owns, OwnedStand, HasPlaces, LeavesOwned, is_end}
 use Rattle.ownership.proofs.Ends.{ends}
@@ -22,37 +22,38 @@ use Rattle.ownership.proofs.Entries.{Pairs, fst, snd}
 use Rattle.ownership.proofs.Keeping.{front_itself, some_below, one_above, still_owned}
 use Rattle.ownership.proofs.Sameness.{same_manager-is}
 use Rattle.ownership.proofs.Taking.{none_above, find-others, sorted-others, owned_mine}
+use Rattle.ownership.proofs.Orders.{manager_total, manager_antisymmetric}
 
 -- some entry has the path
 abbrev Found : Pairs → PathTexts → Type 0
-Found es q = (k : Manager) × (set.contains (unwrap_or (find path_cmp k es) set.empty) q ≡ true)
+Found es q = (k : Manager) × (set.contains (unwrap_or (find manager_cmp k es) set.empty) q ≡ true)
 
 no_path : {A : Type 0} (q : PathTexts) → set.contains (set.empty {R = path_cmp}) q ≡ true → A
 no_path q is = absurd (true≢false (sym is ∙ set.contains-empty path_cmp q))
 
 -- a path of all is one of the first set or of an entry
-all_back : (s : PathSet) (es : Pairs) → T (is_sorted path_cmp es) → (q : PathTexts) → set.contains (all_paths s es) q ≡ true → (set.contains s q ≡ true) ⊎ Found es q
+all_back : (s : PathSet) (es : Pairs) → T (is_sorted manager_cmp es) → (q : PathTexts) → set.contains (all_paths s es) q ≡ true → (set.contains s q ≡ true) ⊎ Found es q
 all_back s [] h q is = inl is
 all_back s (e ∷ es) h q is = by_rest (all_back (set.union e.1 s) es (snd _ _ h) q is)
   where
     first : Manager → Option PathSet
-    first k = find path_cmp k (e ∷ es)
+    first k = find manager_cmp k (e ∷ es)
 
     here : set.contains e.1 q ≡ true → Found (e ∷ es) q
-    here is = (e.0, ap (λ o. set.contains (unwrap_or (cond (is_eq o) (Some e.1) (find path_cmp e.0 es)) set.empty) q) (tied_itself path_cmp_total e.0) ∙ is)
+    here is = (e.0, ap (λ o. set.contains (unwrap_or (cond (is_eq o) (Some e.1) (find manager_cmp e.0 es)) set.empty) q) (tied_itself manager_total e.0) ∙ is)
 
     by_first : (a b : Bool) → set.contains e.1 q ≡ a → (a || b) ≡ true → b ≡ set.contains s q → (set.contains s q ≡ true) ⊎ Found (e ∷ es) q
     by_first true b is h same = inr (here is)
     by_first false b is h same = inl (sym same ∙ h)
 
-    later : (k : Manager) (b : Bool) → eq_by_cmp path_cmp k e.0 ≡ b → set.contains (unwrap_or (find path_cmp k es) set.empty) q ≡ true → Found (e ∷ es) q
-    later k false tie is = (k, ap (λ b. set.contains (unwrap_or (cond b (Some e.1) (find path_cmp k es)) set.empty) q) tie ∙ is)
+    later : (k : Manager) (b : Bool) → eq_by_cmp manager_cmp k e.0 ≡ b → set.contains (unwrap_or (find manager_cmp k es) set.empty) q ≡ true → Found (e ∷ es) q
+    later k false tie is = (k, ap (λ b. set.contains (unwrap_or (cond b (Some e.1) (find manager_cmp k es)) set.empty) q) tie ∙ is)
     later k true tie is =
-        no_path q (sym (ap (λ o. set.contains (unwrap_or o set.empty) q) (none_above k es (subst (λ x. T (below_all path_cmp x es)) (sym (path_cmp_antisymmetric k e.0 ((Equal-is (path_cmp k e.0)).0 tie))) (fst _ _ h)))) ∙ is)
+        no_path q (sym (ap (λ o. set.contains (unwrap_or o set.empty) q) (none_above k es (subst (λ x. T (below_all manager_cmp x es)) (sym (manager_antisymmetric k e.0 ((Equal-is (manager_cmp k e.0)).0 tie))) (fst _ _ h)))) ∙ is)
 
     by_rest : (set.contains (set.union e.1 s) q ≡ true) ⊎ Found es q → (set.contains s q ≡ true) ⊎ Found (e ∷ es) q
     by_rest (inl is) = by_first (set.contains e.1 q) (set.contains s q) refl (sym (set.contains-union path_cmp_total e.1 s q) ∙ is) refl
-    by_rest (inr (k, is)) = inr (later k (eq_by_cmp path_cmp k e.0) refl is)
+    by_rest (inr (k, is)) = inr (later k (eq_by_cmp manager_cmp k e.0) refl is)
 
 module _ (live : State) (body : Content) (m : Manager) (s : Shape) (places : HasPlaces s live.content) (body_places : HasPlaces s body) (standing : OwnedStand live) (p : PathTexts)
     (end : is_end (place_of s p) ≡ true) (absent : fin.get body p ≡ None) where
@@ -66,7 +67,7 @@ module _ (live : State) (body : Content) (m : Manager) (s : Shape) (places : Has
   unchanged_here : set.contains (changed body live.content) p ≡ false
   unchanged_here = contains-changed body live.content p ∙ ap (λ o. is_some o && not (same_value (fin.get body p) (fin.get live.content p))) absent
 
-  shared : (r : PathTexts) → is_front p r ≡ true → (k : Manager) (b : Bool) → is_same m k ≡ b → set.contains (unwrap_or (find path_cmp k (others live.owners m)) set.empty) r ≡ true
+  shared : (r : PathTexts) → is_front p r ≡ true → (k : Manager) (b : Bool) → is_same m k ≡ b → set.contains (unwrap_or (find manager_cmp k (others live.owners m)) set.empty) r ≡ true
       → (k : Manager) × Owns (applied live body m) k p
   unfolding owned_by
   shared r front k true same is = no_path r (sym (ap (λ o. set.contains (unwrap_or o set.empty) r) (find-others live.owners m k ∙ ap (λ b. cond (not b) (fin.get live.owners k) None) same)) ∙ is)

@@ -1,3 +1,4 @@
+pub mod Orders
 pub mod Entries
 pub mod Sameness
 pub mod Taking

@@ -9,14 +9,15 @@ use Rattle.std.specs.Cmp.Lexicographic.{bytes_decides}
 use Rattle.fieldpath.specs.Paths.{PathTexts, path_cmp}
 use Rattle.pathmap.specs.Contents.{Standing, text, whole, truth, plain, mark, Content, PathSet}
 use Rattle.pathmap.specs.Beside.{same_standing, same_value, changed}
-use Rattle.pathmap.proofs.Contents.{path_cmp_total, path_cmp_antisymmetric, same}
+use Rattle.pathmap.proofs.Contents.{path_cmp_total, same}
 use Rattle.pathmap.proofs.Sets.{same_paths, contains-changed}
-use Rattle.ownership.specs.Owners.{Manager, is_same, is_empty}
+use Rattle.ownership.specs.Owners.{Manager, is_same, is_empty, manager_cmp}
 use Rattle.ownership.specs.Apply.{State}
 use Rattle.ownership.specs.Managers.{pairs}
 use Rattle.ownership.specs.declared.managers.Entry.{Entry}
 use Rattle.ownership.proofs.Entries.{not_zero, length-pairs}
 use Rattle.ownership.specs.Sameness.{is_within, same_entry, same_entries, is_unchanged, same_content, same_state}
+use Rattle.ownership.proofs.Orders.{manager_total, manager_antisymmetric}
 
 -- ---- truth values
 pub left_true : (a b : Bool) → (a && b) ≡ true → a ≡ true
@@ -123,10 +124,10 @@ within-itself : (s : PathSet) → is_within s s ≡ true
 within-itself s = without_path (set.difference s s) (λ q. set.contains-difference path_cmp_total s s q ∙ itself_within (set.contains s q))
 
 pub same_manager-is : (m k : Manager) → is_same m k ≡ true → m ≡ k
-same_manager-is m k e = path_cmp_antisymmetric m k ((Equal-is (path_cmp m k)).0 e)
+same_manager-is m k e = manager_antisymmetric m k ((Equal-is (manager_cmp m k)).0 e)
 
 pub same_manager-itself : (m : Manager) → is_same m m ≡ true
-same_manager-itself m = ap is_eq (tied_itself path_cmp_total m)
+same_manager-itself m = ap is_eq (tied_itself manager_total m)
 
 pub same_entry-is : (e f : Manager × PathSet) → same_entry e f ≡ true → e ≡ f
 same_entry-is e f h =

@@ -9,11 +9,12 @@ use Rattle.std.specs.Cmp.{Equal-is}
 use Rattle.std.specs.Ordering.{eq_by_cmp}
 use Rattle.fieldpath.specs.Paths.{path_cmp}
 use Rattle.pathmap.specs.Contents.{PathSet}
-use Rattle.pathmap.proofs.Contents.{path_cmp_total, path_cmp_antisymmetric}
+use Rattle.pathmap.proofs.Contents.{path_cmp_total}
 use Rattle.pathmap.proofs.Sets.{same_paths}
-use Rattle.ownership.specs.Owners.{Manager, Owners, HavePaths, is_same, is_empty, owned_by, others, less, with_owner, taken_over}
+use Rattle.ownership.specs.Owners.{Manager, Owners, HavePaths, is_same, is_empty, owned_by, others, less, with_owner, taken_over, manager_cmp}
 use Rattle.ownership.proofs.Entries.{Pairs, fst, snd, is_other, is_sorted-filter}
 use Rattle.ownership.proofs.Sameness.{no_paths, same_manager-is, same_manager-itself}
+use Rattle.ownership.proofs.Orders.{manager_total, manager_antisymmetric}
 
 -- ---- sets less some paths
 pub difference-empty : (s : PathSet) → set.difference s set.empty ≡ s
@@ -46,49 +47,49 @@ owned_less lost None = sym (empty-difference lost)
 owned_less lost (Some s) = owned_kept (set.difference s lost)
 
 -- ---- looking among entries
-tied : (q k : Manager) → eq_by_cmp path_cmp q k ≡ true → q ≡ k
-tied q k e = path_cmp_antisymmetric q k ((Equal-is (path_cmp q k)).0 e)
+tied : (q k : Manager) → eq_by_cmp manager_cmp q k ≡ true → q ≡ k
+tied q k e = manager_antisymmetric q k ((Equal-is (manager_cmp q k)).0 e)
 
-pub none_above : (q : Manager) (es : Pairs) → T (below_all path_cmp q es) → find path_cmp q es ≡ None
+pub none_above : (q : Manager) (es : Pairs) → T (below_all manager_cmp q es) → find manager_cmp q es ≡ None
 none_above q [] h = refl
-none_above q (e ∷ es) h = by_test (eq_by_cmp path_cmp q e.0) refl (none_above q es (snd _ _ h))
+none_above q (e ∷ es) h = by_test (eq_by_cmp manager_cmp q e.0) refl (none_above q es (snd _ _ h))
   where
-    by_test : (b : Bool) → eq_by_cmp path_cmp q e.0 ≡ b → find path_cmp q es ≡ None → cond b (Some e.1) (find path_cmp q es) ≡ None
-    by_test true is later = absurd (subst (λ o. T (is_lt o)) ((Equal-is (path_cmp q e.0)).0 is) (fst _ _ h))
+    by_test : (b : Bool) → eq_by_cmp manager_cmp q e.0 ≡ b → find manager_cmp q es ≡ None → cond b (Some e.1) (find manager_cmp q es) ≡ None
+    by_test true is later = absurd (subst (λ o. T (is_lt o)) ((Equal-is (manager_cmp q e.0)).0 is) (fst _ _ h))
     by_test false is later = later
 
 -- the others, each less some paths
-pub find_left : (lost : PathSet) (q : Manager) (es : Pairs) → T (is_sorted path_cmp es) → find path_cmp q (less lost es) ≡ kept_less lost (find path_cmp q es)
+pub find_left : (lost : PathSet) (q : Manager) (es : Pairs) → T (is_sorted manager_cmp es) → find manager_cmp q (less lost es) ≡ kept_less lost (find manager_cmp q es)
 find_left lost q [] h = refl
-find_left lost q (e ∷ es) h = by_tests (set.difference e.1 lost) (eq_by_cmp path_cmp q e.0) (is_empty (set.difference e.1 lost)) refl refl refl (find_left lost q es (snd _ _ h))
+find_left lost q (e ∷ es) h = by_tests (set.difference e.1 lost) (eq_by_cmp manager_cmp q e.0) (is_empty (set.difference e.1 lost)) refl refl refl (find_left lost q es (snd _ _ h))
   where
-    by_tests : (d : PathSet) (b t : Bool) → d ≡ set.difference e.1 lost → eq_by_cmp path_cmp q e.0 ≡ b → is_empty d ≡ t → find path_cmp q (less lost es) ≡ kept_less lost (find path_cmp q es)
-        → find path_cmp q (cond (not t) ((e.0, d) ∷ less lost es) (less lost es)) ≡ kept_less lost (cond b (Some e.1) (find path_cmp q es))
-    by_tests d true false is tie some later = ap (λ x. cond x (Some d) (find path_cmp q (less lost es))) tie ∙ sym (ap (λ x. cond x None (Some d)) some) ∙ ap kept is
+    by_tests : (d : PathSet) (b t : Bool) → d ≡ set.difference e.1 lost → eq_by_cmp manager_cmp q e.0 ≡ b → is_empty d ≡ t → find manager_cmp q (less lost es) ≡ kept_less lost (find manager_cmp q es)
+        → find manager_cmp q (cond (not t) ((e.0, d) ∷ less lost es) (less lost es)) ≡ kept_less lost (cond b (Some e.1) (find manager_cmp q es))
+    by_tests d true false is tie some later = ap (λ x. cond x (Some d) (find manager_cmp q (less lost es))) tie ∙ sym (ap (λ x. cond x None (Some d)) some) ∙ ap kept is
     by_tests d true true is tie none later =
-        later ∙ ap (kept_less lost) (none_above q es (subst (λ k. T (below_all path_cmp k es)) (sym (tied q e.0 tie)) (fst _ _ h))) ∙ sym (ap (λ x. cond x None (Some d)) none) ∙ ap kept is
-    by_tests d false false is tie some later = ap (λ x. cond x (Some d) (find path_cmp q (less lost es))) tie ∙ later
+        later ∙ ap (kept_less lost) (none_above q es (subst (λ k. T (below_all manager_cmp k es)) (sym (tied q e.0 tie)) (fst _ _ h))) ∙ sym (ap (λ x. cond x None (Some d)) none) ∙ ap kept is
+    by_tests d false false is tie some later = ap (λ x. cond x (Some d) (find manager_cmp q (less lost es))) tie ∙ later
     by_tests d false true is tie none later = later
 
-pub find-others : (w : Owners) (m q : Manager) → find path_cmp q (others w m) ≡ cond (not (is_same m q)) (fin.get w q) None
+pub find-others : (w : Owners) (m q : Manager) → find manager_cmp q (others w m) ≡ cond (not (is_same m q)) (fin.get w q) None
 unfolding others
-find-others w m q = find-where_key path_cmp (λ k. not (is_same m k)) q (λ x t. ap (λ k. not (is_same m k)) (sym (path_cmp_antisymmetric q x t))) (fin.entries w) ∙ ap (λ o. cond (not (is_same m q)) o None) (sym (fin.get-entries w q))
+find-others w m q = find-where_key manager_cmp (λ k. not (is_same m k)) q (λ x t. ap (λ k. not (is_same m k)) (sym (manager_antisymmetric q x t))) (fin.entries w) ∙ ap (λ o. cond (not (is_same m q)) o None) (sym (fin.get-entries w q))
 
-pub sorted-others : (w : Owners) (m : Manager) → T (is_sorted path_cmp (others w m))
+pub sorted-others : (w : Owners) (m : Manager) → T (is_sorted manager_cmp (others w m))
 unfolding others
 sorted-others w m = is_sorted-filter {X = PathSet} (is_other m) (fin.entries w) (fin.entries_sorted w)
 
-find-base : (w : Owners) (m q : Manager) (lost : PathSet) → find path_cmp q (less lost (others w m)) ≡ cond (is_same m q) None (kept_less lost (fin.get w q))
+find-base : (w : Owners) (m q : Manager) (lost : PathSet) → find manager_cmp q (less lost (others w m)) ≡ cond (is_same m q) None (kept_less lost (fin.get w q))
 find-base w m q lost = find_left lost q (others w m) (sorted-others w m) ∙ ap (kept_less lost) (find-others w m q) ∙ by_test (is_same m q)
   where
     by_test : (b : Bool) → kept_less lost (cond (not b) (fin.get w q) None) ≡ cond b None (kept_less lost (fin.get w q))
     by_test true = refl
     by_test false = refl
 
-same_turned : (m q : Manager) → eq_by_cmp path_cmp q m ≡ is_same m q
-same_turned m q = by_tests (eq_by_cmp path_cmp q m) (is_same m q) refl refl
+same_turned : (m q : Manager) → eq_by_cmp manager_cmp q m ≡ is_same m q
+same_turned m q = by_tests (eq_by_cmp manager_cmp q m) (is_same m q) refl refl
   where
-    by_tests : (a b : Bool) → eq_by_cmp path_cmp q m ≡ a → is_same m q ≡ b → a ≡ b
+    by_tests : (a b : Bool) → eq_by_cmp manager_cmp q m ≡ a → is_same m q ≡ b → a ≡ b
     by_tests true true e f = refl
     by_tests true false e f = sym (same_manager-itself m) ∙ ap (is_same m) (sym (tied q m e)) ∙ f
     by_tests false true e f = sym (sym (same_manager-itself q) ∙ ap (is_same q) (sym (same_manager-is m q f)) ∙ e)
@@ -103,11 +104,11 @@ get-taken_over w m lost mine q = by_test (less lost (others w m)) (find-base w m
     once true = refl
     once false = refl
 
-    by_test : (base : Pairs) → find path_cmp q base ≡ cond (is_same m q) None (kept_less lost (fin.get w q)) → (b : Bool) → is_empty mine ≡ b
-        → fin.get (cond b (fin.from_entries {R = path_cmp} base) (fin.insert (fin.from_entries base) m mine)) q ≡ cond (is_same m q) (kept mine) (kept_less lost (fin.get w q))
-    by_test base is true none = fin.get-from_entries path_cmp_total base q ∙ is ∙ ap (λ o. cond (is_same m q) o (kept_less lost (fin.get w q))) (sym (ap (λ b. cond b None (Some mine)) none))
+    by_test : (base : Pairs) → find manager_cmp q base ≡ cond (is_same m q) None (kept_less lost (fin.get w q)) → (b : Bool) → is_empty mine ≡ b
+        → fin.get (cond b (fin.from_entries {R = manager_cmp} base) (fin.insert (fin.from_entries base) m mine)) q ≡ cond (is_same m q) (kept mine) (kept_less lost (fin.get w q))
+    by_test base is true none = fin.get-from_entries manager_total base q ∙ is ∙ ap (λ o. cond (is_same m q) o (kept_less lost (fin.get w q))) (sym (ap (λ b. cond b None (Some mine)) none))
     by_test base is false some =
-        fin.get-insert path_cmp_total (fin.from_entries base) m mine q ∙ ap (λ o. cond (eq_by_cmp path_cmp q m) (Some mine) o) (fin.get-from_entries path_cmp_total base q ∙ is)
+        fin.get-insert manager_total (fin.from_entries base) m mine q ∙ ap (λ o. cond (eq_by_cmp manager_cmp q m) (Some mine) o) (fin.get-from_entries manager_total base q ∙ is)
         ∙ ap (λ b. cond b (Some mine) (cond (is_same m q) None (kept_less lost (fin.get w q)))) (same_turned m q) ∙ once (is_same m q) ∙ ap (λ o. cond (is_same m q) o (kept_less lost (fin.get w q))) (sym (ap (λ b. cond b None (Some mine)) some))
 
 kept_have_path : (s t : PathSet) → kept s ≡ Some t → is_empty t ≡ false
@@ -140,7 +141,7 @@ owned_other w m lost mine k other =
 
 -- who has taken over may do so again, and nobody loses more
 pub taken_again : (w : Owners) (m : Manager) (lost mine : PathSet) → taken_over (taken_over w m lost mine) m set.empty mine ≡ taken_over w m lost mine
-taken_again w m lost mine = fin.same_map path_cmp_total path_cmp_antisymmetric _ _ (λ q.
+taken_again w m lost mine = fin.same_map manager_total manager_antisymmetric _ _ (λ q.
     get-taken_over (taken_over w m lost mine) m set.empty mine q ∙ ap (λ o. cond (is_same m q) (kept mine) (kept_less set.empty o)) (get-taken_over w m lost mine q) ∙ by_test q (is_same m q) ∙ sym (get-taken_over w m lost mine q))
   where
     still : (s : PathSet) → kept_less set.empty (kept s) ≡ kept s

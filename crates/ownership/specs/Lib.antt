@@ -1,4 +1,5 @@
 pub mod Owners
+pub mod Codes
 pub mod Managers
 pub mod Ranks
 pub mod Results

@@ -1,5 +1,5 @@
 -- The text of an object (Kubernetes API conventions, "Objects", "Metadata"; ObjectMeta v1, ManagedFieldsEntry v1).
-use Rattle.std.specs.Prelude.{ℕ, zero, suc, List, [], ◌∷◌, Option, Some, None, option_and_then, codes, decimal}
+use Rattle.std.specs.Prelude.{ℕ, List, [], ◌∷◌, Option, Some, None, option_and_then, codes, decimal}
 use Rattle.std.specs.FinMap as fin
 use Rattle.serde_json.specs.Data.{Data, string, array, object, Items, no_items, item, Members, no_members, put}
 use Rattle.serde_json.specs.Find.{get_member, as_object}
@@ -8,7 +8,7 @@ use Rattle.pathmap.specs.Contents.{PathSet}
 use Rattle.fieldset.specs.FieldsV1.{fields_v1_of}
 use Rattle.schema.specs.Shape.{Shape}
 use Rattle.typed.specs.Printing.{print}
-use Rattle.ownership.specs.Owners.{Manager, Owners}
+use Rattle.ownership.specs.Owners.{Manager, Owners, operation_text}
 use Rattle.ownership.specs.Apply.{State}
 
 -- what an object is of, and its key: `group/version`, kind, namespace, name
@@ -22,11 +22,6 @@ abbrev pub members_or_none : Option Members → Members
 members_or_none None = no_members
 members_or_none (Some ms) = ms
 
-abbrev pub text_at : ℕ → Manager → List ℕ
-text_at n [] = []
-text_at zero (s ∷ ss) = s
-text_at (suc n) (s ∷ ss) = text_at n ss
-
 -- a member more, unless its text is empty
 abbrev pub put_text : List ℕ → List ℕ → Members → Members
 put_text k [] ms = ms
@@ -36,7 +31,7 @@ put_text k (b ∷ bs) ms = put k (string (b ∷ bs)) ms
 abbrev pub entry_value : Shape → List ℕ → Manager → PathSet → Data
 entry_value s api_version m paths =
     object (put (codes "apiVersion") (string api_version) (put (codes "fieldsType") (string (codes "FieldsV1")) (put (codes "fieldsV1") (fields_v1_of s paths)
-    (put (codes "manager") (string (text_at 0 m)) (put (codes "operation") (string (text_at 1 m)) (put_text (codes "subresource") (text_at 2 m) no_members))))))
+    (put (codes "manager") (string m.name) (put (codes "operation") (string (operation_text m.operation)) (put_text (codes "subresource") m.subresource no_members))))))
 
 abbrev pub entry_items : Shape → List ℕ → List (Manager × PathSet) → Items
 entry_items s api_version [] = no_items

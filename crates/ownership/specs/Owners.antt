@@ -1,35 +1,46 @@
 -- Who owns which paths. Server-Side Apply, "Field management": a manager is a name and an operation (`Apply` or `Update`), with a subresource where it wrote by one.
 use Rattle.std.specs.Prelude.{◌≡◌, ℕ, Bool, false, not, List, [], ◌∷◌, Some, filter, map, unwrap_or, if◌then◌else◌, codes, ◌==◌}
-use Rattle.std.specs.Coded.{Coded}
-use Rattle.std.specs.Ordering.{eq_by_cmp}
+use Rattle.std.specs.declared.cmp.Ordering.{Ordering}
+use Rattle.std.specs.Ordering.{on, eq_by_cmp}
 use Rattle.std.specs.FinMap as fin
 use Rattle.std.specs.FinSet as set
 use Rattle.fieldpath.specs.Paths.{path_cmp}
 use Rattle.pathmap.specs.Contents.{PathSet}
-use Rattle.pathmap.specs.Codes.{coded_path, coded_paths}
+use Rattle.ownership.specs.declared.manager.Operation.{Operation}
+use Rattle.ownership.specs.declared.manager.Operation.TheVariants.{Apply, Update}
 
--- a manager is the list of its texts: name, operation, subresource (empty for none); so managers are in that order
-abbrev pub Manager : Type 0
-Manager = List (List ℕ)
+-- the subresource is empty where it wrote by none
+pub record Manager : Type 0 where
+  pub name : List ℕ
+  pub operation : Operation
+  pub subresource : List ℕ
 
-abbrev pub manager_of : List ℕ → List ℕ → Manager
-manager_of name operation = name ∷ operation ∷ [] ∷ []
+abbrev pub manager_of : List ℕ → Operation → Manager
+manager_of name operation = record { name = name; operation = operation; subresource = [] }
 
-abbrev pub apply_operation : List ℕ
-apply_operation = codes "Apply"
+abbrev pub apply_operation : Operation
+apply_operation = Apply
 
-abbrev pub update_operation : List ℕ
-update_operation = codes "Update"
+abbrev pub update_operation : Operation
+update_operation = Update
+
+abbrev pub operation_text : Operation → List ℕ
+operation_text Apply = codes "Apply"
+operation_text Update = codes "Update"
+
+abbrev pub manager_texts : Manager → List (List ℕ)
+manager_texts m = m.name ∷ operation_text m.operation ∷ m.subresource ∷ []
+
+-- by name, then operation, then subresource, each by its bytes
+abbrev pub manager_cmp : Manager → Manager → Ordering
+manager_cmp = on manager_texts path_cmp
 
 -- each manager's paths; a manager with none has no entry
 abbrev pub Owners : Type 0
-Owners = fin.FinMap path_cmp PathSet
-
-abbrev pub coded_owners : Coded Owners
-coded_owners = fin.code coded_path coded_paths
+Owners = fin.FinMap manager_cmp PathSet
 
 abbrev pub is_same : Manager → Manager → Bool
-is_same = eq_by_cmp path_cmp
+is_same = eq_by_cmp manager_cmp
 
 -- what a manager owns, nothing where it has no entry
 unfoldable pub owned_by : Owners → Manager → PathSet

@@ -4,7 +4,7 @@ use Rattle.std.specs.declared.result.Result.{Result}
 use Rattle.std.specs.declared.result.Result.TheVariants.{Ok, Err}
 use Rattle.pathmap.specs.Contents.{Content}
 use Rattle.ownership.specs.Owners.{Manager}
-use Rattle.ownership.specs.Managers.{texts}
+use Rattle.ownership.specs.Managers.{manager_view}
 use Rattle.ownership.specs.Apply as def
 use Rattle.ownership.specs.Apply.{State, conflicts, applied, is_refused}
 use Rattle.ownership.specs.declared.conflict.ApplyFault.{ApplyFault}
@@ -21,7 +21,7 @@ abbrev pub identity_of : Identity → text.Identity
 identity_of i = record { api_version = i.api_version.now; kind = i.kind.now; namespace = i.namespace.now; name = i.name.now }
 
 abbrev pub conflict_of : Conflict → def.Conflict
-conflict_of c = (c.path, texts c.manager)
+conflict_of c = (c.path, manager_view c.manager)
 
 -- Ok with the new state, where there is no conflict or force; all conflicts, where there are some and no force; or want of memory
 abbrev pub Applies : State → Content → Manager → Bool → Result Owned ApplyFault → Type 0

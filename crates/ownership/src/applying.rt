@@ -5,7 +5,7 @@ ghost use Rattle.typed.specs.Fitting.{IsContent};
 ghost use Rattle.ownership.specs.Owners.{apply_operation, manager_of};
 ghost use Rattle.ownership.specs.Apply.{dropped, is_refused};
 ghost use Rattle.ownership.specs.Keeping.{HasPlaces, IsPlacedState, IsSettled, LeavesOwned, OthersKeep, OwnedStand};
-ghost use Rattle.ownership.specs.Managers.{texts};
+ghost use Rattle.ownership.specs.Managers.{manager_view};
 ghost use Rattle.ownership.specs.Results.{Applies, conflict_of, state_of};
 
 use crate::conflict::{ApplyFault, Conflict};
@@ -22,7 +22,7 @@ fn dropped(
     manager: &Manager,
     body: &FieldSet,
 ) -> Result<FieldSet, AllocError>
-    ensures { (config : Content) → body.now ≡ dom config → IfOk result (λ s. s ≡ dropped (state_of live.now) config (texts manager.now)) }
+    ensures { (config : Content) → body.now ≡ dom config → IfOk result (λ s. s ≡ dropped (state_of live.now) config (manager_view manager.now)) }
 {
     match live.managers.get(manager) {
         Some(owned) => {

@@ -1,7 +1,6 @@
 ghost use Rattle.std.specs.Prelude.{◌≡◌, IfOk};
-ghost use Rattle.fieldpath.specs.Paths.{path_cmp};
-ghost use Rattle.ownership.specs.Owners.{is_same, manager_of};
-ghost use Rattle.ownership.specs.Managers.{operation_text, texts};
+ghost use Rattle.ownership.specs.Owners.{is_same, manager_cmp, manager_of, operation_text};
+ghost use Rattle.ownership.specs.Managers.{manager_view};
 
 use std::alloc::{AllocError, Global};
 use std::cmp::Ordering;
@@ -35,7 +34,7 @@ pub struct Manager {
 impl Manager {
     /// The manager of this name that wrote by this operation.
     pub fn new(alloc: Global, name: &str, operation: Operation) -> Result<Manager, AllocError>
-        ensures { IfOk result (λ m. texts m ≡ manager_of name.now (operation_text operation)) }
+        ensures { IfOk result (λ m. manager_view m ≡ manager_of name.now operation) }
     {
         Ok(Manager {
             name: String::from_str(alloc, name)?,
@@ -45,7 +44,7 @@ impl Manager {
 
     /// The order of managers: by name, then operation.
     pub fn compare(&self, other: &Manager) -> Ordering
-        ensures { result ≡ path_cmp (texts self.now) (texts other.now) }
+        ensures { result ≡ manager_cmp (manager_view self.now) (manager_view other.now) }
     {
         self.name
             .as_str()
@@ -54,13 +53,13 @@ impl Manager {
     }
 
     pub fn is_same(&self, other: &Manager) -> bool
-        ensures { result ≡ is_same (texts self.now) (texts other.now) }
+        ensures { result ≡ is_same (manager_view self.now) (manager_view other.now) }
     {
         self.compare(other).is_eq()
     }
 
     pub fn try_copy(&self) -> Result<Manager, AllocError>
-        ensures { IfOk result (λ m. texts m ≡ texts self.now) }
+        ensures { IfOk result (λ m. manager_view m ≡ manager_view self.now) }
     {
         Ok(Manager {
             name: self.name.clone()?,

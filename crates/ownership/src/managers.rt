@@ -4,11 +4,10 @@ ghost use Rattle.ownership.specs.Results.{conflict_of};
 ghost use Rattle.std.specs.List.{insert};
 ghost use Rattle.std.specs.FinMap.{find};
 ghost use Rattle.std.specs.FinMap as fin;
-ghost use Rattle.fieldpath.specs.Paths.{path_cmp};
 ghost use Rattle.pathmap.specs.Contents.{in_order};
 ghost use Rattle.ownership.specs.Apply.{clear_of_all, conflicts_with};
-ghost use Rattle.ownership.specs.Owners.{HavePaths, is_same, less, others, taken_over};
-ghost use Rattle.ownership.specs.Managers.{pairs, texts};
+ghost use Rattle.ownership.specs.Owners.{HavePaths, is_same, less, manager_cmp, others, taken_over};
+ghost use Rattle.ownership.specs.Managers.{pairs, manager_view};
 ghost use Rattle.ownership.specs.Ranks.{rank};
 
 use crate::conflict::Conflict;
@@ -35,8 +34,8 @@ pub struct Managers {
 impl Model for Managers {
     ghost use Rattle.std.specs.Prelude.{◌≡◌};
     ghost use Rattle.std.specs.FinMap as fin;
-    ghost use Rattle.fieldpath.specs.Paths.{path_cmp};
-    ghost use Rattle.ownership.specs.Owners.{HavePaths, Owners, coded_owners};
+    ghost use Rattle.ownership.specs.Codes.{coded_owners};
+    ghost use Rattle.ownership.specs.Owners.{HavePaths, Owners, manager_cmp};
     ghost use Rattle.ownership.specs.Managers.{pairs};
 
     ghost Value = { Owners };
@@ -45,11 +44,11 @@ impl Model for Managers {
 
     ghost view = { λ m. fin.from_entries (pairs m.entries.items) };
 
-    ghost invariant = { λ m. (fin.entries (fin.from_entries {R = path_cmp} (pairs m.entries.items)) ≡ pairs m.entries.items) × HavePaths (fin.from_entries {R = path_cmp} (pairs m.entries.items)) };
+    ghost invariant = { λ m. (fin.entries (fin.from_entries {R = manager_cmp} (pairs m.entries.items)) ≡ pairs m.entries.items) × HavePaths (fin.from_entries {R = manager_cmp} (pairs m.entries.items)) };
 }
 
 fn rank(entries: &[Entry], manager: &Manager) -> usize
-    ensures { result ≡ rank (texts manager.now) (pairs entries.now) }
+    ensures { result ≡ rank (manager_view manager.now) (pairs entries.now) }
 {
     let mut rank = 0;
     for entry in entries {
@@ -68,7 +67,7 @@ fn less_others(
     manager: &Manager,
     lost: &FieldSet,
 ) -> Result<Vec<Entry>, AllocError>
-    ensures { IfOk result (λ v. pairs v.items ≡ less lost.now (filter (λ e. not (is_same (texts manager.now) e.0)) (pairs entries.now))) }
+    ensures { IfOk result (λ v. pairs v.items ≡ less lost.now (filter (λ e. not (is_same (manager_view manager.now) e.0)) (pairs entries.now))) }
 {
     let mut left = Vec::new(alloc);
     for entry in entries {
@@ -92,7 +91,7 @@ fn clear_of_others(
     manager: &Manager,
     paths: FieldSet,
 ) -> Result<FieldSet, AllocError>
-    ensures { IfOk result (λ s. s ≡ clear_of_all paths (filter (λ e. not (is_same (texts manager.now) e.0)) (pairs entries.now))) }
+    ensures { IfOk result (λ s. s ≡ clear_of_all paths (filter (λ e. not (is_same (manager_view manager.now) e.0)) (pairs entries.now))) }
 {
     let mut clear = paths;
     for entry in entries {
@@ -104,7 +103,7 @@ fn clear_of_others(
 }
 
 fn paths_of<'a>(entries: &'a [Entry], manager: &Manager) -> Option<&'a FieldSet>
-    ensures { option_map (λ s. s.now) result ≡ find path_cmp (texts manager.now) (pairs entries.now) }
+    ensures { option_map (λ s. s.now) result ≡ find manager_cmp (manager_view manager.now) (pairs entries.now) }
 {
     for entry in entries {
         if manager.is_same(&entry.manager) {
@@ -120,7 +119,7 @@ fn with_entry(
     manager: Manager,
     paths: FieldSet,
 ) -> Result<Vec<Entry>, AllocError>
-    ensures { IfOk result (λ v. pairs v.items ≡ insert (pairs entries.items) (rank (texts manager) (pairs entries.items)) (texts manager, paths)) }
+    ensures { IfOk result (λ v. pairs v.items ≡ insert (pairs entries.items) (rank (manager_view manager) (pairs entries.items)) (manager_view manager, paths)) }
 {
     let place = rank(&entries, &manager);
     let mut all = entries;
@@ -135,7 +134,7 @@ fn add_conflicts(
     entry: &Entry,
     changed: &FieldSet,
 ) -> Result<(), AllocError>
-    ensures { OnOk result (map conflict_of all.new.items ≡ map conflict_of all.old.items ++ map (λ p. (p, texts entry.now.manager)) (in_order (set.intersection entry.now.paths changed.now))) }
+    ensures { OnOk result (map conflict_of all.new.items ≡ map conflict_of all.old.items ++ map (λ p. (p, manager_view entry.now.manager)) (in_order (set.intersection entry.now.paths changed.now))) }
 {
     let paths = entry.paths.common(alloc, changed)?.paths(alloc)?;
     for path in paths {
@@ -154,7 +153,7 @@ fn conflicts_with(
     manager: &Manager,
     changed: &FieldSet,
 ) -> Result<Vec<Conflict>, AllocError>
-    ensures { IfOk result (λ v. map conflict_of v.items ≡ conflicts_with changed.now (filter (λ e. not (is_same (texts manager.now) e.0)) (pairs entries.now))) }
+    ensures { IfOk result (λ v. map conflict_of v.items ≡ conflicts_with changed.now (filter (λ e. not (is_same (manager_view manager.now) e.0)) (pairs entries.now))) }
 {
     let mut all = Vec::new(alloc);
     for entry in entries {
@@ -185,7 +184,7 @@ impl Managers {
 
     /// What a manager owns; nothing where it has no entry.
     pub fn get(&self, manager: &Manager) -> Option<&FieldSet>
-        ensures { option_map (λ s. s.now) result ≡ fin.get self.now (texts manager.now) }
+        ensures { option_map (λ s. s.now) result ≡ fin.get self.now (manager_view manager.now) }
     {
         paths_of(&self.entries, manager)
     }
@@ -197,7 +196,7 @@ impl Managers {
         manager: &Manager,
         paths: FieldSet,
     ) -> Result<FieldSet, AllocError>
-        ensures { IfOk result (λ s. s ≡ clear_of_all paths (others self.now (texts manager.now))) }
+        ensures { IfOk result (λ s. s ≡ clear_of_all paths (others self.now (manager_view manager.now))) }
     {
         clear_of_others(&self.entries, alloc, manager, paths)
     }
@@ -210,7 +209,7 @@ impl Managers {
         lost: &FieldSet,
         mine: FieldSet,
     ) -> Result<Managers, AllocError>
-        ensures { IfOk result (λ w. w ≡ taken_over self.now (texts manager) lost.now mine) }
+        ensures { IfOk result (λ w. w ≡ taken_over self.now (manager_view manager) lost.now mine) }
     {
         let left = less_others(&self.entries, alloc, &manager, lost)?;
         let entries = if mine.is_empty() {
@@ -228,7 +227,7 @@ impl Managers {
         manager: &Manager,
         changed: &FieldSet,
     ) -> Result<Vec<Conflict>, AllocError>
-        ensures { IfOk result (λ v. map conflict_of v.items ≡ conflicts_with changed.now (others self.now (texts manager.now))) }
+        ensures { IfOk result (λ v. map conflict_of v.items ≡ conflicts_with changed.now (others self.now (manager_view manager.now))) }
     {
         conflicts_with(&self.entries, alloc, manager, changed)
     }

@@ -3,7 +3,7 @@ ghost use Rattle.serde_json.specs.Data.{put, string};
 ghost use Rattle.serde_json.specs.Find.{as_object};
 ghost use Rattle.serde_json.specs.View.{items_view, members_view, view};
 ghost use Rattle.schema.specs.Shape.{shape};
-ghost use Rattle.ownership.specs.Managers.{pair, pairs, texts};
+ghost use Rattle.ownership.specs.Managers.{pair, pairs, manager_view};
 ghost use Rattle.ownership.specs.ObjectText.{entry_items, entry_value, members_or_none, metadata_members, metadata_of, object_value, put_entries};
 ghost use Rattle.ownership.specs.Results.{identity_of, state_of};
 
@@ -29,7 +29,7 @@ fn entry_value(
     api_version: &str,
     entry: &Entry,
 ) -> Result<Value, AllocError>
-    ensures { IfOk result (λ v. view v ≡ entry_value (shape schema.now) api_version.now (texts entry.now.manager) entry.now.paths) }
+    ensures { IfOk result (λ v. view v ≡ entry_value (shape schema.now) api_version.now (manager_view entry.now.manager) entry.now.paths) }
 {
     let fields = entry.paths.to_fields_v1(alloc, schema)?;
     json!(in alloc; {

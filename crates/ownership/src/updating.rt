@@ -4,7 +4,7 @@ ghost use Rattle.ownership.specs.Owners.{manager_of, owned_by, update_operation}
 ghost use Rattle.schema.specs.Shape.{Shape};
 ghost use Rattle.typed.specs.Fitting.{IsContent};
 ghost use Rattle.ownership.specs.Keeping.{IsPlacedState, LeavesOwned, OwnedStand};
-ghost use Rattle.ownership.specs.Managers.{texts};
+ghost use Rattle.ownership.specs.Managers.{manager_view};
 ghost use Rattle.ownership.specs.Results.{state_of};
 ghost use Rattle.ownership.specs.Update.{removed, updated};
 
@@ -30,7 +30,7 @@ fn owned_then(
     gone: &FieldSet,
     changed: &FieldSet,
 ) -> Result<FieldSet, AllocError>
-    ensures { IfOk result (λ s. s ≡ set.union (set.difference (owned_by managers.now (texts manager.now)) gone.now) changed.now) }
+    ensures { IfOk result (λ s. s ≡ set.union (set.difference (owned_by managers.now (manager_view manager.now)) gone.now) changed.now) }
 {
     match managers.get(manager) {
         Some(owned) => owned.minus(alloc, gone)?.union(alloc, changed),

@@ -15,7 +15,7 @@ use Rattle.typed.specs.Reading.{content_of}
 use Rattle.ownership.specs.Owners.{Manager, manager_of, apply_operation}
 use Rattle.ownership.specs.Apply.{State, Conflict, conflicts, applied, is_refused}
 use Rattle.ownership.specs.Sameness.{same_state}
-use Rattle.ownership.specs.ObjectText.{Identity, object_value, text_at}
+use Rattle.ownership.specs.ObjectText.{Identity, object_value}
 use Rattle.verbs.specs.declared.method.Method.{Method}
 use Rattle.verbs.specs.declared.method.Method.TheVariants.{Get, Post, Put, Patch, Delete}
 use Rattle.verbs.specs.declared.reason.Reason.{Reason}
@@ -71,7 +71,7 @@ version_checked (Some given) (Some o) = unless (given == o.revision) reason.Conf
 -- ---- ownership (Server-Side Apply, "Conflicts")
 
 abbrev pub conflict_message : List ℕ → Manager → List ℕ
-conflict_message api_version m = codes "conflict with \"" ++ text_at 0 m ++ codes "\" using " ++ api_version
+conflict_message api_version m = codes "conflict with \"" ++ m.name ++ codes "\" using " ++ api_version
 
 abbrev pub cause_of : List ℕ → Conflict → Data
 cause_of api_version c =

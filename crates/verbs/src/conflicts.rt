@@ -2,7 +2,7 @@ ghost use Rattle.std.specs.Prelude.{◌≡◌, IfOk, map, string_bytes};
 ghost use Rattle.serde_json.specs.View.{items_view, view};
 ghost use Rattle.schema.specs.Served as types;
 ghost use Rattle.ownership.specs.Owners.{apply_operation, manager_of};
-ghost use Rattle.ownership.specs.Managers.{texts};
+ghost use Rattle.ownership.specs.Managers.{manager_view};
 ghost use Rattle.ownership.specs.Results.{conflict_of, state_of};
 ghost use Rattle.verbs.specs.Envelope.{api_version_of};
 ghost use Rattle.verbs.specs.Seen.{Gives, Refuses, denial_of};
@@ -24,7 +24,7 @@ fn conflict_message(
     api_version: &str,
     manager: &Manager,
 ) -> Result<String, AllocError>
-    ensures { IfOk result (λ s. string_bytes s ≡ conflict_message api_version.now (texts manager.now)) }
+    ensures { IfOk result (λ s. string_bytes s ≡ conflict_message api_version.now (manager_view manager.now)) }
 {
     let mut message = joined(alloc, "conflict with \"", manager.name.as_str())?;
     message.push_str("\" using ")?;

@@ -1,6 +1,6 @@
 use Rattle.std.proofs.Common.{sym, ap, ap₂, ◌∙◌, ◌++◌, ◌∷◌, []}
 use Rattle.std.proofs.lemmas.List.{map-append}
-use Rattle.ownership.specs.Managers.{pair, pairs, texts}
+use Rattle.ownership.specs.Managers.{pair, pairs, manager_view}
 use Rattle.ownership.specs.Owners.{is_empty}
 use Rattle.ownership.proofs.Entries.{less_same, less_empty, less_some, empty_is}
 use Rattle.ownership.proofs.managers.less_others.Goals as goal
@@ -9,7 +9,7 @@ use Rattle.ownership.proofs.managers.less_others.Goals.{then-not-is_same+in_ok-p
 pub loop-entry-preserved : goal.loop-entry-preserved
 loop-entry-preserved c =
     let lost = c.args.lost.now in
-    let m = texts c.args.manager.now in
+    let m = manager_view c.args.manager.now in
     let es = c.args.entries.now in
     let i = c.loop-entry.entry-index in
     let e = c.entry-item.result in

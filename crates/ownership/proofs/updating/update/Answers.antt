@@ -1,6 +1,6 @@
 use Rattle.std.proofs.Common.{◌≡◌, sym, subst}
 use Rattle.ownership.specs.Apply.{State}
-use Rattle.ownership.specs.Managers.{texts}
+use Rattle.ownership.specs.Managers.{manager_view}
 use Rattle.ownership.specs.Owners.{manager_of, update_operation}
 use Rattle.ownership.specs.Results.{state_of}
 use Rattle.ownership.specs.Update.{updated}
@@ -15,7 +15,7 @@ returns c =
     let m = manager_of c.args.manager.now update_operation in
     let after : State = record { content = c.args.new; owners = c.in_ok-managers.managers } in
     let is : after ≡ updated live c.args.new m =
-    updated_is live c.args.new m (texts c.in_ok-manager.manager) c.in_ok-changed.changed c.in_ok-gone.gone c.in_ok-lost.lost c.in_ok-owned.owned c.in_ok-managers.managers
+    updated_is live c.args.new m (manager_view c.in_ok-manager.manager) c.in_ok-changed.changed c.in_ok-gone.gone c.in_ok-lost.lost c.in_ok-owned.owned c.in_ok-managers.managers
     c.in_ok-manager.ensures c.in_ok-changed.ensures c.in_ok-gone.ensures c.in_ok-lost.ensures c.in_ok-owned.ensures c.in_ok-managers.ensures in
     record {
       updates = is;

@@ -1,18 +1,17 @@
 use Rattle.std.proofs.Common.{◌≡◌, sym, ap, ◌∙◌, subst}
 use Rattle.std.specs.FinMap as fin
 use Rattle.std.specs.Prelude.{filter}
-use Rattle.fieldpath.specs.Paths.{path_cmp}
-use Rattle.ownership.specs.Owners.{HavePaths, less, taken_over}
-use Rattle.ownership.specs.Managers.{pairs, texts}
+use Rattle.ownership.specs.Owners.{HavePaths, less, taken_over, manager_cmp}
+use Rattle.ownership.specs.Managers.{pairs, manager_view}
 use Rattle.ownership.proofs.Entries.{is_other, empty_is, from-entries, owners_left, owners_more}
 use Rattle.ownership.proofs.Taking.{taken_have_paths}
 use Rattle.ownership.proofs.managers.Managers.taken_over.Goals as goal
 use Rattle.ownership.proofs.managers.Managers.taken_over.Goals.{then-is_empty, else-is_empty+in_ok-entries}
 
-are_owners : (c : goal.Joined-is_empty) → pairs c.if-is_empty.entries.items ≡ fin.entries (taken_over c.args.self.now (texts c.args.manager) c.args.lost.now c.args.mine)
+are_owners : (c : goal.Joined-is_empty) → pairs c.if-is_empty.entries.items ≡ fin.entries (taken_over c.args.self.now (manager_view c.args.manager) c.args.lost.now c.args.mine)
 are_owners c =
     let w = c.args.self.now in
-    let m = texts c.args.manager in
+    let m = manager_view c.args.manager in
     let lost = c.args.lost.now in
     let mine = c.args.mine in
     let left = c.in_ok-left.left in
@@ -27,9 +26,9 @@ are_owners c =
 pub invariant_of-result : goal.invariant_of-result
 invariant_of-result c =
     let w = c.args.self.now in
-    let m = texts c.args.manager in
+    let m = manager_view c.args.manager in
     let back = from-entries (taken_over w m c.args.lost.now c.args.mine) in
-    subst (λ es. (fin.entries (fin.from_entries {R = path_cmp} es) ≡ es) × HavePaths (fin.from_entries {R = path_cmp} es)) (sym (are_owners c)) (ap fin.entries back, subst HavePaths (sym back) (taken_have_paths w m c.args.lost.now c.args.mine))
+    subst (λ es. (fin.entries (fin.from_entries {R = manager_cmp} es) ≡ es) × HavePaths (fin.from_entries {R = manager_cmp} es)) (sym (are_owners c)) (ap fin.entries back, subst HavePaths (sym back) (taken_have_paths w m c.args.lost.now c.args.mine))
 
 pub returns : goal.returns
-returns c = ap (λ es. fin.from_entries {R = path_cmp} es) (are_owners c) ∙ from-entries _
+returns c = ap (λ es. fin.from_entries {R = manager_cmp} es) (are_owners c) ∙ from-entries _
