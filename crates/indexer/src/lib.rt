@@ -19,6 +19,3 @@ pub use index_by::IndexBy;
 pub use indexer::{Indexer, NewError};
 pub use law::indexes_follow;
 pub use object::{Object, ObjectKey};
-
-#[cfg(test)]
-mod tests;

@@ -13,6 +13,3 @@ mod label;
 pub use decimal::{decimal_up_to, version_of};
 pub use dns::{is_dns_label, is_dns_subdomain};
 pub use label::{is_label_key, is_label_value};
-
-#[cfg(test)]
-mod tests;

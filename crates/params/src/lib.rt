@@ -16,6 +16,3 @@ mod texts;
 pub use fault::ParamsFault;
 pub use parameter::Parameter;
 pub use params::{Asked, Params, Token, VersionMatch, Watch};
-
-#[cfg(test)]
-mod tests;

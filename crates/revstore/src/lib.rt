@@ -7,8 +7,6 @@
 
 mod fault;
 mod store;
-#[cfg(test)]
-mod tests;
 
 pub use fault::{ChangesFault, CompactFault, ListFault, WriteFault};
 pub use store::Store;

@@ -14,6 +14,3 @@ mod text;
 
 pub use fault::{Fault, ReadError};
 pub use selector::Selector;
-
-#[cfg(test)]
-mod tests;

@@ -19,6 +19,3 @@ pub use item::Item;
 pub use laws::{chunks_read_back, fronts_stand, one_reading, reply_reads_back, watch_reads_back};
 pub use reader::{ReadFault, ReplyReader};
 pub use request::request_bytes;
-
-#[cfg(test)]
-mod tests;

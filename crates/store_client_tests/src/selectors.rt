@@ -1,6 +1,6 @@
 //! Examples of the documentation "Labels and Selectors", and texts that are no selector.
 
-use super::{Fault, ReadError, Selector};
+use selector::{Fault, ReadError, Selector};
 use std::alloc::{AllocError, Global};
 use std::collections::BTreeMap;
 use std::test::Fail;

@@ -1,6 +1,6 @@
 //! Names of the Kubernetes documentation, versions, and texts that are none.
 
-use super::{
+use names::{
     decimal_up_to, is_dns_label, is_dns_subdomain, is_label_key, is_label_value, version_of,
 };
 use std::alloc::{AllocError, Global};

@@ -1,8 +1,8 @@
 //! Requests, and replies cut at every place.
 
-use super::{Item, ReadFault, ReplyReader, request_bytes};
 use std::alloc::{AllocError, Global};
 use std::test::Fail;
+use wireclient::{Item, ReadFault, ReplyReader, request_bytes};
 
 const LENGTH: &str = "HTTP/1.1 200 OK\r\nContent-Length: ";
 

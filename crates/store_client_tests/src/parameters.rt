@@ -1,6 +1,6 @@
 //! Every parameter, what goes together, and which fault comes first.
 
-use super::{Asked, Parameter, Params, ParamsFault, VersionMatch, Watch};
+use params::{Asked, Parameter, Params, ParamsFault, Token, VersionMatch, Watch};
 use std::alloc::{AllocError, Global};
 use std::collections::BTreeMap;
 use std::test::Fail;
@@ -21,6 +21,19 @@ fn tier(alloc: Global, value: &str) -> Result<BTreeMap<String, String>, AllocErr
         String::from_str(alloc, value)?,
     )?;
     Ok(labels)
+}
+
+fn read(alloc: Global, asked: Asked, query: &str) -> Result<Params, Fail> {
+    Ok(Params::read(alloc, asked, query.as_bytes())?)
+}
+
+/// A query with a manager of so many letters.
+fn named(alloc: Global, length: usize) -> Result<String, AllocError> {
+    let mut query = String::from_str(alloc, "fieldManager=")?;
+    for _ in 0..length {
+        query.push('m')?;
+    }
+    Ok(query)
 }
 
 #[test]
@@ -55,16 +68,12 @@ fn managers_of_writes(rt: HostRuntime) -> Result<(), Fail> {
         ),
         (Asked::Put, "fieldManager=bob", "bob", false),
     ] {
-        let params = Params::read(alloc, asked, query.as_bytes())?;
+        let params = read(alloc, asked, query)?;
         assert_eq!(rt; params.manager.as_str(), manager, "{query}");
         assert_eq!(rt; params.is_forced, is_forced, "{query}");
     }
-    let mut name = String::new(alloc);
-    for _ in 0..128 {
-        name.push('m')?;
-    }
-    let longest = format!(in alloc; "fieldManager={name}")?;
-    let too_long = format!(in alloc; "fieldManager={name}m")?;
+    let longest = named(alloc, 128)?;
+    let too_long = named(alloc, 129)?;
     for asked in [Asked::Apply, Asked::Post, Asked::Put] {
         assert_eq!(rt; bad(alloc, asked, &longest)?, None);
         assert_eq!(rt;
@@ -163,7 +172,7 @@ fn faults_of_writes(rt: HostRuntime) -> Result<(), Fail> {
     ] {
         assert_eq!(rt; bad(alloc, asked, query)?, expected, "{query}");
     }
-    let params = Params::read(alloc, Asked::Get, b"resourceVersion=7&resourceVersion=8")?;
+    let params = read(alloc, Asked::Get, "resourceVersion=7&resourceVersion=8")?;
     assert_eq!(rt; params.version, Some(7));
     Ok(())
 }
@@ -261,32 +270,56 @@ fn faults_of_lists(rt: HostRuntime) -> Result<(), Fail> {
     Ok(())
 }
 
+/// Whether the list's selector takes an object with this `tier`.
+fn selects(alloc: Global, query: &str, value: &str) -> Result<bool, Fail> {
+    let params = read(alloc, Asked::List, query)?;
+    Ok(params.selector.matches(&tier(alloc, value)?))
+}
+
+#[test]
+fn selectors_of_lists(rt: HostRuntime) -> Result<(), Fail> {
+    for (query, selects_web, selects_db) in [
+        ("labelSelector=tier%3Dweb&limit=1", true, false),
+        ("labelSelector=tier!%3Dweb", false, true),
+    ] {
+        assert_eq!(rt; selects(rt.alloc(), query, "web")?, selects_web, "{query}");
+        assert_eq!(rt; selects(rt.alloc(), query, "db")?, selects_db, "{query}");
+    }
+    Ok(())
+}
+
+/// The token of a list's query, and its revision, namespace and name.
+fn token_of(alloc: Global, query: &str) -> Result<String, Fail> {
+    let params = read(alloc, Asked::List, query)?;
+    match &params.token {
+        Some(token) => told(alloc, token),
+        None => Ok(String::new(alloc)),
+    }
+}
+
+fn told(alloc: Global, token: &Token) -> Result<String, Fail> {
+    let text = token.text(alloc)?;
+    let revision = token.revision;
+    let namespace = &token.namespace;
+    let mut told = format!(in alloc; "{text} {revision} {namespace} ")?;
+    told.push_str(token.name.as_str())?;
+    Ok(told)
+}
+
 #[test]
 fn values_of_lists(rt: HostRuntime) -> Result<(), Fail> {
     let alloc = rt.alloc();
-    let params = Params::read(
-        alloc,
-        Asked::List,
-        b"labelSelector=tier%3Dweb&limit=1&resourceVersion=3&resourceVersionMatch=NotOlderThan&watch=0",
-    )?;
-    assert_eq!(rt; params.limit, 1);
-    assert_eq!(rt; params.version, Some(3));
+    let query =
+        "labelSelector=tier%3Dweb&limit=1&resourceVersion=3&resourceVersionMatch=NotOlderThan&watch=0";
+    let params = read(alloc, Asked::List, query)?;
+    assert_eq!(rt; (params.limit, params.version), (1, Some(3)));
     assert_eq!(rt; params.version_match, Some(VersionMatch::NotOlderThan));
     assert_eq!(rt; params.watch, None);
-    assert_eq!(rt; params.token.is_none(), true);
-    assert_eq!(rt; params.selector.matches(&tier(alloc, "web")?), true);
-    assert_eq!(rt; params.selector.matches(&tier(alloc, "db")?), false);
-    let other = Params::read(alloc, Asked::List, b"labelSelector=tier!%3Dweb")?;
-    assert_eq!(rt; other.selector.matches(&tier(alloc, "web")?), false);
-    assert_eq!(rt; other.selector.matches(&tier(alloc, "db")?), true);
-    let paged = Params::read(alloc, Asked::List, b"limit=2&continue=4.default.w1.old")?;
-    let Some(token) = &paged.token else {
-        return Err(Fail::from("no token"));
-    };
-    assert_eq!(rt; token.text(alloc)?.as_str(), "4.default.w1.old");
-    assert_eq!(rt; token.revision, 4);
-    assert_eq!(rt; token.namespace.as_str(), "default");
-    assert_eq!(rt; token.name.as_str(), "w1.old");
+    assert_eq!(rt; token_of(alloc, query)?.as_str(), "");
+    assert_eq!(rt;
+        token_of(alloc, "limit=2&continue=4.default.w1.old")?.as_str(),
+        "4.default.w1.old 4 default w1.old"
+    );
     Ok(())
 }
 
@@ -308,7 +341,7 @@ fn watches(rt: HostRuntime) -> Result<(), Fail> {
             Some(4),
         ),
     ] {
-        let params = Params::read(alloc, Asked::List, query.as_bytes())?;
+        let params = read(alloc, Asked::List, query)?;
         let watch = Watch {
             has_bookmarks,
             timeout,

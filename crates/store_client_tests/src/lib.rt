@@ -1,0 +1,21 @@
+//! Tests of names and queries, of the store, and of the client's cache and its side of the wire, by public calls alone.
+//!
+//! Each call stands in a helper with no clause, so that a test carries few facts.
+#![tactic(auto)]
+
+#[cfg(test)]
+mod cached;
+#[cfg(test)]
+mod marking;
+#[cfg(test)]
+mod names_and_versions;
+#[cfg(test)]
+mod parameters;
+#[cfg(test)]
+mod replies;
+#[cfg(test)]
+mod selectors;
+#[cfg(test)]
+mod stores;
+#[cfg(test)]
+mod tables;
