@@ -12,13 +12,16 @@ use Rattle.std.specs.Char.{digit_value, is_ascii_digit}
 use Rattle.std.specs.Fmt.{decimal}
 use Rattle.std.specs.List.{All, list_all, starts_with}
 use Rattle.std.specs.Str.Parse.{AllDigits, digits_value_after}
+use Rattle.std.specs.declared.result.Result.{Result}
+use Rattle.std.specs.declared.result.Result.TheVariants.{Ok, Err}
 use Rattle.serde_json.specs.Data.{Data}
+use Rattle.verbs.specs.Calls.{Denied}
 use Rattle.httparse.specs.Grammar as grammar
 use Rattle.httparse.specs.Grammar.{AllPass, is_token_byte, is_uri_byte, is_value_byte, Field, IsField, print_section, RequestHead, IsRequestHead, print_request, trim_ows}
-use Rattle.httpedge.specs.Bodies.{body_in, body_of, max_body, needs_body, number_after, decimal_value, some_json, json_in}
+use Rattle.httpedge.specs.Bodies.{body_in, body_of, declared_body, sized, max_body, needs_body, number_after, decimal_value, some_json, json_in}
 use Rattle.httpedge.specs.Heads.{Length, length_in, digits, malformed, max_head, head_end, Request, validated_head, ReadsHead, ReadsHeadAt, without_zeros}
-use Rattle.httpedge.specs.Decision.{Decision, undecided, accepted}
-use Rattle.httpedge.specs.Refusals.{refuse, bad_head, body_too_large}
+use Rattle.httpedge.specs.Decision.{Decision, undecided, accepted, and_then, decided_by}
+use Rattle.httpedge.specs.Refusals.{as_denied, refuse, bad_head, body_too_large}
 use Rattle.wireclient.specs.Request.{body_bytes, body_fields, crlf, request}
 use Rattle.wire_laws.specs.Printed.{IsMedia, IsPrinted, said_of}
 use Rattle.wire_laws.proofs.Fields.{digit_is_digit, decimal_is_value, field, is_field, passes_each, trimmed}
@@ -246,17 +249,31 @@ number_value n (b ∷ ds) all =
 counted : (n : ℕ) → n < 2 ^ 64 → decimal_value (without_zeros (decimal n)) ≡ n
 counted n wide = let numeral = decimal_is_IsNumeral n wide in zeros (decimal n) ∙ number_value 0 (decimal n) numeral.0.1 ∙ numeral.1
 
-body_whole : (bytes : List ℕ) → length bytes ≤ max_body → body_of (length bytes) bytes ≡ some_json (json_in bytes)
-body_whole bytes small = go (ltb max_body (length bytes)) (ltb (length bytes) (length bytes)) (le-ltb _ _ small) (le-ltb _ _ (omega arith))
+abbrev sized_if : Bool → ℕ → Result (Option ℕ) Denied
+sized_if s n = if s then Err (as_denied body_too_large) else Ok (Some n)
+
+sized_small : (n : ℕ) → n ≤ max_body → sized n ≡ Ok (Some n)
+sized_small n small = go (ltb max_body n) (le-ltb _ _ small)
   where
-    go : (s t : Bool) → s ≡ false → t ≡ false → (if s then refuse body_too_large else (if t then undecided else some_json (json_in (take (length bytes) bytes)))) ≡ some_json (json_in bytes)
-    go true t s-is t-is = absurd cc
-    go false true s-is t-is = absurd cc
-    go false false s-is t-is = ap (λ (xs : List ℕ). some_json (json_in xs)) (take_all (length bytes) bytes (omega arith))
+    go : (s : Bool) → s ≡ false → sized_if s n ≡ Ok (Some n)
+    go true is = absurd cc
+    go false is = refl
+
+body_whole : (bytes : List ℕ) → body_of (length bytes) bytes ≡ some_json (json_in bytes)
+body_whole bytes = go (ltb (length bytes) (length bytes)) (le-ltb _ _ (omega arith))
+  where
+    go : (t : Bool) → t ≡ false → (if t then undecided else some_json (json_in (take (length bytes) bytes))) ≡ some_json (json_in bytes)
+    go true is = absurd cc
+    go false is = ap (λ (xs : List ℕ). some_json (json_in xs)) (take_all (length bytes) bytes (omega arith))
+
+abbrev by_length : List ℕ → Result (Option ℕ) Denied → Decision (Option Data)
+by_length bytes r = and_then (decided_by r) (λ (n : Option ℕ). declared_body n bytes)
 
 pub body_back : (method target media bytes : List ℕ) → needs_body method ≡ true → length bytes ≤ max_body → body_in (said_of method target (Some (media, bytes))) bytes ≡ some_json (json_in bytes)
 body_back method target media bytes needs small = go (needs_body method) needs _
   where
-    go : (t : Bool) → t ≡ true → (other : Decision (Option Data)) → (if t then body_of (decimal_value (without_zeros (decimal (length bytes)))) bytes else other) ≡ some_json (json_in bytes)
-    go true is other = ap (λ (n : ℕ). body_of n bytes) (counted (length bytes) (omega (arith, small))) ∙ body_whole bytes small
+    go : (t : Bool) → t ≡ true → (other : Result (Option ℕ) Denied) → by_length bytes (if t then sized (decimal_value (without_zeros (decimal (length bytes)))) else other) ≡ some_json (json_in bytes)
+    go true is other =
+        ap (λ (n : ℕ). by_length bytes (sized n)) (counted (length bytes) (omega (arith, small)))
+        ∙ ap (λ (r : Result (Option ℕ) Denied). by_length bytes r) (sized_small (length bytes) small) ∙ body_whole bytes
     go false is other = absurd cc

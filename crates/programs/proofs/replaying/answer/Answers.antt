@@ -5,18 +5,18 @@ use Rattle.programs.proofs.replaying.answer.Goals as goal
 
 pub returns : goal.returns
 returns c = λ s stands.
-    let opened = c.in_ok-is_taken.ensures s stands in
-    let t = c.in_ok-is_taken-2.ensures opened.1 opened.3 in
+    let opened = (c.in_ok-is_taken.ensures s stands).1 in
+    let t = (c.in_ok-is_taken-2.ensures opened.0 opened.2).1 in
     IfOk-weaker c.reply_line.result _ _ (λ v tells. (
-      t.1,
+      t.0,
       (
-        opened.1,
+        opened.0,
         c.in_ok-request.request.items,
-        opened.2,
+        opened.1,
         c.in_ok-request.ensures,
-        t.2,
-        subst (λ bytes. TellsReply bytes v.items) (c.out.ensures t.1 t.3) tells,
+        t.1,
+        subst (λ bytes. TellsReply bytes v.items) (c.out.ensures t.0 t.2) tells,
       ),
-      t.3,
+      t.2,
     ))
     c.reply_line.ensures

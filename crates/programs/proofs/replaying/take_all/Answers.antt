@@ -1,11 +1,14 @@
-use Rattle.std.proofs.Common.{◌++◌, map, subst}
+use Rattle.std.proofs.Common.{◌++◌, [], map, refl, subst}
 use Rattle.std.specs.Io.KnownBytes.{Appends}
-use Rattle.std.proofs.KnownBytes.{Appends-trans}
+use Rattle.std.proofs.KnownBytes.{Appends-nil, Appends-trans}
 use Rattle.std.proofs.lemmas.List.{take_all}
 use Rattle.programs.specs.ApplyLine.{event_view}
 use Rattle.programs.specs.Replays.{Runs}
 use Rattle.programs.proofs.RunLemmas.{events_more, runs_more}
 use Rattle.programs.proofs.replaying.take_all.Goals as goal
+
+pub loop-event-init : goal.loop-event-init
+loop-event-init g c = λ r stands. (r, [], (refl, refl), stands, Appends-nil (g.W.Write.contents c.args.writer.now))
 
 pub loop-event-preserved : goal.loop-event-preserved
 loop-event-preserved g c = λ r stands.

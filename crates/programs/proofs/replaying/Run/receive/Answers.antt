@@ -5,6 +5,6 @@ use Rattle.programs.proofs.replaying.Run.receive.Goals as goal
 
 pub returns : goal.returns
 returns c = λ r stands.
-    let t = c.in_ok-is_taken.ensures r.hub stands.0 in
-    let steps = subst (λ bytes. Steps r.hub (edge.comes c.args.id bytes) t.1) (c.in_ok-bytes.ensures.items ∙ c.as_bytes.ensures.value) t.2 in
-    (record { hub = t.1; highest = r.highest; others = r.others }, (refl, (t.1, steps, refl)), (t.3, stands.1, stands.2))
+    let t = (c.in_ok-is_taken.ensures r.hub stands.0).1 in
+    let steps = subst (λ bytes. Steps r.hub (edge.comes c.args.id bytes) t.0) (c.in_ok-bytes.ensures.items ∙ c.as_bytes.ensures.value) t.1 in
+    (record { hub = t.0; highest = r.highest; others = r.others }, (refl, (t.0, steps, refl)), (t.2, stands.1, stands.2))
