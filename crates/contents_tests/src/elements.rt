@@ -70,11 +70,7 @@ fn spec_path(alloc: Global, number: Option<i64>) -> Result<Path, Fail> {
 }
 
 /// The order of two such paths, and whether they are equal.
-fn compared(
-    alloc: Global,
-    one: Option<i64>,
-    other: Option<i64>,
-) -> Result<(Ordering, bool), Fail> {
+fn compared(alloc: Global, one: Option<i64>, other: Option<i64>) -> Result<(Ordering, bool), Fail> {
     let one = spec_path(alloc, one)?;
     let other = spec_path(alloc, other)?;
     Ok((one.cmp(&other), one == other))

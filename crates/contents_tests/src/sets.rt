@@ -143,12 +143,7 @@ fn joined(
 }
 
 /// Whether the number stands at a path.
-fn is_number_at(
-    alloc: Global,
-    map: &PathMap,
-    elements: &str,
-    number: i64,
-) -> Result<bool, Fail> {
+fn is_number_at(alloc: Global, map: &PathMap, elements: &str, number: i64) -> Result<bool, Fail> {
     let path = path(alloc, elements)?;
     match map.get(&path) {
         Some(held) => Ok(held.try_copy()?.same(&Held::Whole(number))),
