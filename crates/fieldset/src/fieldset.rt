@@ -6,8 +6,12 @@ ghost use Rattle.pathmap.specs.Maps.{content};
 ghost use Rattle.serde_json.specs.View.{view};
 ghost use Rattle.schema.specs.Shape.{shape};
 ghost use Rattle.fieldset.specs.FieldsV1.{fields_v1_of};
+ghost use Rattle.fieldset.specs.Reading.{read_fields_v1};
+ghost use Rattle.fieldset.specs.Seen.{Gives};
 
+use crate::fault::FieldsV1Fault;
 use crate::fields_v1::members;
+use crate::read::read_paths;
 use fieldpath::Path;
 use pathmap::{Held, PathMap, put_over};
 use schema::Schema;
@@ -139,6 +143,21 @@ impl FieldSet {
         ensures { IfOk result (λ v. view v ≡ fields_v1_of (shape schema.now) self.now) }
     {
         Ok(Value::Object(members(&self.map, alloc, Some(schema))?))
+    }
+
+    /// The set of paths whose FieldsV1 value this is, or the first fault (Kubernetes API reference, ObjectMeta v1).
+    /// Faults are looked for depth first, members in byte order of their names; of a member first its name,
+    /// then its place, then that its value is an object, then what this object has to be.
+    pub fn from_fields_v1(
+        alloc: Global,
+        schema: &Schema,
+        value: &Value,
+    ) -> Result<FieldSet, FieldsV1Fault>
+        ensures { Gives (λ s. s) result (read_fields_v1 (shape schema.now) (view value.now)) }
+    {
+        Ok(FieldSet {
+            map: read_paths(alloc, schema, value)?,
+        })
     }
 
     /// Whether it has no path.

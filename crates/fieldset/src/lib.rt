@@ -1,10 +1,13 @@
 //! Sets of field paths: what a manager owns.
 //!
-//! Promises: each call is its equation on sets of paths.
+//! Promises: each call is its equation on sets of paths; a FieldsV1 value reads as the one set that it is written of, or as its first fault.
 //! Stands on `pathmap` for the trie that holds a set, and on `fieldpath` for paths and their order.
 #![tactic(auto)]
 
+mod fault;
 mod fields_v1;
 mod fieldset;
+mod read;
 
+pub use fault::FieldsV1Fault;
 pub use fieldset::FieldSet;

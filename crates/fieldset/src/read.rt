@@ -1,0 +1,237 @@
+//! Reads FieldsV1 values.
+ghost use Rattle.std.specs.Prelude.{◌≡◌, IfOk, map, string_bytes};
+ghost use Rattle.std.specs.List.{list_any};
+ghost use Rattle.std.specs.Str.{bytes_eq};
+ghost use Rattle.serde_json.specs.View.{members_view, view};
+ghost use Rattle.fieldpath.specs.Elements.{read_element};
+ghost use Rattle.fieldpath.specs.Elems.{element};
+ghost use Rattle.pathmap.specs.Contents.{dom, gather, nothing};
+ghost use Rattle.pathmap.specs.Maps.{at_top, content, contents_in};
+ghost use Rattle.schema.specs.Keywords.{has};
+ghost use Rattle.schema.specs.Shape.{shape};
+ghost use Rattle.schema.specs.Spots.{spot};
+ghost use Rattle.fieldset.specs.Reading.{are_due, element_in, has_keys, is_empty, is_key_field, is_marked, may_have_dot, object_in, read_at, read_fields_v1, read_mark, read_member, read_members, top};
+ghost use Rattle.fieldset.specs.Seen.{Gives, IsNamed, Reads, member_view};
+
+use crate::fault::FieldsV1Fault;
+use fieldpath::{Elem, ElemFault, ElemText};
+use pathmap::{Held, PathMap};
+use schema::{Schema, Spot};
+use serde_json::{Map, Value};
+use std::alloc::{AllocError, Global};
+use std::collections::BTreeMap;
+
+/// What stands under an element.
+#[derive(Drop)]
+struct Member {
+    element: ElemText,
+    map: PathMap,
+}
+
+fn object_of(value: &Value) -> Result<&Map<String, Value>, FieldsV1Fault>
+    ensures { Gives (λ m. members_view m.now.entries) result (object_in (view value.now)) }
+{
+    match value.as_object() {
+        Some(members) => Ok(members),
+        None => Err(FieldsV1Fault::NotAnObject),
+    }
+}
+
+fn has(members: &Map<String, Value>, name: &str) -> bool
+    ensures { result ≡ has name.now (members_view members.now.entries) }
+{
+    members.get(name).is_some()
+}
+
+fn is_empty(members: &Map<String, Value>) -> bool
+    ensures { result ≡ is_empty (members_view members.now.entries) }
+{
+    members.is_empty()
+}
+
+fn is_named(names: &[String], name: &str) -> bool
+    ensures { result ≡ list_any (bytes_eq name.now) (map string_bytes names.now) }
+{
+    for known in names {
+        if name == known.as_str() {
+            return true;
+        }
+    }
+    false
+}
+
+/// Whether the element is that of a key field of the item that stands here.
+fn is_key_field(here: Spot<'_>, elem: &Elem) -> bool
+    ensures { result ≡ is_key_field (spot here.entry) (element elem.now) }
+{
+    match here {
+        Spot::MapItem(_, names) => match elem {
+            Elem::Field(name) => is_named(names, name.as_str()),
+            Elem::Key(_) | Elem::Value(_) => false,
+        },
+        Spot::Value(_) | Spot::SetItem => false,
+    }
+}
+
+fn has_keys(
+    names: &[String],
+    alloc: Global,
+    members: &Map<String, Value>,
+) -> Result<bool, AllocError>
+    ensures { IfOk result (λ b. b ≡ has_keys (map string_bytes names.now) (members_view members.now.entries)) }
+{
+    for name in names {
+        let text = ElemText::of_field(alloc, name.as_str())?;
+        if !has(members, text.as_str()) {
+            return Ok(false);
+        }
+    }
+    Ok(true)
+}
+
+fn may_have_dot(
+    here: Spot<'_>,
+    alloc: Global,
+    members: &Map<String, Value>,
+) -> Result<bool, AllocError>
+    ensures { IfOk result (λ b. b ≡ may_have_dot (spot here.entry) (members_view members.now.entries)) }
+{
+    match here {
+        Spot::MapItem(_, names) => has_keys(names, alloc, members),
+        Spot::Value(_) | Spot::SetItem => Ok(false),
+    }
+}
+
+/// Whether an object that stands here has members.
+fn are_due(here: Spot<'_>) -> bool
+    ensures { result ≡ are_due (spot here.entry) }
+{
+    match here {
+        Spot::Value(schema) => !schema.is_leaf(),
+        Spot::SetItem => false,
+        Spot::MapItem(_, _) => true,
+    }
+}
+
+/// Whether the path that leads here is in the set.
+fn is_marked(here: Spot<'_>, members: &Map<String, Value>) -> bool
+    ensures { result ≡ is_marked (spot here.entry) (members_view members.now.entries) }
+{
+    match here {
+        Spot::Value(schema) => schema.is_leaf(),
+        Spot::SetItem => true,
+        Spot::MapItem(_, _) => has(members, "."),
+    }
+}
+
+fn mark_if(is_marked: bool) -> Option<Held>
+    ensures { at_top result ≡ top is_marked }
+{
+    if is_marked { Some(Held::Mark) } else { None }
+}
+
+/// The value of `.` or of a key field.
+fn read_mark(is_due: bool, value: &Value) -> Result<(), FieldsV1Fault>
+    ensures { Gives (λ _. nothing) result (read_mark is_due (view value.now)) }
+{
+    let members = object_of(value)?;
+    if is_due && is_empty(members) {
+        Ok(())
+    } else {
+        Err(FieldsV1Fault::NotCanonical)
+    }
+}
+
+fn text_of(alloc: Global, name: &str) -> Result<ElemText, FieldsV1Fault>
+    ensures { Reads name.now result }
+{
+    match ElemText::read(alloc, name) {
+        Ok(text) => Ok(text),
+        Err(ElemFault::Memory) => Err(FieldsV1Fault::Memory),
+        Err(_) => Err(FieldsV1Fault::BadKey),
+    }
+}
+
+/// The element whose text a name is, and this text.
+fn element_of(alloc: Global, name: &str) -> Result<(ElemText, Elem), FieldsV1Fault>
+    ensures read { Gives (λ p. element p.1) result (element_in (read_element name.now)) }
+    ensures named { IfOk result (λ p. string_bytes p.0 ≡ name.now) }
+{
+    let text = text_of(alloc, name)?;
+    let elem = text.elem(alloc)?;
+    Ok((text, elem))
+}
+
+/// A member, beside all members of its object.
+#[cycle(read)]
+fn read_member(
+    value: &Value,
+    alloc: Global,
+    here: Spot<'_>,
+    beside: &Map<String, Value>,
+    name: &str,
+) -> Result<Option<Member>, FieldsV1Fault>
+    ensures read { Gives member_view result (read_member (spot here.entry) (members_view beside.now.entries) name.now (view value.now) (λ next. read_at next (view value.now))) }
+    ensures named { IfOk result (λ m. IsNamed m name.now) }
+{
+    if name == "." {
+        read_mark(may_have_dot(here, alloc, beside)?, value)?;
+        return Ok(None);
+    }
+    let (element, elem) = element_of(alloc, name)?;
+    if is_key_field(here, &elem) {
+        read_mark(has(beside, "."), value)?;
+        return Ok(None);
+    }
+    let Some(next) = here.step(&elem) else {
+        return Err(FieldsV1Fault::OffSchema);
+    };
+    let map = read_at(value, alloc, next)?;
+    Ok(Some(Member { element, map }))
+}
+
+#[cycle(read)]
+fn read_members(
+    members: &Map<String, Value>,
+    alloc: Global,
+    here: Spot<'_>,
+) -> Result<BTreeMap<ElemText, PathMap>, FieldsV1Fault>
+    ensures { Gives (λ m. gather (contents_in m.entries)) result (read_members (spot here.entry) (members_view members.now.entries) (members_view members.now.entries)) }
+{
+    let mut below = BTreeMap::new(alloc);
+    for (name, value) in members.iter() {
+        let Some(member) = read_member(value, alloc, here, members, name.as_str())? else {
+            continue;
+        };
+        drop(below.insert(member.element, member.map)?);
+    }
+    Ok(below)
+}
+
+#[cycle(read)]
+fn read_at(value: &Value, alloc: Global, here: Spot<'_>) -> Result<PathMap, FieldsV1Fault>
+    ensures { Gives content result (read_at (spot here.entry) (view value.now)) }
+{
+    let Value::Object(members) = value else {
+        return Err(FieldsV1Fault::NotAnObject);
+    };
+    if are_due(here) && is_empty(members) {
+        return Err(FieldsV1Fault::NotCanonical);
+    }
+    let held = mark_if(is_marked(here, members));
+    let below = read_members(members, alloc, here)?;
+    Ok(PathMap { held, below })
+}
+
+/// The map of the set of paths that a FieldsV1 value says.
+pub(crate) fn read_paths(
+    alloc: Global,
+    schema: &Schema,
+    value: &Value,
+) -> Result<PathMap, FieldsV1Fault>
+    ensures { Gives (λ m. dom (content m)) result (read_fields_v1 (shape schema.now) (view value.now)) }
+{
+    let members = object_of(value)?;
+    let below = read_members(members, alloc, Spot::Value(schema))?;
+    Ok(PathMap::branch(below))
+}
