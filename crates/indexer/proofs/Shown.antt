@@ -1,12 +1,13 @@
 -- The keys of one index that have objects.
-use Rattle.std.proofs.Common.{◌≡◌, ◌↔◌, ℕ, suc, ◌<◌, Bool, true, false, cond, ◌&&◌, ◌||◌, eqb, List, [], ◌∷◌, length, get_or, Option, Some, String, Global, BTreeSet, nat_cmp, is_eq, refl, sym, ap, ◌∙◌, arith, true≢false, ne_eqb}
+use Rattle.std.proofs.Common.{◌≡◌, ◌↔◌, ℕ, suc, ◌<◌, Bool, true, false, cond, ◌&&◌, ◌||◌, eqb, List, [], ◌∷◌, length, get_or, Option, Some, String, Global, BTreeSet, nat_cmp, Less, is_eq, refl, sym, subst, ap, ◌∙◌, arith, true≢false, ne_eqb}
 use Rattle.std.specs.Prelude.{string_bytes}
 use Rattle.std.specs.BTreeMap.{is_at, get, get_by_text}
 use Rattle.std.specs.BTreeSet.{contains}
 use Rattle.std.specs.Bool.{IsTrue}
 use Rattle.std.specs.Cmp.Lexicographic.{slice_cmp}
-use Rattle.std.specs.List.{All, list_any}
-use Rattle.std.specs.Map.{lookup}
+use Rattle.std.specs.List.{All, AllByRecursion, list_any}
+use Rattle.std.specs.List.Sorted.{IsStrictlySortedBy}
+use Rattle.std.specs.Map.{keys_of, lookup}
 use Rattle.std.specs.Str.{bytes_eq}
 use Rattle.std.specs.String.{string_cmp}
 use Rattle.std.proofs.lemmas.Map.Text.{is_eq-slice_cmp}
@@ -109,3 +110,28 @@ shown_just postings found k = (λ h. stands postings found k h, λ h. is_shown p
 -- the same said by another test
 pub iff_along : (shows : Type 0) (p r : ObjectKey → Bool) → ((q : ObjectKey) → p q ≡ r q) → shows ↔ ((q : ObjectKey) × (p q ≡ true)) → shows ↔ ((q : ObjectKey) × (r q ≡ true))
 iff_along shows p r same h = (λ s. ((h.0 s).0, sym (same (h.0 s).0) ∙ (h.0 s).1), λ t. h.1 (t.0, same t.0 ∙ t.1))
+
+-- ---- in order
+
+-- a text below all keys is below those that are shown
+below_shown : (k : List ℕ) (rows : List Row) → AllByRecursion (λ t. slice_cmp nat_cmp k (string_bytes t) ≡ Less) (keys_of rows) → AllByRecursion (λ t. slice_cmp nat_cmp k t ≡ Less) (shown rows)
+below_shown k [] h = tt
+below_shown k (e ∷ es) h = go (eqb (length e.1.keys) 0) (below_shown k es h.1)
+  where
+    go : (t : Bool) → AllByRecursion (λ t. slice_cmp nat_cmp k t ≡ Less) (shown es) → AllByRecursion (λ t. slice_cmp nat_cmp k t ≡ Less) (cond t (shown es) (string_bytes e.0 ∷ shown es))
+    go true rest = rest
+    go false rest = (h.0, rest)
+
+pub shown_ascends : (rows : List Row) → IsStrictlySortedBy string_cmp (keys_of rows) → IsStrictlySortedBy (slice_cmp nat_cmp) (shown rows)
+unfolding IsStrictlySortedBy
+shown_ascends [] h = tt
+shown_ascends (e ∷ es) h = go (eqb (length e.1.keys) 0) (below_shown (string_bytes e.0) es h.0) (shown_ascends es h.1)
+  where
+    go : (t : Bool) → AllByRecursion (λ t. slice_cmp nat_cmp (string_bytes e.0) t ≡ Less) (shown es) → IsStrictlySortedBy (slice_cmp nat_cmp) (shown es)
+        → IsStrictlySortedBy (slice_cmp nat_cmp) (cond t (shown es) (string_bytes e.0 ∷ shown es))
+    go true low rest = rest
+    go false low rest = (low, rest)
+
+pub nothing_ascends : (texts : List (List ℕ)) → texts ≡ [] → IsStrictlySortedBy (slice_cmp nat_cmp) texts
+unfolding IsStrictlySortedBy
+nothing_ascends texts is = subst (IsStrictlySortedBy (slice_cmp nat_cmp)) (sym is) tt

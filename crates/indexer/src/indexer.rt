@@ -89,7 +89,10 @@ fn gather(
 impl Indexer {
     ghost use Rattle.std.specs.Prelude.{◌≡◌, ◌<◌, ◌↔◌, ℕ, List, map, true, false, OnOk, OnErr, IfOk, IfSome, option_map, option_copied};
     ghost use Rattle.std.specs.BTreeSet.{btree_set_len};
+    ghost use Rattle.std.specs.Cmp.Lexicographic.{slice_cmp};
     ghost use Rattle.std.specs.FinMap as fin;
+    ghost use Rattle.std.specs.List.Sorted.{IsStrictlySortedBy};
+    ghost use Rattle.std.specs.Ordering.{nat_cmp};
     ghost use Rattle.indexer.specs.declared.object.ObjectKey.{ObjectKey};
     ghost use Rattle.indexer.specs.Indexer.{held_of, indexes_of, names_of, is_under};
     ghost use Rattle.indexer.specs.Names.{are_distinct};
@@ -183,10 +186,11 @@ impl Indexer {
         objects_under(&self.names, &self.postings, name, key)
     }
 
-    /// The keys in the index of this name that some object has, in order of their bytes; none where no index
-    /// has the name.
+    /// The keys in the index of this name that some object has, each once, in order of their bytes; none where no
+    /// index has the name.
     pub fn keys(&self, name: &str) -> Result<Vec<&str>, AllocError>
-        ensures { IfOk result (λ v. (k : List ℕ) → (is_among (map (λ t. t.now) v.items) k ≡ true) ↔ ((q : ObjectKey) × (is_under (held_of self.now) (names_of self.now) name.now k (place_of q) ≡ true))) }
+        ensures members { IfOk result (λ v. (k : List ℕ) → (is_among (map (λ t. t.now) v.items) k ≡ true) ↔ ((q : ObjectKey) × (is_under (held_of self.now) (names_of self.now) name.now k (place_of q) ≡ true))) }
+        ensures ascending { IfOk result (λ v. IsStrictlySortedBy (slice_cmp nat_cmp) (map (λ t. t.now) v.items)) }
     {
         texts_in(self.alloc, &self.names, &self.postings, name)
     }

@@ -4,7 +4,10 @@ ghost use Rattle.std.specs.Prelude.{◌≡◌, ◌↔◌, IfOk, true, ℕ, Bool,
 ghost use Rattle.std.specs.Str.{bytes_eq};
 ghost use Rattle.indexer.specs.Keys.{is_same};
 ghost use Rattle.std.specs.BTreeSet.{btree_set_len};
+ghost use Rattle.std.specs.Cmp.Lexicographic.{slice_cmp};
 ghost use Rattle.std.specs.List.{position};
+ghost use Rattle.std.specs.List.Sorted.{IsStrictlySortedBy};
+ghost use Rattle.std.specs.Ordering.{nat_cmp};
 ghost use Rattle.indexer.specs.Objects.{is_among, texts_at, under_at, under_number};
 ghost use Rattle.indexer.specs.Postings.{has_in, under, under_in};
 ghost use Rattle.indexer.specs.declared.object.ObjectKey.{ObjectKey};
@@ -183,7 +186,8 @@ pub(crate) fn texts_in<'a>(
     postings: &'a [Postings],
     name: &str,
 ) -> Result<Vec<&'a str>, AllocError>
-    ensures { IfOk result (λ v. (k : List ℕ) → (is_among (map (λ t. t.now) v.items) k ≡ true) ↔ ((q : ObjectKey) × (under_number postings.now (position (λ n. bytes_eq n name.now) (map string_bytes names.now)) k q ≡ true))) }
+    ensures members { IfOk result (λ v. (k : List ℕ) → (is_among (map (λ t. t.now) v.items) k ≡ true) ↔ ((q : ObjectKey) × (under_number postings.now (position (λ n. bytes_eq n name.now) (map string_bytes names.now)) k q ≡ true))) }
+    ensures ascending { IfOk result (λ v. IsStrictlySortedBy (slice_cmp nat_cmp) (map (λ t. t.now) v.items)) }
 {
     match postings_of(names, postings, name) {
         Some(postings) => texts_of_one(alloc, postings),
@@ -192,7 +196,8 @@ pub(crate) fn texts_in<'a>(
 }
 
 fn texts_of_one(alloc: Global, postings: &Postings) -> Result<Vec<&str>, AllocError>
-    ensures { IfOk result (λ v. (k : List ℕ) → (is_among (map (λ t. t.now) v.items) k ≡ true) ↔ ((q : ObjectKey) × (under postings.now k q ≡ true))) }
+    ensures members { IfOk result (λ v. (k : List ℕ) → (is_among (map (λ t. t.now) v.items) k ≡ true) ↔ ((q : ObjectKey) × (under postings.now k q ≡ true))) }
+    ensures ascending { IfOk result (λ v. IsStrictlySortedBy (slice_cmp nat_cmp) (map (λ t. t.now) v.items)) }
 {
     let mut texts = Vec::new(alloc);
     for (text, keys) in postings.iter() {

@@ -10,8 +10,8 @@ use Rattle.indexer.proofs.Held.{under_is}
 use Rattle.indexer.proofs.Shown.{iff_along}
 use Rattle.indexer.proofs.indexer.Indexer.keys.Goals as goal
 
-pub returns : goal.returns
-returns g c =
+pub returns-clause-members : goal.returns-clause-members
+returns-clause-members g c =
     let kept = c.args.self.now in
     let number = λ (names : List (String Global)). position (λ n. bytes_eq n c.args.name.now) (map string_bytes names) in
     IfOk-weaker c.texts_in.result _ _
@@ -20,4 +20,4 @@ returns g c =
     (λ q.
     ap₂ (λ (ps : List Postings) (names : List (String Global)). under_number ps (number names) k q) c.deref-2.ensures.value c.deref.ensures.value
     ∙ under_is kept.objects kept.postings.items kept.indexed (number kept.names.items) k q)
-    (h k)) c.texts_in.ensures
+    (h k)) c.texts_in.ensures.members
