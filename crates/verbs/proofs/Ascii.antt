@@ -1,11 +1,11 @@
 -- Texts of ASCII characters, and what a route's names take of them.
-use Rattle.std.proofs.Common.{◌≡◌, ℕ, zero, suc, ◌<◌, ◌≤◌, ◌-◌, Bool, true, false, cond, ◌&&◌, List, [], ◌∷◌, take, drop, Option, Some, None, length, refl, sym, ap, subst, ◌∙◌, arith, true≢false, ltb-true, ltb-false, lt-ltb}
+use Rattle.std.proofs.Common.{◌≡◌, ℕ, zero, suc, ◌<◌, ◌-◌, Bool, true, false, cond, ◌&&◌, List, [], ◌∷◌, take, drop, length, refl, sym, ap, ◌∙◌, arith, true≢false, ltb-true, lt-ltb}
 use Rattle.std.proofs.lemmas.Str.{IsUtf8-from_ascii}
-use Rattle.std.specs.Prelude.{leb, MatchOption, MatchBool}
+use Rattle.std.specs.Prelude.{leb}
 use Rattle.std.specs.Char.{is_ascii}
 use Rattle.std.specs.List.{list_all}
-use Rattle.std.specs.Str.{IsAscii, IsNotAscii, IsUtf8}
-use Rattle.matchit.specs.Params.{AllText, part_of, walk, wild_from, wild_stop, after_token}
+use Rattle.std.specs.Str.{IsAscii, IsNotAscii}
+use Rattle.matchit.specs.Params.{AllText, part_of, walk}
 
 nil_ascii : IsAscii []
 nil_ascii i = omega arith

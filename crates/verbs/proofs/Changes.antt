@@ -1,5 +1,5 @@
 -- One more change of a machine.
-use Rattle.std.proofs.Common.{◌≡◌, ℕ, suc, ◌<◌, ◌≤◌, cond, List, [], ◌∷◌, ◌++◌, refl, sym, ap, subst, ◌∙◌, arith}
+use Rattle.std.proofs.Common.{◌≡◌, ℕ, suc, ◌<◌, ◌≤◌, cond, List, [], ◌∷◌, ◌++◌, refl, sym, ap, ◌∙◌, arith}
 use Rattle.std.proofs.Common.{le-leb}
 use Rattle.std.specs.FinMap as fin
 use Rattle.verbs.specs.Machine.{Change, Objects, Machine, IsRising, IsMachine, IsNext, changed, changed_by, up_to, standing, with_change}

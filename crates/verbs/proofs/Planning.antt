@@ -1,5 +1,5 @@
 -- What a call comes to at a machine.
-use Rattle.std.proofs.Common.{◌≡◌, ◌≤◌, suc, Option, Some, None, Ok, Err, sym, ap, ◌∙◌, List}
+use Rattle.std.proofs.Common.{◌≡◌, Ok, Err, sym, ap, ◌∙◌, List}
 use Rattle.schema.specs.TypesFile.{ServedShape}
 use Rattle.verbs.specs.declared.api.Api.{Api}
 use Rattle.verbs.specs.Calls.{Call, Plan}

@@ -1,5 +1,5 @@
 -- Refusals.
-use Rattle.std.proofs.Common.{◌≡◌, ℕ, List, Err, ap, sym}
+use Rattle.std.proofs.Common.{ℕ, List, Err, ap, sym}
 use Rattle.verbs.specs.declared.fault.Stop.{Stop}
 use Rattle.verbs.specs.declared.fault.Stop.TheVariants as stop
 use Rattle.verbs.specs.declared.reason.Reason.{Reason}

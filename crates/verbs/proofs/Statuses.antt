@@ -1,5 +1,5 @@
 -- A Status with causes.
-use Rattle.std.proofs.Common.{◌≡◌, true, false, List, [], ◌∷◌, length, ◌==◌, refl, true≢false}
+use Rattle.std.proofs.Common.{◌≡◌, false, List, [], ◌∷◌, length, ◌==◌, refl, true≢false}
 use Rattle.serde_json.specs.Data.{Members}
 use Rattle.serde_json.specs.View.{items_view}
 use Rattle.serde_json.specs.declared.value.Value.{Value}

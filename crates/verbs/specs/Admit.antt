@@ -1,6 +1,6 @@
 -- Which calls are served: the route of a path, its methods, the media type of its body
 -- (Kubernetes docs, "Kubernetes API Concepts", "Resource URIs"; RFC 9110, sections 8.3 and 10.2.1).
-use Rattle.std.specs.Prelude.{ℕ, Bool, true, false, not, ◌||◌, ◌==◌, List, [], ◌∷◌, Option, Some, None, option_map, option_and_then, if◌then◌else◌, codes}
+use Rattle.std.specs.Prelude.{ℕ, Bool, true, false, ◌||◌, ◌==◌, List, [], ◌∷◌, Option, Some, None, option_map, option_and_then, if◌then◌else◌, codes}
 use Rattle.std.specs.declared.result.Result.{Result}
 use Rattle.std.specs.declared.result.Result.TheVariants.{Ok, Err}
 use Rattle.std.specs.Char.{is_ascii}
@@ -18,7 +18,7 @@ use Rattle.verbs.specs.declared.method.Method.TheVariants.{Get, Post, Put, Patch
 use Rattle.verbs.specs.declared.reason.Reason.{Reason}
 use Rattle.verbs.specs.declared.reason.Reason.TheVariants.{NotFound, MethodNotAllowed, UnsupportedMediaType}
 use Rattle.verbs.specs.declared.resource.Resource.{Resource}
-use Rattle.verbs.specs.declared.resource.Resource.TheVariants.{Object}
+use Rattle.verbs.specs.declared.resource.Resource.TheVariants.{Collection, Object}
 use Rattle.verbs.specs.Calls.{Target, Denied}
 
 -- ---- methods (RFC 9110, section 9.1: they are told by their bytes)
@@ -33,17 +33,26 @@ method_named s =
 
 -- the methods that are served on what a path leads to
 abbrev pub serves : Resource → Method → Bool
-serves Object Patch = true
-serves Object Get = false
+serves Collection Post = true
+serves Collection Get = false
+serves Collection Put = false
+serves Collection Patch = false
+serves Collection Delete = false
+serves Object Get = true
 serves Object Post = false
-serves Object Put = false
-serves Object Delete = false
+serves Object Put = true
+serves Object Patch = true
+serves Object Delete = true
 
 -- as they stand in `Allow`
 abbrev pub allowed : Resource → List ℕ
-allowed Object = codes "PATCH"
+allowed Collection = codes "POST"
+allowed Object = codes "DELETE, GET, PATCH, PUT"
 
 -- ---- routes
+
+abbrev pub collection_path : List ℕ
+collection_path = codes "/apis/{group}/{version}/namespaces/{namespace}/{plural}"
 
 abbrev pub object_path : List ℕ
 object_path = codes "/apis/{group}/{version}/namespaces/{namespace}/{plural}/{name}"
@@ -60,7 +69,7 @@ with_route path r rows = with_scan (parse_route path) r rows
 
 -- the table
 unfoldable pub routes : Rows
-routes = with_route object_path Object []
+routes = with_route object_path Object (with_route collection_path Collection [])
 
 -- the parts of a path by the names in its route
 abbrev pub Parts : Type 0
@@ -117,14 +126,25 @@ media_type field = without_trailing (without_leading (before_first (λ b. b == 5
 abbrev pub apply_type : List ℕ
 apply_type = codes "application/apply-patch+yaml"
 
--- whether a body of this media type is taken; none is no apply
+abbrev pub json_type : List ℕ
+json_type = codes "application/json"
+
+-- JSON, or no media type at all
+abbrev pub is_json : Option (List ℕ) → Bool
+is_json None = true
+is_json (Some field) = str_eq_ignore_ascii_case (media_type field) json_type
+
+abbrev pub is_apply : Option (List ℕ) → Bool
+is_apply None = false
+is_apply (Some field) = str_eq_ignore_ascii_case (media_type field) apply_type
+
+-- whether a body of this media type is taken; a GET has none
 abbrev pub takes : Method → Option (List ℕ) → Bool
-takes Patch None = false
-takes Patch (Some field) = str_eq_ignore_ascii_case (media_type field) apply_type
 takes Get field = true
-takes Post field = true
-takes Put field = true
-takes Delete field = true
+takes Post field = is_json field
+takes Put field = is_json field
+takes Patch field = is_apply field
+takes Delete field = is_json field
 
 -- ---- the three in turn
 

@@ -1,21 +1,24 @@
 -- What stands round an object's fields (Kubernetes API conventions, "Types (Kinds)", "Metadata"; ObjectMeta v1), judged in this order:
 -- the body is an object, `apiVersion` and `kind`, `metadata`, `name`, `namespace`, `resourceVersion`, `managedFields`.
-use Rattle.std.specs.Prelude.{ℕ, Bool, true, false, not, ◌&&◌, List, [], ◌∷◌, ◌++◌, Option, Some, None, option_and_then, if◌then◌else◌, codes}
-use Rattle.std.specs.declared.result.Result.TheVariants.{Ok, Err}
+use Rattle.std.specs.Prelude.{ℕ, Bool, true, false, ◌&&◌, List, [], ◌∷◌, ◌++◌, Option, Some, None, option_and_then, if◌then◌else◌, codes}
+use Rattle.std.specs.declared.result.Result.TheVariants.{Ok}
 use Rattle.std.specs.Str.{bytes_eq}
 use Rattle.serde_json.specs.Data.{Data, null, boolean, number, string, array, object, Items, no_items, item, Members, no_members, member, put}
-use Rattle.serde_json.specs.Find.{get_member, as_object}
+use Rattle.serde_json.specs.Find.{get, get_member, as_object}
 use Rattle.names.specs.Decimals.{version_of}
 use Rattle.schema.specs.Keywords.{is_in}
 use Rattle.schema.specs.TypesFile.{ServedShape}
+use Rattle.verbs.specs.declared.method.Method.{Method}
+use Rattle.verbs.specs.declared.method.Method.TheVariants.{Get, Post, Put, Patch, Delete}
 use Rattle.verbs.specs.declared.reason.Reason.TheVariants.{BadRequest}
 use Rattle.verbs.specs.Judged.{Judged, and_then, denied, unless}
 
--- what a body has to name
+-- what a body has to name, and what it is sent by; without a name the body gives its object's
 pub record Expected : Type 0 where
   pub served : ServedShape
   pub namespace : List ℕ
-  pub name : List ℕ
+  pub name : Option (List ℕ)
+  pub method : Method
 
 -- the version that the body names, if any, and the body less its envelope, which is read under the type's schema
 pub record Envelope : Type 0 where
@@ -88,11 +91,13 @@ metadata_in (Some (array ds)) = not_an_object (codes ".metadata")
 abbrev pub must_be : List ℕ → List ℕ → List ℕ
 must_be k wanted = codes "metadata." ++ k ++ codes " must be " ++ wanted
 
--- where it is given, it is that of the path
-abbrev pub given_judged : List ℕ → List ℕ → Option Members → Judged (Unit {0})
-given_judged k wanted metadata =
-    and_then (text_in (codes ".metadata." ++ k) (member_of k metadata)) (λ given.
-    unless (is_text_or_none given wanted) BadRequest (must_be k wanted))
+-- what is given is that of the path, where the path has one
+abbrev pub wanted_judged : List ℕ → Option (List ℕ) → Option (List ℕ) → Judged (Unit {0})
+wanted_judged k None given = Ok tt
+wanted_judged k (Some wanted) given = unless (is_text_or_none given wanted) BadRequest (must_be k wanted)
+
+abbrev pub given_judged : List ℕ → Option (List ℕ) → Option Members → Judged (Unit {0})
+given_judged k wanted metadata = and_then (text_in (codes ".metadata." ++ k) (member_of k metadata)) (wanted_judged k wanted)
 
 abbrev pub version_or_fault : Option ℕ → Judged (Option ℕ)
 version_or_fault None = denied BadRequest (codes "metadata.resourceVersion: bad version")
@@ -104,6 +109,15 @@ version_read (Some s) = version_or_fault (version_of s)
 
 abbrev pub version_judged : Option Members → Judged (Option ℕ)
 version_judged metadata = and_then (text_in (codes ".metadata.resourceVersion") (member_of (codes "resourceVersion") metadata)) version_read
+
+-- a creation is of no version
+abbrev pub version_allowed : Method → Option ℕ → Judged (Unit {0})
+version_allowed Post (Some v) = denied BadRequest (codes "metadata.resourceVersion must not be set")
+version_allowed Post None = Ok tt
+version_allowed Get given = Ok tt
+version_allowed Put given = Ok tt
+version_allowed Patch given = Ok tt
+version_allowed Delete given = Ok tt
 
 -- an apply doesn't say who owns what (Server-Side Apply, "Managers")
 abbrev pub entries_judged : Items → Judged (Unit {0})
@@ -118,6 +132,14 @@ managers_judged (Some (boolean b)) = wrong_type (codes ".metadata.managedFields"
 managers_judged (Some (number n)) = wrong_type (codes ".metadata.managedFields")
 managers_judged (Some (string s)) = wrong_type (codes ".metadata.managedFields")
 managers_judged (Some (object ms)) = wrong_type (codes ".metadata.managedFields")
+
+-- what any other write says of it is ignored
+abbrev pub managers_by : Method → Option Data → Judged (Unit {0})
+managers_by Patch given = managers_judged given
+managers_by Get given = Ok tt
+managers_by Post given = Ok tt
+managers_by Put given = Ok tt
+managers_by Delete given = Ok tt
 
 -- ---- the body less its envelope
 
@@ -148,10 +170,11 @@ rest_of top metadata = object (put_metadata metadata (members_but top_names top)
 abbrev pub metadata_judged : Expected → Members → Option Members → Judged Envelope
 metadata_judged of top metadata =
     and_then (given_judged (codes "name") of.name metadata) (λ u.
-    and_then (given_judged (codes "namespace") of.namespace metadata) (λ u.
+    and_then (given_judged (codes "namespace") (Some of.namespace) metadata) (λ u.
     and_then (version_judged metadata) (λ version.
-    and_then (managers_judged (member_of (codes "managedFields") metadata)) (λ u.
-    Ok (record { version = version; rest = rest_of top metadata })))))
+    and_then (version_allowed of.method version) (λ u.
+    and_then (managers_by of.method (member_of (codes "managedFields") metadata)) (λ u.
+    Ok (record { version = version; rest = rest_of top metadata }))))))
 
 abbrev pub object_judged : Expected → Option Members → Judged Envelope
 object_judged of None = not_an_object (codes ".")
@@ -160,6 +183,19 @@ object_judged of (Some top) =
     and_then (metadata_in (get_member (codes "metadata") top)) (λ metadata.
     metadata_judged of top metadata))
 
--- the envelope of an apply's body, or its first fault
+-- the envelope of a write's body, or its first fault
 abbrev pub envelope_of : Expected → Data → Judged Envelope
 envelope_of of body = object_judged of (as_object body)
+
+-- ---- the name that a body gives
+
+abbrev pub filled_text : Data → Option (List ℕ)
+filled_text (string s) = if_filled s
+filled_text null = None
+filled_text (boolean b) = None
+filled_text (number n) = None
+filled_text (array ds) = None
+filled_text (object ms) = None
+
+abbrev pub name_in : Data → Option (List ℕ)
+name_in body = option_and_then filled_text (option_and_then (get (codes "name")) (get (codes "metadata") body))

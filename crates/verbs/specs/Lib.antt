@@ -7,6 +7,7 @@ pub mod Admit
 pub mod Envelope
 pub mod Parameters
 pub mod Naming
+pub mod Options
 pub mod Size
 pub mod Step
 pub mod Seen

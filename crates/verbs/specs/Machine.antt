@@ -1,7 +1,7 @@
 -- The machine: every change ever made, oldest first, and the objects that stand at a revision
 -- (resourceVersion and its order: Kubernetes "API Concepts", "Resource versions").
-use Rattle.std.specs.Prelude.{◌≡◌, ℕ, suc, ◌<◌, ◌≤◌, Bool, List, [], ◌∷◌, ◌++◌, filter, Option, Some, None, option_map, nat_lt, nat_le}
-use Rattle.std.specs.Ordering.{nat_cmp, then_cmp, on, eq_by_cmp}
+use Rattle.std.specs.Prelude.{◌≡◌, ℕ, suc, ◌<◌, ◌≤◌, List, [], ◌∷◌, ◌++◌, filter, Option, Some, None, option_map, nat_lt, nat_le}
+use Rattle.std.specs.Ordering.{nat_cmp, then_cmp, on}
 use Rattle.std.specs.Cmp.Lexicographic.{slice_cmp}
 use Rattle.std.specs.declared.cmp.Ordering.{Ordering}
 use Rattle.std.specs.FinMap as fin

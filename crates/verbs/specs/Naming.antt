@@ -1,6 +1,6 @@
 -- Names of objects, and keys and values of their labels and annotations (Kubernetes docs, "Object Names and IDs", "Labels and Selectors", "Annotations").
 use Rattle.std.specs.Prelude.{ℕ, List, Option, Some, None, option_and_then, codes}
-use Rattle.std.specs.declared.result.Result.TheVariants.{Ok, Err}
+use Rattle.std.specs.declared.result.Result.TheVariants.{Ok}
 use Rattle.serde_json.specs.Data.{Data, null, boolean, number, string, array, object, Members, no_members, member}
 use Rattle.serde_json.specs.Find.{get, as_object}
 use Rattle.names.specs.Names.{is_dns_label, is_dns_subdomain, is_label_key, is_label_value}
@@ -51,9 +51,17 @@ abbrev pub if_there : (Members → Judged (Unit {0})) → Option Members → Jud
 if_there judged None = Ok tt
 if_there judged (Some ms) = judged ms
 
--- the name and namespace of the path, then the body's labels and annotations
-abbrev pub names_judged : List ℕ → List ℕ → Data → Judged (Unit {0})
-names_judged namespace name body =
-    and_then (path_judged namespace name) (λ u.
+-- the labels and annotations of a body
+abbrev pub marks_judged : Data → Judged (Unit {0})
+marks_judged body =
     and_then (if_there labels_judged (metadata_object (codes "labels") body)) (λ u.
-    if_there annotations_judged (metadata_object (codes "annotations") body)))
+    if_there annotations_judged (metadata_object (codes "annotations") body))
+
+-- the object's name and namespace, then the body's labels and annotations
+abbrev pub names_judged : List ℕ → List ℕ → Data → Judged (Unit {0})
+names_judged namespace name body = and_then (path_judged namespace name) (λ u. marks_judged body)
+
+-- a creation has to name its object
+abbrev pub required_name : Option (List ℕ) → Judged (List ℕ)
+required_name None = denied Invalid (codes "metadata.name: required")
+required_name (Some name) = Ok name

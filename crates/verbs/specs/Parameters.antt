@@ -1,10 +1,10 @@
--- The parameters of an apply (Kubernetes docs, "Server-Side Apply", "Using Server-Side Apply with `kubectl`").
+-- The parameters of a call, or the refusal of the first that is at fault (Kubernetes API reference, "Common Parameters").
 use Rattle.std.specs.Prelude.{ℕ, List, ◌++◌, codes}
 use Rattle.std.specs.declared.result.Result.{Result}
 use Rattle.std.specs.declared.result.Result.TheVariants.{Ok, Err}
 use Rattle.params.specs.declared.parameter.Parameter.{Parameter}
 use Rattle.params.specs.declared.parameter.Parameter.TheVariants.{AllowWatchBookmarks, Continue, DryRun, FieldManager, FieldSelector, FieldValidation, Force, LabelSelector, Limit, ResourceVersion, ResourceVersionMatch, SendInitialEvents, TimeoutSeconds, Watch}
-use Rattle.params.specs.declared.params.Asked.TheVariants.{Apply}
+use Rattle.params.specs.declared.params.Asked.{Asked}
 use Rattle.params.specs.Parameters.{name_of}
 use Rattle.params.specs.Query.{pairs_in}
 use Rattle.params.specs.Reading.{params_of}
@@ -37,5 +37,5 @@ abbrev pub read_or_denied : Result Values Parameter → Judged Values
 read_or_denied (Ok values) = Ok values
 read_or_denied (Err p) = Err (bad_parameter p)
 
-abbrev pub parameters_judged : List ℕ → Judged Values
-parameters_judged query = read_or_denied (params_of Apply (pairs_in query))
+abbrev pub parameters_judged : Asked → List ℕ → Judged Values
+parameters_judged asked query = read_or_denied (params_of asked (pairs_in query))

@@ -1,6 +1,5 @@
 -- What the crate's values stand for.
-use Rattle.std.specs.Prelude.{◌≡◌, ℕ, List, map, Option, option_map, string_bytes, String}
-use Rattle.std.specs.declared.alloc.Global.{Global}
+use Rattle.std.specs.Prelude.{◌≡◌, ℕ, List, map, option_map, string_bytes}
 use Rattle.std.specs.declared.result.Result.{Result}
 use Rattle.std.specs.declared.result.Result.TheVariants.{Ok, Err}
 use Rattle.std.specs.BTreeMap.{BTreeMap}
@@ -25,7 +24,7 @@ use Rattle.verbs.specs.declared.fault.Stop.TheVariants as stop
 use Rattle.verbs.specs.declared.api.Api.{Api}
 use Rattle.verbs.specs.declared.envelope.Expected.{Expected as TheExpected}
 use Rattle.verbs.specs.declared.envelope.Envelope.{Envelope as TheEnvelope}
-use Rattle.verbs.specs.declared.applying.Intent.{Intent as TheIntent}
+use Rattle.verbs.specs.declared.intent.Intent.{Intent as TheIntent}
 use Rattle.verbs.specs.declared.place.Place.{Place as ThePlace}
 use Rattle.verbs.specs.Envelope.{Expected, Envelope}
 use Rattle.verbs.specs.Step.{Intent}
@@ -92,13 +91,13 @@ Admits (Err refusal.Memory) answer = Unit {0}
 -- ---- what checks find
 
 abbrev pub expected_of : TheExpected → Expected
-expected_of e = record { served = served e.served.now; namespace = e.namespace.now; name = e.name.now }
+expected_of e = record { served = served e.served.now; namespace = e.namespace.now; name = option_map (λ s. s.now) e.name; method = e.method }
 
 abbrev pub envelope_seen : TheEnvelope → Envelope
 envelope_seen e = record { version = e.version; rest = view e.rest }
 
 abbrev pub intent_seen : TheIntent → Intent
-intent_seen i = record { version = i.version; content = i.content; manager = string_bytes i.manager; is_forced = i.is_forced }
+intent_seen i = record { version = i.version; content = i.content; manager = string_bytes i.manager; is_forced = i.is_forced; rest = view i.rest }
 
 abbrev pub parts_of : Params → Parts
 parts_of p = walk p.pattern.now p.text.now p.path.now p.names.now 0 0

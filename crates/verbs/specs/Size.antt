@@ -1,5 +1,5 @@
 -- Limits of an object: 64 labels, and 262,144 bytes of its text.
-use Rattle.std.specs.Prelude.{ℕ, suc, min, ◌^◌, ◌-◌, Bool, not, List, length, nat_le, nat_lt, Option, Some, None, codes}
+use Rattle.std.specs.Prelude.{ℕ, suc, min, ◌^◌, ◌-◌, Bool, not, length, nat_le, nat_lt, Option, Some, None, codes}
 use Rattle.serde_json.specs.Data.{Data, Members, no_members, member}
 use Rattle.serde_json.specs.Written.{compact_text}
 use Rattle.verbs.specs.declared.reason.Reason.TheVariants.{Invalid}

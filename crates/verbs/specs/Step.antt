@@ -1,10 +1,9 @@
 -- The step: what a call answers at a machine, and the machine after it, with the checks in their order
 -- (Kubernetes docs, "Server-Side Apply"; "Kubernetes API Concepts", "Resource versions").
-use Rattle.std.specs.Prelude.{ℕ, suc, Bool, true, false, ◌==◌, nat_lt, List, [], ◌∷◌, ◌++◌, length, Option, Some, None, option_map, slice_get, if◌then◌else◌, codes, decimal}
-use Rattle.std.specs.declared.result.Result.{Result}
+use Rattle.std.specs.Prelude.{ℕ, suc, Bool, ◌==◌, nat_le, nat_lt, List, [], ◌∷◌, ◌++◌, length, Option, Some, None, slice_get, if◌then◌else◌, codes, decimal}
 use Rattle.std.specs.declared.result.Result.TheVariants.{Ok, Err}
 use Rattle.std.specs.FinMap as fin
-use Rattle.serde_json.specs.Data.{Data, string, object, Items, no_items, item, Members, no_members, put}
+use Rattle.serde_json.specs.Data.{Data, string, object, Items, no_items, item, no_members, put}
 use Rattle.fieldpath.specs.Elements.{shown}
 use Rattle.pathmap.specs.Contents.{Content, nothing}
 use Rattle.schema.specs.TypesFile.{ServedShape}
@@ -12,23 +11,27 @@ use Rattle.typed.specs.declared.fault.Cause.{Cause}
 use Rattle.typed.specs.declared.fault.Cause.TheVariants.{NotAnObject, UnknownField, WrongType, DuplicateItem, KeyFieldMissing}
 use Rattle.typed.specs.Faults.{Read, cause_text}
 use Rattle.typed.specs.Reading.{content_of}
-use Rattle.ownership.specs.Owners.{Manager, manager_of, apply_operation}
+use Rattle.ownership.specs.Owners.{Manager, manager_of, apply_operation, update_operation}
 use Rattle.ownership.specs.Apply.{State, Conflict, conflicts, applied, is_refused}
+use Rattle.ownership.specs.Update.{updated}
 use Rattle.ownership.specs.Sameness.{same_state}
 use Rattle.ownership.specs.ObjectText.{Identity, object_value}
+use Rattle.params.specs.declared.params.Asked.{Asked}
+use Rattle.params.specs.declared.params.Asked.TheVariants as asked
 use Rattle.verbs.specs.declared.method.Method.{Method}
 use Rattle.verbs.specs.declared.method.Method.TheVariants.{Get, Post, Put, Patch, Delete}
 use Rattle.verbs.specs.declared.reason.Reason.{Reason}
-use Rattle.verbs.specs.declared.reason.Reason.TheVariants.{BadRequest, NotFound, MethodNotAllowed, Invalid, ServiceUnavailable}
+use Rattle.verbs.specs.declared.reason.Reason.TheVariants.{BadRequest, NotFound, MethodNotAllowed, AlreadyExists, Invalid, ServiceUnavailable, Timeout}
 use Rattle.verbs.specs.declared.reason.Reason.TheVariants as reason
 use Rattle.verbs.specs.Reasons.{code_of}
 use Rattle.verbs.specs.Status.{Denial, denial_value}
-use Rattle.verbs.specs.Judged.{Judged, and_then, denied, denial, unless}
-use Rattle.verbs.specs.Machine.{Key, Change, Object, Objects, Machine, last_revision, standing, after}
-use Rattle.verbs.specs.Calls.{Target, Call, Answer, Plan}
-use Rattle.verbs.specs.Envelope.{Expected, Envelope, api_version_of, envelope_of}
+use Rattle.verbs.specs.Judged.{Judged, and_then, denied, unless}
+use Rattle.verbs.specs.Machine.{Key, Object, Objects, Machine, last_revision, standing, after}
+use Rattle.verbs.specs.Calls.{Call, Answer, Plan}
+use Rattle.verbs.specs.Envelope.{Expected, api_version_of, envelope_of, name_in}
 use Rattle.verbs.specs.Parameters.{parameters_judged}
-use Rattle.verbs.specs.Naming.{names_judged}
+use Rattle.verbs.specs.Naming.{marks_judged, names_judged, required_name}
+use Rattle.verbs.specs.Options.{options_judged}
 use Rattle.verbs.specs.Size.{size_judged}
 
 -- ---- shape
@@ -96,28 +99,34 @@ abbrev pub ownership_judged : List ℕ → State → Content → Manager → Boo
 ownership_judged api_version live config m is_forced =
     if is_refused (conflicts live config m) is_forced then Err (conflict_denial api_version (conflicts live config m)) else Ok (applied live config m)
 
--- ---- apply
+-- ---- what a write intends
 
--- what an apply starts from: the object that stands, or nothing
-abbrev pub state_or_nothing : Option Object → State
-state_or_nothing None = record { content = nothing; owners = fin.empty }
-state_or_nothing (Some o) = o.state
-
--- what an apply intends, as its body and its parameters say
+-- as its body and its parameters say; the body's fields are looked at for their names next
 pub record Intent : Type 0 where
   pub version : Option ℕ
   pub content : Content
   pub manager : List ℕ
   pub is_forced : Bool
+  pub rest : Data
 
--- envelope, shape, parameters, names
-abbrev pub intent_of : ServedShape → Key → List ℕ → Data → Judged Intent
-intent_of t k query body =
-    and_then (envelope_of (record { served = t; namespace = k.namespace; name = k.name }) body) (λ e.
-    and_then (shape_judged (content_of t.shape e.rest)) (λ content.
-    and_then (parameters_judged query) (λ values.
-    and_then (names_judged k.namespace k.name e.rest) (λ u.
-    Ok (record { version = e.version; content = content; manager = values.manager; is_forced = values.is_forced })))))
+-- envelope, shape, parameters
+abbrev pub intent_of : Expected → Asked → List ℕ → Data → Judged Intent
+intent_of of asked query body =
+    and_then (envelope_of of body) (λ e.
+    and_then (shape_judged (content_of of.served.shape e.rest)) (λ content.
+    and_then (parameters_judged asked query) (λ values.
+    Ok (record { version = e.version; content = content; manager = values.manager; is_forced = values.is_forced; rest = e.rest }))))
+
+-- a write to the path of an object names that object
+abbrev pub at_path : ServedShape → Key → Method → Expected
+at_path t k method = record { served = t; namespace = k.namespace; name = Some k.name; method = method }
+
+-- what a write starts from: the object that stands, or nothing
+abbrev pub state_or_nothing : Option Object → State
+state_or_nothing None = record { content = nothing; owners = fin.empty }
+state_or_nothing (Some o) = o.state
+
+-- ---- what is stored
 
 abbrev pub revisions_left : ℕ → Judged (Unit {0})
 revisions_left current = unless (nat_lt current last_revision) ServiceUnavailable (codes "revisions are used up")
@@ -145,6 +154,8 @@ abbrev pub stored_over : ServedShape → ℕ → Key → Option Object → State
 stored_over t current k None s = stored t current k 201 s
 stored_over t current k (Some o) s = if same_state s o.state then Ok (kept t k o) else stored t current k 200 s
 
+-- ---- apply
+
 -- version, ownership, size
 abbrev pub applied_over : ServedShape → ℕ → Key → Option Object → Intent → Judged Plan
 applied_over t current k live intent =
@@ -153,45 +164,141 @@ applied_over t current k live intent =
     stored_over t current k live s))
 
 abbrev pub apply_judged : ServedShape → ℕ → Objects → Key → List ℕ → Data → Judged Plan
-apply_judged t current objects k query body = and_then (intent_of t k query body) (λ intent. applied_over t current k (fin.get objects k) intent)
+apply_judged t current objects k query body =
+    and_then (intent_of (at_path t k Patch) asked.Apply query body) (λ intent.
+    and_then (names_judged k.namespace k.name intent.rest) (λ u.
+    applied_over t current k (fin.get objects k) intent))
+
+-- ---- objects that are there, and that are not
+
+-- `<plural>.<group> "<name>"`
+abbrev pub object_named : ServedShape → List ℕ → List ℕ
+object_named t name = t.plural ++ codes "." ++ t.group ++ codes " \"" ++ name ++ codes "\""
+
+abbrev pub there : ServedShape → List ℕ → Option Object → Judged Object
+there t name None = denied NotFound (object_named t name ++ codes " not found")
+there t name (Some o) = Ok o
+
+abbrev pub not_there : ServedShape → List ℕ → Option Object → Judged (Unit {0})
+not_there t name None = Ok tt
+not_there t name (Some o) = denied AlreadyExists (object_named t name ++ codes " already exists")
+
+-- ---- get
+
+abbrev pub too_large_message : ℕ → ℕ → List ℕ
+too_large_message n current = codes "Too large resource version: " ++ decimal n ++ codes ", current: " ++ decimal current
+
+-- the version that is asked for has come
+abbrev pub version_come : Option ℕ → ℕ → Judged (Unit {0})
+version_come None current = Ok tt
+version_come (Some n) current = unless (nat_le n current) Timeout (too_large_message n current)
+
+-- parameters, object there or not, version
+abbrev pub get_judged : ServedShape → ℕ → Objects → Key → List ℕ → Judged Plan
+get_judged t current objects k query =
+    and_then (parameters_judged asked.Get query) (λ values.
+    and_then (there t k.name (fin.get objects k)) (λ o.
+    and_then (version_come values.version current) (λ u.
+    Ok (kept t k o))))
+
+-- ---- creation and update ("Server-Side Apply", "Comparison with Client-Side Apply": they own what they change)
+
+abbrev pub updated_by : Intent → State → State
+updated_by intent s = updated s intent.content (manager_of intent.manager update_operation)
+
+abbrev pub created_as : ServedShape → ℕ → Objects → Key → Intent → Judged Plan
+created_as t current objects k intent =
+    and_then (names_judged k.namespace k.name intent.rest) (λ u.
+    and_then (not_there t k.name (fin.get objects k)) (λ u.
+    stored t current k 201 (updated_by intent (state_or_nothing None))))
+
+-- the body names the object
+abbrev pub create_judged : ServedShape → ℕ → Objects → ℕ → List ℕ → List ℕ → Data → Judged Plan
+create_judged t current objects kind namespace query body =
+    and_then (intent_of (record { served = t; namespace = namespace; name = None; method = Post }) asked.Post query body) (λ intent.
+    and_then (required_name (name_in body)) (λ name.
+    created_as t current objects (record { kind = kind; namespace = namespace; name = name }) intent))
+
+-- object there or not, version, size
+abbrev pub updated_over : ServedShape → ℕ → Key → Option Object → Intent → Judged Plan
+updated_over t current k live intent =
+    and_then (there t k.name live) (λ o.
+    and_then (version_checked intent.version live) (λ u.
+    stored_over t current k live (updated_by intent o.state)))
+
+abbrev pub update_judged : ServedShape → ℕ → Objects → Key → List ℕ → Data → Judged Plan
+update_judged t current objects k query body =
+    and_then (intent_of (at_path t k Put) asked.Put query body) (λ intent.
+    and_then (marks_judged intent.rest) (λ u.
+    updated_over t current k (fin.get objects k) intent))
+
+-- ---- deletion
+
+-- the object's last state, with the deletion's revision
+abbrev pub deleted : ServedShape → ℕ → Key → Object → Plan
+deleted t current k o = record {
+  answer = record { status = 200; body = printed t k (suc current) o.state };
+  change = Some (record { revision = suc current; key = k; object = None });
+}
+
+-- object there or not, version; nothing is stored, so no size is judged
+abbrev pub deleted_over : ServedShape → ℕ → Key → Option Object → Option ℕ → Judged Plan
+deleted_over t current k live version =
+    and_then (there t k.name live) (λ o.
+    and_then (version_checked version live) (λ u.
+    and_then (revisions_left current) (λ u.
+    Ok (deleted t current k o))))
+
+-- the body's options, parameters
+abbrev pub delete_judged : ServedShape → ℕ → Objects → Key → List ℕ → Option Data → Judged Plan
+delete_judged t current objects k query body =
+    and_then (options_judged body) (λ version.
+    and_then (parameters_judged asked.Delete query) (λ values.
+    deleted_over t current k (fin.get objects k) version))
 
 -- ---- calls
 
-abbrev pub key_with : ℕ → Option (List ℕ) → Option (List ℕ) → Option Key
-key_with kind (Some namespace) (Some name) = Some (record { kind = kind; namespace = namespace; name = name })
-key_with kind None name = None
-key_with kind (Some namespace) None = None
-
--- only an object's path has a namespace and a name
-abbrev pub key_of : Target → Option Key
-key_of t = key_with t.kind t.namespace t.name
-
--- an apply has a body
-abbrev pub apply_of_body : ServedShape → ℕ → Objects → Key → List ℕ → Option Data → Judged Plan
-apply_of_body t current objects k query None = denied BadRequest (codes "body is not JSON")
-apply_of_body t current objects k query (Some body) = apply_judged t current objects k query body
+-- a write has a body
+abbrev pub body_of : Option Data → Judged Data
+body_of None = denied BadRequest (codes "body is not JSON")
+body_of (Some body) = Ok body
 
 abbrev pub not_served : Judged Plan
 not_served = denied MethodNotAllowed (codes "method not served here")
 
--- by the method
-abbrev pub judged_by : Method → ServedShape → ℕ → Objects → Key → List ℕ → Option Data → Judged Plan
-judged_by Patch t current objects k query body = apply_of_body t current objects k query body
-judged_by Get t current objects k query body = not_served
-judged_by Post t current objects k query body = not_served
-judged_by Put t current objects k query body = not_served
-judged_by Delete t current objects k query body = not_served
+-- on an object, by the method
+abbrev pub object_judged_by : Method → ServedShape → ℕ → Objects → Key → List ℕ → Option Data → Judged Plan
+object_judged_by Get t current objects k query body = get_judged t current objects k query
+object_judged_by Post t current objects k query body = not_served
+object_judged_by Put t current objects k query body = and_then (body_of body) (update_judged t current objects k query)
+object_judged_by Patch t current objects k query body = and_then (body_of body) (apply_judged t current objects k query)
+object_judged_by Delete t current objects k query body = delete_judged t current objects k query body
+
+-- on all objects of a namespace
+abbrev pub collection_judged_by : Method → ServedShape → ℕ → Objects → ℕ → List ℕ → List ℕ → Option Data → Judged Plan
+collection_judged_by Post t current objects kind namespace query body = and_then (body_of body) (create_judged t current objects kind namespace query)
+collection_judged_by Get t current objects kind namespace query body = not_served
+collection_judged_by Put t current objects kind namespace query body = not_served
+collection_judged_by Patch t current objects kind namespace query body = not_served
+collection_judged_by Delete t current objects kind namespace query body = not_served
 
 abbrev pub no_path : Judged Plan
 no_path = denied NotFound (codes "no such path")
 
-abbrev pub judged_at : Option ServedShape → Option Key → ℕ → Objects → Call → Judged Plan
-judged_at None k current objects call = no_path
-judged_at (Some t) None current objects call = no_path
-judged_at (Some t) (Some k) current objects call = judged_by call.target.method t current objects k call.query call.body
+-- by namespace and name: an object's path has both, a collection's no name
+abbrev pub judged_in : ServedShape → ℕ → Objects → Call → Option (List ℕ) → Option (List ℕ) → Judged Plan
+judged_in t current objects call None name = no_path
+judged_in t current objects call (Some namespace) None =
+    collection_judged_by call.target.method t current objects call.target.kind namespace call.query call.body
+judged_in t current objects call (Some namespace) (Some name) =
+    object_judged_by call.target.method t current objects (record { kind = call.target.kind; namespace = namespace; name = name }) call.query call.body
+
+abbrev pub judged_at : Option ServedShape → ℕ → Objects → Call → Judged Plan
+judged_at None current objects call = no_path
+judged_at (Some t) current objects call = judged_in t current objects call call.target.namespace call.target.name
 
 abbrev pub judged_over : List ServedShape → ℕ → Objects → Call → Judged Plan
-judged_over types current objects call = judged_at (slice_get types call.target.kind) (key_of call.target) current objects call
+judged_over types current objects call = judged_at (slice_get types call.target.kind) current objects call
 
 -- a refusal is answered by its Status, and changes nothing
 abbrev pub refused : Denial → Plan

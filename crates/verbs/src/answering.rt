@@ -1,28 +1,36 @@
-ghost use Rattle.std.specs.Prelude.{◌≡◌, IfOk, option_map};
-ghost use Rattle.verbs.specs.Seen.{denial_of, key_of, plan_of, target_of};
-ghost use Rattle.verbs.specs.Step.{refused};
-ghost use Rattle.verbs.specs.Step as step;
+ghost use Rattle.std.specs.Prelude.{◌≡◌, IfOk, codes};
+ghost use Rattle.serde_json.specs.View.{view};
+ghost use Rattle.verbs.specs.declared.reason.Reason.TheVariants.{MethodNotAllowed, NotFound};
+ghost use Rattle.verbs.specs.Seen.{Denies, Gives, call_of, denial_of, plan_of};
+ghost use Rattle.verbs.specs.Step.{body_of, refused};
 
-use crate::calls::{Answer, Plan, Target};
-use crate::objects::Key;
+use crate::calls::{Answer, Call, Plan};
+use crate::fault::Stop;
+use crate::reason::Reason;
 use crate::status::Denial;
+use serde_json::Value;
 use std::alloc::{AllocError, Global};
 
-/// The key of the object that a target names.
-pub fn key_of(target: &Target) -> Result<Option<Key>, AllocError>
-    ensures { IfOk result (λ k. option_map key_of k ≡ step.key_of (target_of target.now)) }
+/// The body of a write.
+pub fn body_of(alloc: Global, call: &Call) -> Result<&Value, Stop>
+    ensures { Gives (λ v. view v.now) result (body_of (call_of call.now).body) }
 {
-    let Some(namespace) = &target.namespace else {
-        return Ok(None);
-    };
-    let Some(name) = &target.name else {
-        return Ok(None);
-    };
-    Ok(Some(Key {
-        kind: target.kind,
-        namespace: namespace.clone()?,
-        name: name.clone()?,
-    }))
+    match &call.body {
+        Some(body) => Ok(body),
+        None => Err(Stop::denied(alloc, Reason::BadRequest, "body is not JSON")),
+    }
+}
+
+pub fn no_path(alloc: Global) -> Stop
+    ensures { Denies result NotFound (codes "no such path") }
+{
+    Stop::denied(alloc, Reason::NotFound, "no such path")
+}
+
+pub fn not_served(alloc: Global) -> Stop
+    ensures { Denies result MethodNotAllowed (codes "method not served here") }
+{
+    Stop::denied(alloc, Reason::MethodNotAllowed, "method not served here")
 }
 
 /// The answer of a refusal.

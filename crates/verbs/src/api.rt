@@ -2,15 +2,17 @@ ghost use Rattle.std.specs.Prelude.{◌≤◌};
 ghost use Rattle.verbs.specs.Machine.{last_revision};
 
 use crate::admitting::{Refusal, admitted};
-use crate::answering::{key_of, refused};
+use crate::answering::{body_of, no_path, not_served, refused};
 use crate::applying::judge_apply;
 use crate::calls::{Call, Plan, Target};
 use crate::change::Change;
+use crate::deleting::judge_delete;
 use crate::fault::{Fault, Stop};
+use crate::getting::judge_get;
 use crate::method::Method;
 use crate::objects::{Key, Stored, put_or_remove, stored_at};
-use crate::reason::Reason;
 use crate::route::Routes;
+use crate::updating::{judge_create, judge_update};
 use schema::{Served, Types};
 use std::alloc::Global;
 use std::collections::BTreeMap;
@@ -34,7 +36,7 @@ impl Api {
     ghost use Rattle.verbs.specs.Admit.{admitted};
     ghost use Rattle.verbs.specs.Machine.{IsNext, Machine, fresh, with_change};
     ghost use Rattle.verbs.specs.Seen.{Admits, Gives, Stands, call_of, change_of, key_of, objects_in, plan_of, types_of};
-    ghost use Rattle.verbs.specs.Step.{judged_by, judged_over, planned};
+    ghost use Rattle.verbs.specs.Step.{collection_judged_by, judged_in, judged_over, object_judged_by, planned};
 
     /// An API without objects, at revision 1.
     pub fn new(alloc: Global, types: Types) -> Result<Api, Fault>
@@ -67,44 +69,81 @@ impl Api {
         admitted(self.alloc, place, method, media)
     }
 
-    fn judged_by(&self, served: &Served, key: Key, call: &Call) -> Result<Plan, Stop>
+    fn judged_object(&self, served: &Served, key: Key, call: &Call) -> Result<Plan, Stop>
         ensures judged { let c = call_of call.now in
-            Gives plan_of result (judged_by c.target.method (types.served served.now) self.now.current (objects_in self.now.objects) (key_of key) c.query c.body) }
+            Gives plan_of result (object_judged_by c.target.method (types.served served.now) self.now.current (objects_in self.now.objects) (key_of key) c.query c.body) }
         ensures next { IfOk result (λ p. IfSome p.change (λ c. c.revision ≡ suc self.now.current)) }
     {
-        if call.target.method != Method::Patch {
-            return Err(Stop::denied(
-                self.alloc,
-                Reason::MethodNotAllowed,
-                "method not served here",
-            ));
+        let alloc = self.alloc;
+        let current = self.current;
+        let objects = &self.objects;
+        let query = call.query.as_slice();
+        match call.target.method {
+            Method::Get => judge_get(alloc, served, current, objects, &key, query),
+            Method::Put => {
+                let body = body_of(alloc, call)?;
+                judge_update(alloc, served, current, objects, key, query, body)
+            }
+            Method::Patch => {
+                let body = body_of(alloc, call)?;
+                judge_apply(alloc, served, current, objects, key, query, body)
+            }
+            Method::Delete => {
+                let body = call.body.as_ref();
+                judge_delete(alloc, served, current, objects, key, query, body)
+            }
+            Method::Post => Err(not_served(alloc)),
         }
-        let Some(body) = &call.body else {
-            return Err(Stop::denied(self.alloc, Reason::BadRequest, "body is not JSON"));
-        };
-        judge_apply(
+    }
+
+    fn judged_collection(&self, served: &Served, namespace: &str, call: &Call) -> Result<Plan, Stop>
+        ensures judged { let c = call_of call.now in
+            Gives plan_of result (collection_judged_by c.target.method (types.served served.now) self.now.current (objects_in self.now.objects) c.target.kind namespace.now c.query c.body) }
+        ensures next { IfOk result (λ p. IfSome p.change (λ c. c.revision ≡ suc self.now.current)) }
+    {
+        if call.target.method != Method::Post {
+            return Err(not_served(self.alloc));
+        }
+        let body = body_of(self.alloc, call)?;
+        judge_create(
             self.alloc,
             served,
             self.current,
             &self.objects,
-            key,
+            call.target.kind,
+            namespace,
             &call.query,
             body,
         )
+    }
+
+    fn judged_in(&self, served: &Served, call: &Call) -> Result<Plan, Stop>
+        ensures judged { let c = call_of call.now in
+            Gives plan_of result (judged_in (types.served served.now) self.now.current (objects_in self.now.objects) c c.target.namespace c.target.name) }
+        ensures next { IfOk result (λ p. IfSome p.change (λ c. c.revision ≡ suc self.now.current)) }
+    {
+        let Some(namespace) = &call.target.namespace else {
+            return Err(no_path(self.alloc));
+        };
+        let Some(name) = &call.target.name else {
+            return self.judged_collection(served, namespace.as_str(), call);
+        };
+        let key = Key {
+            kind: call.target.kind,
+            namespace: namespace.clone()?,
+            name: name.clone()?,
+        };
+        self.judged_object(served, key, call)
     }
 
     fn judged(&self, call: &Call) -> Result<Plan, Stop>
         ensures judged { Gives plan_of result (judged_over (types_of self.now) self.now.current (objects_in self.now.objects) (call_of call.now)) }
         ensures next { IfOk result (λ p. IfSome p.change (λ c. c.revision ≡ suc self.now.current)) }
     {
-        let no_path = "no such path";
         let Some(served) = self.types.get(call.target.kind) else {
-            return Err(Stop::denied(self.alloc, Reason::NotFound, no_path));
+            return Err(no_path(self.alloc));
         };
-        let Some(key) = key_of(&call.target)? else {
-            return Err(Stop::denied(self.alloc, Reason::NotFound, no_path));
-        };
-        self.judged_by(served, key, call)
+        self.judged_in(served, call)
     }
 
     /// What a call comes to: its answer, and the change that it makes, if any. It changes nothing.

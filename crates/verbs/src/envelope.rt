@@ -3,12 +3,13 @@ ghost use Rattle.schema.specs.Keywords.{is_in};
 ghost use Rattle.serde_json.specs.Find.{get_member};
 ghost use Rattle.serde_json.specs.View.{items_view, members_view, view};
 ghost use Rattle.schema.specs.Served as types;
-ghost use Rattle.verbs.specs.Envelope.{api_version_of, entries_judged, envelope_of, given_judged, is_text, is_text_or_none, kind_judged, kind_message, managers_judged, members_but, must_be, if_filled, member_of, metadata_in, metadata_judged, object_judged, put_metadata, rest_of, text_in, text_of, version_judged, version_or_fault, version_read, with_others};
+ghost use Rattle.verbs.specs.Envelope.{api_version_of, entries_judged, envelope_of, given_judged, is_text, is_text_or_none, kind_judged, kind_message, managers_by, managers_judged, members_but, must_be, if_filled, filled_text, member_of, name_in, metadata_in, metadata_judged, object_judged, put_metadata, rest_of, text_in, text_of, version_allowed, version_judged, version_or_fault, version_read, wanted_judged, with_others};
 ghost use Rattle.verbs.specs.declared.reason.Reason.TheVariants.{BadRequest};
 ghost use Rattle.verbs.specs.Judged.{denial, unless};
 ghost use Rattle.verbs.specs.Seen.{Denies, Gives, envelope_seen, expected_of};
 
 use crate::fault::Stop;
+use crate::method::Method;
 use crate::reason::Reason;
 use crate::texts::joined;
 use names::version_of;
@@ -30,7 +31,10 @@ pub struct Envelope {
 pub struct Expected<'a> {
     pub served: &'a Served,
     pub namespace: &'a str,
-    pub name: &'a str,
+    /// None where the body gives the name of its object.
+    pub name: Option<&'a str>,
+    /// What the body is sent by.
+    pub method: Method,
 }
 
 /// Members of a body that are no fields.
@@ -162,7 +166,7 @@ fn metadata_in<'a>(
 }
 
 /// The member of this name.
-fn member<'a>(members: &'a Map<String, Value>, name: &str) -> Option<&'a Value>
+pub fn member<'a>(members: &'a Map<String, Value>, name: &str) -> Option<&'a Value>
     ensures { option_map (λ v. view v.now) result ≡ get_member name.now (members_view members.now.entries) }
 {
     members.get(name)
@@ -187,22 +191,37 @@ fn must_be(alloc: Global, name: &str, wanted: &str) -> Result<String, AllocError
     Ok(message)
 }
 
-/// A name that the body gives is that of the path.
-fn judge_given(
+/// What is given is that of the path, where the path has one.
+fn judge_wanted(
     alloc: Global,
-    metadata: Option<&Map<String, Value>>,
     name: &str,
-    wanted: &str,
+    wanted: Option<&str>,
+    given: Option<&str>,
 ) -> Result<(), Stop>
-    ensures { Gives (λ u. u) result (given_judged name.now wanted.now (option_map (λ m. members_view m.now.entries) metadata.entry)) }
+    ensures { Gives (λ u. u) result (wanted_judged name.now (option_map (λ s. s.now) wanted.entry) (option_map (λ s. s.now) given.entry)) }
 {
-    let path = joined(alloc, ".metadata.", name)?;
-    let given = text_in(alloc, member_of(metadata, name), path.as_str())?;
+    let Some(wanted) = wanted else {
+        return Ok(());
+    };
     if is_text_or_none(given, wanted) {
         return Ok(());
     }
     let message = must_be(alloc, name, wanted)?;
     Err(Stop::denied(alloc, Reason::BadRequest, message.as_str()))
+}
+
+/// A name that the body gives is that of the path.
+fn judge_given(
+    alloc: Global,
+    metadata: Option<&Map<String, Value>>,
+    name: &str,
+    wanted: Option<&str>,
+) -> Result<(), Stop>
+    ensures { Gives (λ u. u) result (given_judged name.now (option_map (λ s. s.now) wanted.entry) (option_map (λ m. members_view m.now.entries) metadata.entry)) }
+{
+    let path = joined(alloc, ".metadata.", name)?;
+    let given = text_in(alloc, member_of(metadata, name), path.as_str())?;
+    judge_wanted(alloc, name, wanted, given)
 }
 
 fn read_version(alloc: Global, given: Option<&str>) -> Result<Option<u64>, Stop>
@@ -232,6 +251,20 @@ fn judge_version(alloc: Global, metadata: Option<&Map<String, Value>>) -> Result
     read_version(alloc, given)
 }
 
+/// A creation is of no version.
+fn allow_version(alloc: Global, method: Method, version: Option<u64>) -> Result<(), Stop>
+    ensures { Gives (λ u. u) result (version_allowed method version) }
+{
+    if method != Method::Post || version.is_none() {
+        return Ok(());
+    }
+    Err(Stop::denied(
+        alloc,
+        Reason::BadRequest,
+        "metadata.resourceVersion must not be set",
+    ))
+}
+
 fn judge_entries(alloc: Global, entries: &[Value]) -> Result<(), Stop>
     ensures { Gives (λ u. u) result (entries_judged (items_view entries.now)) }
 {
@@ -257,6 +290,16 @@ fn judge_managers(alloc: Global, member: Option<&Value>) -> Result<(), Stop>
         Value::Array(entries) => judge_entries(alloc, entries),
         _ => Err(wrong_type(alloc, ".metadata.managedFields")),
     }
+}
+
+/// What any other write says of who owns what is ignored.
+fn judge_managers_by(alloc: Global, method: Method, member: Option<&Value>) -> Result<(), Stop>
+    ensures { Gives (λ u. u) result (managers_by method (option_map (λ v. view v.now) member.entry)) }
+{
+    if method != Method::Patch {
+        return Ok(());
+    }
+    judge_managers(alloc, member)
 }
 
 /// Whether the name is one of these.
@@ -319,9 +362,11 @@ fn judge_metadata(
     ensures { Gives envelope_seen result (metadata_judged (expected_of expected.entry) (members_view top.now.entries) (option_map (λ m. members_view m.now.entries) metadata.entry)) }
 {
     judge_given(alloc, metadata, "name", expected.name)?;
-    judge_given(alloc, metadata, "namespace", expected.namespace)?;
+    judge_given(alloc, metadata, "namespace", Some(expected.namespace))?;
     let version = judge_version(alloc, metadata)?;
-    judge_managers(alloc, member_of(metadata, "managedFields"))?;
+    allow_version(alloc, expected.method, version)?;
+    let managers = member_of(metadata, "managedFields");
+    judge_managers_by(alloc, expected.method, managers)?;
     let rest = rest_of(alloc, top, metadata)?;
     Ok(Envelope { version, rest })
 }
@@ -338,7 +383,14 @@ fn judge_object(
     judge_metadata(alloc, expected, top, metadata)
 }
 
-/// Judges the envelope of an apply's body, in order: the body is an object, `apiVersion` and `kind`,
+/// The name that a body gives its object.
+pub fn name_in(body: &Value) -> Option<&str>
+    ensures { option_map (λ s. s.now) result ≡ name_in (view body.now) }
+{
+    if_filled(body.get("metadata")?.get("name")?.as_str()?)
+}
+
+/// Judges the envelope of a write's body, in order: the body is an object, `apiVersion` and `kind`,
 /// `metadata`, `name`, `namespace`, `resourceVersion`, `managedFields`.
 pub fn judge(alloc: Global, body: &Value, expected: Expected<'_>) -> Result<Envelope, Stop>
     ensures { Gives envelope_seen result (envelope_of (expected_of expected.entry) (view body.now)) }

@@ -1,11 +1,14 @@
 ghost use Rattle.std.specs.Prelude.{◌≡◌, ◌==◌, option_map};
 ghost use Rattle.std.specs.List.{before_first};
-ghost use Rattle.verbs.specs.Admit.{media_type, takes, without_leading, without_trailing, is_blank};
+ghost use Rattle.verbs.specs.Admit.{is_apply, is_json, media_type, takes, without_leading, without_trailing, is_blank};
 
 use crate::method::Method;
 
 /// The media type of an apply (Kubernetes docs, "Server-Side Apply", "Serialization").
 const APPLY: &[u8] = b"application/apply-patch+yaml";
+
+/// The media type of every other body.
+const JSON: &[u8] = b"application/json";
 
 fn is_blank(byte: u8) -> bool
     ensures { result ≡ is_blank byte }
@@ -48,15 +51,32 @@ fn media_type(field: &[u8]) -> &[u8]
     without_trailing(without_leading(before_parameters(field)))
 }
 
+fn is_apply(field: Option<&[u8]>) -> bool
+    ensures { result ≡ is_apply (option_map (λ b. b.now) field.entry) }
+{
+    match field {
+        Some(field) => media_type(field).eq_ignore_ascii_case(APPLY),
+        None => false,
+    }
+}
+
+/// JSON, or no media type at all.
+fn is_json(field: Option<&[u8]>) -> bool
+    ensures { result ≡ is_json (option_map (λ b. b.now) field.entry) }
+{
+    match field {
+        Some(field) => media_type(field).eq_ignore_ascii_case(JSON),
+        None => true,
+    }
+}
+
 /// Whether a body of this media type is taken.
 pub fn takes(method: Method, field: Option<&[u8]>) -> bool
     ensures { result ≡ takes method (option_map (λ b. b.now) field.entry) }
 {
     match method {
-        Method::Patch => match field {
-            Some(field) => media_type(field).eq_ignore_ascii_case(APPLY),
-            None => false,
-        },
-        _ => true,
+        Method::Get => true,
+        Method::Patch => is_apply(field),
+        Method::Post | Method::Put | Method::Delete => is_json(field),
     }
 }

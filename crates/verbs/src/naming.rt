@@ -2,7 +2,7 @@ ghost use Rattle.std.specs.Prelude.{◌≡◌, codes, option_map};
 ghost use Rattle.serde_json.specs.View.{members_view, view};
 ghost use Rattle.verbs.specs.declared.reason.Reason.TheVariants.{Invalid};
 ghost use Rattle.verbs.specs.Judged.{unless};
-ghost use Rattle.verbs.specs.Naming.{annotation_judged, annotations_judged, label_judged, if_there, label_member_judged, labels_judged, metadata_object, names_judged, path_judged};
+ghost use Rattle.verbs.specs.Naming.{annotation_judged, annotations_judged, label_judged, if_there, label_member_judged, labels_judged, marks_judged, metadata_object, names_judged, path_judged, required_name};
 ghost use Rattle.verbs.specs.Seen.{Gives};
 
 use crate::fault::Stop;
@@ -102,11 +102,28 @@ fn judge_annotations_of(alloc: Global, body: &Value) -> Result<(), Stop>
     }
 }
 
-/// The name and namespace of the path, then the body's labels and annotations.
+/// The labels and annotations of a body.
+pub fn judge_marks(alloc: Global, body: &Value) -> Result<(), Stop>
+    ensures { Gives (λ u. u) result (marks_judged (view body.now)) }
+{
+    judge_labels_of(alloc, body)?;
+    judge_annotations_of(alloc, body)
+}
+
+/// A creation has to name its object.
+pub fn require_name<'a>(alloc: Global, name: Option<&'a str>) -> Result<&'a str, Stop>
+    ensures { Gives (λ s. s.now) result (required_name (option_map (λ s. s.now) name.entry)) }
+{
+    match name {
+        Some(name) => Ok(name),
+        None => Err(Stop::denied(alloc, Reason::Invalid, "metadata.name: required")),
+    }
+}
+
+/// The object's name and namespace, then the body's labels and annotations.
 pub fn judge_names(alloc: Global, namespace: &str, name: &str, body: &Value) -> Result<(), Stop>
     ensures { Gives (λ u. u) result (names_judged namespace.now name.now (view body.now)) }
 {
     judge_path(alloc, namespace, name)?;
-    judge_labels_of(alloc, body)?;
-    judge_annotations_of(alloc, body)
+    judge_marks(alloc, body)
 }

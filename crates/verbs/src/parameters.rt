@@ -27,11 +27,11 @@ fn bad_parameter(alloc: Global, parameter: Parameter) -> Stop
     }
 }
 
-/// The parameters of an apply.
-pub fn read_parameters(alloc: Global, query: &[u8]) -> Result<Params, Stop>
-    ensures { Gives values_of result (parameters_judged query.now) }
+/// The parameters of a call.
+pub fn read_parameters(alloc: Global, asked: Asked, query: &[u8]) -> Result<Params, Stop>
+    ensures { Gives values_of result (parameters_judged asked query.now) }
 {
-    match Params::read(alloc, Asked::Apply, query) {
+    match Params::read(alloc, asked, query) {
         Ok(params) => Ok(params),
         Err(ParamsFault::Bad(parameter)) => Err(bad_parameter(alloc, parameter)),
         Err(ParamsFault::Memory) => Err(Stop::Memory),

@@ -6,6 +6,8 @@ use crate::method::Method;
 /// What a path leads to (Kubernetes docs, "Kubernetes API Concepts", "Resource URIs").
 #[derive(Clone, Copy, Debug, PartialEq, Eq)]
 pub enum Resource {
+    /// All objects of a type in a namespace.
+    Collection,
     /// An object in a namespace.
     Object,
 }
@@ -16,7 +18,8 @@ impl Resource {
         ensures { result ≡ serves self method }
     {
         match self {
-            Resource::Object => method == Method::Patch,
+            Resource::Collection => method == Method::Post,
+            Resource::Object => method != Method::Post,
         }
     }
 
@@ -25,7 +28,8 @@ impl Resource {
         ensures { result.now ≡ allowed self }
     {
         match self {
-            Resource::Object => "PATCH",
+            Resource::Collection => "POST",
+            Resource::Object => "DELETE, GET, PATCH, PUT",
         }
     }
 }

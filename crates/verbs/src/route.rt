@@ -8,6 +8,9 @@ use matchit::Router;
 use schema::Types;
 use std::alloc::Global;
 
+/// The path of all objects of a type in a namespace.
+const COLLECTION: &str = "/apis/{group}/{version}/namespaces/{namespace}/{plural}";
+
 /// An object's path.
 const OBJECT: &str = "/apis/{group}/{version}/namespaces/{namespace}/{plural}/{name}";
 
@@ -26,6 +29,10 @@ impl Routes {
 
     pub fn new(alloc: Global) -> Result<Routes, Fault> {
         let mut router = Router::new(alloc);
+        match router.insert(COLLECTION, Resource::Collection) {
+            Ok(()) => (),
+            Err(_) => return Err(Fault::Memory),
+        }
         match router.insert(OBJECT, Resource::Object) {
             Ok(()) => Ok(Routes { router }),
             Err(_) => Err(Fault::Memory),

@@ -1,4 +1,4 @@
-use Rattle.std.proofs.Common.{◌≡◌, ◌∙◌, subst}
+use Rattle.std.proofs.Common.{◌∙◌, subst}
 use Rattle.verbs.specs.Seen.{Fails, call_of, denial_of, objects_in, plan_of, types_of}
 use Rattle.verbs.specs.Step.{judged_over}
 use Rattle.verbs.proofs.Planning.{planned_ok, planned_denied}

@@ -1,4 +1,4 @@
-use Rattle.std.proofs.Common.{◌≡◌, ◌∙◌, Option, Some, ap, sym, subst, cond, None, Bool, List, ℕ}
+use Rattle.std.proofs.Common.{◌∙◌, ap, sym, subst, cond, None, Bool, List, ℕ}
 use Rattle.std.specs.Prelude.{option_and_then}
 use Rattle.std.specs.Str.{IsAscii}
 use Rattle.matchit.specs.Params.{walk}
@@ -6,7 +6,7 @@ use Rattle.matchit.specs.Router.{RouteOf}
 use Rattle.matchit.specs.Seek.{first}
 use Rattle.schema.specs.Served.{types_view}
 use Rattle.verbs.specs.declared.resource.Resource.{Resource}
-use Rattle.verbs.specs.Admit.{Place, place_by, place_in, routes}
+use Rattle.verbs.specs.Admit.{place_by, place_in, routes}
 use Rattle.verbs.proofs.Ascii.{all_ascii, all_text}
 use Rattle.verbs.proofs.Found.{found_all}
 use Rattle.verbs.proofs.Places.{routes_ascii}

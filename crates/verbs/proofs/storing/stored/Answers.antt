@@ -1,9 +1,9 @@
-use Rattle.std.proofs.Common.{◌≡◌, ◌+◌, suc, add-one, ap, sym, subst, ◌∙◌, ℕ}
+use Rattle.std.proofs.Common.{add-one, ap, subst, ◌∙◌, ℕ}
 use Rattle.schema.specs.Served.{served}
 use Rattle.ownership.specs.Results.{state_of}
 use Rattle.verbs.specs.Seen.{Gives, key_of, plan_of}
 use Rattle.verbs.specs.Step.{printed, stored_as}
-use Rattle.verbs.proofs.applying.stored.Goals as goal
+use Rattle.verbs.proofs.storing.stored.Goals as goal
 
 pub returns-clause-judged : goal.returns-clause-judged
 returns-clause-judged c =

@@ -1,0 +1,62 @@
+//! Gets (Kubernetes docs, "Kubernetes API Concepts", "Resource versions", "Get").
+
+ghost use Rattle.std.specs.Prelude.{◌≡◌, IfOk, string_bytes};
+ghost use Rattle.schema.specs.Served as types;
+ghost use Rattle.verbs.specs.Seen.{Gives, key_of, objects_in, plan_of};
+ghost use Rattle.verbs.specs.Step.{get_judged, too_large_message, version_come};
+
+use crate::calls::Plan;
+use crate::fault::Stop;
+use crate::objects::{Key, Stored, object_at};
+use crate::parameters::read_parameters;
+use crate::presence::there;
+use crate::reason::Reason;
+use crate::storing::kept;
+use crate::texts::joined;
+use params::Asked;
+use schema::Served;
+use std::alloc::{AllocError, Global};
+use std::collections::BTreeMap;
+
+fn too_large_message(alloc: Global, asked: u64, current: u64) -> Result<String, AllocError>
+    ensures { IfOk result (λ s. string_bytes s ≡ too_large_message asked current) }
+{
+    let asked = asked.to_string(alloc)?;
+    let mut message = joined(alloc, "Too large resource version: ", asked.as_str())?;
+    message.push_str(", current: ")?;
+    let current = current.to_string(alloc)?;
+    message.push_str(current.as_str())?;
+    Ok(message)
+}
+
+/// The version that is asked for has come.
+fn check_come(alloc: Global, version: Option<u64>, current: u64) -> Result<(), Stop>
+    ensures { Gives (λ u. u) result (version_come version current) }
+{
+    let Some(asked) = version else {
+        return Ok(());
+    };
+    if asked <= current {
+        return Ok(());
+    }
+    let message = too_large_message(alloc, asked, current)?;
+    Err(Stop::denied(alloc, Reason::Timeout, message.as_str()))
+}
+
+/// Parameters, object there or not, version.
+pub(crate) fn judge_get(
+    alloc: Global,
+    served: &Served,
+    current: u64,
+    objects: &BTreeMap<Key, Stored>,
+    key: &Key,
+    query: &[u8],
+) -> Result<Plan, Stop>
+    ensures { Gives plan_of result (get_judged (types.served served.now) current (objects_in objects.now) (key_of key.now) query.now) }
+{
+    let params = read_parameters(alloc, Asked::Get, query)?;
+    let live = object_at(objects, key);
+    let stored = there(alloc, served, key.name.as_str(), live)?;
+    check_come(alloc, params.version, current)?;
+    Ok(kept(alloc, served, key, stored)?)
+}

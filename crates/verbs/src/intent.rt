@@ -1,0 +1,63 @@
+//! What a write intends, as its body and its parameters say.
+
+ghost use Rattle.std.specs.Prelude.{◌≡◌};
+ghost use Rattle.serde_json.specs.View.{view};
+ghost use Rattle.schema.specs.Served as types;
+ghost use Rattle.verbs.specs.Step.{at_path, intent_of};
+ghost use Rattle.verbs.specs.Seen.{Gives, expected_of, intent_seen, key_of};
+
+use crate::envelope::{Envelope, Expected, judge};
+use crate::fault::Stop;
+use crate::method::Method;
+use crate::objects::Key;
+use crate::parameters::read_parameters;
+use crate::reading::read_config;
+use params::Asked;
+use schema::Served;
+use serde_json::Value;
+use std::alloc::Global;
+use typed::Tree;
+
+#[derive(Drop)]
+pub struct Intent {
+    pub version: Option<u64>,
+    pub content: Tree,
+    pub manager: String,
+    pub is_forced: bool,
+    /// The body's fields, whose labels and annotations are judged next.
+    pub rest: Value,
+}
+
+/// A write to the path of an object names that object.
+pub fn at_path<'a>(served: &'a Served, key: &'a Key, method: Method) -> Expected<'a>
+    ensures { expected_of result ≡ at_path (types.served served.now) (key_of key.now) method }
+{
+    Expected {
+        served,
+        namespace: key.namespace.as_str(),
+        name: Some(key.name.as_str()),
+        method,
+    }
+}
+
+/// Envelope, shape, parameters.
+pub fn intent_of(
+    alloc: Global,
+    expected: Expected<'_>,
+    asked: Asked,
+    query: &[u8],
+    body: &Value,
+) -> Result<Intent, Stop>
+    ensures { Gives intent_seen result (intent_of (expected_of expected.entry) asked query.now (view body.now)) }
+{
+    let Envelope { version, rest } = judge(alloc, body, expected)?;
+    let content = read_config(alloc, expected.served, &rest)?;
+    let params = read_parameters(alloc, asked, query)?;
+    Ok(Intent {
+        version,
+        content,
+        manager: params.manager,
+        is_forced: params.is_forced,
+        rest,
+    })
+}

@@ -1,0 +1,132 @@
+//! The body of a deletion (Kubernetes API reference, "DeleteOptions", "Preconditions").
+
+ghost use Rattle.std.specs.Prelude.{◌≡◌, codes, option_map};
+ghost use Rattle.serde_json.specs.View.{items_view, members_view, view};
+ghost use Rattle.verbs.specs.declared.reason.Reason.TheVariants.{BadRequest};
+ghost use Rattle.verbs.specs.Options.{is_blank, is_blank_text, is_blank_value, is_no_list, options_in, options_judged, preconditions_in, preconditions_read, version_asked, version_by};
+ghost use Rattle.verbs.specs.Seen.{Denies, Gives};
+
+use crate::envelope::member;
+use crate::fault::Stop;
+use crate::reason::Reason;
+use names::version_of;
+use serde_json::{Map, Value};
+use std::alloc::Global;
+
+fn bad_options(alloc: Global) -> Stop
+    ensures { Denies result BadRequest (codes "bad delete options") }
+{
+    Stop::denied(alloc, Reason::BadRequest, "bad delete options")
+}
+
+fn is_no_list(items: &[Value]) -> bool
+    ensures { result ≡ is_no_list (items_view items.now) }
+{
+    items.is_empty()
+}
+
+/// Whether it is null, the empty text or the empty list.
+fn is_blank_value(value: &Value) -> bool
+    ensures { result ≡ is_blank_value (view value.now) }
+{
+    match value {
+        Value::Null => true,
+        Value::String(text) => text.is_empty(),
+        Value::Array(items) => is_no_list(items),
+        _ => false,
+    }
+}
+
+/// Whether it is absent, or blank.
+fn is_blank(member: Option<&Value>) -> bool
+    ensures { result ≡ is_blank (option_map (λ v. view v.now) member.entry) }
+{
+    match member {
+        Some(value) => is_blank_value(value),
+        None => true,
+    }
+}
+
+/// Whether it is absent, null or the empty text.
+fn is_blank_text(member: Option<&Value>) -> bool
+    ensures { result ≡ is_blank_text (option_map (λ v. view v.now) member.entry) }
+{
+    let Some(value) = member else {
+        return true;
+    };
+    match value {
+        Value::Null => true,
+        Value::String(text) => text.is_empty(),
+        _ => false,
+    }
+}
+
+fn version_by(alloc: Global, text: &str) -> Result<Option<u64>, Stop>
+    ensures { Gives (λ v. v) result (version_by text.now) }
+{
+    if text.is_empty() {
+        return Ok(None);
+    }
+    match version_of(text) {
+        Some(version) => Ok(Some(version)),
+        None => Err(bad_options(alloc)),
+    }
+}
+
+/// The version that the object has to have.
+fn version_asked(alloc: Global, member: Option<&Value>) -> Result<Option<u64>, Stop>
+    ensures { Gives (λ v. v) result (version_asked (option_map (λ v. view v.now) member.entry)) }
+{
+    let Some(value) = member else {
+        return Ok(None);
+    };
+    match value {
+        Value::Null => Ok(None),
+        Value::String(text) => version_by(alloc, text.as_str()),
+        _ => Err(bad_options(alloc)),
+    }
+}
+
+fn read_preconditions(alloc: Global, members: &Map<String, Value>) -> Result<Option<u64>, Stop>
+    ensures { Gives (λ v. v) result (preconditions_read (members_view members.now.entries)) }
+{
+    if !is_blank_text(member(members, "uid")) {
+        return Err(bad_options(alloc));
+    }
+    version_asked(alloc, member(members, "resourceVersion"))
+}
+
+fn preconditions_in(alloc: Global, member: Option<&Value>) -> Result<Option<u64>, Stop>
+    ensures { Gives (λ v. v) result (preconditions_in (option_map (λ v. view v.now) member.entry)) }
+{
+    let Some(value) = member else {
+        return Ok(None);
+    };
+    match value {
+        Value::Null => Ok(None),
+        Value::Object(members) => read_preconditions(alloc, members),
+        _ => Err(bad_options(alloc)),
+    }
+}
+
+fn options_in(alloc: Global, members: &Map<String, Value>) -> Result<Option<u64>, Stop>
+    ensures { Gives (λ v. v) result (options_in (Some (members_view members.now.entries))) }
+{
+    if !is_blank(member(members, "dryRun")) {
+        return Err(bad_options(alloc));
+    }
+    preconditions_in(alloc, member(members, "preconditions"))
+}
+
+/// The version that a deletion's body asks for, if any.
+pub fn judge_options(alloc: Global, body: Option<&Value>) -> Result<Option<u64>, Stop>
+    ensures { Gives (λ v. v) result (options_judged (option_map (λ v. view v.now) body.entry)) }
+{
+    let Some(value) = body else {
+        return Ok(None);
+    };
+    match value {
+        Value::Object(members) => options_in(alloc, members),
+        _ => Err(bad_options(alloc)),
+    }
+}

@@ -1,0 +1,168 @@
+//! What is stored: versions, limits, and the object as it is printed.
+
+ghost use Rattle.std.specs.Prelude.{◌≡◌, ◌≤◌, ◌<◌, suc, OnOk, IfOk, IfSome, codes, option_map, string_bytes};
+ghost use Rattle.serde_json.specs.View.{view};
+ghost use Rattle.schema.specs.Served as types;
+ghost use Rattle.ownership.specs.Results.{state_of};
+ghost use Rattle.verbs.specs.Machine.{last_revision};
+ghost use Rattle.verbs.specs.Seen.{Gives, key_of, object_of, plan_of};
+ghost use Rattle.verbs.specs.Step.{kept, no_object_message, other_version_message, printed, revisions_left, stored, stored_as, stored_over, version_checked};
+
+use crate::calls::{Answer, Plan};
+use crate::change::Change;
+use crate::envelope::api_version_of;
+use crate::fault::Stop;
+use crate::objects::{Key, Stored};
+use crate::reason::Reason;
+use crate::size::judge_size;
+use crate::texts::joined;
+use ownership::{Identity, Owned};
+use schema::Served;
+use serde_json::Value;
+use std::alloc::{AllocError, Global};
+
+/// The highest revision.
+const LAST_REVISION: u64 = 9223372036854775807;
+
+/// The object at the key as it is printed.
+pub fn printed(
+    alloc: Global,
+    served: &Served,
+    key: &Key,
+    revision: u64,
+    owned: &Owned,
+) -> Result<Value, AllocError>
+    ensures { IfOk result (λ v. view v ≡ printed (types.served served.now) (key_of key.now) revision (state_of owned.now)) }
+{
+    let api_version = api_version_of(alloc, served)?;
+    let identity = Identity {
+        api_version: api_version.as_str(),
+        kind: served.kind.as_str(),
+        namespace: key.namespace.as_str(),
+        name: key.name.as_str(),
+    };
+    owned.to_object(alloc, &served.schema, identity, revision)
+}
+
+fn no_object_message(alloc: Global, given: u64) -> Result<String, AllocError>
+    ensures { IfOk result (λ s. string_bytes s ≡ no_object_message given) }
+{
+    let given = given.to_string(alloc)?;
+    let mut message = joined(alloc, "version ", given.as_str())?;
+    message.push_str(" was given and there is no object")?;
+    Ok(message)
+}
+
+fn other_version_message(alloc: Global, given: u64, stored: u64) -> Result<String, AllocError>
+    ensures { IfOk result (λ s. string_bytes s ≡ other_version_message given stored) }
+{
+    let given = given.to_string(alloc)?;
+    let mut message = joined(alloc, "version ", given.as_str())?;
+    message.push_str(" is not the stored one, ")?;
+    let stored = stored.to_string(alloc)?;
+    message.push_str(stored.as_str())?;
+    Ok(message)
+}
+
+/// The version that a body names is that of the object that stands.
+pub fn check_version(alloc: Global, version: Option<u64>, live: Option<&Stored>) -> Result<(), Stop>
+    ensures { Gives (λ u. u) result (version_checked version (option_map (λ o. object_of o.now) live.entry)) }
+{
+    let Some(given) = version else {
+        return Ok(());
+    };
+    let Some(stored) = live else {
+        let message = no_object_message(alloc, given)?;
+        return Err(Stop::denied(alloc, Reason::Conflict, message.as_str()));
+    };
+    if given == stored.revision {
+        return Ok(());
+    }
+    let message = other_version_message(alloc, given, stored.revision)?;
+    Err(Stop::denied(alloc, Reason::Conflict, message.as_str()))
+}
+
+pub fn check_revisions(alloc: Global, current: u64) -> Result<(), Stop>
+    ensures judged { Gives (λ u. u) result (revisions_left current) }
+    ensures left { OnOk result (current < last_revision) }
+{
+    if current < LAST_REVISION {
+        return Ok(());
+    }
+    Err(Stop::denied(alloc, Reason::ServiceUnavailable, "revisions are used up"))
+}
+
+/// The object of this body, unless it is too large or revisions are used up.
+fn stored_as(
+    alloc: Global,
+    body: Value,
+    current: u64,
+    key: Key,
+    status: u16,
+    owned: Owned,
+) -> Result<Plan, Stop>
+    requires { current ≤ last_revision }
+    ensures judged { Gives plan_of result (stored_as (view body) current (key_of key) status (state_of owned)) }
+    ensures next { IfOk result (λ p. IfSome p.change (λ c. c.revision ≡ suc current)) }
+{
+    judge_size(alloc, &body)?;
+    check_revisions(alloc, current)?;
+    Ok(Plan {
+        answer: Answer { status, body },
+        change: Some(Change {
+            revision: current + 1,
+            key,
+            object: Some(owned),
+        }),
+    })
+}
+
+/// The object with the next revision.
+pub fn stored(
+    alloc: Global,
+    served: &Served,
+    current: u64,
+    key: Key,
+    status: u16,
+    owned: Owned,
+) -> Result<Plan, Stop>
+    requires { current ≤ last_revision }
+    ensures judged { Gives plan_of result (stored (types.served served.now) current (key_of key) status (state_of owned)) }
+    ensures next { IfOk result (λ p. IfSome p.change (λ c. c.revision ≡ suc current)) }
+{
+    let body = printed(alloc, served, &key, current + 1, &owned)?;
+    stored_as(alloc, body, current, key, status, owned)
+}
+
+/// The object as it stands.
+pub fn kept(alloc: Global, served: &Served, key: &Key, live: &Stored) -> Result<Plan, AllocError>
+    ensures { IfOk result (λ p. plan_of p ≡ kept (types.served served.now) (key_of key.now) (object_of live.now)) }
+{
+    let body = printed(alloc, served, key, live.revision, &live.owned)?;
+    Ok(Plan {
+        answer: Answer { status: 200, body },
+        change: None,
+    })
+}
+
+/// A creation, or a change of what stands, unless it changes nothing.
+pub fn stored_over(
+    alloc: Global,
+    served: &Served,
+    current: u64,
+    key: Key,
+    live: Option<&Stored>,
+    owned: Owned,
+) -> Result<Plan, Stop>
+    requires { current ≤ last_revision }
+    ensures judged { Gives plan_of result (stored_over (types.served served.now) current (key_of key) (option_map (λ o. object_of o.now) live.entry) (state_of owned)) }
+    ensures next { IfOk result (λ p. IfSome p.change (λ c. c.revision ≡ suc current)) }
+{
+    let Some(before) = live else {
+        return stored(alloc, served, current, key, 201, owned);
+    };
+    if owned.is_same(alloc, &before.owned)? {
+        return Ok(kept(alloc, served, &key, before)?);
+    }
+    stored(alloc, served, current, key, 200, owned)
+}

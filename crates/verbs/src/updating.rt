@@ -1,0 +1,138 @@
+//! Creations and updates (Kubernetes docs, "Server-Side Apply", "Comparison with Client-Side Apply").
+
+ghost use Rattle.std.specs.Prelude.{◌≡◌, ◌≤◌, suc, IfOk, IfSome, option_map};
+ghost use Rattle.serde_json.specs.View.{view};
+ghost use Rattle.schema.specs.Served as types;
+ghost use Rattle.ownership.specs.Results.{state_of};
+ghost use Rattle.verbs.specs.Machine.{last_revision};
+ghost use Rattle.verbs.specs.Seen.{Gives, intent_seen, key_of, object_of, objects_in, plan_of};
+ghost use Rattle.verbs.specs.Step.{create_judged, created_as, update_judged, updated_by, updated_over};
+
+use crate::calls::Plan;
+use crate::envelope::{Expected, name_in};
+use crate::fault::Stop;
+use crate::intent::{Intent, at_path, intent_of};
+use crate::method::Method;
+use crate::naming::{judge_marks, judge_names, require_name};
+use crate::objects::{Key, Stored, object_at};
+use crate::presence::{not_there, there};
+use crate::storing::{check_version, stored, stored_over};
+use ownership::{Owned, update};
+use params::Asked;
+use schema::Served;
+use serde_json::Value;
+use std::alloc::{AllocError, Global};
+use std::collections::BTreeMap;
+
+/// What stands after the write, over what stood: its manager owns what it changed.
+fn updated_by(alloc: Global, intent: Intent, live: &Owned) -> Result<Owned, AllocError>
+    ensures { IfOk result (λ o. state_of o ≡ updated_by (intent_seen intent) (state_of live.now)) }
+{
+    let Intent {
+        content,
+        manager,
+        ..
+    } = intent;
+    update(alloc, live, manager.as_str(), content)
+}
+
+fn created_as(
+    alloc: Global,
+    served: &Served,
+    current: u64,
+    objects: &BTreeMap<Key, Stored>,
+    key: Key,
+    intent: Intent,
+) -> Result<Plan, Stop>
+    requires { current ≤ last_revision }
+    ensures judged { Gives plan_of result (created_as (types.served served.now) current (objects_in objects.now) (key_of key) (intent_seen intent)) }
+    ensures next { IfOk result (λ p. IfSome p.change (λ c. c.revision ≡ suc current)) }
+{
+    judge_names(
+        alloc,
+        key.namespace.as_str(),
+        key.name.as_str(),
+        &intent.rest,
+    )?;
+    not_there(alloc, served, key.name.as_str(), object_at(objects, &key))?;
+    let owned = updated_by(alloc, intent, &Owned::empty(alloc))?;
+    stored(alloc, served, current, key, 201, owned)
+}
+
+/// The key of an object that its body names.
+fn key_in(kind: u32, namespace: &str, name: &str, alloc: Global) -> Result<Key, AllocError>
+    ensures { IfOk result (λ k. key_of k ≡ record { kind = kind; namespace = namespace.now; name = name.now }) }
+{
+    Ok(Key {
+        kind,
+        namespace: String::from_str(alloc, namespace)?,
+        name: String::from_str(alloc, name)?,
+    })
+}
+
+/// A creation: the body names the object.
+pub(crate) fn judge_create(
+    alloc: Global,
+    served: &Served,
+    current: u64,
+    objects: &BTreeMap<Key, Stored>,
+    kind: u32,
+    namespace: &str,
+    query: &[u8],
+    body: &Value,
+) -> Result<Plan, Stop>
+    requires { current ≤ last_revision }
+    ensures judged { Gives plan_of result (create_judged (types.served served.now) current (objects_in objects.now) kind namespace.now query.now (view body.now)) }
+    ensures next { IfOk result (λ p. IfSome p.change (λ c. c.revision ≡ suc current)) }
+{
+    let expected = Expected {
+        served,
+        namespace,
+        name: None,
+        method: Method::Post,
+    };
+    let intent = intent_of(alloc, expected, Asked::Post, query, body)?;
+    let name = require_name(alloc, name_in(body))?;
+    let key = key_in(kind, namespace, name, alloc)?;
+    created_as(alloc, served, current, objects, key, intent)
+}
+
+/// Object there or not, version, size.
+fn updated_over(
+    alloc: Global,
+    served: &Served,
+    current: u64,
+    key: Key,
+    live: Option<&Stored>,
+    intent: Intent,
+) -> Result<Plan, Stop>
+    requires { current ≤ last_revision }
+    ensures judged { Gives plan_of result (updated_over (types.served served.now) current (key_of key) (option_map (λ o. object_of o.now) live.entry) (intent_seen intent)) }
+    ensures next { IfOk result (λ p. IfSome p.change (λ c. c.revision ≡ suc current)) }
+{
+    let before = there(alloc, served, key.name.as_str(), live)?;
+    check_version(alloc, intent.version, live)?;
+    let owned = updated_by(alloc, intent, &before.owned)?;
+    stored_over(alloc, served, current, key, live, owned)
+}
+
+/// An update of an object that is there.
+pub(crate) fn judge_update(
+    alloc: Global,
+    served: &Served,
+    current: u64,
+    objects: &BTreeMap<Key, Stored>,
+    key: Key,
+    query: &[u8],
+    body: &Value,
+) -> Result<Plan, Stop>
+    requires { current ≤ last_revision }
+    ensures judged { Gives plan_of result (update_judged (types.served served.now) current (objects_in objects.now) (key_of key) query.now (view body.now)) }
+    ensures next { IfOk result (λ p. IfSome p.change (λ c. c.revision ≡ suc current)) }
+{
+    let expected = at_path(served, &key, Method::Put);
+    let intent = intent_of(alloc, expected, Asked::Put, query, body)?;
+    judge_marks(alloc, &intent.rest)?;
+    let live = object_at(objects, &key);
+    updated_over(alloc, served, current, key, live, intent)
+}
