@@ -3,3 +3,4 @@ pub mod Members
 pub mod Objects
 pub mod Pages
 pub mod Lines
+pub mod Seen

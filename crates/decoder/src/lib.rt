@@ -6,6 +6,18 @@
 //! Stands on `serde_json` for JSON, `names` for versions, `indexer` for objects.
 #![tactic(auto)]
 
+mod fault;
+mod floats;
+mod kinds;
+mod line;
 mod malformed;
+mod members;
+mod object;
+mod page;
+mod wanted;
 
+pub use fault::DecodeFault;
+pub use line::{Line, read_line};
 pub use malformed::Malformed;
+pub use page::{Page, read_page};
+pub use wanted::Wanted;

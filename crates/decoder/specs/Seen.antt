@@ -1,0 +1,61 @@
+-- What the crate's values say, and what its calls return beside what is to be read.
+use Rattle.std.specs.Prelude.{◌≡◌, ℕ, List, map, option_map, option_and_then, String, string_bytes, codes, ⊤}
+use Rattle.std.specs.BTreeMap.{BTreeMap}
+use Rattle.std.specs.declared.alloc.Global.{Global}
+use Rattle.std.specs.declared.result.Result.{Result}
+use Rattle.std.specs.declared.result.Result.TheVariants.{Ok, Err}
+use Rattle.serde_json.specs.Data.{Data, Members, Items}
+use Rattle.serde_json.specs.Find.{as_array}
+use Rattle.indexer.specs.Objects.{stored_of}
+use Rattle.decoder.specs.declared.malformed.Malformed.{Malformed}
+use Rattle.decoder.specs.declared.malformed.Malformed.TheVariants as amiss
+use Rattle.decoder.specs.declared.fault.DecodeFault.{DecodeFault}
+use Rattle.decoder.specs.declared.fault.DecodeFault.TheVariants as fault
+use Rattle.decoder.specs.declared.wanted.Wanted as asked
+use Rattle.decoder.specs.declared.page.Page as pages
+use Rattle.decoder.specs.declared.line.Line as lines
+use Rattle.decoder.specs.declared.line.Line.TheVariants as line
+use Rattle.decoder.specs.Wanted.{Wanted}
+use Rattle.decoder.specs.Members.{Read, or_amiss, at, text_at}
+use Rattle.decoder.specs.Pages.{Page}
+use Rattle.decoder.specs.Lines.{Line, put, deleted, bookmark, error}
+
+abbrev pub wanted_of : asked.Wanted → Wanted
+wanted_of w = record { group = string_bytes w.group; version = string_bytes w.version; kind = string_bytes w.kind; plural = string_bytes w.plural; namespace = option_map string_bytes w.namespace }
+
+abbrev pub page_seen : pages.Page → Page
+page_seen p = record { revision = p.revision; token = option_map string_bytes p.token; objects = map stored_of p.objects.items }
+
+abbrev pub line_seen : lines.Line → Line
+line_seen (line.Put o) = put (stored_of o)
+line_seen (line.Deleted o) = deleted (stored_of o)
+line_seen (line.Bookmark r) = bookmark r
+line_seen line.Error = error
+
+-- what a call that takes no memory returned is what is read, or what is amiss with it
+abbrev pub Says : {X Y : Type 0} → (X → Y) → Result X Malformed → Read Y → Type 0
+Says view (Ok x) read = read ≡ Ok (view x)
+Says view (Err m) read = read ≡ Err m
+
+-- the same of one that takes memory, or there was none
+abbrev pub Gives : {X Y : Type 0} → (X → Y) → Result X DecodeFault → Read Y → Type 0
+Gives view (Ok x) read = read ≡ Ok (view x)
+Gives view (Err (fault.Malformed m)) read = read ≡ Err m
+Gives view (Err fault.Memory) read = ⊤
+
+-- ---- for private clauses: parts of the definitions
+
+abbrev pub labels_in : BTreeMap (String Global) (String Global) → List (List ℕ × List ℕ)
+labels_in labels = map (λ e. (string_bytes e.0, string_bytes e.1)) labels.entries
+
+abbrev pub name_in : Members → Read (List ℕ)
+name_in metadata = or_amiss amiss.Name (text_at (codes "name") metadata)
+
+abbrev pub items_in : Members → Read Items
+items_in top = or_amiss amiss.Items (option_and_then as_array (at (codes "items") top))
+
+abbrev pub type_in : Members → Read (List ℕ)
+type_in top = or_amiss amiss.LineType (text_at (codes "type") top)
+
+abbrev pub subject_in : Members → Read Data
+subject_in top = or_amiss amiss.Object (at (codes "object") top)

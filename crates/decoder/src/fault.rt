@@ -1,0 +1,46 @@
+//! Why nothing was read.
+
+use crate::malformed::Malformed;
+use std::alloc::{AllocError, AllocFailed};
+
+/// Why nothing was read.
+#[derive(Clone, Copy, Debug, PartialEq, Eq)]
+pub enum DecodeFault {
+    /// This is amiss.
+    Malformed(Malformed),
+    /// There was no memory.
+    Memory,
+}
+
+impl From<AllocError> for DecodeFault {
+    ghost use Rattle.std.specs.Prelude.{◌≡◌};
+    ghost use Rattle.decoder.specs.declared.fault.DecodeFault.TheVariants as fault;
+
+    ghost from_gives = { λ _ e. e ≡ fault.Memory };
+
+    fn from(_e: AllocError) -> DecodeFault {
+        DecodeFault::Memory
+    }
+}
+
+impl<T: Drop> From<AllocFailed<T>> for DecodeFault {
+    ghost use Rattle.std.specs.Prelude.{◌≡◌};
+    ghost use Rattle.decoder.specs.declared.fault.DecodeFault.TheVariants as fault;
+
+    ghost from_gives = { λ _ e. e ≡ fault.Memory };
+
+    fn from(_: AllocFailed<T>) -> DecodeFault {
+        DecodeFault::Memory
+    }
+}
+
+impl From<Malformed> for DecodeFault {
+    ghost use Rattle.std.specs.Prelude.{◌≡◌};
+    ghost use Rattle.decoder.specs.declared.fault.DecodeFault.TheVariants as fault;
+
+    ghost from_gives = { λ m e. e ≡ fault.Malformed m };
+
+    fn from(m: Malformed) -> DecodeFault {
+        DecodeFault::Malformed(m)
+    }
+}

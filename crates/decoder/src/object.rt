@@ -1,0 +1,119 @@
+//! An object, as a list's item or in a watch's line.
+
+ghost use Rattle.std.specs.Prelude.{◌≡◌, OnOk, map, option_map, string_bytes};
+ghost use Rattle.std.specs.Ordering.{nat_cmp};
+ghost use Rattle.std.specs.Cmp.Lexicographic.{slice_cmp};
+ghost use Rattle.std.specs.BTreeMap.{insert_entry};
+ghost use Rattle.serde_json.specs.View.{members_view, view};
+ghost use Rattle.serde_json.specs.Find.{as_str};
+ghost use Rattle.indexer.specs.Objects.{stored_of};
+ghost use Rattle.decoder.specs.declared.malformed.Malformed.TheVariants as amiss;
+ghost use Rattle.decoder.specs.Members.{or_amiss};
+ghost use Rattle.decoder.specs.Objects.{labels_of, namespace_in, object_of, text_of, texts_of};
+ghost use Rattle.decoder.specs.Seen.{Gives, Says, labels_in, name_in, wanted_of};
+
+use crate::fault::DecodeFault;
+use crate::floats::has_float;
+use crate::kinds::is_wanted;
+use crate::malformed::Malformed;
+use crate::members::{at, members_of, metadata_in, text_at, version_in};
+use crate::wanted::{Wanted, is_in};
+use indexer::Object;
+use serde_json::{Map, Value};
+use std::alloc::{AllocError, Global};
+use std::collections::BTreeMap;
+
+fn name_in(metadata: &Map<String, Value>) -> Result<&str, Malformed>
+    ensures { Says (λ s. s.now) result (name_in (members_view metadata.now.entries)) }
+{
+    text_at(metadata, "name").ok_or(Malformed::Name)
+}
+
+fn namespace_in<'a>(wanted: &Wanted, metadata: &'a Map<String, Value>) -> Result<&'a str, Malformed>
+    ensures { Says (λ s. s.now) result (namespace_in (wanted_of wanted.now).namespace (members_view metadata.now.entries)) }
+{
+    match text_at(metadata, "namespace") {
+        Some(namespace) if is_in(wanted, namespace) => Ok(namespace),
+        _ => Err(Malformed::Namespace),
+    }
+}
+
+fn text_in(value: &Value) -> Result<&str, Malformed>
+    ensures { Says (λ s. s.now) result (or_amiss amiss.Labels (as_str (view value.now))) }
+{
+    value.as_str().ok_or(Malformed::Labels)
+}
+
+fn put_label(
+    alloc: Global,
+    labels: &mut BTreeMap<String, String>,
+    name: &str,
+    text: &str,
+) -> Result<(), AllocError>
+    ensures { OnOk result (labels_in labels.new ≡ insert_entry (slice_cmp nat_cmp) (labels_in labels.old) name.now text.now) }
+{
+    labels.insert(
+        String::from_str(alloc, name)?,
+        String::from_str(alloc, text)?,
+    )?;
+    Ok(())
+}
+
+fn texts_in(
+    alloc: Global,
+    members: &Map<String, Value>,
+) -> Result<BTreeMap<String, String>, DecodeFault>
+    ensures { Gives labels_in result (or_amiss amiss.Labels (texts_of (members_view members.now.entries))) }
+{
+    let mut labels = BTreeMap::new(alloc);
+    for (name, value) in members.iter() {
+        let text = text_in(value)?;
+        put_label(alloc, &mut labels, name.as_str(), text)?;
+    }
+    Ok(labels)
+}
+
+fn labels_of(alloc: Global, value: Option<&Value>) -> Result<BTreeMap<String, String>, DecodeFault>
+    ensures { Gives labels_in result (labels_of (option_map (λ v. view v.now) value.entry)) }
+{
+    let Some(value) = value else {
+        return Ok(BTreeMap::new(alloc));
+    };
+    let members = value.as_object().ok_or(Malformed::Labels)?;
+    texts_in(alloc, members)
+}
+
+/// The compact JSON of a value without floats.
+fn text_of(alloc: Global, value: &Value) -> Result<String, DecodeFault>
+    ensures { Gives (λ s. string_bytes s) result (text_of (view value.now)) }
+{
+    if has_float(value) {
+        return Err(DecodeFault::Malformed(Malformed::Number));
+    }
+    Ok(value.to_string(alloc)?)
+}
+
+/// The object that a JSON value is.
+pub(crate) fn object_of(
+    alloc: Global,
+    wanted: &Wanted,
+    value: &Value,
+) -> Result<Object, DecodeFault>
+    ensures { Gives stored_of result (object_of (wanted_of wanted.now) (view value.now)) }
+{
+    let top = members_of(value)?;
+    is_wanted(wanted, top)?;
+    let metadata = metadata_in(top)?;
+    let name = name_in(metadata)?;
+    let namespace = namespace_in(wanted, metadata)?;
+    let revision = version_in(metadata)?;
+    let labels = labels_of(alloc, at(metadata, "labels"))?;
+    let text = text_of(alloc, value)?;
+    Ok(Object {
+        namespace: String::from_str(alloc, namespace)?,
+        name: String::from_str(alloc, name)?,
+        revision,
+        labels,
+        text,
+    })
+}
