@@ -9,5 +9,6 @@ pub mod Cutting
 pub mod Order
 pub mod Listing
 pub mod Insides
+pub mod Heads
 pub mod Finding
 pub mod Inserting

@@ -17,11 +17,11 @@ use Rattle.schema.specs.declared.place.Place.TheVariants.{Leaf, SetItem}
 
 -- ---- the name in a field's text
 
-abbrev name_some : Option Element → Option (List ℕ)
+abbrev pub name_some : Option Element → Option (List ℕ)
 name_some (Some (element.field f)) = Some f
 name_some _ = None
 
-abbrev name_in : Result Element NoElement → Option (List ℕ)
+abbrev pub name_in : Result Element NoElement → Option (List ℕ)
 name_in (Ok e) = name_some (Some e)
 name_in (Err n) = None
 
