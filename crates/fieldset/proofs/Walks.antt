@@ -20,7 +20,8 @@ use Rattle.pathmap.proofs.Insides.{heads-marks, inside-marks, is_full, marks_in,
 use Rattle.pathmap.proofs.Sets.{has_none, nothing-has}
 use Rattle.schema.specs.Shape.{atomic, set, keyed, Shape, text, whole, truth, struct_of, map_of, list_of, Fields, no_fields, field, shape_at}
 use Rattle.fieldset.specs.FieldsV1.{each, members_of, members_of_field}
-use Rattle.fieldset.specs.Below.{is_leaf, members_some, members_under}
+use Rattle.schema.specs.Steps.{is_leaf}
+use Rattle.fieldset.specs.Below.{members_some, members_under}
 
 -- a map is bare exactly if it has no path
 pub not_full : (n : PathMap) → content n ≡ nothing → is_full n ≡ false
@@ -146,7 +147,7 @@ each-alike : (f g : List ℕ → Members) → ((e : List ℕ) → f e ≡ g e) �
 each-alike f g h [] = refl
 each-alike f g h (e ∷ hs) = ap₂ (λ m ms. member e (object m) ms) (h e) (each-alike f g h hs)
 
-field-some : (all : Fields) (f : List ℕ) (c : Content) → members_of_field all f c ≡ members_some (shape_at f all) c
+pub field-some : (all : Fields) (f : List ℕ) (c : Content) → members_of_field all f c ≡ members_some (shape_at f all) c
 field-some no_fields f c = refl
 field-some (field known s more) f c = ap (λ ms. cond (bytes_eq known f) (members_of s c) ms) (field-some more f c) ∙ by_name (bytes_eq known f)
   where

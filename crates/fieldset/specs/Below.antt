@@ -1,21 +1,10 @@
 -- What a shape has below an element, and what the members at an element are.
-use Rattle.std.specs.Prelude.{ℕ, Bool, true, false, List, [], Option, Some, None, drop, is_some}
+use Rattle.std.specs.Prelude.{ℕ, Bool, List, [], Option, Some, None, drop, is_some}
 use Rattle.std.specs.FinMap as fin
 use Rattle.serde_json.specs.Data.{Members, no_members}
 use Rattle.pathmap.specs.Contents.{Content}
 use Rattle.schema.specs.Shape.{atomic, set, keyed, Shape, text, whole, truth, struct_of, map_of, list_of, shape_at}
 use Rattle.fieldset.specs.FieldsV1.{members_of, with_item}
-
--- whether nothing has a place below
-abbrev pub is_leaf : Shape → Bool
-is_leaf text = true
-is_leaf whole = true
-is_leaf truth = true
-is_leaf (struct_of all is_atomic) = is_atomic
-is_leaf (map_of inner is_atomic) = is_atomic
-is_leaf (list_of inner atomic) = true
-is_leaf (list_of inner set) = false
-is_leaf (list_of inner (keyed names)) = false
 
 -- the shape at an element, where what stands below it has one
 abbrev pub shape_below : Shape → List ℕ → Option Shape

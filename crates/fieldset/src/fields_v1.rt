@@ -7,24 +7,13 @@ ghost use Rattle.pathmap.specs.Contents.{dom, marked};
 ghost use Rattle.pathmap.specs.Maps.{content};
 ghost use Rattle.schema.specs.Shape.{shape, shape_at, fields_in};
 ghost use Rattle.fieldset.specs.FieldsV1.{leaf, members_of, put_names};
-ghost use Rattle.fieldset.specs.Below.{as_item, is_leaf, members_some, shape_below};
+ghost use Rattle.fieldset.specs.Below.{as_item, members_some, shape_below};
 
 use fieldpath::ElemText;
 use pathmap::PathMap;
 use schema::{ListKind, Schema};
 use serde_json::{Map, Value};
 use std::alloc::{AllocError, Global};
-
-fn is_leaf(schema: &Schema) -> bool
-    ensures { result ≡ is_leaf (shape schema.now) }
-{
-    match schema {
-        Schema::Text | Schema::Whole | Schema::Truth => true,
-        Schema::Struct(_, is_atomic) | Schema::MapOf(_, is_atomic) => *is_atomic,
-        Schema::List(_, ListKind::Atomic) => true,
-        Schema::List(_, ListKind::Set | ListKind::Keyed(_)) => false,
-    }
-}
 
 /// The text of an element less its prefix.
 fn after_prefix(element: &ElemText) -> &[u8]
@@ -121,7 +110,7 @@ pub(crate) fn members(
     let Some(schema) = schema else {
         return Ok(all);
     };
-    if is_leaf(schema) {
+    if schema.is_leaf() {
         return Ok(all);
     }
     for (name, inner) in map.below.iter() {
