@@ -1,5 +1,5 @@
 -- Each set of placed paths has one FieldsV1 value, and each such value is that of one set.
-use Rattle.std.specs.Prelude.{◌≡◌, true, false, is_some}
+use Rattle.std.specs.Prelude.{◌≡◌, true, is_some}
 use Rattle.std.specs.declared.result.Result.TheVariants.{Ok}
 use Rattle.std.specs.FinSet as set
 use Rattle.serde_json.specs.Data.{Data}
@@ -7,8 +7,8 @@ use Rattle.fieldpath.specs.Paths.{PathTexts}
 use Rattle.fieldpath.specs.Spelled.{IsSpelled}
 use Rattle.pathmap.specs.Contents.{PathSet}
 use Rattle.schema.specs.Shape.{Shape}
+use Rattle.schema.specs.Lawful.{is_type_shape}
 use Rattle.schema.specs.Place.{place_of}
-use Rattle.schema.specs.Steps.{is_leaf}
 use Rattle.fieldset.specs.FieldsV1.{fields_v1_of}
 use Rattle.fieldset.specs.Reading.{read_fields_v1}
 
@@ -18,11 +18,12 @@ HavePlaces s paths = (p : PathTexts) → set.contains paths p ≡ true → is_so
 
 -- what is written of a set of placed paths reads as this set
 abbrev pub WrittenIsRead : Type 0
-WrittenIsRead = (s : Shape) (paths : PathSet) → is_leaf s ≡ false → HavePlaces s paths → read_fields_v1 s (fields_v1_of s paths) ≡ Ok paths
+WrittenIsRead = (s : Shape) (paths : PathSet) → is_type_shape s ≡ true → HavePlaces s paths → read_fields_v1 s (fields_v1_of s paths) ≡ Ok paths
 
--- what a value is read as has places, and is written as this value, if its members stand in byte order, each name once
+-- what a value reads as is written as this value, if its members stand in byte order, each name once
 abbrev pub ReadIsWritten : Type 0
-ReadIsWritten = (s : Shape) (d : Data) (paths : PathSet) → is_leaf s ≡ false → IsSpelled d → read_fields_v1 s d ≡ Ok paths → fields_v1_of s paths ≡ d
+ReadIsWritten = (s : Shape) (d : Data) (paths : PathSet) → is_type_shape s ≡ true → IsSpelled d → read_fields_v1 s d ≡ Ok paths → fields_v1_of s paths ≡ d
 
+-- what a value reads as has places
 abbrev pub ReadHavePlaces : Type 0
-ReadHavePlaces = (s : Shape) (d : Data) (paths : PathSet) → is_leaf s ≡ false → read_fields_v1 s d ≡ Ok paths → HavePlaces s paths
+ReadHavePlaces = (s : Shape) (d : Data) (paths : PathSet) → read_fields_v1 s d ≡ Ok paths → HavePlaces s paths

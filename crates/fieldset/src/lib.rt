@@ -4,10 +4,12 @@
 //! Stands on `pathmap` for the trie that holds a set, and on `fieldpath` for paths and their order.
 #![tactic(auto)]
 
+mod both_ways;
 mod fault;
 mod fields_v1;
 mod fieldset;
 mod read;
 
+pub use both_ways::{readings_have_places, written_is_read};
 pub use fault::FieldsV1Fault;
 pub use fieldset::FieldSet;
