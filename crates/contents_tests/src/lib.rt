@@ -6,6 +6,8 @@
 #[cfg(test)]
 mod elements;
 #[cfg(test)]
+mod fields_v1;
+#[cfg(test)]
 mod given;
 #[cfg(test)]
 mod owners;
