@@ -9,6 +9,7 @@ use crate::keys::{Keys, fields_of};
 use crate::scalar::Scalar;
 use serde_json::Value;
 use std::alloc::{AllocError, AllocFailed, Global};
+use thiserror::Error;
 
 /// An element of a path (FieldsV1: `f:<name>`, `k:<keys>`, `v:<value>`).
 #[derive(Debug, Drop)]
@@ -22,15 +23,19 @@ pub enum Elem {
 }
 
 /// Why a text is no element.
-#[derive(Clone, Copy, Debug, PartialEq, Eq)]
+#[derive(Clone, Copy, Debug, PartialEq, Eq, Error)]
 pub enum ElemFault {
     /// 1: it begins with none of `f:`, `k:` and `v:`.
+    #[error("no known prefix")]
     NoPrefix,
     /// 2: no JSON follows.
+    #[error("bad JSON")]
     BadJson,
     /// 3: another text than the one that the element is printed as, or JSON that no element has.
+    #[error("not canonical")]
     NotCanonical,
     /// Memory ran out.
+    #[error("out of memory")]
     Memory,
 }
 

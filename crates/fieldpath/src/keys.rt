@@ -9,6 +9,7 @@ use crate::scalar::{Scalar, is_scalar};
 use serde_json::{Map, Value};
 use std::alloc::{AllocError, Global};
 use std::marker::Model;
+use thiserror::Error;
 
 /// The key fields of an item of a map list: one or more, their names strictly ascending in
 /// byte order.
@@ -30,9 +31,10 @@ impl Model for Keys {
 }
 
 /// Why fields are no keys.
-#[derive(Clone, Copy, Debug, PartialEq, Eq)]
+#[derive(Clone, Copy, Debug, PartialEq, Eq, Error)]
 pub enum KeysFault {
     /// 1: there is none, or the names don't strictly ascend in byte order.
+    #[error("no fields, or their names do not ascend")]
     NotAscending,
 }
 

@@ -10,13 +10,16 @@ use crate::taking::take_in;
 use std::alloc::{AllocError, Global};
 use std::marker::Model;
 use std::mem;
+use thiserror::Error;
 
 /// Why nothing more is told.
-#[derive(Clone, Copy, Debug, PartialEq, Eq)]
+#[derive(Clone, Copy, Debug, PartialEq, Eq, Error)]
 pub enum ReadFault {
     /// The reply broke a rule, as was told.
+    #[error("malformed reply")]
     Malformed,
     /// There was no memory.
+    #[error("out of memory")]
     Memory,
 }
 
