@@ -9,5 +9,6 @@ pub mod Held
 pub mod Keys
 pub mod Places
 pub mod Planning
+pub mod Promise
 pub mod Refusals
 pub mod Statuses

@@ -10,4 +10,5 @@ pub mod Naming
 pub mod Options
 pub mod Size
 pub mod Step
+pub mod Promise
 pub mod Seen

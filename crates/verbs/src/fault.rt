@@ -3,6 +3,7 @@ ghost use Rattle.verbs.specs.Seen.{Denies};
 use crate::reason::Reason;
 use crate::status::Denial;
 use std::alloc::{AllocError, AllocFailed, Global};
+use thiserror::Error;
 
 /// Why a step has no object to answer.
 #[derive(Debug, Drop)]
@@ -46,8 +47,9 @@ impl<T: Drop> From<AllocFailed<T>> for Stop {
 }
 
 /// Want of memory: the call changed nothing.
-#[derive(Clone, Copy, Debug, PartialEq, Eq)]
+#[derive(Clone, Copy, Debug, PartialEq, Eq, Error)]
 pub enum Fault {
+    #[error("out of memory")]
     Memory,
 }
 
