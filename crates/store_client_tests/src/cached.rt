@@ -1,6 +1,7 @@
 //! Puts, changes and removals under two indexes, and each refusal.
 
 use crate::marking::mark;
+use crate::rows::{Answers, answered_otherwise};
 use indexer::{IndexBy, Indexer, NewError, Object, ObjectKey};
 use std::alloc::{AllocError, Global};
 use std::collections::BTreeMap;
@@ -140,42 +141,135 @@ fn keys(indexer: &Indexer, name: &str) -> Result<usize, AllocError> {
     Ok(indexer.keys(name)?.len())
 }
 
-/// `b` is removed, once and again, and then all objects are replaced.
-fn remove_and_replace(alloc: Global, indexer: &mut Indexer) -> Result<(u64, u64), AllocError> {
-    let first = remove(alloc, indexer, "b")?;
-    let again = remove(alloc, indexer, "b")?;
-    replace(indexer, two_objects(alloc, ("c", "y"), ("d", "z"))?)?;
-    Ok((first, again))
+/// An indexer under both indexes.
+#[derive(Drop)]
+struct Cache {
+    indexer: Indexer,
 }
+
+impl Answers for Cache {
+    fn answer(&mut self, alloc: Global, question: &str) -> Result<String, Fail> {
+        let (call, words) = first_word(question);
+        let (one, other) = first_word(words);
+        match call {
+            "put" | "anew" => answer_of_put(alloc, &mut self.indexer, call, one, other),
+            "indexed" | "keys" => answer_of_index(alloc, &self.indexer, call, one, other),
+            _ => answer_of_object(alloc, &mut self.indexer, call, one),
+        }
+    }
+}
+
+/// A text up to its first blank, and what is behind it.
+fn first_word(text: &str) -> (&str, &str) {
+    text.split_once(' ').unwrap_or((text, ""))
+}
+
+/// Puts an object at a revision with a text.
+fn answer_of_put(
+    alloc: Global,
+    indexer: &mut Indexer,
+    call: &str,
+    name: &str,
+    words: &str,
+) -> Result<String, Fail> {
+    let (revision, text) = first_word(words);
+    let revision = revision.parse::<u64>().ok().ok_or("no revision")?;
+    match call {
+        "put" => number(alloc, put(alloc, indexer, name, revision, text)?),
+        _ => truth(alloc, put_anew(alloc, indexer, name, revision, text)?),
+    }
+}
+
+fn answer_of_index(
+    alloc: Global,
+    indexer: &Indexer,
+    call: &str,
+    name: &str,
+    key: &str,
+) -> Result<String, Fail> {
+    match call {
+        "keys" => size(alloc, keys(indexer, name)?),
+        _ => truth(alloc, is_indexed(indexer, name, key)),
+    }
+}
+
+fn answer_of_object(
+    alloc: Global,
+    indexer: &mut Indexer,
+    call: &str,
+    name: &str,
+) -> Result<String, Fail> {
+    match call {
+        "remove" => number(alloc, remove(alloc, indexer, name)?),
+        "revision" => number(alloc, revision_of(alloc, indexer, name)?),
+        "counts" => told_counts(alloc, indexer),
+        "replace" => {
+            replace(indexer, two_objects(alloc, ("c", "y"), ("d", "z"))?)?;
+            Ok(String::from_str(alloc, "done")?)
+        }
+        _ => Err("no such call".into()),
+    }
+}
+
+fn number(alloc: Global, number: u64) -> Result<String, Fail> {
+    Ok(format!(in alloc; "{number}")?)
+}
+
+fn size(alloc: Global, size: usize) -> Result<String, Fail> {
+    Ok(format!(in alloc; "{size}")?)
+}
+
+fn truth(alloc: Global, truth: bool) -> Result<String, Fail> {
+    Ok(format!(in alloc; "{truth}")?)
+}
+
+fn told_counts(alloc: Global, indexer: &Indexer) -> Result<String, Fail> {
+    let (all, x, y) = counts(indexer);
+    Ok(format!(in alloc; "{all} {x} {y}")?)
+}
+
+/// The rows that an empty indexer answers otherwise.
+fn played_otherwise(alloc: Global, rows: &str) -> Result<String, Fail> {
+    let mut cache = Cache {
+        indexer: empty(alloc)?,
+    };
+    answered_otherwise(alloc, &mut cache, rows)
+}
+
+const CHANGE: &str = "put a 2 x => 0
+revision a => 2
+counts => 1 1 0
+put b 3 x => 0
+revision b => 3
+counts => 2 2 0
+put a 4 y => 2
+revision a => 4
+counts => 2 1 1
+indexed text x => true
+indexed none y => false
+";
 
 #[test]
 fn an_index_follows_a_change(rt: HostRuntime) -> Result<(), Fail> {
-    let alloc = rt.alloc();
-    let mut indexer = empty(alloc)?;
-    for (name, revision, text, was, now) in [
-        ("a", 2, "x", 0, (1, 1, 0)),
-        ("b", 3, "x", 0, (2, 2, 0)),
-        ("a", 4, "y", 2, (2, 1, 1)),
-    ] {
-        assert_eq!(rt; put(alloc, &mut indexer, name, revision, text)?, was);
-        assert_eq!(rt; revision_of(alloc, &indexer, name)?, revision);
-        assert_eq!(rt; counts(&indexer), now);
-    }
-    assert!(rt; is_indexed(&indexer, "text", "x") && !is_indexed(&indexer, "none", "y"));
+    assert_eq!(rt; played_otherwise(rt.alloc(), CHANGE)?.as_str(), "");
     Ok(())
 }
 
+const REMOVALS: &str = "put a 4 y => 0
+put b 3 x => 0
+remove b => 3
+remove b => 0
+replace => done
+indexed text x => false
+revision a => 0
+counts => 2 0 1
+keys text => 2
+keys none => 0
+";
+
 #[test]
 fn an_index_follows_removals(rt: HostRuntime) -> Result<(), Fail> {
-    let alloc = rt.alloc();
-    let mut indexer = empty(alloc)?;
-    assert_eq!(rt; put(alloc, &mut indexer, "a", 4, "y")?, 0);
-    assert_eq!(rt; put(alloc, &mut indexer, "b", 3, "x")?, 0);
-    assert_eq!(rt; remove_and_replace(alloc, &mut indexer)?, (3, 0));
-    assert!(rt; !is_indexed(&indexer, "text", "x"));
-    assert_eq!(rt; revision_of(alloc, &indexer, "a")?, 0);
-    assert_eq!(rt; counts(&indexer), (2, 0, 1));
-    assert_eq!(rt; (keys(&indexer, "text")?, keys(&indexer, "none")?), (2, 0));
+    assert_eq!(rt; played_otherwise(rt.alloc(), REMOVALS)?.as_str(), "");
     Ok(())
 }
 
@@ -188,16 +282,41 @@ fn has_one_name_twice(alloc: Global, indexes: Vec<Box<dyn IndexBy>>) -> Result<b
     }
 }
 
+fn three_indexes(alloc: Global) -> Result<Vec<Box<dyn IndexBy>>, AllocError> {
+    let mut indexes = two_indexes(alloc)?;
+    indexes.push(Box::new(alloc, Text)?)?;
+    Ok(indexes)
+}
+
 #[test]
 fn two_indexes_with_one_name(rt: HostRuntime) -> Result<(), Fail> {
     let alloc = rt.alloc();
-    let mut indexes = two_indexes(alloc)?;
-    indexes.push(Box::new(alloc, Text)?)?;
-    assert!(rt; has_one_name_twice(alloc, indexes)?);
+    assert!(rt; has_one_name_twice(alloc, three_indexes(alloc)?)?);
     Ok(())
 }
 
-/// A put between marks; refused memory, the objects and both indexes are as before, and it is done when called again.
+fn try_put(indexer: &mut Indexer, object: Object) -> Result<u64, AllocError> {
+    Ok(revision_or_zero(indexer.put(object)?))
+}
+
+/// A put between marks; whether memory was refused.
+fn is_put_refused(
+    alloc: Global,
+    indexer: &mut Indexer,
+    object: Object,
+) -> Result<bool, AllocError> {
+    mark(alloc)?;
+    let is_refused = try_put(indexer, object).is_err();
+    mark(alloc)?;
+    Ok(is_refused)
+}
+
+/// The revision under a key, and the counts of the indexes.
+fn seen(indexer: &Indexer, place: &ObjectKey) -> (u64, (usize, usize, usize)) {
+    (revision_at(indexer, place), counts(indexer))
+}
+
+/// A put; refused memory, the objects and both indexes are as before, and it is done when called again.
 fn put_anew(
     alloc: Global,
     indexer: &mut Indexer,
@@ -205,35 +324,33 @@ fn put_anew(
     revision: u64,
     text: &str,
 ) -> Result<bool, AllocError> {
-    let before = (revision_of(alloc, indexer, name)?, counts(indexer));
     let place = key(alloc, name)?;
+    let before = seen(indexer, &place);
     let first = object(alloc, name, revision, text)?;
-    mark(alloc)?;
-    let is_refused = indexer.put(first).is_err();
-    mark(alloc)?;
-    if !is_refused {
+    if !is_put_refused(alloc, indexer, first)? {
         return Ok(true);
     }
-    let is_as_before = before == (revision_at(indexer, &place), counts(indexer));
+    let is_as_before = before == seen(indexer, &place);
     put(alloc, indexer, name, revision, text)?;
     Ok(is_as_before)
 }
+
+const PUT_ANEW: &str = "anew a 2 x => true
+revision a => 2
+counts => 1 1 0
+anew a 4 y => true
+revision a => 4
+counts => 1 0 1
+anew b 5 x => true
+revision b => 5
+counts => 2 1 1
+";
 
 /// Whichever allocation of a put is refused, the objects and both indexes are as they were, and the put is done when
 /// it is called again.
 #[test]
 fn a_refused_put_changes_nothing(rt: HostRuntime) -> Result<(), Fail> {
-    let alloc = rt.alloc();
-    let mut indexer = empty(alloc)?;
-    for (name, revision, text, after) in [
-        ("a", 2, "x", (1, 1, 0)),
-        ("a", 4, "y", (1, 0, 1)),
-        ("b", 5, "x", (2, 1, 1)),
-    ] {
-        assert!(rt; put_anew(alloc, &mut indexer, name, revision, text)?);
-        assert_eq!(rt; revision_of(alloc, &indexer, name)?, revision);
-        assert_eq!(rt; counts(&indexer), after);
-    }
+    assert_eq!(rt; played_otherwise(rt.alloc(), PUT_ANEW)?.as_str(), "");
     Ok(())
 }
 
@@ -244,9 +361,20 @@ fn is_replace_refused(
     objects: Vec<Object>,
 ) -> Result<bool, AllocError> {
     mark(alloc)?;
-    let is_refused = indexer.replace(objects).is_err();
+    let is_refused = replace(indexer, objects).is_err();
     mark(alloc)?;
     Ok(is_refused)
+}
+
+/// Whether a replace between marks, of `a` by two others, is done whole or changes nothing.
+fn is_replaced_or_as_before(alloc: Global, indexer: &mut Indexer) -> Result<bool, AllocError> {
+    let others = two_objects(alloc, ("b", "x"), ("c", "x"))?;
+    let place = key(alloc, "a")?;
+    let wanted = match is_replace_refused(alloc, indexer, others)? {
+        true => (4, (1, 0, 1)),
+        false => (0, (2, 2, 0)),
+    };
+    Ok(seen(indexer, &place) == wanted)
 }
 
 /// Whichever allocation of a replace is refused, the objects and both indexes are as they were.
@@ -255,12 +383,6 @@ fn a_refused_replace_changes_nothing(rt: HostRuntime) -> Result<(), Fail> {
     let alloc = rt.alloc();
     let mut indexer = empty(alloc)?;
     assert_eq!(rt; put(alloc, &mut indexer, "a", 4, "y")?, 0);
-    let others = two_objects(alloc, ("b", "x"), ("c", "x"))?;
-    let (revision, now) = match is_replace_refused(alloc, &mut indexer, others)? {
-        true => (4, (1, 0, 1)),
-        false => (0, (2, 2, 0)),
-    };
-    assert_eq!(rt; revision_of(alloc, &indexer, "a")?, revision);
-    assert_eq!(rt; counts(&indexer), now);
+    assert!(rt; is_replaced_or_as_before(alloc, &mut indexer)?);
     Ok(())
 }

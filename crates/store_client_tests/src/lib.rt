@@ -14,6 +14,8 @@ mod parameters;
 #[cfg(test)]
 mod replies;
 #[cfg(test)]
+mod rows;
+#[cfg(test)]
 mod selectors;
 #[cfg(test)]
 mod stores;

@@ -1,112 +1,167 @@
 //! Names of the Kubernetes documentation, versions, and texts that are none.
 
+use crate::rows::{Answers, answered_otherwise, repeated};
 use names::{
     decimal_up_to, is_dns_label, is_dns_subdomain, is_label_key, is_label_value, version_of,
 };
 use std::alloc::{AllocError, Global};
 use std::test::Fail;
 
-fn repeated(alloc: Global, piece: &str, times: usize) -> Result<String, AllocError> {
-    let mut text = String::new(alloc);
-    for _ in 0..times {
-        text.push_str(piece)?;
+/// Whether a text is a namespace's name, and whether it is an object's.
+#[derive(Drop)]
+struct ObjectNames;
+
+impl Answers for ObjectNames {
+    fn answer(&mut self, alloc: Global, question: &str) -> Result<String, Fail> {
+        both(alloc, is_dns_label(question), is_dns_subdomain(question))
     }
-    Ok(text)
 }
+
+/// Whether a text is a label's key, and whether it is a label's value.
+#[derive(Drop)]
+struct Labels;
+
+impl Answers for Labels {
+    fn answer(&mut self, alloc: Global, question: &str) -> Result<String, Fail> {
+        both(alloc, is_label_key(question), is_label_value(question))
+    }
+}
+
+/// The version that a text says.
+#[derive(Drop)]
+struct Versions;
+
+impl Answers for Versions {
+    fn answer(&mut self, alloc: Global, question: &str) -> Result<String, Fail> {
+        let version = version_of(question);
+        Ok(format!(in alloc; "{version:?}")?)
+    }
+}
+
+fn both(alloc: Global, one: bool, other: bool) -> Result<String, Fail> {
+    Ok(format!(in alloc; "{one} {other}")?)
+}
+
+const OBJECT_NAMES: &str = "default => true true
+kube-node-lease => true true
+0 => true true
+demo.example => false true
+a.b-c.0 => false true
+ => false false
+-a => false false
+a- => false false
+Web => false false
+a_b => false false
+a..b => false false
+.a => false false
+a. => false false
+a-.b => false false
+é => false false
+";
 
 #[test]
 fn names_of_namespaces_and_objects(rt: HostRuntime) -> Result<(), Fail> {
-    for (text, is_label, is_subdomain) in [
-        ("default", true, true),
-        ("kube-node-lease", true, true),
-        ("0", true, true),
-        ("demo.example", false, true),
-        ("a.b-c.0", false, true),
-        ("", false, false),
-        ("-a", false, false),
-        ("a-", false, false),
-        ("Web", false, false),
-        ("a_b", false, false),
-        ("a..b", false, false),
-        (".a", false, false),
-        ("a.", false, false),
-        ("a-.b", false, false),
-        ("é", false, false),
-    ] {
-        assert_eq!(rt; is_dns_label(text), is_label, "{text}");
-        assert_eq!(rt; is_dns_subdomain(text), is_subdomain, "{text}");
-    }
+    assert_eq!(rt;
+        answered_otherwise(rt.alloc(), &mut ObjectNames, OBJECT_NAMES)?.as_str(),
+        ""
+    );
     Ok(())
 }
 
+const LABELS: &str = "app.kubernetes.io/name => true false
+kubectl.kubernetes.io/last-applied-configuration => true false
+environment => true true
+MyName => true true
+my.name => true true
+123-abc_X => true true
+ => false true
+-a => false false
+a. => false false
+/name => false false
+prefix/ => false false
+A.b/c => false false
+a/b/c => false false
+a b => false false
+";
+
 #[test]
 fn keys_and_values_of_labels(rt: HostRuntime) -> Result<(), Fail> {
-    for (text, is_key, is_value) in [
-        ("app.kubernetes.io/name", true, false),
-        (
-            "kubectl.kubernetes.io/last-applied-configuration",
-            true,
-            false,
-        ),
-        ("environment", true, true),
-        ("MyName", true, true),
-        ("my.name", true, true),
-        ("123-abc_X", true, true),
-        ("", false, true),
-        ("-a", false, false),
-        ("a.", false, false),
-        ("/name", false, false),
-        ("prefix/", false, false),
-        ("A.b/c", false, false),
-        ("a/b/c", false, false),
-        ("a b", false, false),
-    ] {
-        assert_eq!(rt; is_label_key(text), is_key, "{text}");
-        assert_eq!(rt; is_label_value(text), is_value, "{text}");
-    }
+    assert_eq!(rt;
+        answered_otherwise(rt.alloc(), &mut Labels, LABELS)?.as_str(),
+        ""
+    );
     Ok(())
+}
+
+/// The text of these three with a slash between the last two.
+fn with_slash(alloc: Global, front: &str, more: &str, name: &str) -> Result<String, AllocError> {
+    format!(in alloc; "{front}{more}/{name}")
+}
+
+/// Whether a text is a namespace's name, a label's value and an object's name.
+fn kinds(text: &str) -> (bool, bool, bool) {
+    (
+        is_dns_label(text),
+        is_label_value(text),
+        is_dns_subdomain(text),
+    )
+}
+
+fn kinds_of_letters(alloc: Global, letters: usize) -> Result<(bool, bool, bool), AllocError> {
+    Ok(kinds(repeated(alloc, "a", letters)?.as_str()))
+}
+
+/// Whether a name of 63 bytes behind a prefix of 252 bytes and some more is a label's key.
+fn is_key_behind(alloc: Global, more: &str) -> Result<bool, AllocError> {
+    let name = repeated(alloc, "a", 63)?;
+    let prefix = repeated(alloc, "b.", 126)?;
+    let key = with_slash(alloc, prefix.as_str(), more, name.as_str())?;
+    Ok(is_label_key(key.as_str()))
 }
 
 #[test]
 fn at_most_63_and_253_bytes(rt: HostRuntime) -> Result<(), Fail> {
     let alloc = rt.alloc();
-    let name = repeated(alloc, "a", 63)?;
-    let prefix = repeated(alloc, "b.", 126)?;
-    let key = format!(in alloc; "{prefix}b/{name}")?;
-    assert_eq!(rt; is_dns_label(&name), true);
-    assert_eq!(rt; is_label_value(&name), true);
-    assert_eq!(rt; is_label_key(&key), true);
-    let long = format!(in alloc; "a{name}")?;
-    assert_eq!(rt; is_dns_label(&long), false);
-    assert_eq!(rt; is_label_value(&long), false);
-    assert_eq!(rt; is_dns_subdomain(&long), true);
-    let long_prefix = format!(in alloc; "{prefix}bb/{name}")?;
-    assert_eq!(rt; is_label_key(&long_prefix), false);
+    assert_eq!(rt; kinds_of_letters(alloc, 63)?, (true, true, true));
+    assert_eq!(rt; kinds_of_letters(alloc, 64)?, (false, false, true));
+    assert_eq!(rt;
+        (is_key_behind(alloc, "b")?, is_key_behind(alloc, "bb")?),
+        (true, false)
+    );
     Ok(())
+}
+
+const VERSIONS: &str = "0 => Some(0)
+7 => Some(7)
+10 => Some(10)
+9223372036854775807 => Some(9223372036854775807)
+9223372036854775808 => None
+18446744073709551616 => None
+99999999999999999999999999999999999999999999 => None
+ => None
+00 => None
+07 => None
++7 => None
+-7 => None
+7  => None
+7.0 => None
+٧ => None
+";
+
+/// The decimals that two texts say, at most this one.
+fn decimals(max: u64, one: &str, other: &str) -> (Option<u64>, Option<u64>) {
+    (decimal_up_to(max, one), decimal_up_to(max, other))
 }
 
 #[test]
 fn versions_and_other_decimals(rt: HostRuntime) -> Result<(), Fail> {
-    for (text, version) in [
-        ("0", Some(0)),
-        ("7", Some(7)),
-        ("10", Some(10)),
-        ("9223372036854775807", Some(9223372036854775807)),
-        ("9223372036854775808", None),
-        ("18446744073709551616", None),
-        ("99999999999999999999999999999999999999999999", None),
-        ("", None),
-        ("00", None),
-        ("07", None),
-        ("+7", None),
-        ("-7", None),
-        ("7 ", None),
-        ("7.0", None),
-        ("٧", None),
-    ] {
-        assert_eq!(rt; version_of(text), version, "{text}");
-    }
-    assert_eq!(rt; decimal_up_to(2147483647, "2147483647"), Some(2147483647));
-    assert_eq!(rt; decimal_up_to(2147483647, "2147483648"), None);
+    assert_eq!(rt;
+        answered_otherwise(rt.alloc(), &mut Versions, VERSIONS)?.as_str(),
+        ""
+    );
+    assert_eq!(rt;
+        decimals(2147483647, "2147483647", "2147483648"),
+        (Some(2147483647), None)
+    );
     Ok(())
 }

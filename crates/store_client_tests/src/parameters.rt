@@ -1,17 +1,218 @@
 //! Every parameter, what goes together, and which fault comes first.
 
-use params::{Asked, Parameter, Params, ParamsFault, Token, VersionMatch, Watch};
+use crate::rows::{Answers, answered_otherwise};
+use params::{Asked, Parameter, Params, ParamsFault, Token, Watch};
 use std::alloc::{AllocError, Global};
 use std::collections::BTreeMap;
 use std::test::Fail;
 
-/// The parameter at fault, or none.
-fn bad(alloc: Global, asked: Asked, query: &str) -> Result<Option<Parameter>, AllocError> {
-    match Params::read(alloc, asked, query.as_bytes()) {
-        Ok(_) => Ok(None),
-        Err(ParamsFault::Bad(parameter)) => Ok(Some(parameter)),
-        Err(ParamsFault::Memory) => Err(AllocError),
+/// What is read of a call and its query, `CALL ?QUERY`, or the parameter at fault.
+#[derive(Drop)]
+struct Readings;
+
+impl Answers for Readings {
+    fn answer(&mut self, alloc: Global, question: &str) -> Result<String, Fail> {
+        let (call, query) = question.split_once(" ?").ok_or("no query")?;
+        answer_to(alloc, call, query)
     }
+}
+
+/// What kind of call a word names.
+fn asked(word: &str) -> Result<Asked, Fail> {
+    match word {
+        "Apply" => Ok(Asked::Apply),
+        "Delete" => Ok(Asked::Delete),
+        "Get" => Ok(Asked::Get),
+        "List" => Ok(Asked::List),
+        "Post" => Ok(Asked::Post),
+        "Put" => Ok(Asked::Put),
+        _ => Err("no such call".into()),
+    }
+}
+
+fn try_read(alloc: Global, asked: Asked, query: &str) -> Result<Params, ParamsFault> {
+    Params::read(alloc, asked, query.as_bytes())
+}
+
+fn answer_to(alloc: Global, call: &str, query: &str) -> Result<String, Fail> {
+    match try_read(alloc, asked(call)?, query) {
+        Ok(params) => shown(alloc, &params),
+        Err(ParamsFault::Bad(parameter)) => Ok(format!(in alloc; "bad {parameter:?}")?),
+        Err(ParamsFault::Memory) => Err("no memory".into()),
+    }
+}
+
+/// The watch, the version and the manager, as far as there are such.
+fn shown(alloc: Global, params: &Params) -> Result<String, Fail> {
+    let mut text = String::from_str(alloc, "read")?;
+    if let Some(watch) = params.watch {
+        push_watch(alloc, &mut text, watch)?;
+    }
+    if let Some(version) = params.version {
+        push_version(alloc, &mut text, version)?;
+    }
+    push_manager(&mut text, params.is_forced, params.manager.as_str())?;
+    Ok(text)
+}
+
+fn push_watch(alloc: Global, text: &mut String, watch: Watch) -> Result<(), AllocError> {
+    let Watch {
+        has_bookmarks,
+        timeout,
+    } = watch;
+    text.push_str(format!(in alloc; " a watch {has_bookmarks} {timeout}")?.as_str())
+}
+
+fn push_version(alloc: Global, text: &mut String, version: u64) -> Result<(), AllocError> {
+    text.push_str(format!(in alloc; " at {version}")?.as_str())
+}
+
+fn push_manager(text: &mut String, is_forced: bool, manager: &str) -> Result<(), AllocError> {
+    if is_forced {
+        text.push_str(" forced")?;
+    }
+    if !manager.is_empty() {
+        text.push_str(" by ")?;
+        text.push_str(manager)?;
+    }
+    Ok(())
+}
+
+/// The text and so many letters.
+fn longer(alloc: Global, text: &str, letters: usize) -> Result<String, AllocError> {
+    let mut longer = String::from_str(alloc, text)?;
+    for _ in 0..letters {
+        longer.push('m')?;
+    }
+    Ok(longer)
+}
+
+/// What a call by a manager of so many letters is answered.
+fn answer_to_letters(alloc: Global, call: &str, letters: usize) -> Result<String, Fail> {
+    let query = longer(alloc, "fieldManager=", letters)?;
+    answer_to(alloc, call, query.as_str())
+}
+
+/// Whether a manager of 128 letters is read, and one of 129 is at fault.
+fn has_at_most_128_letters(alloc: Global, call: &str) -> Result<bool, Fail> {
+    let read = longer(alloc, "read by ", 128)?;
+    let longest = answer_to_letters(alloc, call, 128)?;
+    let too_long = answer_to_letters(alloc, call, 129)?;
+    Ok(longest.as_str() == read.as_str() && too_long.as_str() == "bad FieldManager")
+}
+
+const MANAGERS: &str = "Apply ?fieldManager=alice => read by alice
+Apply ?fieldManager=label-summary&force=true => read forced by label-summary
+Apply ?force=0&fieldManager=a+b%2Fc&fieldValidation=Strict&dryRun= => read by a b/c
+Apply ?fieldManager=alice&fieldManager=bob&force=1&limit=x => read forced by alice
+Post ? => read by unknown
+Put ?fieldManager=&fieldManager=bob&force=x => read by unknown
+Put ?fieldManager=bob => read by bob
+";
+
+#[test]
+fn managers_of_writes(rt: HostRuntime) -> Result<(), Fail> {
+    let alloc = rt.alloc();
+    assert_eq!(rt;
+        answered_otherwise(alloc, &mut Readings, MANAGERS)?.as_str(),
+        ""
+    );
+    for call in ["Apply", "Post", "Put"] {
+        assert!(rt; has_at_most_128_letters(alloc, call)?, "{call}");
+    }
+    Ok(())
+}
+
+const WRITES: &str = "Apply ? => bad FieldManager
+Apply ?fieldManager= => bad FieldManager
+Apply ?fieldManager=%7F => bad FieldManager
+Apply ?fieldManager=a%09b => bad FieldManager
+Apply ?fieldManager=%C3%A9 => bad FieldManager
+Apply ?fieldManager=%FF => bad FieldManager
+Apply ?fieldManager=%20~ => read by  ~
+Apply ?fieldManager=a&force=yes => bad Force
+Apply ?fieldManager=a&force=True => bad Force
+Apply ?fieldManager=a&force=false => read by a
+Apply ?fieldManager=a&fieldValidation=Warn&force=x => bad FieldValidation
+Apply ?force=x&fieldValidation=x => bad FieldManager
+Apply ?dryRun=All => bad DryRun
+Post ?dryRun=All&fieldManager=%00 => bad DryRun
+Put ?fieldValidation=Ignore => bad FieldValidation
+Post ?fieldValidation=Ignore&fieldManager=%00 => bad FieldManager
+Delete ?dryRun=All => bad DryRun
+Delete ?fieldManager=%00&fieldValidation=x&force=x => read
+Get ?resourceVersion=x => bad ResourceVersion
+Get ?resourceVersion=01 => bad ResourceVersion
+Get ?watch=x&resourceVersionMatch=x&labelSelector=(&dryRun=All&resourceVersion=7 => read at 7
+Get ?resourceVersion=7&resourceVersion=8 => read at 7
+";
+
+#[test]
+fn faults_of_writes(rt: HostRuntime) -> Result<(), Fail> {
+    assert_eq!(rt;
+        answered_otherwise(rt.alloc(), &mut Readings, WRITES)?.as_str(),
+        ""
+    );
+    Ok(())
+}
+
+const LISTS: &str = "List ? => read
+List ?limit=9223372036854775807 => read
+List ?limit=9223372036854775808 => bad Limit
+List ?limit=02 => bad Limit
+List ?limit=-1 => bad Limit
+List ?limit=&limit=x => read
+List ?limit=2&limit=x => read
+List ?resourceVersion=9223372036854775808 => bad ResourceVersion
+List ?resourceVersionMatch=Newest&resourceVersion=1 => bad ResourceVersionMatch
+List ?resourceVersionMatch=Exact&resourceVersion=1 => read at 1
+List ?resourceVersionMatch=NotOlderThan&resourceVersion=0 => read at 0
+List ?labelSelector=a,,b => bad LabelSelector
+List ?fieldSelector=metadata.name%3Da => bad FieldSelector
+List ?sendInitialEvents=true => bad SendInitialEvents
+List ?continue=4.default => bad Continue
+List ?continue=4..w1 => bad Continue
+List ?continue=4.default. => bad Continue
+List ?continue=04.default.w1 => bad Continue
+List ?continue=9.default.w1 => read
+List ?allowWatchBookmarks=x&timeoutSeconds=x&fieldManager=%00&force=x => read
+";
+
+/// The order of single parameters, and what goes together after them.
+const TOGETHER: &str = "List ?sendInitialEvents=x&limit=x&continue=x => bad Continue
+List ?limit=x&labelSelector=(&fieldSelector=x => bad FieldSelector
+List ?limit=x&labelSelector=( => bad LabelSelector
+List ?resourceVersion=x&limit=x => bad Limit
+List ?resourceVersionMatch=x&resourceVersion=x => bad ResourceVersion
+List ?resourceVersionMatch=Exact&sendInitialEvents=x => bad SendInitialEvents
+List ?resourceVersionMatch=Exact => bad ResourceVersionMatch
+List ?resourceVersionMatch=Exact&resourceVersion= => bad ResourceVersionMatch
+List ?resourceVersionMatch=Exact&resourceVersion=0 => bad ResourceVersionMatch
+List ?resourceVersionMatch=NotOlderThan => bad ResourceVersionMatch
+List ?continue=4.default.w1&resourceVersion=4 => bad Continue
+List ?continue=4.default.w1&resourceVersion=0 => read at 0
+List ?continue=4.default.w1&resourceVersion=0&resourceVersionMatch=NotOlderThan => bad Continue
+List ?continue=4.default.w1&resourceVersionMatch=Exact => bad ResourceVersionMatch
+List ?watch=yes&continue=x => bad Watch
+List ?watch=&watch=x => read
+List ?watch=false&continue=x => bad Continue
+";
+
+#[test]
+fn faults_of_lists(rt: HostRuntime) -> Result<(), Fail> {
+    assert_eq!(rt;
+        answered_otherwise(rt.alloc(), &mut Readings, LISTS)?.as_str(),
+        ""
+    );
+    assert_eq!(rt;
+        answered_otherwise(rt.alloc(), &mut Readings, TOGETHER)?.as_str(),
+        ""
+    );
+    Ok(())
+}
+
+fn read(alloc: Global, query: &str) -> Result<Params, ParamsFault> {
+    try_read(alloc, Asked::List, query)
 }
 
 fn tier(alloc: Global, value: &str) -> Result<BTreeMap<String, String>, AllocError> {
@@ -23,274 +224,34 @@ fn tier(alloc: Global, value: &str) -> Result<BTreeMap<String, String>, AllocErr
     Ok(labels)
 }
 
-fn read(alloc: Global, asked: Asked, query: &str) -> Result<Params, Fail> {
-    Ok(Params::read(alloc, asked, query.as_bytes())?)
-}
-
-/// A query with a manager of so many letters.
-fn named(alloc: Global, length: usize) -> Result<String, AllocError> {
-    let mut query = String::from_str(alloc, "fieldManager=")?;
-    for _ in 0..length {
-        query.push('m')?;
-    }
-    Ok(query)
-}
-
-#[test]
-fn managers_of_writes(rt: HostRuntime) -> Result<(), Fail> {
-    let alloc = rt.alloc();
-    for (asked, query, manager, is_forced) in [
-        (Asked::Apply, "fieldManager=alice", "alice", false),
-        (
-            Asked::Apply,
-            "fieldManager=label-summary&force=true",
-            "label-summary",
-            true,
-        ),
-        (
-            Asked::Apply,
-            "force=0&fieldManager=a+b%2Fc&fieldValidation=Strict&dryRun=",
-            "a b/c",
-            false,
-        ),
-        (
-            Asked::Apply,
-            "fieldManager=alice&fieldManager=bob&force=1&limit=x",
-            "alice",
-            true,
-        ),
-        (Asked::Post, "", "unknown", false),
-        (
-            Asked::Put,
-            "fieldManager=&fieldManager=bob&force=x",
-            "unknown",
-            false,
-        ),
-        (Asked::Put, "fieldManager=bob", "bob", false),
-    ] {
-        let params = read(alloc, asked, query)?;
-        assert_eq!(rt; params.manager.as_str(), manager, "{query}");
-        assert_eq!(rt; params.is_forced, is_forced, "{query}");
-    }
-    let longest = named(alloc, 128)?;
-    let too_long = named(alloc, 129)?;
-    for asked in [Asked::Apply, Asked::Post, Asked::Put] {
-        assert_eq!(rt; bad(alloc, asked, &longest)?, None);
-        assert_eq!(rt;
-            bad(alloc, asked, &too_long)?,
-            Some(Parameter::FieldManager)
-        );
-    }
-    Ok(())
-}
-
-#[test]
-fn faults_of_writes(rt: HostRuntime) -> Result<(), Fail> {
-    let alloc = rt.alloc();
-    for (asked, query, expected) in [
-        (Asked::Apply, "", Some(Parameter::FieldManager)),
-        (Asked::Apply, "fieldManager=", Some(Parameter::FieldManager)),
-        (
-            Asked::Apply,
-            "fieldManager=%7F",
-            Some(Parameter::FieldManager),
-        ),
-        (
-            Asked::Apply,
-            "fieldManager=a%09b",
-            Some(Parameter::FieldManager),
-        ),
-        (
-            Asked::Apply,
-            "fieldManager=%C3%A9",
-            Some(Parameter::FieldManager),
-        ),
-        (
-            Asked::Apply,
-            "fieldManager=%FF",
-            Some(Parameter::FieldManager),
-        ),
-        (Asked::Apply, "fieldManager=%20~", None),
-        (
-            Asked::Apply,
-            "fieldManager=a&force=yes",
-            Some(Parameter::Force),
-        ),
-        (
-            Asked::Apply,
-            "fieldManager=a&force=True",
-            Some(Parameter::Force),
-        ),
-        (Asked::Apply, "fieldManager=a&force=false", None),
-        (
-            Asked::Apply,
-            "fieldManager=a&fieldValidation=Warn&force=x",
-            Some(Parameter::FieldValidation),
-        ),
-        (
-            Asked::Apply,
-            "force=x&fieldValidation=x",
-            Some(Parameter::FieldManager),
-        ),
-        (Asked::Apply, "dryRun=All", Some(Parameter::DryRun)),
-        (
-            Asked::Post,
-            "dryRun=All&fieldManager=%00",
-            Some(Parameter::DryRun),
-        ),
-        (
-            Asked::Put,
-            "fieldValidation=Ignore",
-            Some(Parameter::FieldValidation),
-        ),
-        (
-            Asked::Post,
-            "fieldValidation=Ignore&fieldManager=%00",
-            Some(Parameter::FieldManager),
-        ),
-        (Asked::Delete, "dryRun=All", Some(Parameter::DryRun)),
-        (
-            Asked::Delete,
-            "fieldManager=%00&fieldValidation=x&force=x",
-            None,
-        ),
-        (
-            Asked::Get,
-            "resourceVersion=x",
-            Some(Parameter::ResourceVersion),
-        ),
-        (
-            Asked::Get,
-            "resourceVersion=01",
-            Some(Parameter::ResourceVersion),
-        ),
-        (
-            Asked::Get,
-            "watch=x&resourceVersionMatch=x&labelSelector=(&dryRun=All&resourceVersion=7",
-            None,
-        ),
-    ] {
-        assert_eq!(rt; bad(alloc, asked, query)?, expected, "{query}");
-    }
-    let params = read(alloc, Asked::Get, "resourceVersion=7&resourceVersion=8")?;
-    assert_eq!(rt; params.version, Some(7));
-    Ok(())
-}
-
-#[test]
-fn faults_of_lists(rt: HostRuntime) -> Result<(), Fail> {
-    let alloc = rt.alloc();
-    for (query, expected) in [
-        ("", None),
-        ("limit=9223372036854775807", None),
-        ("limit=9223372036854775808", Some(Parameter::Limit)),
-        ("limit=02", Some(Parameter::Limit)),
-        ("limit=-1", Some(Parameter::Limit)),
-        ("limit=&limit=x", None),
-        ("limit=2&limit=x", None),
-        (
-            "resourceVersion=9223372036854775808",
-            Some(Parameter::ResourceVersion),
-        ),
-        (
-            "resourceVersionMatch=Newest&resourceVersion=1",
-            Some(Parameter::ResourceVersionMatch),
-        ),
-        ("resourceVersionMatch=Exact&resourceVersion=1", None),
-        ("resourceVersionMatch=NotOlderThan&resourceVersion=0", None),
-        ("labelSelector=a,,b", Some(Parameter::LabelSelector)),
-        (
-            "fieldSelector=metadata.name%3Da",
-            Some(Parameter::FieldSelector),
-        ),
-        ("sendInitialEvents=true", Some(Parameter::SendInitialEvents)),
-        ("continue=4.default", Some(Parameter::Continue)),
-        ("continue=4..w1", Some(Parameter::Continue)),
-        ("continue=4.default.", Some(Parameter::Continue)),
-        ("continue=04.default.w1", Some(Parameter::Continue)),
-        ("continue=9.default.w1", None),
-        (
-            "allowWatchBookmarks=x&timeoutSeconds=x&fieldManager=%00&force=x",
-            None,
-        ),
-        // The order of single parameters, and what goes together after them.
-        (
-            "sendInitialEvents=x&limit=x&continue=x",
-            Some(Parameter::Continue),
-        ),
-        (
-            "limit=x&labelSelector=(&fieldSelector=x",
-            Some(Parameter::FieldSelector),
-        ),
-        ("limit=x&labelSelector=(", Some(Parameter::LabelSelector)),
-        ("resourceVersion=x&limit=x", Some(Parameter::Limit)),
-        (
-            "resourceVersionMatch=x&resourceVersion=x",
-            Some(Parameter::ResourceVersion),
-        ),
-        (
-            "resourceVersionMatch=Exact&sendInitialEvents=x",
-            Some(Parameter::SendInitialEvents),
-        ),
-        (
-            "resourceVersionMatch=Exact",
-            Some(Parameter::ResourceVersionMatch),
-        ),
-        (
-            "resourceVersionMatch=Exact&resourceVersion=",
-            Some(Parameter::ResourceVersionMatch),
-        ),
-        (
-            "resourceVersionMatch=Exact&resourceVersion=0",
-            Some(Parameter::ResourceVersionMatch),
-        ),
-        (
-            "resourceVersionMatch=NotOlderThan",
-            Some(Parameter::ResourceVersionMatch),
-        ),
-        (
-            "continue=4.default.w1&resourceVersion=4",
-            Some(Parameter::Continue),
-        ),
-        ("continue=4.default.w1&resourceVersion=0", None),
-        (
-            "continue=4.default.w1&resourceVersion=0&resourceVersionMatch=NotOlderThan",
-            Some(Parameter::Continue),
-        ),
-        (
-            "continue=4.default.w1&resourceVersionMatch=Exact",
-            Some(Parameter::ResourceVersionMatch),
-        ),
-        ("watch=yes&continue=x", Some(Parameter::Watch)),
-        ("watch=&watch=x", None),
-        ("watch=false&continue=x", Some(Parameter::Continue)),
-    ] {
-        assert_eq!(rt; bad(alloc, Asked::List, query)?, expected, "{query}");
-    }
-    Ok(())
-}
-
 /// Whether the list's selector takes an object with this `tier`.
-fn selects(alloc: Global, query: &str, value: &str) -> Result<bool, Fail> {
-    let params = read(alloc, Asked::List, query)?;
+fn selects(alloc: Global, params: &Params, value: &str) -> Result<bool, AllocError> {
     Ok(params.selector.matches(&tier(alloc, value)?))
+}
+
+/// Whether a list's selector takes objects of the tiers `web` and `db`.
+fn selects_web_and_db(alloc: Global, query: &str) -> Result<(bool, bool), Fail> {
+    let params = read(alloc, query)?;
+    Ok((
+        selects(alloc, &params, "web")?,
+        selects(alloc, &params, "db")?,
+    ))
 }
 
 #[test]
 fn selectors_of_lists(rt: HostRuntime) -> Result<(), Fail> {
-    for (query, selects_web, selects_db) in [
-        ("labelSelector=tier%3Dweb&limit=1", true, false),
-        ("labelSelector=tier!%3Dweb", false, true),
+    for (query, expected) in [
+        ("labelSelector=tier%3Dweb&limit=1", (true, false)),
+        ("labelSelector=tier!%3Dweb", (false, true)),
     ] {
-        assert_eq!(rt; selects(rt.alloc(), query, "web")?, selects_web, "{query}");
-        assert_eq!(rt; selects(rt.alloc(), query, "db")?, selects_db, "{query}");
+        assert_eq!(rt; selects_web_and_db(rt.alloc(), query)?, expected, "{query}");
     }
     Ok(())
 }
 
 /// The token of a list's query, and its revision, namespace and name.
 fn token_of(alloc: Global, query: &str) -> Result<String, Fail> {
-    let params = read(alloc, Asked::List, query)?;
+    let params = read(alloc, query)?;
     match &params.token {
         Some(token) => told(alloc, token),
         None => Ok(String::new(alloc)),
@@ -306,15 +267,24 @@ fn told(alloc: Global, token: &Token) -> Result<String, Fail> {
     Ok(told)
 }
 
+/// The limit of a list's query, how its version is matched, and its answer.
+fn values(alloc: Global, query: &str) -> Result<String, Fail> {
+    let params = read(alloc, query)?;
+    let limit = params.limit;
+    let version_match = params.version_match;
+    let answer = shown(alloc, &params)?;
+    Ok(format!(in alloc; "{limit} {version_match:?} {answer}")?)
+}
+
 #[test]
 fn values_of_lists(rt: HostRuntime) -> Result<(), Fail> {
     let alloc = rt.alloc();
     let query =
         "labelSelector=tier%3Dweb&limit=1&resourceVersion=3&resourceVersionMatch=NotOlderThan&watch=0";
-    let params = read(alloc, Asked::List, query)?;
-    assert_eq!(rt; (params.limit, params.version), (1, Some(3)));
-    assert_eq!(rt; params.version_match, Some(VersionMatch::NotOlderThan));
-    assert_eq!(rt; params.watch, None);
+    assert_eq!(rt;
+        values(alloc, query)?.as_str(),
+        "1 Some(NotOlderThan) read at 3"
+    );
     assert_eq!(rt; token_of(alloc, query)?.as_str(), "");
     assert_eq!(rt;
         token_of(alloc, "limit=2&continue=4.default.w1.old")?.as_str(),
@@ -323,71 +293,34 @@ fn values_of_lists(rt: HostRuntime) -> Result<(), Fail> {
     Ok(())
 }
 
+const WATCHES: &str = "List ?watch=true => read a watch false 0
+List ?watch=1&limit=x&continue=x&resourceVersion=4 => read a watch false 0 at 4
+List ?watch=true&resourceVersion=4&allowWatchBookmarks=true&timeoutSeconds=2147483647 => read a watch true 2147483647 at 4
+List ?watch=true&resourceVersionMatch=Exact&resourceVersion=4 => bad ResourceVersionMatch
+List ?watch=true&timeoutSeconds=2147483648 => bad TimeoutSeconds
+List ?watch=true&allowWatchBookmarks=x&fieldSelector=x => bad AllowWatchBookmarks
+List ?watch=true&fieldSelector=x&labelSelector=( => bad FieldSelector
+List ?watch=true&labelSelector=(&resourceVersion=x => bad LabelSelector
+List ?watch=true&resourceVersionMatch=x&resourceVersion=x => bad ResourceVersion
+List ?watch=true&sendInitialEvents=x&resourceVersionMatch=x => bad ResourceVersionMatch
+List ?watch=true&sendInitialEvents=x&timeoutSeconds=x => bad SendInitialEvents
+";
+
+/// How a fault is printed.
+fn printed(alloc: Global, parameter: Parameter) -> Result<String, AllocError> {
+    let fault = ParamsFault::Bad(parameter);
+    format!(in alloc; "{fault}")
+}
+
 #[test]
 fn watches(rt: HostRuntime) -> Result<(), Fail> {
     let alloc = rt.alloc();
-    for (query, has_bookmarks, timeout, version) in [
-        ("watch=true", false, 0, None),
-        (
-            "watch=1&limit=x&continue=x&resourceVersion=4",
-            false,
-            0,
-            Some(4),
-        ),
-        (
-            "watch=true&resourceVersion=4&allowWatchBookmarks=true&timeoutSeconds=2147483647",
-            true,
-            2147483647,
-            Some(4),
-        ),
-    ] {
-        let params = read(alloc, Asked::List, query)?;
-        let watch = Watch {
-            has_bookmarks,
-            timeout,
-        };
-        assert_eq!(rt; params.watch, Some(watch), "{query}");
-        assert_eq!(rt; params.version, version, "{query}");
-    }
-    for (query, expected) in [
-        (
-            "watch=true&resourceVersionMatch=Exact&resourceVersion=4",
-            Parameter::ResourceVersionMatch,
-        ),
-        (
-            "watch=true&timeoutSeconds=2147483648",
-            Parameter::TimeoutSeconds,
-        ),
-        (
-            "watch=true&allowWatchBookmarks=x&fieldSelector=x",
-            Parameter::AllowWatchBookmarks,
-        ),
-        (
-            "watch=true&fieldSelector=x&labelSelector=(",
-            Parameter::FieldSelector,
-        ),
-        (
-            "watch=true&labelSelector=(&resourceVersion=x",
-            Parameter::LabelSelector,
-        ),
-        (
-            "watch=true&resourceVersionMatch=x&resourceVersion=x",
-            Parameter::ResourceVersion,
-        ),
-        (
-            "watch=true&sendInitialEvents=x&resourceVersionMatch=x",
-            Parameter::ResourceVersionMatch,
-        ),
-        (
-            "watch=true&sendInitialEvents=x&timeoutSeconds=x",
-            Parameter::SendInitialEvents,
-        ),
-    ] {
-        assert_eq!(rt; bad(alloc, Asked::List, query)?, Some(expected), "{query}");
-    }
-    let fault = ParamsFault::Bad(Parameter::ResourceVersionMatch);
     assert_eq!(rt;
-        format!(in alloc; "{fault}")?.as_str(),
+        answered_otherwise(alloc, &mut Readings, WATCHES)?.as_str(),
+        ""
+    );
+    assert_eq!(rt;
+        printed(alloc, Parameter::ResourceVersionMatch)?.as_str(),
         "bad parameter: resourceVersionMatch"
     );
     Ok(())
