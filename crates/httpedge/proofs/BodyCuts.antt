@@ -18,7 +18,7 @@ same_body : (t t' : Bool) (value value' : Option Data) → by_test t value ≢ u
 same_body true t' value value' decided same = absurd (decided refl)
 same_body false t' value value' decided same = let is = same refl in ap₂ (λ (b : Bool) (v : Option Data). by_test b v) is.0 is.1
 
-pub body_of_more : (n : ℕ) (rest more : List ℕ) → body_of n rest ≢ undecided → body_of n (rest ++ more) ≡ body_of n rest
+body_of_more : (n : ℕ) (rest more : List ℕ) → body_of n rest ≢ undecided → body_of n (rest ++ more) ≡ body_of n rest
 body_of_more n rest more decided =
     same_body (ltb (length rest) n) (ltb (length (rest ++ more)) n) (json_in (take n rest)) (json_in (take n (rest ++ more))) decided
     (λ e. let low : n ≤ length rest = ltb-false (length rest) n e in

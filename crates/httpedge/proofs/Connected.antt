@@ -1,6 +1,7 @@
 -- Connections by their ids.
-use Rattle.std.proofs.Common.{◌≡◌, ℕ, Bool, true, false, cond, T, List, [], ◌∷◌, ◌+◌, arith, length, map, Option, Some, None, refl, sym, ap, subst, ◌∙◌, ◌&&◌}
+use Rattle.std.proofs.Common.{◌≡◌, ℕ, Bool, true, false, cond, T, List, [], ◌∷◌, ◌+◌, ◌<◌, arith, length, map, Option, Some, None, refl, sym, ap, subst, ◌∙◌, ◌&&◌}
 use Rattle.std.specs.Prelude.{option_map, nat_lt}
+use Rattle.std.proofs.lemmas.Bool.{ltb-true}
 use Rattle.std.specs.List.{filter, list_all}
 use Rattle.std.specs.Cmp.{nat_cmp_total, tied_itself}
 use Rattle.std.specs.Ordering.{nat_cmp, is_lt, eq_by_cmp, is_eq}
@@ -117,8 +118,15 @@ known_below (e ∷ es) id q c found all = known_by e es id q c (eq_by_cmp nat_cm
     known_by e es id q c false same found all rest = rest found all.1
 
 -- a new id is above each that is known
-pub above_known : (all : Connections) (id q : ℕ) (c : Connection) → fin.get all id ≡ Some c → is_new all q ≡ true → nat_lt id q ≡ true
+above_known : (all : Connections) (id q : ℕ) (c : Connection) → fin.get all id ≡ Some c → is_new all q ≡ true → nat_lt id q ≡ true
 above_known all id q c known new = known_below (fin.entries all) id q c (sym (fin.get-entries all id) ∙ known) new
+
+not_below : (id : ℕ) → nat_lt id id ≡ true → ⊥
+not_below id e = let low : id < id = ltb-true id id e in omega (arith, low)
+
+pub unknown : (all : Connections) (id : ℕ) (o : Option Connection) → fin.get all id ≡ o → is_new all id ≡ true → o ≡ None
+unknown all id None got new = refl
+unknown all id (Some c) got new = absurd (not_below id (above_known all id id c got new))
 
 same_truth : (a b : Bool) → (b ≡ true → a ≡ true) → a && b ≡ b
 same_truth true b h = refl

@@ -1,28 +1,18 @@
 -- What bytes ask stays asked, whatever bytes follow, and nothing else is asked.
-use Rattle.std.proofs.Common.{◌≡◌, ◌≢◌, ℕ, List, ◌++◌, Option, Some, None, Result, Ok, Err, refl, sym, ap, ◌∙◌}
+use Rattle.std.proofs.Common.{◌≡◌, ◌≢◌, ℕ, List, ◌++◌, Result, Ok, Err, refl, sym, ap, ◌∙◌}
 use Rattle.schema.specs.TypesFile.{ServedShape}
 use Rattle.verbs.specs.Calls.{Denied, Target}
-use Rattle.httpedge.specs.Asks.{Asked, Asks, call_by, call_with, asked_by}
-use Rattle.httpedge.specs.Bodies.{declared_length, query_of}
+use Rattle.httpedge.specs.Asks.{Asked, Asks, call_with, asked_by}
+use Rattle.httpedge.specs.Bodies.{body_in}
 use Rattle.httpedge.specs.Decision.{undecided, refused, accepted, and_then, decided_by}
 use Rattle.httpedge.specs.Heads.{Request, HeadDecision, with_more}
-use Rattle.httpedge.proofs.BodyCuts.{Body, body_of_more}
+use Rattle.httpedge.proofs.BodyCuts.{body_more}
 use Rattle.httpedge.proofs.Cuts.{reads_more, reads_one}
 
-abbrev pub with_body : Request → Target → Body → Asked
-with_body request target body = and_then body (λ b. accepted (record { target = target; query = query_of request.request_target; body = b }))
-
-length_more : (o : Result (Option ℕ) Denied) (request : Request) (target : Target) (rest more : List ℕ) → and_then (decided_by o) (λ n. call_by request target n rest) ≢ undecided
-    → and_then (decided_by o) (λ n. call_by request target n (rest ++ more)) ≡ and_then (decided_by o) (λ n. call_by request target n rest)
-length_more (Err denied) request target rest more decided = refl
-length_more (Ok None) request target rest more decided = refl
-length_more (Ok (Some n)) request target rest more decided =
-    ap (with_body request target) (body_of_more n rest more (λ u. decided (ap (with_body request target) u)))
-
-some_target : (o : Result Target Denied) (request : Request) (rest more : List ℕ) → and_then (decided_by o) (λ target. call_with request target rest) ≢ undecided
-    → and_then (decided_by o) (λ target. call_with request target (rest ++ more)) ≡ and_then (decided_by o) (λ target. call_with request target rest)
+some_target : (o : Result Target Denied) (request : Request) (rest more : List ℕ) → and_then (decided_by o) (λ target. call_with request target (body_in request rest)) ≢ undecided
+    → and_then (decided_by o) (λ target. call_with request target (body_in request (rest ++ more))) ≡ and_then (decided_by o) (λ target. call_with request target (body_in request rest))
 some_target (Err denied) request rest more decided = refl
-some_target (Ok target) request rest more decided = length_more (declared_length request) request target rest more decided
+some_target (Ok target) request rest more decided = ap (call_with request target) (body_more request rest more (λ u. decided (ap (call_with request target) u)))
 
 head_more : (types : List ServedShape) (head : HeadDecision) (more : List ℕ) → asked_by types head ≢ undecided → asked_by types (with_more more head) ≡ asked_by types head
 head_more types undecided more decided = absurd (decided refl)

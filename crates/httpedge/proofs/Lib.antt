@@ -7,5 +7,8 @@ pub mod Numbers
 pub mod Outcomes
 pub mod Representing
 pub mod Saying
+pub mod Staying
+pub mod Taking
 pub mod Targets
+pub mod Untaken
 pub mod Whole

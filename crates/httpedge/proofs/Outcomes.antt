@@ -1,18 +1,15 @@
 -- Bytes in two pieces lead where they lead in one, and events lead to one state.
-use Rattle.std.proofs.Common.{◌≡◌, ◌≢◌, ℕ, zero, suc, Bool, true, false, cond, List, [], ◌∷◌, ◌++◌, take, Option, Some, None, refl, sym, ap, subst, ◌∙◌, append_assoc}
+use Rattle.std.proofs.Common.{◌≡◌, ◌≢◌, ℕ, suc, cond, List, [], ◌∷◌, ◌++◌, Option, Some, None, refl, sym, ap, subst, ◌∙◌, append_assoc}
 use Rattle.std.specs.Prelude.{is_some, option_and_then}
 use Rattle.std.specs.FinMap as fin
-use Rattle.serde_json.specs.Data.{Data}
-use Rattle.serde_json.specs.Written.{has_float}
-use Rattle.verbs.specs.Calls.{Call, Denied}
 use Rattle.schema.specs.TypesFile.{ServedShape}
 use Rattle.verbs.specs.Machine.{Machine, after}
 use Rattle.verbs.specs.Step.{planned}
 use Rattle.httpedge.specs.Asks.{Asked, Asks}
-use Rattle.httpedge.specs.Connections.{Connection, Connections, Standing, waiting, watching, ended, gone, with_standing, with_written}
+use Rattle.httpedge.specs.Connections.{Connection, Standing, waiting, watching, ended, gone, with_standing, with_written}
 use Rattle.httpedge.specs.Decision.{undecided, refused, accepted}
 use Rattle.httpedge.specs.ReplyBytes.{reply}
-use Rattle.httpedge.specs.Runs.{AsksIf, all_bytes, bytes_at, IsTextOf, IsAnswerText, Steps, Starves, Happening, happens, starves, Follows, Runs, AnswersHaveNoFloat, NoFloatOnTheWay}
+use Rattle.httpedge.specs.Runs.{AsksIf, all_bytes, bytes_at, IsTextOf, IsAnswerText, Steps, Happening, happens, starves, takes, Follows, Runs, AnswersHaveNoFloat, NoFloatOnTheWay}
 use Rattle.httpedge.specs.Steps.{State, Event, comes, by_connection, connection_after, machine_after, received, received_by, refusal_reply, stepped, with_connection, with_connections, with_machine, unless_refused}
 use Rattle.httpedge.proofs.Deciding.{asks_more, asks_one}
 use Rattle.httpedge.proofs.Connected.{put_there, put_again}
@@ -129,7 +126,8 @@ by_standing s mid t id c (waiting front) first second stands at (asked, text, as
 by_standing s mid t id c (watching w) first second stands at (asked, text, asks, told, is) later =
     idle s mid t id c (watching w) first second stands at (λ b. refl) (λ b a x. refl) is later
 by_standing s mid t id c ended first second stands at (asked, text, asks, told, is) later = idle s mid t id c ended first second stands at (λ b. refl) (λ b a x. refl) is later
-by_standing s mid t id c gone first second stands at (asked, text, asks, told, is) later = idle s mid t id c gone first second stands at (λ b. refl) (λ b a x. refl) is later
+by_standing s mid t id c (gone had_ended) first second stands at (asked, text, asks, told, is) later =
+    idle s mid t id c (gone had_ended) first second stands at (λ b. refl) (λ b a x. refl) is later
 
 by_id : (s mid t : State) (id : ℕ) (o : Option Connection) (first second : List ℕ) → fin.get s.connections id ≡ o → ComesBy s id o first mid → ThenComes mid id second t
     → ComesBy s id o (first ++ second) t
@@ -162,6 +160,7 @@ one_step s t u e plain (a, x, asks, told, is) (b, y, also, too, that) =
 one_follows : (s t u : State) (h : Happening) → AnswersHaveNoFloat s → Follows s h t → Follows s h u → t ≡ u
 one_follows s t u (happens e) plain is that = one_step s t u e plain is that
 one_follows s t u (starves e found_none) plain is that = is.2 ∙ sym that.2
+one_follows s t u (takes id n) plain is that = is ∙ sym that
 
 pub one_run : (s t u : State) (hs : List Happening) → NoFloatOnTheWay s hs → Runs s hs t → Runs s hs u → t ≡ u
 one_run s t u [] plain is that = is ∙ sym that

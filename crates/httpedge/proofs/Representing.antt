@@ -1,5 +1,5 @@
 -- What the hub's values stand for, after each event.
-use Rattle.std.proofs.Common.{arith, ◌≡◌, ◌≢◌, ℕ, zero, suc, ◌+◌, ◌-◌, ◌<◌, Bool, true, false, cond, not, ltb, ◌&&◌, List, [], ◌∷◌, ◌++◌, length, drop, Option, Some, None, Result, Ok, Err, refl, sym, ap, ap₂, subst, ◌∙◌}
+use Rattle.std.proofs.Common.{arith, ◌≡◌, ◌≢◌, ℕ, ◌+◌, ◌-◌, ◌<◌, Bool, true, false, cond, not, ◌&&◌, List, [], ◌∷◌, ◌++◌, length, drop, min, Option, Some, None, Result, Ok, Err, refl, sym, ap, ap₂, subst, ◌∙◌}
 use Rattle.std.specs.Prelude.{is_some, option_map, unwrap_or, nat_le, nat_lt, OnOk}
 use Rattle.std.proofs.lemmas.Bool.{ltb-true, lt-ltb}
 use Rattle.std.proofs.lemmas.Bool.Decides.{nat_tests}
@@ -15,18 +15,20 @@ use Rattle.verbs.specs.Machine.{Machine}
 use Rattle.verbs.specs.Seen.{Stands}
 use Rattle.httpedge.specs.declared.connection.Connection as conns
 use Rattle.httpedge.specs.declared.connection.Connection.TheVariants as conn
+use Rattle.httpedge.specs.declared.out.Out.{Out}
 use Rattle.httpedge.specs.declared.fault.HubFault.{HubFault}
-use Rattle.httpedge.specs.declared.fault.HubFault.TheVariants.{IdNotAbove, UnknownId, Memory}
+use Rattle.httpedge.specs.declared.fault.HubFault.TheVariants.{IdNotAbove, UnknownId, Memory, Store}
 use Rattle.httpedge.specs.Asks.{Asked}
-use Rattle.httpedge.specs.Connections.{Connection, Connections, Standing, waiting, watching, ended, gone, has_ended, is_new, is_open, is_waiting, left_out, open_count, opened, out_of, with_standing, with_written}
+use Rattle.httpedge.specs.Connections.{Connection, Connections, Standing, waiting, watching, ended, gone, has_ended, is_new, is_open, is_waiting, left_out, open_count, opened, out_of, with_standing, with_taken, with_written}
 use Rattle.httpedge.specs.Decision.{undecided, refused, accepted}
-use Rattle.httpedge.specs.Held.{DiesAt, Holds, HoldsAt, PutAt, ReceivedAt, ReceivedBy, Represents, count_after, is_above, is_open_in, out_in, waiting_for}
-use Rattle.httpedge.specs.HubSeen.{happening, refusal_number}
+use Rattle.httpedge.specs.Held.{DiesAt, Holds, HoldsAt, PutAt, ReceivedAt, ReceivedBy, Represents, TakesAt, count_after, is_above, is_open_in, left, out_in, waiting_for}
+use Rattle.httpedge.specs.HubSeen.{Happened, found_none, refusal_number}
 use Rattle.httpedge.specs.Refusals.{as_denied, too_many_connections}
-use Rattle.httpedge.specs.Runs.{Follows, Happening, Runs, Starves, Steps}
-use Rattle.httpedge.specs.Steps.{Event, State, opens, comes, goes, pumps, ticks, compacts, by_connection, connection_after, dead, opening, received, refusal, refusal_reply, start, taken, unless_refused, with_connection}
-use Rattle.httpedge.proofs.Connected.{Entries, above_known, ids, itself, new_put, new_still, one_if, open_put, opens_in, opens_of, tied_same}
+use Rattle.httpedge.specs.Runs.{Follows, Happening, happens, starves, Runs, Starves, Steps}
+use Rattle.httpedge.specs.Steps.{Event, State, opens, comes, goes, pumps, ticks, compacts, by_connection, connection_after, dead, opening, received, refusal, refusal_reply, start, taken, unless_refused, with_bytes_taken, with_connection}
+use Rattle.httpedge.proofs.Connected.{Entries, ids, itself, new_put, new_still, one_if, open_put, opens_in, opens_of, tied_same, unknown}
 use Rattle.httpedge.proofs.Outcomes.{ComesBy, ComesOn}
+use Rattle.httpedge.proofs.Taking.{left_after}
 
 abbrev pub Held : Type 0
 Held = BTreeMap ℕ conns.Connection
@@ -64,7 +66,7 @@ abbrev pub is_plain : Standing → Bool
 is_plain (waiting front) = true
 is_plain (watching w) = false
 is_plain ended = true
-is_plain gone = false
+is_plain (gone had_ended) = false
 
 plain : (types : List ServedShape) (d : conns.Connection) (c : Connection) → Holds types d c → is_plain c.standing ≡ true
 plain types (conn.Head front) c is = ap (λ (x : Connection). is_plain x.standing) is
@@ -134,13 +136,6 @@ start_in types m api held stands none = record {
 }
 
 -- ---- an opening
-
-not_below : (id : ℕ) → nat_lt id id ≡ true → ⊥
-not_below id e = let low : id < id = ltb-true id id e in omega (arith, low)
-
-unknown : (all : Connections) (id : ℕ) (o : Option Connection) → fin.get all id ≡ o → is_new all id ≡ true → o ≡ None
-unknown all id None got new = refl
-unknown all id (Some c) got new = absurd (not_below id (above_known all id id c got new))
 
 above_both : (highest : Option ℕ) (id q : ℕ) → is_above highest id ≡ true → nat_lt id q ≡ true → is_above highest q ≡ true
 above_both None id q one other = refl
@@ -265,7 +260,7 @@ comes_by s id bytes api api' old new count count' highest c d e ended held got h
     highest_is = held.highest_is;
   },
 )
-comes_by s id bytes api api' old new count count' highest c d e gone held got holds stands now put counts =
+comes_by s id bytes api api' old new count count' highest c d e (gone had_ended) held got holds stands now put counts =
     absurd (false_true (sym (ap is_plain stands) ∙ plain s.types d c holds))
 
 pub comes_well : (s : State) (id : ℕ) (bytes : List ℕ) (api api' : Api) (old new : Held) (count count' : ℕ) (highest : Option ℕ) (c : Connection) (d : conns.Connection)
@@ -312,24 +307,33 @@ refused_stays s (pumps id max) n is = (undecided, [], refl, refl, sym (ap (λ (o
 refused_stays s (ticks ms) n is = (undecided, [], refl, refl, sym (ap (λ (o : Option ℕ). unless_refused o s (taken s (ticks ms) undecided [])) is))
 refused_stays s (compacts c) n is = (undecided, [], refl, refl, sym (ap (λ (o : Option ℕ). unless_refused o s (taken s (compacts c) undecided [])) is))
 
-runs_on : (r s t : State) (before : List Happening) (h : Happening) → Runs r before s → Follows s h t → Runs r (before ++ h ∷ []) t
+pub runs_on : (r s t : State) (before : List Happening) (h : Happening) → Runs r before s → Follows s h t → Runs r (before ++ h ∷ []) t
 runs_on r s t [] h start follows = (t, subst (λ (x : State). Follows x h t) start follows, refl)
 runs_on r s t (g ∷ before) h (mid, first, rest) follows = (mid, first, runs_on mid s t before h rest follows)
 
-abbrev pub FollowsIn : {H : Type 0} → (H → State → Type 0) → State → Happening → H → Type 0
-FollowsIn {H} In s h new = (t : State) × Follows s h t × In new t
+-- what happened, and the state after it
+abbrev pub FollowsIn : {A H : Type 0} → (H → State → Type 0) → State → Event → Result A HubFault → H → Type 0
+FollowsIn In s e result new = (h : Happening) × (t : State) × Happened e result h × Follows s h t × In new t
+
+abbrev pub StarvesIn : {H : Type 0} → (H → State → Type 0) → State → Event → H → Type 0
+StarvesIn In s e new = (t : State) × Starves s e (λ q. false) t × In new t
 
 pub follows : {A H : Type 0} (In : H → State → Type 0) (s : State) (e : Event) (old new : H) (result : Result A HubFault) → In old s
     → OnOk result ((t : State) × Steps s e t × In new t) → refusal_number result ≡ refusal s e → (refusal_number result ≢ None → new ≡ old)
-    → (result ≡ Err Memory → (t : State) × Starves s e (λ q. false) t × In new t) → FollowsIn In s (happening e result) new
-follows In s e old new (Ok a) is ok denied same memory = ok
-follows In s e old new (Err IdNotAbove) is ok denied same memory = (s, refused_stays s e 1 (sym denied), subst (λ h. In h s) (sym (same (λ n. absurd cc))) is)
-follows In s e old new (Err UnknownId) is ok denied same memory = (s, refused_stays s e 2 (sym denied), subst (λ h. In h s) (sym (same (λ n. absurd cc))) is)
-follows In s e old new (Err Memory) is ok denied same memory = memory refl
+    → (found_none result ≡ true → StarvesIn In s e new) → FollowsIn In s e result new
+follows In s e old new (Ok a) is (t, steps, now) denied same memory = (happens e, t, refl, steps, now)
+follows In s e old new (Err IdNotAbove) is ok denied same memory =
+    (happens e, s, refl, refused_stays s e 1 (sym denied), subst (λ h. In h s) (sym (same (λ n. absurd cc))) is)
+follows In s e old new (Err UnknownId) is ok denied same memory =
+    (happens e, s, refl, refused_stays s e 2 (sym denied), subst (λ h. In h s) (sym (same (λ n. absurd cc))) is)
+follows In s e old new (Err Memory) is ok denied same memory =
+    let found = memory refl in (starves e (λ q. false), found.0, ((λ q. false), refl), found.1, found.2)
+follows In s e old new (Err Store) is ok denied same memory =
+    let found = memory refl in (starves e (λ q. false), found.0, ((λ q. false), refl), found.1, found.2)
 
-pub goes_on : {H : Type 0} (In : H → State → Type 0) (r s : State) (before : List Happening) (h : Happening) (new : H) → Runs r before s → FollowsIn In s h new
-    → (t : State) × Runs r (before ++ h ∷ []) t × In new t
-goes_on In r s before h new ran (t, follows, is) = (t, runs_on r s t before h ran follows, is)
+pub goes_on : {A H : Type 0} (In : H → State → Type 0) (r s : State) (before : List Happening) (e : Event) (result : Result A HubFault) (new : H) → Runs r before s → FollowsIn In s e result new
+    → (h : Happening) × (t : State) × Happened e result h × Runs r (before ++ h ∷ []) t × In new t
+goes_on In r s before e result new ran (h, t, happened, follows, is) = (h, t, happened, runs_on r s t before h ran follows, is)
 
 -- ---- what the hub's calls find
 
@@ -348,3 +352,36 @@ opens_unrefused s api held count highest id is above = ap (λ (b : Bool). cond b
 pub mapped_some : (o : Option conns.Connection) (b : Bool) → option_map is_open_in o ≡ Some b → (d : conns.Connection) × (o ≡ Some d) × (is_open_in d ≡ b)
 mapped_some None b is = absurd cc
 mapped_some (Some d) b is = (d, refl, some_of is)
+
+-- ---- bytes that are taken
+
+taken_left : (c : Connection) (n : ℕ) → c.standing ≡ ended → drop (with_taken c n).taken c.written ≡ drop n (drop c.taken c.written)
+taken_left c n stands =
+    ap (λ (st : Standing). drop (c.taken + min n (length (left_out st (drop c.taken c.written)))) c.written) stands ∙ left_after c.taken n c.written
+
+pub takes_some : (types : List ServedShape) (out rest : Out) (c : Connection) (n : ℕ) → left rest ≡ drop n (left out) → Holds types (conn.Ended out) c → Holds types (conn.Ended rest) (with_taken c n)
+takes_some types out rest c n taken (stands, is) = (stands, taken_left c n stands ∙ ap (drop n) is ∙ sym taken)
+
+pub takes_well : (s : State) (id n : ℕ) (api : Api) (old new : Held) (count : ℕ) (highest : Option ℕ) (o : Option conns.Connection) → Represents api old count highest s → get nat_cmp old id ≡ o
+    → ((d : conns.Connection) (c : Connection) → get nat_cmp old id ≡ Some d → Holds s.types d c → TakesAt s.types c id n old new)
+    → (get nat_cmp old id ≡ None → (q : ℕ) → get nat_cmp new q ≡ get nat_cmp old q) → Represents api new count highest (with_bytes_taken s id n)
+takes_well s id n api old new count highest None held at known unknown =
+    let none = none_held s.types (get nat_cmp old id) (fin.get s.connections id) (held.connections id) at in
+    subst (λ (t : State). Represents api new count highest t)
+    (sym (ap (λ (p : Option Connection). by_connection s p (λ c. with_connection s id (with_taken c n))) none))
+    (kept_held s api old new count highest held (unknown at))
+takes_well s id n api old new count highest (Some d) held at known unknown =
+    let found = some_held s.types (get nat_cmp old id) (fin.get s.connections id) d (held.connections id) at in
+    let taken = known d found.0 at found.2 in
+    let c' = with_taken found.0 n in
+    let counted = open_put s.connections id c' in
+    let was : opens_of (fin.get s.connections id) ≡ one_if (is_open c'.standing) = ap opens_of found.1 in
+    let before = held.count_is in
+    subst (λ (t : State). Represents api new count highest t)
+    (sym (ap (λ (p : Option Connection). by_connection s p (λ c. with_connection s id (with_taken c n))) found.1))
+    record {
+      machine = held.machine;
+      connections = held_put s.types old new s.connections id taken.0 c' held.connections taken.2 taken.1;
+      count_is = omega (arith, counted, was, before);
+      highest_is = λ q. new_still s.connections id q found.0 c' found.1 ∙ held.highest_is q;
+    }

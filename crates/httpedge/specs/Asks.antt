@@ -1,28 +1,25 @@
 -- What a connection asks, by all the bytes that came on it.
 use Rattle.std.specs.Prelude.{◌≡◌, ℕ, List, Option}
+use Rattle.serde_json.specs.Data.{Data}
 use Rattle.schema.specs.TypesFile.{ServedShape}
 use Rattle.verbs.specs.Admit.{admitted}
 use Rattle.verbs.specs.Calls.{Call, Target}
 use Rattle.httpedge.specs.Decision.{Decision, accepted, and_then, decided_by}
 use Rattle.httpedge.specs.Heads.{Request, HeadDecision, ReadsHead}
-use Rattle.httpedge.specs.Bodies.{declared_body, declared_length, checked_media, path_of, query_of}
+use Rattle.httpedge.specs.Bodies.{body_in, checked_media, path_of, query_of}
 
 -- undecided while more bytes are needed, refused, or a call
 abbrev pub Asked : Type 0
 Asked = Decision Call
 
--- a call of this resource, by the request's head, the length that it declares of its body, and the bytes after it
-abbrev pub call_by : Request → Target → Option ℕ → List ℕ → Asked
-call_by request target length rest =
-    and_then (declared_body length rest) (λ body. accepted (record { target = target; query = query_of request.request_target; body = body }))
+-- a call of this resource with the query of the request's target and this body
+abbrev pub call_with : Request → Target → Decision (Option Data) → Asked
+call_with request target body = and_then body (λ value. accepted (record { target = target; query = query_of request.request_target; body = value }))
 
-abbrev pub call_with : Request → Target → List ℕ → Asked
-call_with request target rest = and_then (decided_by (declared_length request)) (λ length. call_by request target length rest)
-
--- first the route, the method and the media type are checked; then Transfer-Encoding, the length and the JSON of the body
+-- first the route, the method and the media type are checked, then the body
 abbrev pub call_in : List ServedShape → Request → List ℕ → Asked
 call_in types request rest =
-    and_then (decided_by (admitted types request.method (path_of request.request_target) (checked_media request))) (λ target. call_with request target rest)
+    and_then (decided_by (admitted types request.method (path_of request.request_target) (checked_media request))) (λ target. call_with request target (body_in request rest))
 
 -- what a head and the bytes after it ask, by these types
 abbrev pub asked_by : List ServedShape → HeadDecision → Asked

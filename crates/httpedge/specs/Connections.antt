@@ -1,16 +1,17 @@
 -- The connections of a hub (RFC 9112, section 9: one request on each, and the server closes it).
-use Rattle.std.specs.Prelude.{ℕ, ◌+◌, Bool, true, false, nat_lt, if◌then◌else◌, List, [], ◌++◌, length, map, drop, min, Option, Some, None, unwrap_or, option_map}
+use Rattle.std.specs.Prelude.{◌≡◌, ℕ, ◌+◌, Bool, true, false, nat_lt, List, [], ◌++◌, length, map, drop, min, Option, Some, None, unwrap_or, option_map, ⊤}
 use Rattle.std.specs.List.{filter, list_all}
 use Rattle.std.specs.Ordering.{nat_cmp}
 use Rattle.std.specs.FinMap as fin
 use Rattle.httpedge.specs.Watches.{Watch}
 
 -- what has become of a connection: these bytes came and what they ask is undecided; it watches; nothing more is written on it;
--- its peer has gone
+-- its peer has gone, and it had ended before that or not
 pub data Standing : Type 0 where
   waiting : List ℕ → Standing
   watching : Watch → Standing
-  ended gone : Standing
+  ended : Standing
+  gone : Bool → Standing
 
 -- all that was written on it, how many bytes of that were taken, and how it stands
 pub record Connection : Type 0 where
@@ -35,40 +36,47 @@ with_standing c standing = record { written = c.written; taken = c.taken; standi
 abbrev pub with_written : Connection → List ℕ → Standing → Connection
 with_written c bytes standing = record { written = c.written ++ bytes; taken = c.taken; standing = standing }
 
--- the next n bytes are taken, at most all
-abbrev pub with_taken : Connection → ℕ → Connection
-with_taken c n = record { written = c.written; taken = min (c.taken + n) (length c.written); standing = c.standing }
-
 -- ---- how it stands
 
+-- an end stays when the peer goes
 abbrev pub has_ended : Standing → Bool
 has_ended (waiting bytes) = false
 has_ended (watching w) = false
 has_ended ended = true
-has_ended gone = false
+has_ended (gone had_ended) = had_ended
 
 -- it is open, and what its bytes ask is undecided
 abbrev pub is_waiting : Standing → Bool
 is_waiting (waiting bytes) = true
 is_waiting (watching w) = false
 is_waiting ended = false
-is_waiting gone = false
+is_waiting (gone had_ended) = false
+
+abbrev pub is_watching : Standing → Bool
+is_watching (waiting bytes) = false
+is_watching (watching w) = true
+is_watching ended = false
+is_watching (gone had_ended) = false
 
 abbrev pub is_open : Standing → Bool
 is_open (waiting bytes) = true
 is_open (watching w) = true
 is_open ended = false
-is_open gone = false
+is_open (gone had_ended) = false
 
 -- what was written and not taken; nothing where the peer has gone
 abbrev pub left_out : Standing → List ℕ → List ℕ
 left_out (waiting bytes) out = out
 left_out (watching w) out = out
 left_out ended out = out
-left_out gone out = []
+left_out (gone had_ended) out = []
 
 abbrev pub out_of : Connection → List ℕ
 out_of c = left_out c.standing (drop c.taken c.written)
+
+-- the next n bytes of these are taken, at most all
+abbrev pub with_taken : Connection → ℕ → Connection
+with_taken c n = record { written = c.written; taken = c.taken + min n (length (out_of c)); standing = c.standing }
 
 -- ---- all connections
 
@@ -95,8 +103,31 @@ each f all = fin.from_sorted (map (λ e. (e.0, f e.0 e.1)) (fin.entries all))
 abbrev pub out_on : Connections → ℕ → List ℕ
 out_on all id = unwrap_or (option_map out_of (fin.get all id)) []
 
+-- all that was written on a connection, taken or not
+abbrev pub written_on : Connections → ℕ → List ℕ
+written_on all id = unwrap_or (option_map (λ c. c.written) (fin.get all id)) []
+
 abbrev pub ended_on : Connections → ℕ → Bool
 ended_on all id = unwrap_or (option_map (λ c. has_ended c.standing) (fin.get all id)) false
 
 abbrev pub waiting_on : Connections → ℕ → Bool
 waiting_on all id = unwrap_or (option_map (λ c. is_waiting c.standing) (fin.get all id)) false
+
+abbrev pub watching_on : Connections → ℕ → Bool
+watching_on all id = unwrap_or (option_map (λ c. is_watching c.standing) (fin.get all id)) false
+
+-- ---- nothing was taken
+
+abbrev pub has_gone : Standing → Bool
+has_gone (waiting bytes) = false
+has_gone (watching w) = false
+has_gone ended = false
+has_gone (gone had_ended) = true
+
+abbrev pub IsUntaken : Option Connection → Type 0
+IsUntaken None = ⊤
+IsUntaken (Some c) = (c.taken ≡ 0) × (has_gone c.standing ≡ false)
+
+-- nothing was taken of any connection, and no peer has gone
+abbrev pub AllIsOut : Connections → Type 0
+AllIsOut all = (id : ℕ) → IsUntaken (fin.get all id)

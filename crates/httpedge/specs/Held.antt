@@ -3,8 +3,6 @@ use Rattle.std.specs.Prelude.{◌≡◌, ℕ, ◌++◌, ◌-◌, Bool, true, fal
 use Rattle.std.specs.Ordering.{nat_cmp, eq_by_cmp}
 use Rattle.std.specs.BTreeMap.{BTreeMap, get}
 use Rattle.std.specs.FinMap as fin
-use Rattle.std.specs.declared.result.Result.{Result}
-use Rattle.std.specs.declared.result.Result.TheVariants.{Ok, Err}
 use Rattle.schema.specs.TypesFile.{ServedShape}
 use Rattle.verbs.specs.declared.api.Api.{Api}
 use Rattle.verbs.specs.Calls.{Answer, Call}
@@ -15,7 +13,7 @@ use Rattle.httpedge.specs.declared.connection.Connection as conns
 use Rattle.httpedge.specs.declared.connection.Connection.TheVariants as conn
 use Rattle.httpedge.specs.declared.out.Out as outs
 use Rattle.httpedge.specs.Asks.{Asked, Asks}
-use Rattle.httpedge.specs.Connections.{Connection, Connections, Standing, waiting, watching, ended, gone, opened, with_standing, open_count, is_new}
+use Rattle.httpedge.specs.Connections.{Connection, Standing, waiting, watching, ended, gone, opened, with_standing, with_taken, open_count, is_new}
 use Rattle.httpedge.specs.Pendings.{Awaits}
 use Rattle.httpedge.specs.ReplyBytes.{reply}
 use Rattle.httpedge.specs.Runs.{IsTextOf, IsAnswerText}
@@ -66,7 +64,7 @@ abbrev pub ReceivedBy : List ServedShape → Machine → Connection → Standing
 ReceivedBy types m c (waiting front) bytes d api = (c ≡ waiting_for front) × Becomes types m (front ++ bytes) d api
 ReceivedBy types m c (watching w) bytes d api = Holds types d c × Stands api types m
 ReceivedBy types m c ended bytes d api = Holds types d c × Stands api types m
-ReceivedBy types m c gone bytes d api = Holds types d c × Stands api types m
+ReceivedBy types m c (gone had_ended) bytes d api = Holds types d c × Stands api types m
 
 abbrev pub Received : List ServedShape → Machine → Connection → List ℕ → conns.Connection → Api → Type 0
 Received types m c bytes d api = ReceivedBy types m c c.standing bytes d api
@@ -94,6 +92,10 @@ ReceivedAt types m c id bytes old new api = (d : conns.Connection) × Received t
 -- one that was open is dead
 abbrev pub DiesAt : List ServedShape → conns.Connection → Connection → ℕ → BTreeMap ℕ conns.Connection → BTreeMap ℕ conns.Connection → Type 0
 DiesAt types d c id old new = (is_open_in d ≡ true) × ((e : conns.Connection) × Holds types e (with_standing c ended) × PutAt id e old new)
+
+-- the next n bytes are taken of it
+abbrev pub TakesAt : List ServedShape → Connection → ℕ → ℕ → BTreeMap ℕ conns.Connection → BTreeMap ℕ conns.Connection → Type 0
+TakesAt types c id n old new = (d : conns.Connection) × Holds types d (with_taken c n) × PutAt id d old new
 
 -- one fewer where it was open and is no longer
 abbrev pub count_after : ℕ → Bool → Option Bool → ℕ

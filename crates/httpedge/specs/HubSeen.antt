@@ -1,5 +1,5 @@
 -- What a hub and its events stand for.
-use Rattle.std.specs.Prelude.{◌≡◌, ℕ, false, List, Option, Some, None}
+use Rattle.std.specs.Prelude.{◌≡◌, ℕ, Bool, true, false, Option, Some, None}
 use Rattle.std.specs.declared.result.Result.{Result}
 use Rattle.std.specs.declared.result.Result.TheVariants.{Ok, Err}
 use Rattle.httpedge.specs.declared.event.Event as events
@@ -19,16 +19,30 @@ event_of (event.In id bytes) = comes id bytes.items
 abbrev pub IsIn : hubs.Hub → State → Type 0
 IsIn hub s = Represents hub.api hub.connections hub.open_count hub.highest s
 
--- the number of a refusal; done, or out of memory, is none
+-- the number of a refusal; done, or without memory, is none
 abbrev pub refusal_number : {A : Type 0} → Result A faults.HubFault → Option ℕ
 refusal_number (Ok a) = None
 refusal_number (Err fault.IdNotAbove) = Some 1
 refusal_number (Err fault.UnknownId) = Some 2
 refusal_number (Err fault.Memory) = None
+refusal_number (Err fault.Store) = None
 
--- what happened, by the event and what was answered: it was taken or refused, or found no memory
-abbrev pub happening : {A : Type 0} → Event → Result A faults.HubFault → Happening
-happening e (Ok a) = happens e
-happening e (Err fault.IdNotAbove) = happens e
-happening e (Err fault.UnknownId) = happens e
-happening e (Err fault.Memory) = starves e (λ id. false)
+-- no memory was found, or the store found none
+abbrev pub found_none : {A : Type 0} → Result A faults.HubFault → Bool
+found_none (Ok a) = false
+found_none (Err fault.IdNotAbove) = false
+found_none (Err fault.UnknownId) = false
+found_none (Err fault.Memory) = true
+found_none (Err fault.Store) = true
+
+-- the event found no memory, at a tick on some connections
+abbrev pub HasStarved : Event → Happening → Type 0
+HasStarved e h = (which : ℕ → Bool) × (h ≡ starves e which)
+
+-- what happened, by the event and what was answered: the event, refused or not, or one that found no memory
+abbrev pub Happened : {A : Type 0} → Event → Result A faults.HubFault → Happening → Type 0
+Happened e (Ok a) h = h ≡ happens e
+Happened e (Err fault.IdNotAbove) h = h ≡ happens e
+Happened e (Err fault.UnknownId) h = h ≡ happens e
+Happened e (Err fault.Memory) h = HasStarved e h
+Happened e (Err fault.Store) h = HasStarved e h

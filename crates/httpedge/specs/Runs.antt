@@ -1,5 +1,5 @@
 -- Events in turn: what the bytes of each ask, and the state after all of them.
-use Rattle.std.specs.Prelude.{◌≡◌, ◌≤◌, ℕ, Bool, true, false, ◌&&◌, List, [], ◌∷◌, ◌++◌, take, Option, Some, None, option_and_then, option_map, unwrap_or}
+use Rattle.std.specs.Prelude.{◌≡◌, ◌≢◌, ◌≤◌, ℕ, Bool, true, false, ◌&&◌, List, [], ◌∷◌, ◌++◌, take, Option, Some, None, option_and_then, ⊤}
 use Rattle.std.specs.List.{list_any}
 use Rattle.std.specs.FinMap as fin
 use Rattle.serde_json.specs.Data.{Data, depth}
@@ -10,9 +10,9 @@ use Rattle.verbs.specs.Calls.{Call}
 use Rattle.verbs.specs.Machine.{Machine}
 use Rattle.verbs.specs.Step.{planned}
 use Rattle.httpedge.specs.Asks.{Asked, Asks}
-use Rattle.httpedge.specs.Connections.{Connections, Connection, Standing, waiting, watching, ended, gone, is_open, is_waiting, waiting_on}
+use Rattle.httpedge.specs.Connections.{Standing, waiting, watching, ended, gone, is_watching, waiting_on, watching_on}
 use Rattle.httpedge.specs.Decision.{undecided, refused, accepted}
-use Rattle.httpedge.specs.Steps.{State, Event, opens, comes, goes, pumps, ticks, compacts, refusal, stepped, starved}
+use Rattle.httpedge.specs.Steps.{State, Event, opens, comes, goes, pumps, ticks, compacts, refusal, stepped, starved, with_bytes_taken}
 
 -- ---- what an event asks
 
@@ -21,7 +21,7 @@ abbrev pub all_bytes : Standing → List ℕ → Option (List ℕ)
 all_bytes (waiting front) bytes = Some (front ++ bytes)
 all_bytes (watching w) bytes = None
 all_bytes ended bytes = None
-all_bytes gone bytes = None
+all_bytes (gone had_ended) bytes = None
 
 -- all the bytes of the connection on which an event brings some, where it waits for them
 abbrev pub bytes_at : State → Event → Option (List ℕ)
@@ -56,15 +56,6 @@ IsAnswerText types m (accepted call) text = IsTextOf (planned types m call).answ
 abbrev pub Steps : State → Event → State → Type 0
 Steps s e t = (asked : Asked) × (text : List ℕ) × AsksIf s (bytes_at s e) asked × IsAnswerText s.types s.machine asked text × (t ≡ stepped s e asked text)
 
-abbrev pub is_watching : Standing → Bool
-is_watching (watching w) = true
-is_watching (waiting bytes) = false
-is_watching ended = false
-is_watching gone = false
-
-abbrev pub watching_on : Connections → ℕ → Bool
-watching_on all id = unwrap_or (option_map (λ c. is_watching c.standing) (fin.get all id)) false
-
 -- which events take memory: bytes only where the connection waits for them, a pump only where it watches, a tick where some watch found none
 abbrev pub takes_memory : State → Event → (ℕ → Bool) → Bool
 takes_memory s (opens id) found_none = true
@@ -80,18 +71,44 @@ Starves s e found_none t = (refusal s e ≡ None) × (takes_memory s e found_non
 
 -- ---- events in turn
 
--- what happens to a hub: an event, or one that finds no memory, at a tick on these connections
+-- what happens to a hub: an event; one that finds no memory, at a tick on these connections; the next n bytes of a connection are taken
 pub data Happening : Type 0 where
   happens : Event → Happening
   starves : Event → (ℕ → Bool) → Happening
+  takes : ℕ → ℕ → Happening
 
 abbrev pub Follows : State → Happening → State → Type 0
 Follows s (happens e) t = Steps s e t
 Follows s (starves e found_none) t = Starves s e found_none t
+Follows s (takes id n) t = t ≡ with_bytes_taken s id n
 
 abbrev pub Runs : State → List Happening → State → Type 0
 Runs s [] t = t ≡ s
 Runs s (h ∷ hs) t = (mid : State) × Follows s h mid × Runs mid hs t
+
+-- ---- where it happens
+
+-- an event of one connection is not on this one; a tick is on all
+abbrev pub IsElsewhere : Event → ℕ → Type 0
+IsElsewhere (opens id) other = other ≢ id
+IsElsewhere (comes id bytes) other = other ≢ id
+IsElsewhere (goes id) other = other ≢ id
+IsElsewhere (pumps id max) other = other ≢ id
+IsElsewhere (ticks ms) other = ⊥
+IsElsewhere (compacts c) other = ⊤
+
+abbrev pub HappensElsewhere : Happening → ℕ → Type 0
+HappensElsewhere (happens e) other = IsElsewhere e other
+HappensElsewhere (starves e found_none) other = IsElsewhere e other
+HappensElsewhere (takes id n) other = other ≢ id
+
+abbrev pub peer_goes : Event → Bool
+peer_goes (opens id) = false
+peer_goes (comes id bytes) = false
+peer_goes (goes id) = true
+peer_goes (pumps id max) = false
+peer_goes (ticks ms) = false
+peer_goes (compacts c) = false
 
 -- ---- when there is one outcome
 

@@ -1,6 +1,5 @@
 -- The hub: what each event makes of its machine and its connections.
-use Rattle.std.specs.Prelude.{◌≡◌, ℕ, Bool, true, false, ◌&&◌, ◌==◌, nat_lt, nat_le, if◌then◌else◌, List, [], ◌++◌, Option, Some, None}
-use Rattle.std.specs.Ordering.{nat_cmp}
+use Rattle.std.specs.Prelude.{ℕ, Bool, ◌&&◌, ◌==◌, nat_lt, nat_le, if◌then◌else◌, List, ◌++◌, Option, Some, None}
 use Rattle.std.specs.FinMap as fin
 use Rattle.serde_json.specs.Written.{compact_text}
 use Rattle.schema.specs.TypesFile.{ServedShape}
@@ -10,7 +9,7 @@ use Rattle.verbs.specs.Reasons.{code_of}
 use Rattle.verbs.specs.Status.{status_value}
 use Rattle.verbs.specs.Step.{planned}
 use Rattle.httpedge.specs.Asks.{Asked}
-use Rattle.httpedge.specs.Connections.{Connection, Connections, Standing, waiting, watching, ended, gone, opened, with_standing, with_written, with_taken, is_known, is_new, is_open, open_count, max_open, each}
+use Rattle.httpedge.specs.Connections.{Connection, Connections, Standing, waiting, watching, ended, gone, opened, with_standing, with_written, with_taken, has_ended, is_known, is_new, is_open, is_watching, open_count, max_open, each}
 use Rattle.httpedge.specs.Decision.{undecided, refused, accepted}
 use Rattle.httpedge.specs.Refusals.{as_denied, too_many_connections}
 use Rattle.httpedge.specs.ReplyBytes.{reply}
@@ -107,7 +106,7 @@ abbrev pub received_by : State → ℕ → Connection → Standing → List ℕ 
 received_by s id c (waiting front) bytes asked text = received s id c (front ++ bytes) asked text
 received_by s id c (watching w) bytes asked text = s
 received_by s id c ended bytes asked text = s
-received_by s id c gone bytes asked text = s
+received_by s id c (gone had_ended) bytes asked text = s
 
 -- ---- watches
 
@@ -120,7 +119,7 @@ abbrev pub after_turn : (Watch → Turn) → Connection → Standing → Connect
 after_turn turn c (watching w) = with_written c (turn w).bytes (standing_after (turn w).next)
 after_turn turn c (waiting bytes) = c
 after_turn turn c ended = c
-after_turn turn c gone = c
+after_turn turn c (gone had_ended) = c
 
 abbrev pub with_turn : (Watch → Turn) → Connection → Connection
 with_turn turn c = after_turn turn c c.standing
@@ -134,7 +133,7 @@ with_tick s ms all = record { types = s.types; machine = s.machine; last_tick = 
 abbrev pub taken : State → Event → Asked → List ℕ → State
 taken s (opens id) asked text = with_connection s id (opening s.connections)
 taken s (comes id bytes) asked text = on_connection s id (λ c. received_by s id c c.standing bytes asked text)
-taken s (goes id) asked text = on_connection s id (λ c. with_connection s id (with_standing c gone))
+taken s (goes id) asked text = on_connection s id (λ c. with_connection s id (with_standing c (gone (has_ended c.standing))))
 taken s (pumps id max) asked text = on_connection s id (λ c. with_connection s id (with_turn (pumped s.types s.machine max) c))
 taken s (ticks ms) asked text = with_tick s ms (each (λ id c. with_turn (ticked ms) c) s.connections)
 taken s (compacts c) asked text = with_machine s (compacted_to c s.machine)
@@ -153,9 +152,9 @@ stepped s e asked text = unless_refused (refusal s e) s (taken s e asked text)
 abbrev pub dead : Connection → Connection
 dead c = if is_open c.standing then with_standing c ended else c
 
--- one of those that found no room is dead, and the others have their turn
+-- a watch that found no room is dead; every other connection has its turn
 abbrev pub dead_or_ticked : ℕ → Bool → Connection → Connection
-dead_or_ticked ms found_none c = if found_none then dead c else with_turn (ticked ms) c
+dead_or_ticked ms found_none c = if found_none && is_watching c.standing then dead c else with_turn (ticked ms) c
 
 -- the state after an event that found no memory; at a tick it is these connections that found none
 abbrev pub starved : State → Event → (ℕ → Bool) → State

@@ -2,7 +2,8 @@
 
 ghost use Rattle.std.specs.Prelude.{◌≡◌, ◌++◌, IfOk};
 ghost use Rattle.verbs.specs.Seen.{target_of, types_of};
-ghost use Rattle.httpedge.specs.Asks.{call_by, call_with, call_in};
+ghost use Rattle.httpedge.specs.Asks.{call_with, call_in};
+ghost use Rattle.httpedge.specs.Bodies.{body_in, declared_body};
 ghost use Rattle.httpedge.specs.Pendings.{Carries, FindsAll, asked_of, pending_call, sized_call};
 ghost use Rattle.httpedge.specs.Views.{request_in};
 
@@ -93,8 +94,8 @@ fn ask_declared(
     head: &Head<'_>,
     length: Option<usize>,
 ) -> Result<Asked, AllocError>
-    ensures asks { IfOk result (λ a. asked_of a ≡ call_by (request_in head.now) (target_of target) length head.now.rest.now) }
-    ensures carries { IfOk result (Carries (call_by (request_in head.now) (target_of target) length) head.now.rest.now) }
+    ensures asks { IfOk result (λ a. asked_of a ≡ call_with (request_in head.now) (target_of target) (declared_body length head.now.rest.now)) }
+    ensures carries { IfOk result (Carries (λ rest. call_with (request_in head.now) (target_of target) (declared_body length rest)) head.now.rest.now) }
 {
     let query = Vec::from_slice(alloc, query_of(head.request_target).as_bytes())?;
     match length {
@@ -108,8 +109,8 @@ fn ask_declared(
 }
 
 fn ask_of(alloc: Global, target: Target, head: &Head<'_>) -> Result<Asked, AllocError>
-    ensures asks { IfOk result (λ a. asked_of a ≡ call_with (request_in head.now) (target_of target) head.now.rest.now) }
-    ensures carries { IfOk result (Carries (call_with (request_in head.now) (target_of target)) head.now.rest.now) }
+    ensures asks { IfOk result (λ a. asked_of a ≡ call_with (request_in head.now) (target_of target) (body_in (request_in head.now) head.now.rest.now)) }
+    ensures carries { IfOk result (Carries (λ rest. call_with (request_in head.now) (target_of target) (body_in (request_in head.now) rest)) head.now.rest.now) }
 {
     match declared_length(head) {
         Ok(length) => ask_declared(alloc, target, head, length),

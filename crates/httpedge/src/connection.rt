@@ -5,7 +5,7 @@ ghost use Rattle.schema.specs.TypesFile.{ServedShape};
 ghost use Rattle.verbs.specs.Machine.{Machine};
 ghost use Rattle.verbs.specs.Seen.{Stands};
 ghost use Rattle.httpedge.specs.Connections as model;
-ghost use Rattle.httpedge.specs.Connections.{Connections, ended, is_waiting, open_count, with_standing};
+ghost use Rattle.httpedge.specs.Connections.{Connections, ended, open_count, with_standing, with_taken};
 ghost use Rattle.httpedge.specs.Held.{Becomes, Holds, Received, is_open_in, left, out_in};
 ghost use Rattle.httpedge.specs.Pendings.{Awaits, Finds};
 ghost use Rattle.httpedge.specs.Steps.{opening};
@@ -69,6 +69,16 @@ pub(crate) fn out_of(connection: &Connection) -> &[u8]
     match connection {
         Connection::Ended(out) => out.left(),
         _ => &[],
+    }
+}
+
+/// Takes the first n bytes of what is out on a connection, at most all.
+pub(crate) fn take_from(alloc: Global, connection: &mut Connection, n: usize)
+    ensures { (types : List ServedShape) (c : model.Connection) → Holds types connection.old c → Holds types connection.new (with_taken c n) }
+{
+    match connection {
+        Connection::Ended(out) => out.take(alloc, n),
+        Connection::Head(_) | Connection::Body(_) => {}
     }
 }
 

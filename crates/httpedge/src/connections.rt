@@ -1,16 +1,16 @@
 //! Connections by their ids.
 
-ghost use Rattle.std.specs.Prelude.{◌≡◌, [], ℕ, List, Some, cond, unwrap_or, option_map, OnOk, OnErr};
+ghost use Rattle.std.specs.Prelude.{◌≡◌, [], ℕ, List, Some, None, unwrap_or, option_map, OnOk, OnErr};
 ghost use Rattle.std.specs.BTreeMap.{get};
-ghost use Rattle.std.specs.Ordering.{nat_cmp, eq_by_cmp};
+ghost use Rattle.std.specs.Ordering.{nat_cmp};
 ghost use Rattle.schema.specs.TypesFile.{ServedShape};
 ghost use Rattle.verbs.specs.Machine.{Machine};
 ghost use Rattle.verbs.specs.Seen.{Stands};
 ghost use Rattle.httpedge.specs.Connections.{Connection as TheConnection};
-ghost use Rattle.httpedge.specs.Held.{DiesAt, Holds, PutAt, ReceivedAt, count_after, is_open_in, out_in};
+ghost use Rattle.httpedge.specs.Held.{DiesAt, Holds, PutAt, ReceivedAt, TakesAt, count_after, is_open_in, out_in};
 ghost use Rattle.httpedge.specs.declared.connection.Connection as held;
 
-use crate::connection::{Connection, is_open, out_of, receive_on};
+use crate::connection::{Connection, is_open, out_of, receive_on, take_from};
 use std::alloc::{AllocError, Global};
 use std::collections::BTreeMap;
 use verbs::{Api, Fault};
@@ -58,6 +58,17 @@ pub(crate) fn out_at(all: &BTreeMap<u64, Connection>, id: u64) -> &[u8]
     match all.get(&id) {
         Some(connection) => out_of(connection),
         None => &[],
+    }
+}
+
+/// Takes the first n bytes of what is out on a connection, at most all; nothing for an unknown id.
+pub(crate) fn take_at(alloc: Global, all: &mut BTreeMap<u64, Connection>, id: u64, n: usize)
+    ensures known { (types : List ServedShape) (d : held.Connection) (c : TheConnection) → get nat_cmp all.old id ≡ Some d → Holds types d c → TakesAt types c id n all.old all.new }
+    ensures unknown { get nat_cmp all.old id ≡ None → (q : ℕ) → get nat_cmp all.new q ≡ get nat_cmp all.old q }
+{
+    match all.get_mut(&id) {
+        None => {}
+        Some(connection) => take_from(alloc, connection, n),
     }
 }
 

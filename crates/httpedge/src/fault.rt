@@ -11,6 +11,8 @@ pub enum HubFault {
     UnknownId,
     /// There was no memory.
     Memory,
+    /// The store refused a statement for memory or size.
+    Store,
 }
 
 impl From<AllocError> for HubFault {

@@ -1,17 +1,17 @@
 //! The hub: connections over one API.
 
-ghost use Rattle.std.specs.Prelude.{◌≡◌, ◌≢◌, ◌++◌, ◌∷◌, [], List, None, cond, false, OnOk};
+ghost use Rattle.std.specs.Prelude.{◌≡◌, ◌≢◌, ◌++◌, ◌∷◌, [], List, None, true, false, OnOk};
 ghost use Rattle.schema.specs.TypesFile.{ServedShape};
 ghost use Rattle.verbs.specs.Machine.{Machine};
 ghost use Rattle.verbs.specs.Seen.{Stands};
 ghost use Rattle.httpedge.specs.Connections.{ended_on, out_on, waiting_on};
 ghost use Rattle.httpedge.specs.Held.{is_above};
-ghost use Rattle.httpedge.specs.HubSeen.{IsIn, event_of, happening, refusal_number};
-ghost use Rattle.httpedge.specs.Runs.{Follows, Happening, Runs, Starves, Steps};
-ghost use Rattle.httpedge.specs.Steps.{State, comes, opens, refusal, start};
+ghost use Rattle.httpedge.specs.HubSeen.{Happened, IsIn, event_of, found_none, refusal_number};
+ghost use Rattle.httpedge.specs.Runs.{Follows, Happening, Runs, Starves, Steps, takes};
+ghost use Rattle.httpedge.specs.Steps.{State, comes, opens, refusal, start, with_bytes_taken};
 
 use crate::connection::{Connection, count_with, opening};
-use crate::connections::{open_at, open_count, out_at, put, receive_at};
+use crate::connections::{open_at, open_count, out_at, put, receive_at, take_at};
 use crate::event::Event;
 use crate::fault::HubFault;
 use std::alloc::Global;
@@ -57,7 +57,7 @@ impl Hub {
         ensures ok { (s : State) → IsIn self.old s → OnOk result ((t : State) × Steps s (opens id) t × IsIn self.new t) }
         ensures refused { (s : State) → IsIn self.old s → refusal_number result ≡ refusal s (opens id) }
         ensures unchanged { refusal_number result ≢ None → self.new ≡ self.old }
-        ensures memory { (s : State) → IsIn self.old s → result ≡ Err HubFault.Memory → (t : State) × Starves s (opens id) (λ q. false) t × IsIn self.new t }
+        ensures memory { (s : State) → IsIn self.old s → found_none result ≡ true → (t : State) × Starves s (opens id) (λ q. false) t × IsIn self.new t }
     {
         if !is_above(self.highest, id) {
             return Err(HubFault::IdNotAbove);
@@ -74,7 +74,7 @@ impl Hub {
         ensures ok { (s : State) → IsIn self.old s → OnOk result ((t : State) × Steps s (comes id bytes.now) t × IsIn self.new t) }
         ensures refused { (s : State) → IsIn self.old s → refusal_number result ≡ refusal s (comes id bytes.now) }
         ensures unchanged { refusal_number result ≢ None → self.new ≡ self.old }
-        ensures memory { (s : State) → IsIn self.old s → result ≡ Err HubFault.Memory → (t : State) × Starves s (comes id bytes.now) (λ q. false) t × IsIn self.new t }
+        ensures memory { (s : State) → IsIn self.old s → found_none result ≡ true → (t : State) × Starves s (comes id bytes.now) (λ q. false) t × IsIn self.new t }
     {
         let Some(was_open) = open_at(&self.connections, id) else {
             return Err(HubFault::UnknownId);
@@ -88,7 +88,7 @@ impl Hub {
         ensures ok { (s : State) → IsIn self.old s → OnOk result ((t : State) × Steps s (event_of event.now) t × IsIn self.new t) }
         ensures refused { (s : State) → IsIn self.old s → refusal_number result ≡ refusal s (event_of event.now) }
         ensures unchanged { refusal_number result ≢ None → self.new ≡ self.old }
-        ensures memory { (s : State) → IsIn self.old s → result ≡ Err HubFault.Memory → (t : State) × Starves s (event_of event.now) (λ q. false) t × IsIn self.new t }
+        ensures memory { (s : State) → IsIn self.old s → found_none result ≡ true → (t : State) × Starves s (event_of event.now) (λ q. false) t × IsIn self.new t }
     {
         match event {
             Event::Open(id) => self.open(*id),
@@ -100,12 +100,21 @@ impl Hub {
     /// connection has ended. Refused, an event changes nothing; without memory an opening changes nothing, and a
     /// connection that waits is dead where bytes come on it. Bytes on one that has ended want no memory.
     pub fn on(&mut self, event: &Event) -> Result<(), HubFault>
-        ensures follows { (s : State) → IsIn self.old s → (t : State) × Follows s (happening (event_of event.now) result) t × IsIn self.new t }
-        ensures runs { (r s : State) (before : List Happening) → Runs r before s → IsIn self.old s → (t : State) × Runs r (before ++ happening (event_of event.now) result ∷ []) t × IsIn self.new t }
+        ensures follows { (s : State) → IsIn self.old s → (h : Happening) × (t : State) × Happened (event_of event.now) result h × Follows s h t × IsIn self.new t }
+        ensures runs { (r s : State) (before : List Happening) → Runs r before s → IsIn self.old s → (h : Happening) × (t : State) × Happened (event_of event.now) result h × Runs r (before ++ h ∷ []) t × IsIn self.new t }
         ensures refused { (s : State) → IsIn self.old s → refusal_number result ≡ refusal s (event_of event.now) }
         ensures unchanged { refusal_number result ≢ None → self.new ≡ self.old }
     {
         self.step(event)
+    }
+
+    /// Takes the first n bytes of what is out on a connection, at most all; nothing for an unknown id. Once all the bytes
+    /// of a connection that has ended are taken, no buffer is kept for it.
+    pub fn take(&mut self, id: u64, n: usize)
+        ensures takes { (s : State) → IsIn self.old s → IsIn self.new (with_bytes_taken s id n) }
+        ensures runs { (r s : State) (before : List Happening) → Runs r before s → IsIn self.old s → Runs r (before ++ takes id n ∷ []) (with_bytes_taken s id n) }
+    {
+        take_at(self.alloc, &mut self.connections, id, n);
     }
 
     /// What was written on a connection and not yet taken; nothing for an unknown id.

@@ -1,13 +1,14 @@
 //! Laws of what a hub does, which crates above build on. Each function does nothing; what it promises is the law.
 
-ghost use Rattle.std.specs.Prelude.{◌≡◌, ◌≢◌, ◌++◌, ℕ, List, option_map};
+ghost use Rattle.std.specs.Prelude.{◌≡◌, ◌≢◌, ◌++◌, ℕ, Bool, true, false, List, drop, option_map};
 ghost use Rattle.std.specs.FinMap as fin;
 ghost use Rattle.schema.specs.TypesFile.{ServedShape};
+ghost use Rattle.verbs.specs.Machine.{Machine};
 ghost use Rattle.httpedge.specs.Asks.{Asked, Asks};
-ghost use Rattle.httpedge.specs.Connections.{Connection, Connections, each};
+ghost use Rattle.httpedge.specs.Connections.{AllIsOut, Connection, Connections, each, ended_on, out_on, watching_on, written_on};
 ghost use Rattle.httpedge.specs.Decision.{undecided};
-ghost use Rattle.httpedge.specs.Runs.{Happening, NoFloatOnTheWay, Runs, Steps};
-ghost use Rattle.httpedge.specs.Steps.{State, comes};
+ghost use Rattle.httpedge.specs.Runs.{Follows, Happening, HappensElsewhere, NoFloatOnTheWay, Runs, Starves, Steps, peer_goes};
+ghost use Rattle.httpedge.specs.Steps.{Event, State, comes, start, ticks, with_bytes_taken};
 
 /// Bytes ask one thing; and what they ask stays asked, whatever bytes follow, once it is decided.
 pub fn one_asked()
@@ -29,4 +30,32 @@ pub fn one_outcome()
 /// A change of each connection is seen under each id.
 pub fn each_changes()
     ensures { (f : ℕ → Connection → Connection) (all : Connections) (id : ℕ) → fin.get (each f all) id ≡ option_map (f id) (fin.get all id) }
+{}
+
+/// The bytes that are taken of a connection are the first of those that are out on it, at most all.
+pub fn bytes_are_taken()
+    ensures { (s : State) (id n : ℕ) → out_on (with_bytes_taken s id n).connections id ≡ drop n (out_on s.connections id) }
+{}
+
+/// What happens on one connection leaves every other as it was.
+pub fn others_stay()
+    ensures { (s t : State) (h : Happening) (other : ℕ) → HappensElsewhere h other → Follows s h t → fin.get t.connections other ≡ fin.get s.connections other }
+{}
+
+/// A connection that has ended stays so, whatever happens.
+pub fn ends_stay()
+    ensures { (s t : State) (h : Happening) (id : ℕ) → Follows s h t → ended_on s.connections id ≡ true → ended_on t.connections id ≡ true }
+{}
+
+/// A tick changes watches alone, also where some of them find no memory.
+pub fn ticks_are_for_watches()
+    ensures with_memory { (s t : State) (ms id : ℕ) → watching_on s.connections id ≡ false → Steps s (ticks ms) t → fin.get t.connections id ≡ fin.get s.connections id }
+    ensures without_memory { (s t : State) (ms id : ℕ) (found_none : ℕ → Bool) → watching_on s.connections id ≡ false → Starves s (ticks ms) found_none t → fin.get t.connections id ≡ fin.get s.connections id }
+{}
+
+/// While nothing is taken and no peer goes, what is out on a connection is all that was written on it.
+pub fn all_is_out()
+    ensures start { (types : List ServedShape) (m : Machine) → AllIsOut (start types m).connections }
+    ensures stays { (s t : State) (e : Event) → peer_goes e ≡ false → AllIsOut s.connections → Steps s e t → AllIsOut t.connections }
+    ensures written { (all : Connections) (id : ℕ) → AllIsOut all → out_on all id ≡ written_on all id }
 {}

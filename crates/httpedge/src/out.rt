@@ -2,6 +2,8 @@
 
 ghost use Rattle.std.specs.Prelude.{◌≤◌, length};
 
+use std::alloc::Global;
+
 /// All that was written on a connection, and how many bytes of it were taken.
 #[derive(Debug, Drop)]
 pub(crate) struct Out {
@@ -25,5 +27,16 @@ impl Out {
         ensures { result.now ≡ left self.now }
     {
         &self.bytes[self.taken..]
+    }
+
+    /// Takes the first n bytes of what is left, at most all; once all is taken, no buffer is kept.
+    pub(crate) fn take(&mut self, alloc: Global, n: usize)
+        ensures { left self.new ≡ drop n (left self.old) }
+    {
+        if n < self.bytes.len() - self.taken {
+            self.taken += n;
+        } else {
+            *self = Out::of(Vec::new(alloc));
+        }
     }
 }

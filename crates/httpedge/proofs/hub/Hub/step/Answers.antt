@@ -1,8 +1,7 @@
-use Rattle.std.proofs.Common.{◌≡◌, ℕ, List, false, Err, sym, subst}
+use Rattle.std.proofs.Common.{◌≡◌, ℕ, List, true, false, sym, subst}
 use Rattle.std.specs.Prelude.{OnOk}
 use Rattle.httpedge.specs.declared.event.Event as events
-use Rattle.httpedge.specs.declared.fault.HubFault.TheVariants.{Memory}
-use Rattle.httpedge.specs.HubSeen.{IsIn, event_of}
+use Rattle.httpedge.specs.HubSeen.{IsIn, event_of, found_none}
 use Rattle.httpedge.specs.Runs.{Starves, Steps}
 use Rattle.httpedge.specs.Steps.{State, comes}
 use Rattle.httpedge.proofs.hub.Hub.step.Goals as goal
@@ -13,7 +12,7 @@ returns-in-Open-clause-ok c =
 
 pub returns-in-Open-clause-memory : goal.returns-in-Open-clause-memory
 returns-in-Open-clause-memory c =
-    subst (λ (e : events.Event). (s : State) → IsIn c.args.self.now s → c.open.result ≡ Err Memory → (t : State) × Starves s (event_of e) (λ q. false) t × IsIn c.open.new.self t)
+    subst (λ (e : events.Event). (s : State) → IsIn c.args.self.now s → found_none c.open.result ≡ true → (t : State) × Starves s (event_of e) (λ q. false) t × IsIn c.open.new.self t)
     (sym c.in-Open.is) c.open.ensures.memory
 
 pub returns-in-In-clause-ok : goal.returns-in-In-clause-ok
@@ -24,7 +23,7 @@ returns-in-In-clause-ok c =
 
 pub returns-in-In-clause-memory : goal.returns-in-In-clause-memory
 returns-in-In-clause-memory c =
-    subst (λ (e : events.Event). (s : State) → IsIn c.args.self.now s → c.receive.result ≡ Err Memory → (t : State) × Starves s (event_of e) (λ q. false) t × IsIn c.receive.new.self t)
+    subst (λ (e : events.Event). (s : State) → IsIn c.args.self.now s → found_none c.receive.result ≡ true → (t : State) × Starves s (event_of e) (λ q. false) t × IsIn c.receive.new.self t)
     (sym c.in-In.is)
-    (subst (λ (bytes : List ℕ). (s : State) → IsIn c.args.self.now s → c.receive.result ≡ Err Memory → (t : State) × Starves s (comes c.in-In.id bytes) (λ q. false) t × IsIn c.receive.new.self t)
+    (subst (λ (bytes : List ℕ). (s : State) → IsIn c.args.self.now s → found_none c.receive.result ≡ true → (t : State) × Starves s (comes c.in-In.id bytes) (λ q. false) t × IsIn c.receive.new.self t)
     c.deref.ensures.value c.receive.ensures.memory)
