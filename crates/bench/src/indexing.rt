@@ -69,7 +69,7 @@ fn objects(alloc: Global, size: u64, first: u64) -> Result<Vec<Object>, AllocErr
     Ok(all)
 }
 
-fn count_under(indexer: &Indexer, keys: &[String]) -> u64 {
+fn count_under(indexer: &Indexer<Box<dyn IndexBy>>, keys: &[String]) -> u64 {
     let mut count: u64 = 0;
     for key in keys {
         if let Some(objects) = indexer.by_index("part", key) {
@@ -79,7 +79,7 @@ fn count_under(indexer: &Indexer, keys: &[String]) -> u64 {
     count
 }
 
-fn count_held(indexer: &Indexer, keys: &[ObjectKey]) -> u64 {
+fn count_held(indexer: &Indexer<Box<dyn IndexBy>>, keys: &[ObjectKey]) -> u64 {
     let mut count: u64 = 0;
     for key in keys {
         if indexer.get(key).is_some() {

@@ -1,13 +1,17 @@
 -- The objects as a map, after one change.
-use Rattle.std.proofs.Common.{◌≡◌, ℕ, Bool, true, false, ◌&&◌, cond, List, [], ◌∷◌, map, Option, Some, None, Ordering, Less, Equal, Greater, nat_cmp, is_eq, refl, sym, ap, ap₂, ◌∙◌, true≢false}
+use Rattle.std.proofs.Common.{T, subst, suc, length, ◌≡◌, ℕ, Bool, true, false, ◌&&◌, cond, List, [], ◌∷◌, map, Option, Some, None, Ordering, Less, Equal, Greater, nat_cmp, is_eq, refl, sym, ap, ap₂, ◌∙◌, true≢false}
 use Rattle.std.specs.Prelude.{option_map}
 use Rattle.std.specs.BTreeMap.{BTreeMap, is_at, get, insert_entry}
 use Rattle.std.specs.Cmp.{IsTotalOrder}
 use Rattle.std.specs.Cmp.Lexicographic.{slice_cmp}
 use Rattle.std.specs.FinMap as fin
 use Rattle.std.specs.FinMap.{find, IsAntisymmetric}
-use Rattle.std.specs.Map.{lookup, remove_entry}
-use Rattle.std.specs.Ordering.{match_ordering, eq_by_cmp}
+use Rattle.std.specs.FinMap.Entries as entries
+use Rattle.std.specs.List.{AllByRecursion}
+use Rattle.std.specs.List.Sorted.{IsStrictlySortedBy}
+use Rattle.std.specs.Map.{keys_of, lookup, remove_entry}
+use Rattle.std.specs.Ordering.{match_ordering, eq_by_cmp, is_lt}
+use Rattle.std.proofs.lemmas.Map.Keys.{sorted_head, sorted_tail}
 use Rattle.std.proofs.lemmas.Cmp.{then_total, on_total, nat_list_cmp_total}
 use Rattle.indexer.specs.declared.entry.Entry.{Entry}
 use Rattle.indexer.specs.declared.object.ObjectKey.{ObjectKey}
@@ -140,3 +144,30 @@ pub under_is : (objects : BTreeMap ObjectKey Entry) (postings : List Postings) �
     → under_number postings n k q ≡ is_under_number (held_in objects) n k (place_of q)
 under_is objects postings holds None k q = refl
 under_is objects postings holds (Some i) k q = holds i k q ∙ has_is (get key_cmp objects q) i k ∙ sym (ap (λ o. has_one o i k) (get_held objects q))
+
+-- ---- how many there are
+
+both_hold : (a b : Bool) → T a → T b → T (a && b)
+both_hold true b x y = y
+both_hold false b x y = absurd x
+
+all_below : (k : ObjectKey) (es : List (ObjectKey × Entry)) → AllByRecursion (λ y. key_cmp k y ≡ Less) (keys_of es) → T (entries.below_all place_cmp (place_of k) (map shown es))
+all_below k [] h = tt
+all_below k (e ∷ es) h = subst T (sym (ap (λ o. is_lt o && entries.below_all place_cmp (place_of k) (map shown es)) h.0)) (all_below k es h.1)
+
+in_order : (es : List (ObjectKey × Entry)) → IsStrictlySortedBy key_cmp (keys_of es) → T (fin.is_sorted place_cmp (map shown es))
+in_order [] h = tt
+in_order (e ∷ es) h = both_hold _ _ (all_below e.0 es (sorted_head key_cmp e.0 (keys_of es) h)) (in_order es (sorted_tail key_cmp e.0 (keys_of es) h))
+
+shown_length : (es : List (ObjectKey × Entry)) → length (map shown es) ≡ length es
+shown_length [] = refl
+shown_length (e ∷ es) = ap suc (shown_length es)
+
+pub held_len : (objects : BTreeMap ObjectKey Entry) → IsStrictlySortedBy key_cmp (keys_of objects.entries) → length objects.entries ≡ fin.len (held_in objects)
+held_len objects h =
+    let es = map shown objects.entries in
+    let sorted = in_order objects.entries h in
+    sym (
+    ap fin.len (fin.same_map place_total place_antisymmetric (held_in objects) (fin.from_sorted es) (λ q. fin.get-from_entries place_total es q ∙ sym (fin.get-from_sorted place_cmp es q sorted)))
+    ∙ fin.len-entries (fin.from_sorted {R = place_cmp} es) ∙ ap length (fin.entries-from_sorted place_cmp es sorted) ∙ shown_length objects.entries
+    )

@@ -8,3 +8,4 @@ pub mod Same
 pub mod Shown
 pub mod Under
 pub mod Written
+pub mod Copies

@@ -3,20 +3,18 @@ use Rattle.std.specs.Prelude.{ℕ, Bool, false, List, [], map, Option, None, Som
 use Rattle.std.specs.FinMap.{get}
 use Rattle.std.specs.List.{position, slice_index_or}
 use Rattle.std.specs.Str.{bytes_eq}
-use Rattle.std.specs.declared.alloc.Global.{Global}
-use Rattle.std.specs.declared.dyn_box.DynBox.{DynBox}
 use Rattle.indexer.specs.declared.indexer.Indexer.{Indexer}
 use Rattle.indexer.specs.Kept.{Held, held_in}
 use Rattle.indexer.specs.Objects.{Place, Stored, is_among}
 
 -- the objects, each with its keys in each index
-abbrev pub held_of : {X : Type 0} {Y : X → Type 0} → Indexer X Y → Held
+abbrev pub held_of : {I : Type 0} → Indexer I → Held
 held_of i = held_in i.objects
 
-abbrev pub indexes_of : {X : Type 0} {Y : X → Type 0} → Indexer X Y → List (DynBox X Global Y)
+abbrev pub indexes_of : {I : Type 0} → Indexer I → List I
 indexes_of i = i.indexes.items
 
-abbrev pub names_of : {X : Type 0} {Y : X → Type 0} → Indexer X Y → List (List ℕ)
+abbrev pub names_of : {I : Type 0} → Indexer I → List (List ℕ)
 names_of i = map string_bytes i.names.items
 
 abbrev pub has_one : Option (Stored × List (List (List ℕ))) → ℕ → List ℕ → Bool

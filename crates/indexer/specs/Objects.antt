@@ -1,6 +1,7 @@
 -- The objects that the client keeps, by namespace and name.
 use Rattle.std.specs.Prelude.{ℕ, zero, suc, Bool, false, List, [], ◌∷◌, map, Option, None, Some, Vec, String, string_bytes}
 use Rattle.std.specs.declared.alloc.Global.{Global}
+use Rattle.std.specs.BTreeMap.{BTreeMap}
 use Rattle.std.specs.List.{list_any, slice_index_or}
 use Rattle.std.specs.Ordering.{ordering_then, nat_cmp}
 use Rattle.std.specs.Cmp.Lexicographic.{slice_cmp}
@@ -18,8 +19,11 @@ pub record Stored : Type 0 where
   pub labels : List (List ℕ × List ℕ)
   pub text : List ℕ
 
+abbrev pub labels_of : BTreeMap (String Global) (String Global) → List (List ℕ × List ℕ)
+labels_of labels = map (λ e. (string_bytes e.0, string_bytes e.1)) labels.entries
+
 abbrev pub stored_of : Object → Stored
-stored_of o = record { namespace = string_bytes o.namespace; name = string_bytes o.name; revision = o.revision; labels = map (λ e. (string_bytes e.0, string_bytes e.1)) o.labels.entries; text = string_bytes o.text }
+stored_of o = record { namespace = string_bytes o.namespace; name = string_bytes o.name; revision = o.revision; labels = labels_of o.labels; text = string_bytes o.text }
 
 -- a namespace and a name
 abbrev pub Place : Type 0

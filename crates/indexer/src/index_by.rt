@@ -26,47 +26,45 @@ pub trait IndexBy: Drop {
         ensures { IfOk result (λ v. map string_bytes v.items ≡ keys self.now (stored_of object.now)) };
 }
 
-fn keys_by(
-    alloc: Global,
-    index: &Box<dyn IndexBy>,
-    object: &Object,
-) -> Result<Vec<String>, AllocError>
-    ensures { IfOk result (λ v. map string_bytes v.items ≡ keys index.now (stored_of object.now)) }
-{
-    index.keys_of(alloc, object)
+impl IndexBy for Box<dyn IndexBy> {
+    ghost title = { λ b. (IndexBy-box b).title b.value };
+
+    ghost keys = { λ b o. (IndexBy-box b).keys b.value o };
+
+    fn name(&self) -> &str {
+        (**self).name()
+    }
+
+    fn keys_of(&self, alloc: Global, object: &Object) -> Result<Vec<String>, AllocError> {
+        (**self).keys_of(alloc, object)
+    }
 }
 
 /// The keys of an object in each index.
-pub(crate) fn keys_by_each(
+pub(crate) fn keys_by_each<I: IndexBy>(
     alloc: Global,
-    indexes: &[Box<dyn IndexBy>],
+    indexes: &[I],
     object: &Object,
 ) -> Result<Vec<Vec<String>>, AllocError>
-    ensures { IfOk result (λ v. map (λ w. map string_bytes w.items) v.items ≡ map (λ b. keys b (stored_of object.now)) indexes.now) }
+    ensures { IfOk result (λ v. map (λ w. map string_bytes w.items) v.items ≡ map (λ b. I.keys b (stored_of object.now)) indexes.now) }
 {
     let mut all = Vec::with_capacity(alloc, indexes.len())?;
     for index in indexes {
-        all.push(keys_by(alloc, index, object)?)?;
+        all.push(index.keys_of(alloc, object)?)?;
     }
     Ok(all)
 }
 
-fn name_by(alloc: Global, index: &Box<dyn IndexBy>) -> Result<String, AllocError>
-    ensures { IfOk result (λ s. string_bytes s ≡ title index.now) }
-{
-    String::from_str(alloc, index.name())
-}
-
 /// The name of each index.
-pub(crate) fn names_of_each(
+pub(crate) fn names_of_each<I: IndexBy>(
     alloc: Global,
-    indexes: &[Box<dyn IndexBy>],
+    indexes: &[I],
 ) -> Result<Vec<String>, AllocError>
-    ensures { IfOk result (λ v. map string_bytes v.items ≡ map (λ b. title b) indexes.now) }
+    ensures { IfOk result (λ v. map string_bytes v.items ≡ map (λ b. I.title b) indexes.now) }
 {
     let mut names = Vec::new(alloc);
     for index in indexes {
-        names.push(name_by(alloc, index)?)?;
+        names.push(String::from_str(alloc, index.name())?)?;
     }
     Ok(names)
 }

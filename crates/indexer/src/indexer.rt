@@ -20,11 +20,11 @@ use std::fmt;
 
 /// Objects by namespace and name, and indexes that follow them.
 #[derive(Drop)]
-pub struct Indexer {
+pub struct Indexer<I: Drop> {
     objects: BTreeMap<ObjectKey, Entry>,
     postings: Vec<Postings>,
     names: Vec<String>,
-    indexes: Vec<Box<dyn IndexBy>>,
+    indexes: Vec<I>,
     alloc: Global,
     ghost indexed: { HoldsPostings objects postings.items },
 }
@@ -69,13 +69,13 @@ struct Gathered {
     postings: Vec<Postings>,
 }
 
-fn gather(
+fn gather<I: IndexBy>(
     alloc: Global,
-    indexes: &[Box<dyn IndexBy>],
+    indexes: &[I],
     from: Vec<Object>,
 ) -> Result<Gathered, AllocError>
     ensures holds { IfOk result (λ r. HoldsPostings r.objects r.postings.items) }
-    ensures held { IfOk result (λ r. held_in r.objects ≡ put_all (λ o. map (λ b. keys b o) indexes.now) (map stored_of from.items) fin.empty) }
+    ensures held { IfOk result (λ r. held_in r.objects ≡ put_all (λ o. map (λ b. I.keys b o) indexes.now) (map stored_of from.items) fin.empty) }
 {
     let mut objects = BTreeMap::new(alloc);
     let mut postings = Vec::new(alloc);
@@ -86,7 +86,7 @@ fn gather(
     Ok(Gathered { objects, postings })
 }
 
-impl Indexer {
+impl<I: IndexBy> Indexer<I> {
     ghost use Rattle.std.specs.Prelude.{◌≡◌, ◌<◌, ◌↔◌, ℕ, List, map, true, false, OnOk, OnErr, IfOk, IfSome, option_map, option_copied};
     ghost use Rattle.std.specs.BTreeSet.{btree_set_len};
     ghost use Rattle.std.specs.Cmp.Lexicographic.{slice_cmp};
@@ -101,12 +101,12 @@ impl Indexer {
     ghost use Rattle.indexer.specs.Postings.{has_in};
 
     /// No objects, and these indexes; refused where two have one name.
-    pub fn new(alloc: Global, indexes: Vec<Box<dyn IndexBy>>) -> Result<Indexer, NewError>
+    pub fn new(alloc: Global, indexes: Vec<I>) -> Result<Indexer<I>, NewError>
         ensures made { IfOk result (λ r. held_of r ≡ fin.empty) }
         ensures indexes { IfOk result (λ r. indexes_of r ≡ indexes.items) }
-        ensures names { IfOk result (λ r. names_of r ≡ map (λ b. title b) indexes.items) }
-        ensures distinct { OnOk result (are_distinct (map (λ b. title b) indexes.items) ≡ true) }
-        ensures same_name { result ≡ Err NewError.SameName → are_distinct (map (λ b. title b) indexes.items) ≡ false }
+        ensures names { IfOk result (λ r. names_of r ≡ map (λ b. I.title b) indexes.items) }
+        ensures distinct { OnOk result (are_distinct (map (λ b. I.title b) indexes.items) ≡ true) }
+        ensures same_name { result ≡ Err NewError.SameName → are_distinct (map (λ b. I.title b) indexes.items) ≡ false }
     {
         let names = names_of_each(alloc, &indexes)?;
         if !are_distinct(&names) {
@@ -123,7 +123,7 @@ impl Indexer {
 
     /// Keeps just these objects, put one after the other. Refused, it changes nothing.
     pub fn replace(&mut self, objects: Vec<Object>) -> Result<(), AllocError>
-        ensures ok { OnOk result (held_of self.new ≡ put_all (λ o. map (λ b. keys b o) (indexes_of self.old)) (map stored_of objects.items) fin.empty) }
+        ensures ok { OnOk result (held_of self.new ≡ put_all (λ o. map (λ b. I.keys b o) (indexes_of self.old)) (map stored_of objects.items) fin.empty) }
         ensures err { OnErr result (held_of self.new ≡ held_of self.old) }
         ensures indexes { indexes_of self.new ≡ indexes_of self.old }
         ensures names { names_of self.new ≡ names_of self.old }
@@ -138,7 +138,7 @@ impl Indexer {
     /// Keeps the object where it stands, in place of the one that was there, which is handed out, and in every
     /// index under its keys alone. Refused, it changes nothing.
     pub fn put(&mut self, object: Object) -> Result<Option<Object>, AllocError>
-        ensures ok { OnOk result (held_of self.new ≡ fin.insert (held_of self.old) (place_of_object object) (stored_of object, map (λ b. keys b (stored_of object)) (indexes_of self.old))) }
+        ensures ok { OnOk result (held_of self.new ≡ fin.insert (held_of self.old) (place_of_object object) (stored_of object, map (λ b. I.keys b (stored_of object)) (indexes_of self.old))) }
         ensures was { IfOk result (λ o. option_map stored_of o ≡ option_map (λ h. h.0) (fin.get (held_of self.old) (place_of_object object))) }
         ensures err { OnErr result (held_of self.new ≡ held_of self.old) }
         ensures indexes { indexes_of self.new ≡ indexes_of self.old }
@@ -175,6 +175,13 @@ impl Indexer {
         ensures { option_map (λ o. stored_of o.now) result ≡ option_map (λ h. h.0) (fin.get (held_of self.now) (place_of key.now)) }
     {
         kept::object_at(&self.objects, key)
+    }
+
+    /// How many objects there are. Takes no memory.
+    pub fn len(&self) -> usize
+        ensures { result ≡ fin.len (held_of self.now) }
+    {
+        kept::count(&self.objects)
     }
 
     /// The keys of the objects that have a key in the index of this name; None where none has it, or no index

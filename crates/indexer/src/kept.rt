@@ -94,3 +94,10 @@ pub(crate) fn object_at<'a>(
         None => None,
     }
 }
+
+/// How many objects there are.
+pub(crate) fn count(objects: &BTreeMap<ObjectKey, Entry>) -> usize
+    ensures { result ≡ map.len (held_in objects.now) }
+{
+    objects.len()
+}

@@ -1,6 +1,7 @@
 //! Objects and their keys.
 
 ghost use Rattle.std.specs.Prelude.{◌≡◌, IfOk, string_bytes};
+ghost use Rattle.indexer.specs.Objects.{labels_of};
 
 use std::alloc::AllocError;
 use std::collections::BTreeMap;
@@ -23,6 +24,29 @@ pub struct Object {
     pub labels: BTreeMap<String, String>,
     /// The object as it was read, JSON.
     pub text: String,
+}
+
+fn copy_labels(labels: &BTreeMap<String, String>) -> Result<BTreeMap<String, String>, AllocError>
+    ensures { IfOk result (λ m. labels_of m ≡ labels_of labels.now) }
+{
+    labels.clone()
+}
+
+impl Object {
+    ghost use Rattle.indexer.specs.Objects.{stored_of};
+
+    /// The same object once more.
+    pub fn try_copy(&self) -> Result<Object, AllocError>
+        ensures { IfOk result (λ o. stored_of o ≡ stored_of self.now) }
+    {
+        Ok(Object {
+            namespace: self.namespace.clone()?,
+            name: self.name.clone()?,
+            revision: self.revision,
+            labels: copy_labels(&self.labels)?,
+            text: self.text.clone()?,
+        })
+    }
 }
 
 impl ObjectKey {

@@ -7,6 +7,8 @@ use std::alloc::{AllocError, Global};
 use std::collections::BTreeMap;
 use std::test::Fail;
 
+type Boxed = Indexer<Box<dyn IndexBy>>;
+
 /// By the object's namespace.
 #[derive(Drop)]
 struct Namespace;
@@ -71,7 +73,7 @@ fn two_indexes(alloc: Global) -> Result<Vec<Box<dyn IndexBy>>, AllocError> {
     Ok(indexes)
 }
 
-fn empty(alloc: Global) -> Result<Indexer, Fail> {
+fn empty(alloc: Global) -> Result<Boxed, Fail> {
     Ok(Indexer::new(alloc, two_indexes(alloc)?)?)
 }
 
@@ -82,7 +84,7 @@ fn revision_or_zero(object: Option<Object>) -> u64 {
 /// Puts an object; the revision of the one that it replaced, or 0.
 fn put(
     alloc: Global,
-    indexer: &mut Indexer,
+    indexer: &mut Boxed,
     name: &str,
     revision: u64,
     text: &str,
@@ -92,7 +94,7 @@ fn put(
 }
 
 /// Removes an object; its revision, or 0.
-fn remove(alloc: Global, indexer: &mut Indexer, name: &str) -> Result<u64, AllocError> {
+fn remove(alloc: Global, indexer: &mut Boxed, name: &str) -> Result<u64, AllocError> {
     let was = indexer.remove(&key(alloc, name)?);
     Ok(revision_or_zero(was))
 }
@@ -108,24 +110,24 @@ fn two_objects(
     Ok(objects)
 }
 
-fn replace(indexer: &mut Indexer, objects: Vec<Object>) -> Result<(), AllocError> {
+fn replace(indexer: &mut Boxed, objects: Vec<Object>) -> Result<(), AllocError> {
     indexer.replace(objects)
 }
 
-fn revision_at(indexer: &Indexer, key: &ObjectKey) -> u64 {
+fn revision_at(indexer: &Boxed, key: &ObjectKey) -> u64 {
     indexer.get(key).map_or(0, |now| now.revision)
 }
 
-fn revision_of(alloc: Global, indexer: &Indexer, name: &str) -> Result<u64, AllocError> {
+fn revision_of(alloc: Global, indexer: &Boxed, name: &str) -> Result<u64, AllocError> {
     Ok(revision_at(indexer, &key(alloc, name)?))
 }
 
-fn count(indexer: &Indexer, name: &str, key: &str) -> usize {
+fn count(indexer: &Boxed, name: &str, key: &str) -> usize {
     indexer.by_index(name, key).map_or(0, |keys| keys.len())
 }
 
 /// How many objects have the namespace, and stand under each key of the second index.
-fn counts(indexer: &Indexer) -> (usize, usize, usize) {
+fn counts(indexer: &Boxed) -> (usize, usize, usize) {
     (
         count(indexer, "namespace", "default"),
         count(indexer, "text", "x"),
@@ -133,18 +135,18 @@ fn counts(indexer: &Indexer) -> (usize, usize, usize) {
     )
 }
 
-fn is_indexed(indexer: &Indexer, name: &str, key: &str) -> bool {
+fn is_indexed(indexer: &Boxed, name: &str, key: &str) -> bool {
     indexer.by_index(name, key).is_some()
 }
 
-fn keys(indexer: &Indexer, name: &str) -> Result<usize, AllocError> {
+fn keys(indexer: &Boxed, name: &str) -> Result<usize, AllocError> {
     Ok(indexer.keys(name)?.len())
 }
 
 /// An indexer under both indexes.
 #[derive(Drop)]
 struct Cache {
-    indexer: Indexer,
+    indexer: Boxed,
 }
 
 impl Answers for Cache {
@@ -167,7 +169,7 @@ fn first_word(text: &str) -> (&str, &str) {
 /// Puts an object at a revision with a text.
 fn answer_of_put(
     alloc: Global,
-    indexer: &mut Indexer,
+    indexer: &mut Boxed,
     call: &str,
     name: &str,
     words: &str,
@@ -182,7 +184,7 @@ fn answer_of_put(
 
 fn answer_of_index(
     alloc: Global,
-    indexer: &Indexer,
+    indexer: &Boxed,
     call: &str,
     name: &str,
     key: &str,
@@ -195,7 +197,7 @@ fn answer_of_index(
 
 fn answer_of_object(
     alloc: Global,
-    indexer: &mut Indexer,
+    indexer: &mut Boxed,
     call: &str,
     name: &str,
 ) -> Result<String, Fail> {
@@ -223,7 +225,7 @@ fn truth(alloc: Global, truth: bool) -> Result<String, Fail> {
     Ok(format!(in alloc; "{truth}")?)
 }
 
-fn told_counts(alloc: Global, indexer: &Indexer) -> Result<String, Fail> {
+fn told_counts(alloc: Global, indexer: &Boxed) -> Result<String, Fail> {
     let (all, x, y) = counts(indexer);
     Ok(format!(in alloc; "{all} {x} {y}")?)
 }
@@ -295,14 +297,14 @@ fn two_indexes_with_one_name(rt: HostRuntime) -> Result<(), Fail> {
     Ok(())
 }
 
-fn try_put(indexer: &mut Indexer, object: Object) -> Result<u64, AllocError> {
+fn try_put(indexer: &mut Boxed, object: Object) -> Result<u64, AllocError> {
     Ok(revision_or_zero(indexer.put(object)?))
 }
 
 /// A put between marks; whether memory was refused.
 fn is_put_refused(
     alloc: Global,
-    indexer: &mut Indexer,
+    indexer: &mut Boxed,
     object: Object,
 ) -> Result<bool, AllocError> {
     mark(alloc)?;
@@ -312,14 +314,14 @@ fn is_put_refused(
 }
 
 /// The revision under a key, and the counts of the indexes.
-fn seen(indexer: &Indexer, place: &ObjectKey) -> (u64, (usize, usize, usize)) {
+fn seen(indexer: &Boxed, place: &ObjectKey) -> (u64, (usize, usize, usize)) {
     (revision_at(indexer, place), counts(indexer))
 }
 
 /// A put; refused memory, the objects and both indexes are as before, and it is done when called again.
 fn put_anew(
     alloc: Global,
-    indexer: &mut Indexer,
+    indexer: &mut Boxed,
     name: &str,
     revision: u64,
     text: &str,
@@ -357,7 +359,7 @@ fn a_refused_put_changes_nothing(rt: HostRuntime) -> Result<(), Fail> {
 /// A replace between marks; whether memory was refused.
 fn is_replace_refused(
     alloc: Global,
-    indexer: &mut Indexer,
+    indexer: &mut Boxed,
     objects: Vec<Object>,
 ) -> Result<bool, AllocError> {
     mark(alloc)?;
@@ -367,7 +369,7 @@ fn is_replace_refused(
 }
 
 /// Whether a replace between marks, of `a` by two others, is done whole or changes nothing.
-fn is_replaced_or_as_before(alloc: Global, indexer: &mut Indexer) -> Result<bool, AllocError> {
+fn is_replaced_or_as_before(alloc: Global, indexer: &mut Boxed) -> Result<bool, AllocError> {
     let others = two_objects(alloc, ("b", "x"), ("c", "x"))?;
     let place = key(alloc, "a")?;
     let wanted = match is_replace_refused(alloc, indexer, others)? {

@@ -4,4 +4,4 @@ use Rattle.indexer.proofs.index_by.keys_by_each.Given as goal
 
 abbrev pub invariant-loop-index : goal.invariant-loop-index
 invariant-loop-index g l =
-    map (λ w. map string_bytes w.items) l.all.items ≡ map (λ b. (goal.IndexBy-dyn g (b.vtable, b.value)).keys b.value (stored_of l.object)) (take l.index-index l.indexes)
+    map (λ w. map string_bytes w.items) l.all.items ≡ map (λ b. g.I.IndexBy.keys b (stored_of l.object)) (take l.index-index l.indexes)

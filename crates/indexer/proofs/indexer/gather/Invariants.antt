@@ -8,7 +8,7 @@ use Rattle.indexer.proofs.indexer.gather.Given as goal
 
 abbrev pub invariant-loop-object : goal.invariant-loop-object
 invariant-loop-object g l =
-    let ks = λ (o : Stored). map (λ b. (goal.IndexBy-dyn g (b.vtable, b.value)).keys b.value o) l.indexes in
+    let ks = λ (o : Stored). map (λ b. g.I.IndexBy.keys b o) l.indexes in
     record {
       can : (goal.iterator-loop-object g).can_next l.object-iterator;
       finite : (goal.iterator-loop-object g).is_finite l.object-iterator;
