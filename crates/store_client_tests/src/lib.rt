@@ -6,6 +6,8 @@
 #[cfg(test)]
 mod cached;
 #[cfg(test)]
+mod decoded;
+#[cfg(test)]
 mod marking;
 #[cfg(test)]
 mod names_and_versions;
