@@ -1,5 +1,5 @@
 -- What CREATE and INSERT leave.
-use Rattle.std.proofs.Common.{◌≡◌, ℕ, pos, List, [], ◌∷◌, ◌++◌, map, cond, Bool, true, false, Some, None, Ok, Err, Result, OnOk, OnErr, refl, sym, ap, subst, ◌∙◌, arith, ◌<◌, ◌^◌, Option, IsTrue, Bor, to_z, w64, option_map}
+use Rattle.std.proofs.Common.{◌≡◌, ℕ, pos, List, [], ◌∷◌, ◌++◌, map, cond, Bool, true, false, Some, None, Ok, Err, Result, OnOk, refl, sym, ap, subst, ◌∙◌, arith, ◌<◌, ◌^◌, Option, Bor, to_z, w64, option_map}
 use Rattle.std.proofs.lemmas.Int.{ints, to_z_pos}
 use Rattle.std.proofs.lemmas.Bool.Decides.{nat_tests}
 use Rattle.sqlite_keyed.proofs.ListLemmas.{map_back}
@@ -26,9 +26,9 @@ use Rattle.sqlite.specs.Rows.{Written}
 use Rattle.sqlite.specs.Tree.{Trees, put_row}
 use Rattle.sqlite.specs.Order.{Row}
 use Rattle.history.specs.History.{Change}
-use Rattle.revtable.specs.Rows.{change_table, change_schema, no_schema, body_value, row_of, change_in, changes_in, AreBelow, IsKept}
+use Rattle.revtable.specs.Rows.{change_table, change_schema, no_schema, body_value, row_of, change_in, changes_in, AreBelow, IsKept, Keeps}
 use Rattle.revtable.proofs.Texts.{create_text, create_is, create_plain, insert_text, terms, insert_is, insert_plain}
-use Rattle.revtable.proofs.Outcomes.{went, same_value, refused_keeps, back}
+use Rattle.revtable.proofs.Outcomes.{went, same_value, open_if_ran, back}
 
 creates : (old new : State) (r : Result ℕ Error) → old.now.schema ≡ no_schema → Executes create_text [] old new r → OnOk r (new.now.schema ≡ change_schema) × OnOk r (new.now.trees 0 ≡ [])
 creates old new (Err e) has h = (tt, tt)
@@ -45,21 +45,19 @@ creates old new (Ok count) has h =
     (ap (λ (d : Database). d.schema) now ∙ schema, ap (λ (d : Database). d.trees 0) now ∙ subst (λ s. first.0.trees (next_tree s) ≡ []) has made.empty)
 
 -- what CREATE leaves
-pub create_keeps : (old new : State) (r : Result ℕ Error) → IsEmpty old → IsTrue new.is_open → Executes create_text [] old new r → OnOk r (IsKept new) × OnOk r (changes_in new ≡ [])
-create_keeps old new (Err e) was live h = (tt, tt)
-create_keeps old new (Ok count) was live h =
+pub create_keeps : (old new : State) (count : ℕ) → IsEmpty old → Executes create_text [] old new (Ok count) → Keeps (changes_in new) new × (changes_in new ≡ [])
+create_keeps old new count was h =
     let w = subst (λ t. Writes old new None CreateTable t [] count) create_is.1 (runs_as create_text [] old new no_schema was.2 CreateTable create_is.0 create_plain count h) in
     let did = creates old new (Ok count) was.2 h in
-    let rows : changes_in new ≡ [] = ap (map change_in) did.1 in (
-      record {
-        schema = did.0;
-        rows = did.1 ∙ ap (map row_of) (sym rows);
-        settled = w.shown.committed_is ∙ rw was.0.autocommit refl;
-        autocommit = w.shown.mode ∙ was.0.autocommit;
-        is_open = live;
-      },
-      rows,
-    )
+    let rows : changes_in new ≡ [] = ap (map change_in) did.1 in
+    let kept : IsKept new = record {
+      schema = did.0;
+      rows = did.1 ∙ ap (map row_of) (sym rows);
+      settled = w.shown.committed_is ∙ rw was.0.autocommit refl;
+      autocommit = w.shown.mode ∙ was.0.autocommit;
+      is_open = w.shown.is_open;
+    } in
+    (record { autocommit = kept.autocommit; rows = λ _. (kept, refl) }, rows)
 
 -- ---- INSERT
 
@@ -111,12 +109,9 @@ adds old new it changes (Ok count) has was below h =
     (ap (λ (d : Database). d.schema) now, ap (λ (d : Database). d.trees 0) now ∙ ap (λ (t : Trees). t 0) trees ∙ rows ∙ edit)
 
 -- what INSERT leaves
-pub put_keeps : (old new : State) (it : Change) (r : Result ℕ Error) → IsKept old → AreBelow it.revision (changes_in old) → IsTrue new.is_open → Executes insert_text (bound_change it) old new r
-    → IsKept new × OnOk r (changes_in new ≡ changes_in old ++ it ∷ []) × OnErr r (changes_in new ≡ changes_in old)
-put_keeps old new it (Err e) kept below live h =
-    let all = refused_keeps old new insert_text _ e kept live h in
-    (all.0, tt, all.1)
-put_keeps old new it (Ok count) kept below live h =
+added : (old new : State) (it : Change) (count : ℕ) → IsKept old → AreBelow it.revision (changes_in old) → Executes insert_text (bound_change it) old new (Ok count)
+    → IsKept new × (changes_in new ≡ changes_in old ++ it ∷ [])
+added old new it count kept below h =
     let w = runs_as insert_text (bound_change it) old new change_schema kept.schema (Insert 0 (Values terms 6)) insert_is insert_plain count h in
     let did = adds old new it (changes_in old) (Ok count) kept.schema kept.rows below h in
     let rows : changes_in new ≡ changes_in old ++ it ∷ [] = ap (map change_in) did.1 ∙ map_back row_of change_in back (changes_in old ++ it ∷ []) in (
@@ -125,11 +120,17 @@ put_keeps old new it (Ok count) kept below live h =
         rows = did.1 ∙ ap (map row_of) (sym rows);
         settled = w.shown.committed_is ∙ rw kept.autocommit refl;
         autocommit = w.shown.mode ∙ kept.autocommit;
-        is_open = live;
+        is_open = w.shown.is_open;
       },
       rows,
-      tt,
     )
+
+pub put_adds : (old new : State) (it : Change) (count : ℕ) (cs : List Change) → Keeps cs old → AreBelow it.revision cs → Executes insert_text (bound_change it) old new (Ok count)
+    → Keeps (changes_in new) new × (changes_in new ≡ cs ++ it ∷ [])
+put_adds old new it count cs keeps below h =
+    let was = keeps.rows (open_if_ran old new insert_text (bound_change it) count keeps.autocommit h) in
+    let all = added old new it count was.0 (subst (AreBelow it.revision) (sym was.1) below) h in
+    (record { autocommit = all.0.autocommit; rows = λ _. (all.0, refl) }, all.1 ∙ ap (λ l. l ++ it ∷ []) was.1)
 
 pub bound_body : (b : Option (Bor (List ℕ))) → bound_value (or_null (λ s. Words s.now) b) ≡ body_value (option_map (λ s. s.now) b)
 bound_body None = refl

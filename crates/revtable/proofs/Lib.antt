@@ -1,5 +1,6 @@
 pub mod Counts
 pub mod Entries
+pub mod Files
 pub mod Halves
 pub mod Inserts
 pub mod Last

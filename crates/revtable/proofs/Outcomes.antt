@@ -1,17 +1,20 @@
 -- What a statement that fails leaves, and what a query leaves.
-use Rattle.std.proofs.Common.{◌≡◌, ◌⊎◌, inl, inr, ℕ, List, map, false, Some, None, Ok, Err, Result, IfOk, refl, sym, ap, subst, ◌∙◌, arith, Option, IsTrue}
+use Rattle.std.proofs.Common.{◌≡◌, ◌⊎◌, inl, inr, ℕ, List, map, false, Some, None, Ok, Err, Result, IfOk, refl, sym, ap, subst, ◌∙◌, Option, IsTrue, true≢false}
 use Rattle.std.proofs.lemmas.Bool.{cases_Bool}
 use Rattle.std.specs.Prelude.{Vec, IfErr}
 use Rattle.std.specs.declared.alloc.Global.{Global}
 use Rattle.sqlite.specs.Order.{Row}
 use Rattle.sqlite.specs.declared.error.Error.{Error}
 use Rattle.sqlite.specs.Effect.{Database}
+use Rattle.sqlite_resolve.specs.declared.compiled.Compiled.{Compiled}
+use Rattle.sqlite_schema.specs.declared.command.Command.{Command}
+use Rattle.sqlite_schema.specs.declared.command.Command.TheVariants.{Select, Insert, InsertOr, Update, Delete, CreateTable, CreateIndex, DropTable, DropIndex, Begin, Commit, Rollback, Savepoint as Save, Release, RollbackTo, Nothing, CreateView, DropView, Rows}
+use Rattle.sqlite_schema.specs.declared.command.Returning.{Returning}
 use Rattle.sqlite.specs.Listing.{understood}
-use Rattle.sqlite.specs.Tree.{Trees}
-use Rattle.sqlite.specs.State.{State, Executes, Shown, IsUnchanged, FailsToQuery, FailsToShow, ShowsRows, Survives, HasCleanDisk, Fails, IsNotRun, ExecutesIn, shows_rows}
+use Rattle.sqlite.specs.State.{State, Executes, Shown, IsUnchanged, FailsToQuery, FailsToShow, ShowsRows, Fails, IsNotRun, IsRolledBack, ExecutesIn, RunsCommand, Runs, ReleasesAt, shows_rows}
 use Rattle.sqlite.proofs.Callers.{IsPlain}
 use Rattle.history.specs.History.{Change}
-use Rattle.revtable.specs.Rows.{change_schema, row_of, change_in, changes_in, body_value, body_in, IsKept, IsSame}
+use Rattle.revtable.specs.Rows.{change_schema, row_of, change_in, changes_in, body_value, body_in, IsKept, Keeps, IsSame}
 
 -- a part that gave a value did not stop on the way
 pub went : {B E R : Type 0} {b : B} {Stops : E → Type 0} → ((stop : E) × Stops stop × (Ok b ≡ Err stop)) ⊎ R → R
@@ -21,8 +24,86 @@ went (inr on) = on
 pub same_value : {B E : Type 0} {a b : B} → ◌≡◌ {A = Result B E} (Ok a) (Ok b) → a ≡ b
 same_value e = cc
 
-pub open_still : (old new : State) (P : Trees → Type 0) → Survives old new P → HasCleanDisk new → IsTrue old.is_open → old.faults ≡ 0 → new.faults ≡ 0 → IsTrue new.is_open
-open_still old new P s clean live was now = elim (s.closes clean live) [ inl is ↦ is | inr more ↦ absurd (omega (arith, more)) ]
+-- ---- a call that ends with the connection open began so, and one that begins outside of a transaction ends so
+
+pub record Goes (old new : State) : Type 0 where
+  pub autocommit : old.in_transaction ≡ false → new.in_transaction ≡ false
+  pub was_open : IsTrue new.is_open → IsTrue old.is_open
+
+goes_by : (old new : State) → IsUnchanged old new → Goes old new
+goes_by old new u = record { autocommit = λ auto. u.0.mode ∙ auto; was_open = λ _. u.0.was_open }
+
+goes_back : (old new : State) → IsRolledBack old new → Goes old new
+goes_back old new r = record { autocommit = λ _. r.autocommit; was_open = r.was_open }
+
+module _ (old new : State) where
+  goes_not_run : (sql : List ℕ) (params : Row) (e : Error) → IsNotRun old new sql params e → Goes old new
+  unfolding IsNotRun
+  goes_not_run sql params e (inl h) = goes_by old new h.1
+  goes_not_run sql params e (inr h) = goes_back old new h.3
+
+  goes_failed : (sql : List ℕ) (c : Compiled) (params : Row) (e : Error) → RunsCommand old new sql c params (Err e) → Goes old new
+  goes_failed sql c params e (inl h) = goes_by old new h.1
+  goes_failed sql c params e (inr h) = goes_back old new h.3
+
+  goes_refused : (sql : List ℕ) (params : Row) (e : Error) → Executes sql params old new (Err e) → Goes old new
+  unfolding ExecutesIn
+  goes_refused sql params e (inl h) = goes_not_run sql params e h
+  goes_refused sql params e (inr h) = elim (cases_Bool (shows_rows false h.0)) [
+    | inl shows ↦ goes_by old new (rw shows at h.2).1
+    | inr runs ↦ goes_failed sql h.0 _ e (rw runs at h.2)
+  ]
+
+  goes_unshown : (sql : List ℕ) (c : Compiled) (params : Row) (e : Error) (r : Option Returning) → FailsToShow old new sql c params e r → Goes old new
+  goes_unshown sql c params e None h = goes_by old new h.3
+  goes_unshown sql c params e (Some what) h = goes_failed sql c params e h
+
+  goes_unanswered : (sql : List ℕ) (params : Row) (e : Error) → FailsToQuery sql params old new e → Goes old new
+  unfolding FailsToQuery
+  goes_unanswered sql params e (inl h) = goes_not_run sql params e h
+  goes_unanswered sql params e (inr h) = goes_unshown sql h.0 _ e h.0.returning h.2
+
+  open_as_shown : (sql : List ℕ) (c : Compiled) (params : Row) (rows : List Row) (r : Option Returning) → ShowsRows old new sql c params rows r → IsTrue old.is_open × Goes old new
+  open_as_shown sql c params rows None h = (h.3.0.was_open, goes_by old new h.3)
+  open_as_shown sql c params rows (Some what) h = (h.1.shown.was_open, record { autocommit = λ auto. h.1.shown.mode ∙ auto; was_open = λ _. h.1.shown.was_open })
+
+  -- what answers was open
+  open_if_shown : (sql : List ℕ) (params : Row) (rows : List Row) → Shown sql params old new rows → IsTrue old.is_open × Goes old new
+  unfolding Shown
+  open_if_shown sql params rows h = open_as_shown sql h.0 _ rows h.0.returning h.2
+
+  released_open : (at : ℕ) → ReleasesAt old new at → IsTrue old.is_open
+  released_open at (inl h) = h.1.0.was_open
+  released_open at (inr h) = h.1.0.was_open
+
+  open_if_run : (r : Option Returning) (command : Command) (text : List ℕ) (params : Row) (count : ℕ) → old.in_transaction ≡ false → Runs old new r command text params count → IsTrue old.is_open
+  open_if_run r (Select q names) text params count auto h = absurd h
+  open_if_run r (Insert at from) text params count auto h = h.shown.was_open
+  open_if_run r (InsertOr at how from clauses) text params count auto h = h.shown.was_open
+  open_if_run r (Update at q) text params count auto h = h.shown.was_open
+  open_if_run r (Delete at q) text params count auto h = h.shown.was_open
+  open_if_run r CreateTable text params count auto h = h.shown.was_open
+  open_if_run r (CreateIndex at) text params count auto h = h.shown.was_open
+  open_if_run r (DropTable at) text params count auto h = h.shown.was_open
+  open_if_run r (DropIndex at) text params count auto h = h.shown.was_open
+  open_if_run r Begin text params count auto h = h.1.was_open
+  open_if_run r Commit text params count auto h = h.1.was_open
+  open_if_run r Rollback text params count auto h = absurd (true≢false (sym h.0 ∙ auto))
+  open_if_run r (Save name) text params count auto h = h.0.0.was_open
+  open_if_run r (Release name) text params count auto h = released_open h.0 h.2
+  open_if_run r (RollbackTo name) text params count auto h = h.2.2.was_open
+  open_if_run r (Rows values width names) text params count auto h = h.0.0.was_open
+  open_if_run r Nothing text params count auto h = h.0.0.was_open
+  open_if_run r CreateView text params count auto h = h.shown.was_open
+  open_if_run r (DropView at) text params count auto h = h.shown.was_open
+
+  -- what ran outside of a transaction was open
+  pub open_if_ran : (sql : List ℕ) (params : Row) (count : ℕ) → old.in_transaction ≡ false → Executes sql params old new (Ok count) → IsTrue old.is_open
+  unfolding ExecutesIn
+  open_if_ran sql params count auto h = elim (cases_Bool (shows_rows false h.0)) [
+    | inl shows ↦ absurd (let e = (rw shows at h.2).0 in cc)
+    | inr runs ↦ open_if_run h.0.returning h.0.command _ _ count auto (rw runs at h.2)
+  ]
 
 same_if_unchanged : (old new : State) → IsKept old → IsUnchanged old new → IsSame old new
 same_if_unchanged old new kept u = record { now = u.0.now_is; committed = u.0.committed_is; autocommit = u.0.mode ∙ kept.autocommit }
@@ -98,3 +179,42 @@ module _ (sql : List ℕ) (plain : IsPlain (understood change_schema sql)) (old 
 pub when_ok : {A E : Type 0} (r : Result A E) (P Q : A → Type 0) → ((a : A) → P a → Q a) → IfOk r P → IfOk r Q
 when_ok (Ok a) P Q f h = f a h
 when_ok (Err e) P Q f h = tt
+
+-- ---- a connection that may be shut
+
+goes_asked : (sql : List ℕ) (old new : State) (params : Row) (r : Result (Vec Row Global) Error) → IfOk r (λ rows. Shown sql params old new rows.items) → IfErr r (FailsToQuery sql params old new) → Goes old new
+goes_asked sql old new params (Ok rows) ok err = (open_if_shown old new sql params rows.items ok).1
+goes_asked sql old new params (Err e) ok err = goes_unanswered old new sql params e err
+
+-- a query leaves what the connection keeps
+pub asked_keeps : (sql : List ℕ) → IsPlain (understood change_schema sql) → (old new : State) (params : Row) (cs : List Change) (r : Result (Vec Row Global) Error) → Keeps cs old
+    → IfOk r (λ rows. Shown sql params old new rows.items) → IfErr r (FailsToQuery sql params old new) → Keeps cs new
+asked_keeps sql plain old new params cs r keeps ok err =
+    let goes = goes_asked sql old new params r ok err in
+    record {
+      autocommit = goes.autocommit keeps.autocommit;
+      rows = λ live.
+          let was = keeps.rows (goes.was_open live) in
+          let all = after_query sql plain old new params was.0 r live ok err in
+          (all.0, all.1 ∙ was.1);
+    }
+
+-- an answer is one to the rows that the connection keeps
+pub answers : (sql : List ℕ) (old new : State) (params : Row) (cs : List Change) (r : Result (Vec Row Global) Error) (found : List Change → List Row) → Keeps cs old
+    → ((rows : List Row) → IsKept old → changes_in old ≡ cs → Shown sql params old new rows → rows ≡ found (changes_in old))
+    → IfOk r (λ rows. Shown sql params old new rows.items) → IfOk r (λ rows. rows.items ≡ found cs)
+answers sql old new params cs r found keeps finds ok = when_ok r _ _ (λ rows h.
+    let was = keeps.rows (open_if_shown old new sql params rows.items h).0 in
+    finds rows.items was.0 was.1 h ∙ ap found was.1) ok
+
+-- a statement that is refused or fails leaves what the connection keeps
+pub refused_still : (old new : State) (sql : List ℕ) (params : Row) (e : Error) (cs : List Change) → Keeps cs old → Executes sql params old new (Err e) → Keeps cs new
+refused_still old new sql params e cs keeps h =
+    let goes = goes_refused old new sql params e h in
+    record {
+      autocommit = goes.autocommit keeps.autocommit;
+      rows = λ live.
+          let was = keeps.rows (goes.was_open live) in
+          let all = refused_keeps old new sql params e was.0 live h in
+          (all.0, all.1 ∙ was.1);
+    }

@@ -91,6 +91,11 @@ pub record IsKept (s : State) : Type 0 where
   pub autocommit : s.in_transaction ≡ false
   pub is_open : IsTrue s.is_open
 
+-- As long as it is open, its rows keep these changes. A connection that a fault shut answers nothing more.
+pub record Keeps (changes : List Change) (s : State) : Type 0 where
+  pub autocommit : s.in_transaction ≡ false
+  pub rows : IsTrue s.is_open → IsKept s × (changes_in s ≡ changes)
+
 -- a call left what the connection shows as it was
 pub record IsSame (old new : State) : Type 0 where
   pub now : new.now ≡ old.now

@@ -6,12 +6,13 @@
 //! over its memory store.
 #![tactic(auto)]
 
+mod change_log;
 mod copying;
 mod fault;
+mod file;
 mod paging;
 mod reading;
 mod row;
-mod statements;
 mod table;
 
 pub use fault::Fault;

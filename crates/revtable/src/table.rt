@@ -6,12 +6,12 @@ ghost use Rattle.history.specs.Page.{changes_within, listed, page, picked};
 ghost use Rattle.history.specs.Read.{key_of};
 ghost use Rattle.revtable.specs.Read.{change_of, entry_of, object_of};
 
+use crate::change_log::Log;
 use crate::fault::Fault;
 use crate::reading::{read_changes, read_entries, read_left};
 use crate::row::{Change, Entry, Marks, Object};
-use crate::{copying, paging, statements};
+use crate::{copying, paging};
 use history::Key;
-use sqlite::{Connection, MemStore};
 use std::alloc::Global;
 use std::marker::Model;
 
@@ -22,23 +22,20 @@ const LAST_REVISION: u64 = i64::MAX as u64;
 #[derive(Drop)]
 pub struct Table {
     alloc: Global,
-    conn: Connection<MemStore>,
+    log: Log,
     current: u64,
     compacted: u64,
 }
 
 impl Model for Table {
-    ghost use Rattle.sqlite.specs.Held.{state};
-    ghost use Rattle.sqlite.specs.Steps.{over_memory};
     ghost use Rattle.history.specs.History.{History};
     ghost use Rattle.history.specs.Kept.{IsPruned};
-    ghost use Rattle.revtable.specs.Rows.{IsKept, changes_in};
 
     ghost Value = { History };
 
-    ghost view = { λ t. record { changes = changes_in (state over_memory t.conn); current = t.current; compacted = t.compacted } };
+    ghost view = { λ t. record { changes = t.log; current = t.current; compacted = t.compacted } };
 
-    ghost invariant = { λ t. IsKept (state over_memory t.conn) × IsPruned (record { changes = changes_in (state over_memory t.conn); current = t.current; compacted = t.compacted }) };
+    ghost invariant = { λ t. IsPruned (record { changes = t.log; current = t.current; compacted = t.compacted }) };
 }
 
 impl Table {
@@ -55,11 +52,9 @@ impl Table {
         requires to { revision ≤ last_revision }
         ensures { IfOk result (λ t. t ≡ fresh revision) }
     {
-        let mut conn = Connection::open_in_memory(alloc)?;
-        statements::create(&mut conn)?;
         Ok(Table {
             alloc,
-            conn,
+            log: Log::open(alloc)?,
             current: revision,
             compacted: revision,
         })
@@ -85,7 +80,7 @@ impl Table {
         ensures ok { OnOk result (self.new ≡ written self.old (key_of key.now) (option_map (λ b. b.now) body.entry)) }
         ensures err { OnErr result (self.new ≡ self.old) }
     {
-        statements::insert(&mut self.conn, revision, key, body)?;
+        self.log.insert(revision, key, body)?;
         self.current = revision;
         Ok(())
     }
@@ -104,7 +99,7 @@ impl Table {
         ensures same { self.new ≡ self.old }
     {
         let revision = revision.min(self.current);
-        let rows = statements::newest(&mut self.conn, key, revision)?;
+        let rows = self.log.newest(key, revision)?;
         match rows.first() {
             None => Ok(None),
             Some(row) => Ok(read_left(row)?),
@@ -131,7 +126,7 @@ impl Table {
         let max = max.min(LAST_REVISION);
         let rows = paging::listed(
             self.alloc,
-            &mut self.conn,
+            &mut self.log,
             kind,
             namespace,
             revision,
@@ -157,7 +152,7 @@ impl Table {
         let from = from.min(self.current);
         let to = to.min(self.current);
         let max = max.min(LAST_REVISION);
-        let rows = statements::spanned(&mut self.conn, kind, namespace, from, to, max)?;
+        let rows = self.log.spanned(kind, namespace, from, to, max)?;
         read_changes(self.alloc, &rows)
     }
 
@@ -166,7 +161,7 @@ impl Table {
         ensures ok { IfOk result (λ n. n ≡ length (with_body self.old.changes)) }
         ensures same { self.new ≡ self.old }
     {
-        let rows = statements::counted(&mut self.conn)?;
+        let rows = self.log.counted()?;
         match rows.first() {
             None => Err(Fault::Store),
             Some(row) => Ok(row.get(0)?),
@@ -180,7 +175,7 @@ impl Table {
         ensures err { OnErr result (self.new ≡ self.old) }
     {
         let revision = revision.min(self.current).max(self.compacted);
-        self.conn = copying::copied(self.alloc, &mut self.conn, revision)?;
+        self.log = copying::copied(self.alloc, &mut self.log, revision)?;
         self.compacted = revision;
         Ok(())
     }

@@ -1,9 +1,7 @@
 use Rattle.std.proofs.Common.{◌∙◌, ap, sym, map, option_map, List, ℕ, Option}
 use Rattle.revtable.specs.Asked.{as_change}
 use Rattle.history.specs.History.{state_at}
-use Rattle.revtable.specs.Rows.{changes_in, shown}
-use Rattle.sqlite.specs.Held.{state}
-use Rattle.sqlite.specs.Steps.{over_memory}
+use Rattle.revtable.specs.Rows.{shown}
 use Rattle.revtable.proofs.Entries.{Entry}
 use Rattle.revtable.proofs.Halves.{page_none, page_one, page_all, still_some}
 use Rattle.revtable.proofs.Outcomes.{when_ok}
@@ -14,21 +12,21 @@ show = map (λ (e : Entry). shown (as_change e))
 
 pub returns-in_default-clause-ok : goal.returns-in_default-clause-ok
 returns-in_default-clause-ok c =
-    let objects = state_at (changes_in (state over_memory c.args.conn.now)) c.args.revision in
+    let objects = state_at c.args.log.now c.args.revision in
     let named : Option (List ℕ) = option_map (λ b. b.now) c.args.namespace in
     let place : Option (List ℕ × List ℕ) = option_map (λ p. (p.0.now, p.1.now)) c.args.after in
     c.new.ensures.items ∙ sym (ap show (page_none c.args.kind named place c.args.max objects (sym c.in_default.ensures)))
 
 pub returns-in_ok-listed_in-clause-ok : goal.returns-in_ok-listed_in-clause-ok
 returns-in_ok-listed_in-clause-ok c =
-    let objects = state_at (changes_in (state over_memory c.args.conn.now)) c.args.revision in
+    let objects = state_at c.args.log.now c.args.revision in
     let named : Option (List ℕ) = option_map (λ b. b.now) c.args.namespace in
     let place : Option (List ℕ × List ℕ) = option_map (λ p. (p.0.now, p.1.now)) c.args.after in
     c.in_ok-listed_in.ensures.ok ∙ sym (ap show (page_one c.args.kind named place c.args.max objects _ _ (still_some _ c.args.namespace ∙ sym c.is_some.ensures ∙ c.if-is_some.true) (sym c.in-Some.ensures)))
 
 pub returns-else-is_some-clause-ok : goal.returns-else-is_some-clause-ok
 returns-else-is_some-clause-ok c =
-    let objects = state_at (changes_in (state over_memory c.args.conn.now)) c.args.revision in
+    let objects = state_at c.args.log.now c.args.revision in
     let named : Option (List ℕ) = option_map (λ b. b.now) c.args.namespace in
     let place : Option (List ℕ × List ℕ) = option_map (λ p. (p.0.now, p.1.now)) c.args.after in
     when_ok c.listed_on.result _ _ (λ v h.

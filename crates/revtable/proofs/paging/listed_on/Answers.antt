@@ -1,16 +1,14 @@
 use Rattle.std.proofs.Common.{◌∙◌, ap, map, take, option_map, List, ℕ, ◌-◌}
 use Rattle.revtable.specs.Asked.{as_change, in_from, in_one, in_later}
 use Rattle.history.specs.History.{Change, state_at}
-use Rattle.revtable.specs.Rows.{changes_in, shown}
-use Rattle.sqlite.specs.Held.{state}
-use Rattle.sqlite.specs.Steps.{over_memory}
+use Rattle.revtable.specs.Rows.{shown}
 use Rattle.revtable.proofs.Entries.{Entry}
 use Rattle.revtable.proofs.Halves.{from_next, one_then_more}
 use Rattle.revtable.proofs.paging.listed_on.Goals as goal
 
 pub returns-clause-ok : goal.returns-clause-ok
 returns-clause-ok c =
-    let objects = state_at (changes_in (state over_memory c.args.conn.now)) c.args.revision in
+    let objects = state_at c.args.log.now c.args.revision in
     let same = ap (λ (cs : List Change). map (λ (e : Entry). shown (as_change e)) (take c.saturating_sub-left.result (in_from c.args.kind c.as_str.result.now (state_at cs c.args.revision)))) c.in_ok-rows.ensures.same in
     let next = ap (λ (low : List ℕ). in_from c.args.kind low objects) (c.as_str.ensures.value ∙ c.in_ok-next.ensures) ∙ from_next c.args.kind c.args.first.now objects in
     one_then_more (λ (e : Entry). shown (as_change e)) c.args.max c.saturating_sub-left.result (in_one c.args.kind c.args.first.now (option_map (λ b. b.now) c.args.name) objects) (in_later c.args.kind c.args.first.now objects)

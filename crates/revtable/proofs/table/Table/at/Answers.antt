@@ -16,7 +16,7 @@ place c = option_map (λ p. (p.0.now, p.1.now)) c.args.after
 done : (c : goal.After-drop-rows) → IfOk c.read_entries.result (λ v. map entry_of v.items ≡ page c.args.kind (named c) (place c) c.args.max (state_at c.args.self.now.changes c.args.revision))
 done c = when_ok c.read_entries.result _ _ (λ v h.
     h ∙ ap (map entry_shown) c.deref.ensures.value
-    ∙ at_is _ c.args.kind (named c) (place c) c.args.revision c.args.max c.min-revision.result c.min-max.result c.in_ok-rows.rows.items c.self.invariant.1 c.min-revision.ensures c.min-max.ensures c.in_ok-rows.ensures.ok
+    ∙ at_is _ c.args.kind (named c) (place c) c.args.revision c.args.max c.min-revision.result c.min-max.result c.in_ok-rows.rows.items c.self.invariant c.min-revision.ensures c.min-max.ensures c.in_ok-rows.ensures.ok
     ∙ ap (λ (h : History). page c.args.kind (named c) (place c) c.args.max (state_at h.changes c.args.revision)) c.self.view_is) c.read_entries.ensures
 
 pub returns-clause-ok : goal.returns-clause-ok
@@ -25,5 +25,5 @@ returns-clause-ok c = done c
 pub returns-clause-whole : goal.returns-clause-whole
 returns-clause-whole c = λ le. when_ok c.read_entries.result _ _ (λ v h.
     h ∙ ap (λ (h : History). page c.args.kind (named c) (place c) c.args.max (state_at h.changes c.args.revision)) (sym c.self.view_is)
-    ∙ at_whole _ c.args.kind (named c) (place c) c.args.revision c.args.max c.self.invariant.1 le
+    ∙ at_whole _ c.args.kind (named c) (place c) c.args.revision c.args.max c.self.invariant le
     ∙ ap (λ (h : History). listed c.args.kind (named c) (place c) (state_at h.changes c.args.revision)) c.self.view_is) (done c)
