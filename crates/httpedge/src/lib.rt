@@ -36,6 +36,3 @@ pub use laws::{
 pub use refusal::Refusal;
 pub use reply::reply_bytes;
 pub use target::{checked_media, path_of, query_of};
-
-#[cfg(test)]
-mod tests;

@@ -11,8 +11,6 @@ mod replay_options;
 mod replay_program;
 mod replaying;
 mod script;
-#[cfg(test)]
-mod tests;
 
 pub use replay_options::{ReplayOptions, options};
 pub use replay_program::{RunFault, ssa_replay, types_in};

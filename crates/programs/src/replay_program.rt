@@ -159,10 +159,7 @@ fn print_replies<P: Print>(
     Ok(done?)
 }
 
-pub(crate) fn run<R: Files + Print + AllocGlobal>(
-    rt: &R,
-    words: &[String],
-) -> Result<(), RunFault> {
+fn run<R: Files + Print + AllocGlobal>(rt: &R, words: &[String]) -> Result<(), RunFault> {
     let alloc = rt.alloc();
     let options = options(alloc, words)?;
     let types = read_types(rt, options.types)?;

@@ -47,6 +47,3 @@ pub use method::Method;
 pub use objects::Key;
 pub use reason::Reason;
 pub use status::status_value;
-
-#[cfg(test)]
-mod tests;

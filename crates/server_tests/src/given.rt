@@ -1,0 +1,32 @@
+//! What several tests are given: a types file of widgets, APIs over it, and the texts of bytes.
+
+use schema::Types;
+use serde_json::Value;
+use std::alloc::Global;
+use std::test::Fail;
+use verbs::Api;
+
+/// One type, whose objects have an image, replicas and settings by name.
+pub const WIDGET_TYPES: &str =
+    r#"{"types":[{"group":"demo.example","version":"v1","kind":"Widget","plural":"widgets","schema":{"type":"object","properties":{"spec":{"type":"object","properties":{"config":{"type":"object","additionalProperties":{"type":"string"}},"image":{"type":"string"},"replicas":{"type":"integer"}}}}}}]}"#;
+
+/// The types of a types file.
+pub fn types_of(alloc: Global, text: &str) -> Result<Types, Fail> {
+    Ok(Types::read(alloc, &Value::from_str(alloc, text)?)?)
+}
+
+/// An API of widgets without objects.
+pub fn fresh_api(alloc: Global) -> Result<Api, Fail> {
+    Ok(Api::new(alloc, types_of(alloc, WIDGET_TYPES)?)?)
+}
+
+/// An API of widgets at which one revision is left.
+pub fn api_with_one_left(alloc: Global) -> Result<Api, Fail> {
+    let types = types_of(alloc, WIDGET_TYPES)?;
+    Ok(Api::new_at(alloc, types, 9_223_372_036_854_775_806)?)
+}
+
+/// The text that these bytes are.
+pub fn text_of(alloc: Global, bytes: &[u8]) -> Result<String, Fail> {
+    Ok(String::from_str(alloc, str::from_utf8(bytes)?)?)
+}

@@ -1,0 +1,170 @@
+//! Scripts and types files as they are read, and what is written of scripts.
+
+use crate::given::{WIDGET_TYPES, text_of};
+use programs::{Event, RunFault, read_script, replay, types_in};
+use std::alloc::{AllocError, Global};
+use std::io::Write;
+use std::test::Fail;
+
+/// A line that applies a body.
+const GOOD: &str = r#"{"apply":{"body":null,"force":false,"manager":"alice","target":"/x"}}"#;
+
+/// Replays a script over widgets.
+fn replays<W: Write>(alloc: Global, script: &str, writer: &mut W) -> Result<(), Fail> {
+    let events = read_script(alloc, script)?;
+    Ok(replay(alloc, types_in(alloc, WIDGET_TYPES)?, &events, writer)?)
+}
+
+/// What is written of a script.
+fn written(alloc: Global, script: &str) -> Result<String, Fail> {
+    let mut out = Vec::new(alloc);
+    replays(alloc, script, &mut out)?;
+    text_of(alloc, &out)
+}
+
+#[test]
+fn first_apply(rt: HostRuntime) -> Result<(), Fail> {
+    let script = r#"{"open":1}
+{"in":[1,"PATCH /apis/demo.example/v1/namespaces/default/widgets/w1?fieldManager=alice HTTP/1.1\r\nHost: localhost\r\nContent-Type: application/apply-patch+yaml\r\nContent-Length: 107\r\n\r\n{\"apiVersion\":\"demo.example/v1\",\"kind\":\"Widget\",\"metadata\":{\"name\":\"w1\"},\"spec\":{\"image\":\"a\",\"replicas\":3}}"]}"#;
+    assert_eq!(rt;
+        written(rt.alloc(), script)?.as_str(),
+        "connection 1 413\nHTTP/1.1 201 Created\r\nContent-Type: application/json\r\nContent-Length: 317\r\nConnection: close\r\n\r\n{\"apiVersion\":\"demo.example/v1\",\"kind\":\"Widget\",\"metadata\":{\"managedFields\":[{\"apiVersion\":\"demo.example/v1\",\"fieldsType\":\"FieldsV1\",\"fieldsV1\":{\"f:spec\":{\"f:image\":{},\"f:replicas\":{}}},\"manager\":\"alice\",\"operation\":\"Apply\"}],\"name\":\"w1\",\"namespace\":\"default\",\"resourceVersion\":\"2\"},\"spec\":{\"image\":\"a\",\"replicas\":3}}\n"
+    );
+    Ok(())
+}
+
+/// The exit status where the replies of a script find no room.
+fn status_without_room(alloc: Global, script: &str) -> Result<u8, Fail> {
+    let events = read_script(alloc, script)?;
+    let mut room: &mut [u8] = &mut [];
+    match replay(alloc, types_in(alloc, WIDGET_TYPES)?, &events, &mut room) {
+        Ok(()) => Err("it was written".into()),
+        Err(fault) => Ok(RunFault::from(fault).status()),
+    }
+}
+
+/// A writer without room, and so a status that no file can have.
+#[test]
+fn full_writer_is_told(rt: HostRuntime) -> Result<(), Fail> {
+    assert_eq!(rt; status_without_room(rt.alloc(), GOOD)?, 1);
+    assert_eq!(rt; RunFault::Memory.status(), 5);
+    Ok(())
+}
+
+fn events_shown(alloc: Global, events: &[Event]) -> Result<String, AllocError> {
+    format!(in alloc; "{events:?}")
+}
+
+/// The events of a script, or its fault.
+fn shown(alloc: Global, script: &str) -> Result<String, Fail> {
+    match read_script(alloc, script) {
+        Ok(events) => Ok(events_shown(alloc, &events)?),
+        Err(fault) => Ok(format!(in alloc; "{fault:?}")?),
+    }
+}
+
+#[test]
+fn lines_of_connections_read(rt: HostRuntime) -> Result<(), Fail> {
+    assert_eq!(rt;
+        shown(
+            rt.alloc(),
+            "{\"open\":18446744073709551615}\n\n{\"in\":[3,\"GET / \\r\\n\"]}\n"
+        )?
+        .as_str(),
+        r#"[Open(18446744073709551615), In(3, "GET / \r\n")]"#
+    );
+    Ok(())
+}
+
+/// What a line comes to between good ones, where it isn't refused as the third line.
+fn push_unless_bad(alloc: Global, all: &mut String, line: &str) -> Result<(), Fail> {
+    let script = format!(in alloc; "{GOOD}\n\n{line}\n{GOOD}")?;
+    let shown = shown(alloc, script.as_str())?;
+    if shown.as_str() != "BadEvent(3)" {
+        all.push_str(line)?;
+        all.push_str(shown.as_str())?;
+    }
+    Ok(())
+}
+
+/// What was read of these lines, each between good ones, where it wasn't refused.
+fn read_of(alloc: Global, lines: &str) -> Result<String, Fail> {
+    let mut all = String::new(alloc);
+    for line in lines.split('\n') {
+        push_unless_bad(alloc, &mut all, line)?;
+    }
+    Ok(all)
+}
+
+#[test]
+fn bad_lines_are_refused(rt: HostRuntime) -> Result<(), Fail> {
+    let alloc = rt.alloc();
+    let bad = r#"x
+{}
+{"tick":1}
+{"open":-1}
+{"open":1.0}
+{"open":18446744073709551616}
+{"open":"1"}
+{"in":[1]}
+{"in":[1,2]}
+{"in":["1","GET"]}
+{"in":[1,"GET",2]}
+{"in":{"1":"GET"}}
+{"in":[1,"GET"],"open":1}
+{"apply":[]}
+{"apply":{"force":false,"manager":"m","target":"t"}}
+{"apply":{"body":1,"force":0,"manager":"m","target":"t"}}
+{"apply":{"body":1,"force":false,"manager":null,"target":"t"}}
+{"apply":{"body":1,"force":false,"manager":"m","target":"t?x"}}
+{"apply":{"body":1,"force":false,"manager":"m","target":"a b"}}
+{"apply":{"body":1,"force":false,"manager":"m","more":1,"target":"t"}}
+{"apply":{"body":1,"force":false,"manager":"m","target":"t"},"more":1}"#;
+    assert_eq!(rt; read_of(alloc, bad)?.as_str(), "");
+    assert_eq!(rt; read_of(alloc, "\r")?.as_str(), "");
+    assert_eq!(rt;
+        shown(alloc, GOOD)?.as_str(),
+        r#"[Apply(ApplyLine { body: Null, force: false, manager: "alice", target: "/x" })]"#
+    );
+    Ok(())
+}
+
+/// A types file whose one schema is nested this deep.
+fn nested_types(alloc: Global, depth: usize) -> Result<String, Fail> {
+    let mut text = String::from_str(
+        alloc,
+        r#"{"types":[{"group":"g","version":"v","kind":"K","plural":"p","schema":{"type":"object","properties":{"a":"#,
+    )?;
+    for _ in 2..depth {
+        text.push_str(r#"{"type":"object","additionalProperties":"#)?;
+    }
+    text.push_str(r#"{"type":"string"}"#)?;
+    for _ in 1..depth {
+        text.push_str("}")?;
+    }
+    text.push_str("}}]}")?;
+    Ok(text)
+}
+
+/// Why a types file is refused; nothing where it is read.
+fn fault_of(alloc: Global, types: &str) -> Result<String, Fail> {
+    match types_in(alloc, types) {
+        Ok(_) => Ok(String::new(alloc)),
+        Err(fault) => Ok(format!(in alloc; "{fault}")?),
+    }
+}
+
+/// Why a types file is refused whose one schema is nested this deep.
+fn fault_at(alloc: Global, depth: usize) -> Result<String, Fail> {
+    fault_of(alloc, nested_types(alloc, depth)?.as_str())
+}
+
+#[test]
+fn sixteen_levels_are_read(rt: HostRuntime) -> Result<(), Fail> {
+    assert_eq!(rt; fault_at(rt.alloc(), 16)?.as_str(), "");
+    assert_eq!(rt;
+        fault_at(rt.alloc(), 17)?.as_str(),
+        "types file: refusal 4: schema deeper than 16"
+    );
+    Ok(())
+}
