@@ -1,9 +1,8 @@
-//! `bench WORD..` times the layers: a number sets the size, and `selectors`, `indexer`, `reader`, `tables`,
-//! `lookups` or `hub` runs that layer at it. What was done goes to standard output, the processor times to standard error.
+//! `bench WORD..` times the layers: a number sets the size, and `selectors`, `indexer`, `reader`, `tables`
+//! or `hub` runs that layer at it. What was done goes to standard output, the processor times to standard error.
 #![tactic(auto)]
 
 mod indexing;
-mod lookups;
 mod reading;
 mod selecting;
 mod serving;
@@ -27,7 +26,6 @@ fn run_layer(
         "indexer" => indexing::run(rt, alloc, count),
         "reader" => reading::run(rt, alloc, count),
         "tables" => storing::run(rt, alloc, count),
-        "lookups" => lookups::run(rt, alloc, size),
         "hub" => serving::run(rt, alloc, count),
         _ => bail!("no such layer: {layer}"),
     }
