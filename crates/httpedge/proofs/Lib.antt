@@ -2,6 +2,7 @@ pub mod Deciding
 pub mod BodyCuts
 pub mod Connected
 pub mod Cuts
+pub mod Digits
 pub mod Heading
 pub mod Numbers
 pub mod Outcomes

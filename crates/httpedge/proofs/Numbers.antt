@@ -5,7 +5,8 @@ use Rattle.std.specs.Str.{IsUtf8, is_utf8}
 use Rattle.std.proofs.lemmas.Str.{IsUtf8-from_is_utf8, is_utf8-from_IsUtf8}
 use Rattle.serde_json.specs.Data.{Data}
 use Rattle.serde_json.specs.Read.{read}
-use Rattle.httpedge.specs.Bodies.{max_body, number_after, decimal_value, json_in}
+use Rattle.httpedge.specs.Bodies.{max_body, json_in}
+use Rattle.httpedge.specs.Heads.{number_after, decimal_value}
 
 number_grows : (n : ℕ) (ds : List ℕ) → n ≤ number_after n ds
 number_grows n [] = omega arith

@@ -1,6 +1,6 @@
 -- The body of a request by its length (RFC 9112, section 6.3), and the parts of its target (section 3.2.1).
 -- A length is needed where a body is (RFC 9110, section 15.5.12), and no transfer coding is served (RFC 9112, section 6.1).
-use Rattle.std.specs.Prelude.{ℕ, ◌+◌, ◌-◌, ◌*◌, Bool, true, false, ◌&&◌, ◌||◌, ◌==◌, not, nat_lt, if◌then◌else◌, List, [], ◌∷◌, length, take, Option, Some, None, codes}
+use Rattle.std.specs.Prelude.{ℕ, Bool, true, false, ◌&&◌, ◌||◌, ◌==◌, not, nat_lt, if◌then◌else◌, List, length, take, Option, Some, None, codes}
 use Rattle.std.specs.List.{before_first, after_first}
 use Rattle.std.specs.Str.{bytes_eq, is_utf8}
 use Rattle.serde_json.specs.Data.{Data}
@@ -10,19 +10,11 @@ use Rattle.std.specs.declared.result.Result.TheVariants.{Ok, Err}
 use Rattle.verbs.specs.Calls.{Denied}
 use Rattle.httpedge.specs.Decision.{Decision, undecided, accepted, and_then, decided_by}
 use Rattle.httpedge.specs.Refusals.{transfer_encoding, no_length, bad_length, body_too_large, not_json, as_denied, refuse}
-use Rattle.httpedge.specs.Heads.{Length, missing, malformed, digits, Request}
+use Rattle.httpedge.specs.Heads.{Length, missing, malformed, number, Request}
 
 -- this server's own limit (its refusal: RFC 9110, section 15.5.14)
 abbrev pub max_body : ℕ
 max_body = 65536
-
--- the number that digits write, after those that make n
-abbrev pub number_after : ℕ → List ℕ → ℕ
-number_after n [] = n
-number_after n (b ∷ bytes) = number_after (n * 10 + (b - 48)) bytes
-
-abbrev pub decimal_value : List ℕ → ℕ
-decimal_value ds = number_after 0 ds
 
 -- a body is read by POST, PUT, PATCH and DELETE; only DELETE may go without
 abbrev pub needs_body : List ℕ → Bool
@@ -48,13 +40,13 @@ sized n = if nat_lt max_body n then Err (as_denied body_too_large) else Ok (Some
 abbrev pub needed_length : Length → Result (Option ℕ) Denied
 needed_length missing = Err (as_denied no_length)
 needed_length malformed = Err (as_denied bad_length)
-needed_length (digits ds) = sized (decimal_value ds)
+needed_length (number n) = sized n
 
 -- of a body that may be left out; one of no bytes is left out
 abbrev pub optional_length : Length → Result (Option ℕ) Denied
 optional_length missing = Ok None
 optional_length malformed = Err (as_denied bad_length)
-optional_length (digits ds) = if decimal_value ds == 0 then Ok None else sized (decimal_value ds)
+optional_length (number n) = if n == 0 then Ok None else sized n
 
 abbrev pub declared_length : Request → Result (Option ℕ) Denied
 declared_length request =
@@ -80,7 +72,7 @@ body_in request rest = and_then (decided_by (declared_length request)) (λ n. de
 abbrev pub has_length : Length → Bool
 has_length missing = false
 has_length malformed = true
-has_length (digits ds) = nat_lt 0 (decimal_value ds)
+has_length (number n) = nat_lt 0 n
 
 -- the media type that is checked: a DELETE without a body has none
 abbrev pub checked_media : Request → Option (List ℕ)

@@ -1,8 +1,8 @@
 -- What the head of a request says (RFC 9112, sections 2.2, 3, 5 and 6), and when a front of a connection's bytes has it.
-use Rattle.std.specs.Prelude.{◌≡◌, ◌⊎◌, ℕ, ◌+◌, Bool, ◌&&◌, ◌||◌, ◌==◌, not, nat_lt, if◌then◌else◌, List, [], ◌∷◌, ◌++◌, length, map, take, drop, Option, Some, None, codes, nat_eq}
+use Rattle.std.specs.Prelude.{◌≡◌, ◌⊎◌, ℕ, ◌+◌, ◌-◌, ◌*◌, Bool, ◌&&◌, ◌||◌, ◌==◌, not, nat_lt, if◌then◌else◌, List, [], ◌∷◌, ◌++◌, length, map, take, drop, Option, Some, None, codes, nat_eq}
 use Rattle.std.specs.Char.{is_ascii_digit}
 use Rattle.std.specs.List.{list_all, list_any, starts_with, filter}
-use Rattle.std.specs.Str.{bytes_eq, str_eq_ignore_ascii_case}
+use Rattle.std.specs.Str.{str_eq_ignore_ascii_case}
 use Rattle.httparse.specs.Grammar.{RequestHead, ReadsRequest}
 use Rattle.httparse.specs.Spans.{name_and_value}
 use Rattle.httpedge.specs.Decision.{Decision, undecided, refused, accepted}
@@ -57,28 +57,31 @@ is_transfer_encoded fields = list_any (has_name (codes "transfer-encoding")) fie
 
 -- ---- its length
 
--- digits without leading zeros: two numbers are equal just where these are
-abbrev pub without_zeros : List ℕ → List ℕ
-without_zeros [] = []
-without_zeros (b ∷ bytes) = if b == 48 then without_zeros bytes else b ∷ bytes
+-- the number that digits write, after those that make n
+abbrev pub number_after : ℕ → List ℕ → ℕ
+number_after n [] = n
+number_after n (b ∷ bytes) = number_after (n * 10 + (b - 48)) bytes
 
--- what the Content-Length fields say: there is none, they say no one number, or its digits without leading zeros
+abbrev pub decimal_value : List ℕ → ℕ
+decimal_value ds = number_after 0 ds
+
+-- what the Content-Length fields say: there is none, they say no one number, or this one
 pub data Length : Type 0 where
   missing malformed : Length
-  digits : List ℕ → Length
+  number : ℕ → Length
 
 -- one or more digits
 abbrev pub length_in : List ℕ → Length
 length_in [] = malformed
-length_in (b ∷ bytes) = if list_all is_ascii_digit (b ∷ bytes) then digits (without_zeros (b ∷ bytes)) else malformed
+length_in (b ∷ bytes) = if list_all is_ascii_digit (b ∷ bytes) then number (decimal_value (b ∷ bytes)) else malformed
 
 -- several fields have to say one number; a list in one field, which RFC 9112, section 6.3, lets a server take, is refused here
 abbrev pub agreed : Length → Length → Length
 agreed missing other = other
 agreed malformed other = malformed
-agreed (digits ds) missing = digits ds
-agreed (digits ds) malformed = malformed
-agreed (digits ds) (digits es) = if bytes_eq ds es then digits ds else malformed
+agreed (number m) missing = number m
+agreed (number m) malformed = malformed
+agreed (number m) (number n) = if m == n then number m else malformed
 
 -- after what earlier fields said
 abbrev pub length_after : Length → List Named → Length

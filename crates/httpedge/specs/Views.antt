@@ -1,5 +1,7 @@
 -- What the crate's values say, without where they lie in memory.
-use Rattle.std.specs.Prelude.{ℕ, List, [], Option, option_map}
+use Rattle.std.specs.Prelude.{◌≡◌, ℕ, Bool, true, ◌&&◌, ◌==◌, not, if◌then◌else◌, List, [], ◌∷◌, Option, option_map, ⊤}
+use Rattle.std.specs.Char.{is_ascii_digit}
+use Rattle.std.specs.List.{list_all}
 use Rattle.httparse.specs.Grammar.{RequestHead, ReadsRequest}
 use Rattle.httparse.specs.declared.spans.HeaderSpan.{HeaderSpan}
 use Rattle.httparse.specs.declared.spans.RequestSpans.{RequestSpans}
@@ -21,7 +23,7 @@ use Rattle.httpedge.specs.declared.head.Length.TheVariants as some_length
 use Rattle.httpedge.specs.declared.head.Head as heads
 use Rattle.httpedge.specs.Refusals.{Refusal, head_too_large, bad_head, wrong_version, not_one_host, transfer_encoding, no_length, bad_length, body_too_large, not_json, too_many_connections}
 use Rattle.httpedge.specs.Decision.{Decision, undecided, refused, accepted}
-use Rattle.httpedge.specs.Heads.{Length, missing, malformed, digits, Request}
+use Rattle.httpedge.specs.Heads.{Length, missing, malformed, number, decimal_value, Request}
 
 abbrev pub refusal_of : refusals.Refusal → Refusal
 refusal_of refusal.HeadTooLarge = head_too_large
@@ -43,7 +45,26 @@ decision_of view (decision.Accepted a) = accepted (view a)
 abbrev pub length_of : lengths.Length → Length
 length_of some_length.Missing = missing
 length_of some_length.Malformed = malformed
-length_of (some_length.Digits ds) = digits ds.now
+length_of (some_length.Digits ds) = number (decimal_value ds.now)
+
+-- digits without leading zeros
+abbrev pub without_zeros : List ℕ → List ℕ
+without_zeros [] = []
+without_zeros (b ∷ bytes) = if b == 48 then without_zeros bytes else b ∷ bytes
+
+-- the first is no zero
+abbrev pub begins_plain : List ℕ → Bool
+begins_plain [] = true
+begins_plain (b ∷ bytes) = not (b == 48)
+
+-- digits without a leading zero: two numbers are equal just where these are
+abbrev pub is_plain : List ℕ → Bool
+is_plain ds = list_all is_ascii_digit ds && begins_plain ds
+
+abbrev pub IsPlain : lengths.Length → Type 0
+IsPlain some_length.Missing = ⊤
+IsPlain some_length.Malformed = ⊤
+IsPlain (some_length.Digits ds) = is_plain ds.now ≡ true
 
 abbrev pub request_in : heads.Head → Request
 request_in h = record {

@@ -1,8 +1,9 @@
 //! The body of a request.
 
 ghost use Rattle.std.specs.Prelude.{◌≡◌, ◌≢◌, ◌<◌, ◌≤◌, ◌++◌, ℕ, List, IfOk, MatchOption};
-ghost use Rattle.httpedge.specs.Bodies.{max_body, needs_body, may_have_body, decimal_value, json_in, some_json, sized, needed_length, optional_length, declared_length, body_of, declared_body, body_in};
+ghost use Rattle.httpedge.specs.Bodies.{max_body, needs_body, may_have_body, json_in, some_json, sized, needed_length, optional_length, declared_length, body_of, declared_body, body_in};
 ghost use Rattle.httpedge.specs.Decision.{undecided};
+ghost use Rattle.httpedge.specs.Heads.{decimal_value};
 ghost use Rattle.httpedge.specs.Views.{data_of, decision_of, declared_of, length_of, request_in};
 
 use crate::decision::Decision;

@@ -1,13 +1,13 @@
 //! What the head of a request says, and when it has come.
 
-ghost use Rattle.std.specs.Prelude.{◌≡◌, ◌≢◌, ◌≤◌, ◌++◌, ℕ, List, Some, None, [], length, take, drop, map, option_map, IfSome, IsUtf8};
+ghost use Rattle.std.specs.Prelude.{◌≡◌, ◌≢◌, ◌≤◌, ◌++◌, ℕ, List, true, Some, None, [], length, take, drop, map, option_map, IfSome, IsUtf8};
 ghost use Rattle.std.specs.List.{All, list_all, list_any, filter};
 ghost use Rattle.std.specs.Char.{is_ascii_digit};
 ghost use Rattle.httparse.specs.Grammar.{RequestHead, ReadsRequest};
 ghost use Rattle.httparse.specs.Spans.{header_bytes, span_bytes, IsHeaderWithin, IsWithin, IsRequestWithin};
-ghost use Rattle.httpedge.specs.Heads.{max_head, end_inside, head_end, has_name, is_host, media_in, is_transfer_encoded, without_zeros, length_in, agreed, length_after, missing, digits, validated, ReadsWholeHead, ReadsHeadAt, HeadDecision, ReadsHead, with_more};
+ghost use Rattle.httpedge.specs.Heads.{max_head, end_inside, head_end, has_name, is_host, media_in, is_transfer_encoded, decimal_value, length_in, agreed, length_after, missing, number, validated, ReadsWholeHead, ReadsHeadAt, HeadDecision, ReadsHead, with_more};
 ghost use Rattle.httpedge.specs.Decision.{undecided};
-ghost use Rattle.httpedge.specs.Views.{decision_of, head_of, length_of, IsWholeAt};
+ghost use Rattle.httpedge.specs.Views.{decision_of, head_of, is_plain, length_of, without_zeros, IsPlain, IsWholeAt};
 
 use crate::decision::Decision;
 use crate::refusal::Refusal;
@@ -145,7 +145,8 @@ fn are_digits(value: &[u8]) -> bool
 }
 
 fn length_in(value: &[u8]) -> Length<'_>
-    ensures { length_of result ≡ length_in value.now }
+    ensures value { length_of result ≡ length_in value.now }
+    ensures plain { IsPlain result }
 {
     if value.is_empty() || !are_digits(value) {
         return Length::Malformed;
@@ -155,7 +156,10 @@ fn length_in(value: &[u8]) -> Length<'_>
 
 /// What a field says after one that said these digits.
 fn agreed_with<'b>(said: &'b [u8], other: Length<'b>) -> Length<'b>
-    ensures { length_of result ≡ agreed (digits said.now) (length_of other.entry) }
+    requires said { is_plain said.now ≡ true }
+    requires other { IsPlain other }
+    ensures value { length_of result ≡ agreed (number (decimal_value said.now)) (length_of other.entry) }
+    ensures plain { IsPlain result }
 {
     match other {
         Length::Missing => Length::Digits(said),
@@ -172,7 +176,10 @@ fn agreed_with<'b>(said: &'b [u8], other: Length<'b>) -> Length<'b>
 
 /// What two fields say together.
 fn agreed<'b>(said: Length<'b>, other: Length<'b>) -> Length<'b>
-    ensures { length_of result ≡ agreed (length_of said.entry) (length_of other.entry) }
+    requires said { IsPlain said }
+    requires other { IsPlain other }
+    ensures value { length_of result ≡ agreed (length_of said.entry) (length_of other.entry) }
+    ensures plain { IsPlain result }
 {
     match said {
         Length::Missing => other,

@@ -1,7 +1,7 @@
 //! The target of a request, and the media type of its body.
 
 ghost use Rattle.std.specs.Prelude.{◌≡◌, option_map};
-ghost use Rattle.httpedge.specs.Bodies.{decimal_value, has_length, checked_media, path_of, query_of};
+ghost use Rattle.httpedge.specs.Bodies.{has_length, checked_media, path_of, query_of};
 ghost use Rattle.httpedge.specs.Views.{length_of, request_in};
 
 use crate::body::{decimal_value, may_have_body};

@@ -1,13 +1,13 @@
 -- The bytes of a request as a head of the grammar and a body.
 use Rattle.std.proofs.Common.{arith, ◌≡◌, ℕ, ◌+◌, ◌-◌, ◌*◌, ◌≤◌, ◌<◌, ◌^◌, inl, Bool, true, false, ltb, List, [], ◌∷◌, ◌++◌, length, take, drop, Option, Some, None, refl, sym, ap, ap₂, subst, ◌∙◌, append_assoc, append-nil, length-append, IsTrue}
 use Rattle.std.proofs.Math.Seq.{drop-append_seam, take-append-add, take-append_seam}
-use Rattle.std.proofs.lemmas.Bool.{eqb-true, le-ltb, ne_eqb}
+use Rattle.std.proofs.lemmas.Bool.{le-ltb, ne_eqb}
 use Rattle.std.proofs.lemmas.Fmt.{decimal_is_IsNumeral}
 use Rattle.std.proofs.lemmas.List.{take_all}
 use Rattle.std.proofs.lemmas.List.Elements.{All-append, All-cons, All-head, All-nil, All-tail}
 use Rattle.std.proofs.lemmas.Str.Parse.{digit_from_value}
 use Rattle.std.proofs.lemmas.Str.{digit_value_digit}
-use Rattle.std.specs.Prelude.{◌&&◌, ◌==◌, not, codes, nat_eq, if◌then◌else◌}
+use Rattle.std.specs.Prelude.{◌&&◌, not, codes, nat_eq, if◌then◌else◌}
 use Rattle.std.specs.Char.{digit_value, is_ascii_digit}
 use Rattle.std.specs.Fmt.{decimal}
 use Rattle.std.specs.List.{All, list_all, starts_with}
@@ -18,8 +18,8 @@ use Rattle.serde_json.specs.Data.{Data}
 use Rattle.verbs.specs.Calls.{Denied}
 use Rattle.httparse.specs.Grammar as grammar
 use Rattle.httparse.specs.Grammar.{AllPass, is_token_byte, is_uri_byte, is_value_byte, Field, IsField, print_section, RequestHead, IsRequestHead, print_request, trim_ows}
-use Rattle.httpedge.specs.Bodies.{body_in, body_of, declared_body, sized, max_body, needs_body, number_after, decimal_value, some_json, json_in}
-use Rattle.httpedge.specs.Heads.{Length, length_in, digits, malformed, max_head, head_end, Request, validated_head, ReadsHead, ReadsHeadAt, without_zeros}
+use Rattle.httpedge.specs.Bodies.{body_in, body_of, declared_body, sized, max_body, needs_body, some_json, json_in}
+use Rattle.httpedge.specs.Heads.{Length, length_in, number, number_after, decimal_value, malformed, max_head, head_end, Request, validated_head, ReadsHead, ReadsHeadAt}
 use Rattle.httpedge.specs.Decision.{Decision, undecided, accepted, and_then, decided_by}
 use Rattle.httpedge.specs.Refusals.{as_denied, refuse, bad_head, body_too_large}
 use Rattle.wireclient.specs.Request.{body_bytes, body_fields, crlf, request}
@@ -179,9 +179,18 @@ all_digits (b ∷ ds) all =
     let range = digit_from_value b all.0 in
     both (is_ascii_digit b) (list_all is_ascii_digit ds) (digit_is_digit b range.0 range.1) (all_digits ds all.1)
 
-length_said : (ds : List ℕ) → 0 < length ds → list_all is_ascii_digit ds ≡ true → length_in ds ≡ digits (without_zeros ds)
+number_value : (n : ℕ) (ds : List ℕ) → AllDigits 10 ds → number_after n ds ≡ digits_value_after 10 n ds
+number_value n [] all = refl
+number_value n (b ∷ ds) all =
+    let value : digit_value b + 48 ≡ b = digit_value_digit b (digit_from_value b all.0) in
+    ap (λ (k : ℕ). number_after k ds) (omega (arith, value)) ∙ number_value (n * 10 + digit_value b) ds all.1
+
+counted : (n : ℕ) → n < 2 ^ 64 → decimal_value (decimal n) ≡ n
+counted n wide = let numeral = decimal_is_IsNumeral n wide in number_value 0 (decimal n) numeral.0.1 ∙ numeral.1
+
+length_said : (ds : List ℕ) → 0 < length ds → list_all is_ascii_digit ds ≡ true → length_in ds ≡ number (decimal_value ds)
 length_said [] some all = absurd (omega (arith, some))
-length_said (b ∷ ds) some all = ap (λ (t : Bool). if t then digits (without_zeros (b ∷ ds)) else malformed) all
+length_said (b ∷ ds) some all = ap (λ (t : Bool). if t then number (decimal_value (b ∷ ds)) else malformed) all
 
 passed : (t : Bool) (front : Decision (Request × List ℕ)) → t ≡ true → (if not t then refuse bad_head else front) ≡ front
 passed true front is = refl
@@ -192,10 +201,11 @@ judged_so : (method target : List ℕ) (body : Option (List ℕ × List ℕ)) (r
 judged_so method target None rest path media = passed (starts_with nat_eq target (codes "/")) (accepted (said_of method target None, rest)) path
 judged_so method target (Some (media, bytes)) rest path is =
     let numeral = decimal_is_IsNumeral (length bytes) is.2 in
-    let counted : length_in (trim_ows (32 ∷ decimal (length bytes))) ≡ digits (without_zeros (decimal (length bytes))) =
-    ap length_in (trimmed (length bytes) is.2) ∙ length_said (decimal (length bytes)) numeral.0.0 (all_digits (decimal (length bytes)) numeral.0.1) in
+    let said : length_in (trim_ows (32 ∷ decimal (length bytes))) ≡ number (length bytes) =
+    ap length_in (trimmed (length bytes) is.2) ∙ length_said (decimal (length bytes)) numeral.0.0 (all_digits (decimal (length bytes)) numeral.0.1)
+    ∙ ap (λ (n : ℕ). number n) (counted (length bytes) is.2) in
     passed (starts_with nat_eq target (codes "/")) _ path
-    ∙ ap₂ (λ (m : List ℕ) (l : Length). accepted (record { method = method; request_target = target; media = Some m; transfer_encoded = false; length = l }, rest)) is.1 counted
+    ∙ ap₂ (λ (m : List ℕ) (l : Length). accepted (record { method = method; request_target = target; media = Some m; transfer_encoded = false; length = l }, rest)) is.1 said
 
 ends_so : (method target : List ℕ) (body : Option (List ℕ × List ℕ)) → IsPrinted method target body
     → head_end (take max_head (request method target body)) ≡ Some (length (print_request (head_of method target body)))
@@ -232,23 +242,6 @@ request_says method target body is =
 
 -- ---- its body
 
-zeros : (ds : List ℕ) → decimal_value (without_zeros ds) ≡ decimal_value ds
-zeros [] = refl
-zeros (b ∷ ds) = go (zeros ds) (b == 48) refl
-  where
-    go : decimal_value (without_zeros ds) ≡ decimal_value ds → (t : Bool) → (b == 48) ≡ t → decimal_value (if t then without_zeros ds else b ∷ ds) ≡ decimal_value (b ∷ ds)
-    go later true is = let same = eqb-true b 48 is in later ∙ ap (λ (n : ℕ). number_after n ds) (omega (arith, same))
-    go later false is = refl
-
-number_value : (n : ℕ) (ds : List ℕ) → AllDigits 10 ds → number_after n ds ≡ digits_value_after 10 n ds
-number_value n [] all = refl
-number_value n (b ∷ ds) all =
-    let value : digit_value b + 48 ≡ b = digit_value_digit b (digit_from_value b all.0) in
-    ap (λ (k : ℕ). number_after k ds) (omega (arith, value)) ∙ number_value (n * 10 + digit_value b) ds all.1
-
-counted : (n : ℕ) → n < 2 ^ 64 → decimal_value (without_zeros (decimal n)) ≡ n
-counted n wide = let numeral = decimal_is_IsNumeral n wide in zeros (decimal n) ∙ number_value 0 (decimal n) numeral.0.1 ∙ numeral.1
-
 abbrev sized_if : Bool → ℕ → Result (Option ℕ) Denied
 sized_if s n = if s then Err (as_denied body_too_large) else Ok (Some n)
 
@@ -272,8 +265,6 @@ by_length bytes r = and_then (decided_by r) (λ (n : Option ℕ). declared_body 
 pub body_back : (method target media bytes : List ℕ) → needs_body method ≡ true → length bytes ≤ max_body → body_in (said_of method target (Some (media, bytes))) bytes ≡ some_json (json_in bytes)
 body_back method target media bytes needs small = go (needs_body method) needs _
   where
-    go : (t : Bool) → t ≡ true → (other : Result (Option ℕ) Denied) → by_length bytes (if t then sized (decimal_value (without_zeros (decimal (length bytes)))) else other) ≡ some_json (json_in bytes)
-    go true is other =
-        ap (λ (n : ℕ). by_length bytes (sized n)) (counted (length bytes) (omega (arith, small)))
-        ∙ ap (λ (r : Result (Option ℕ) Denied). by_length bytes r) (sized_small (length bytes) small) ∙ body_whole bytes
+    go : (t : Bool) → t ≡ true → (other : Result (Option ℕ) Denied) → by_length bytes (if t then sized (length bytes) else other) ≡ some_json (json_in bytes)
+    go true is other = ap (λ (r : Result (Option ℕ) Denied). by_length bytes r) (sized_small (length bytes) small) ∙ body_whole bytes
     go false is other = absurd cc

@@ -1,9 +1,13 @@
 -- What each end may print, and what a printed request says.
 use Rattle.std.specs.Prelude.{◌≡◌, ℕ, ◌+◌, ◌<◌, ◌≤◌, ◌^◌, Bool, true, false, ◌==◌, List, ◌∷◌, length, Option, None, Some, codes, nat_eq, IsUtf8}
-use Rattle.std.specs.Fmt.{decimal}
 use Rattle.std.specs.List.{All, starts_with}
 use Rattle.httparse.specs.Grammar.{AllPass, IsToken, is_uri_byte, is_value_byte, trim_ows}
-use Rattle.httpedge.specs.Heads.{Length, missing, digits, Request, max_head, without_zeros}
+use Rattle.schema.specs.TypesFile.{ServedShape}
+use Rattle.verbs.specs.Admit.{admitted}
+use Rattle.httpedge.specs.Asks.{Asked}
+use Rattle.httpedge.specs.Bodies.{json_in, some_json}
+use Rattle.httpedge.specs.Decision.{accepted, and_then, decided_by}
+use Rattle.httpedge.specs.Heads.{Length, missing, number, Request, max_head}
 use Rattle.wireclient.specs.Request.{body_bytes, request}
 
 -- the methods that a reply allows: a field's value (RFC 9112, section 5), for which a head has room
@@ -31,11 +35,17 @@ media_of (Some (media, bytes)) = Some media
 
 abbrev pub length_of : Option (List ℕ × List ℕ) → Length
 length_of None = missing
-length_of (Some (media, bytes)) = digits (without_zeros (decimal (length bytes)))
+length_of (Some (media, bytes)) = number (length bytes)
 
 -- what the server takes from the head of such a request
 abbrev pub said_of : List ℕ → List ℕ → Option (List ℕ × List ℕ) → Request
 said_of method target body = record { method = method; request_target = target; media = media_of body; transfer_encoded = false; length = length_of body }
+
+-- what such a request asks by these types, its target a path and a query: its route, its method and its media type are checked, then its body
+abbrev pub asked_by : List ServedShape → List ℕ → List ℕ → List ℕ → List ℕ → List ℕ → Asked
+asked_by types method path query media bytes =
+    and_then (decided_by (admitted types method path (Some media)))
+    (λ target. and_then (some_json (json_in bytes)) (λ body. accepted (record { target = target; query = query; body = body })))
 
 -- a question mark, which ends the path
 abbrev pub is_question : ℕ → Bool

@@ -1,5 +1,6 @@
 use Rattle.std.proofs.Common.{◌≡◌, ◌≤◌, drop}
-use Rattle.httpedge.specs.Bodies.{number_after, max_body}
+use Rattle.httpedge.specs.Bodies.{max_body}
+use Rattle.httpedge.specs.Heads.{number_after}
 use Rattle.httpedge.proofs.body.decimal_value.Given as goal
 
 abbrev pub invariant-loop-digit : goal.invariant-loop-digit

@@ -1,5 +1,5 @@
 use Rattle.std.proofs.Common.{◌≡◌, drop}
-use Rattle.httpedge.specs.Heads.{without_zeros}
+use Rattle.httpedge.specs.Views.{without_zeros}
 use Rattle.httpedge.proofs.head.without_zeros.Given as goal
 
 abbrev pub invariant-loop-i : goal.invariant-loop-i

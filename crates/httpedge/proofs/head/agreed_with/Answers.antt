@@ -1,0 +1,14 @@
+use Rattle.std.proofs.Common.{◌≡◌, ◌∙◌, sym, subst}
+use Rattle.httpedge.specs.declared.head.Length as lengths
+use Rattle.httpedge.specs.Heads.{agreed, decimal_value, malformed, number}
+use Rattle.httpedge.specs.Views.{IsPlain, length_of}
+use Rattle.httpedge.proofs.Digits.{agreed_not}
+use Rattle.httpedge.proofs.head.agreed_with.Goals as goal
+
+pub returns-else-eq-clause-value : goal.returns-else-eq-clause-value
+returns-else-eq-clause-value c =
+    let said = c.args.said.now in
+    let others = c.in-Digits.others.now in
+    let plain = subst IsPlain c.in-Digits.is c.requires.other in
+    subst (λ (l : lengths.Length). malformed ≡ agreed (number (decimal_value said)) (length_of l)) (sym c.in-Digits.is)
+    (agreed_not said others c.requires.said plain (sym c.eq.ensures ∙ c.if-eq.false))
