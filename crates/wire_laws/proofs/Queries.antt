@@ -27,7 +27,7 @@ place_of_mark (b ∷ path) query none = go (λ rest. place_of_mark path query re
 pub path_back : (path query : List ℕ) → list_any is_question path ≡ false → path_of (path ++ 63 ∷ query) ≡ path
 path_back path query none = ap (λ (n : ℕ). take n (path ++ 63 ∷ query)) (place_of_mark path query none) ∙ take-append_seam path (63 ∷ query)
 
-query_back : (path query : List ℕ) → list_any is_question path ≡ false → query_of (path ++ 63 ∷ query) ≡ query
+pub query_back : (path query : List ℕ) → list_any is_question path ≡ false → query_of (path ++ 63 ∷ query) ≡ query
 query_back path query none = ap (λ (n : ℕ). drop (n + 1) (path ++ 63 ∷ query)) (place_of_mark path query none) ∙ drop-append-add path (63 ∷ query) 1
 
 -- ---- the pairs

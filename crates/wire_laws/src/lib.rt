@@ -8,5 +8,5 @@
 mod replies;
 mod requests;
 
-pub use replies::replies_are_read;
-pub use requests::{bodies_are_read, queries_are_read, requests_are_read};
+pub use replies::{answers_are_read, refusals_are_read, replies_are_read};
+pub use requests::{bodies_are_read, queries_are_read, requests_are_read, requests_ask};

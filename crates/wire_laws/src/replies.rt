@@ -1,8 +1,19 @@
 //! What the server prints, the client reads.
 
-ghost use Rattle.std.specs.Prelude.{◌≤◌, ℕ, List, [], ◌∷◌, length, Option};
+ghost use Rattle.std.specs.Prelude.{◌≡◌, ◌≤◌, ℕ, List, [], ◌∷◌, length, None, Option};
 ghost use Rattle.http.specs.StatusCode.{IsStatusCode};
+ghost use Rattle.serde_json.specs.Written.{compact_text};
+ghost use Rattle.schema.specs.TypesFile.{ServedShape};
+ghost use Rattle.verbs.specs.Calls.{Call, Denied};
+ghost use Rattle.verbs.specs.Machine.{Machine};
+ghost use Rattle.verbs.specs.Reasons.{code_of};
+ghost use Rattle.verbs.specs.Status.{status_value};
+ghost use Rattle.verbs.specs.Step.{planned};
+ghost use Rattle.httpedge.specs.Asks.{Asks};
+ghost use Rattle.httpedge.specs.Decision.{refused};
+ghost use Rattle.httpedge.specs.Refusals.{as_denied, too_many_connections};
 ghost use Rattle.httpedge.specs.ReplyBytes.{reply};
+ghost use Rattle.httpedge.specs.Steps.{refusal_reply};
 ghost use Rattle.wireclient.specs.Reads.{Items, max_body};
 ghost use Rattle.wireclient.specs.Reply.{end, head, whole};
 ghost use Rattle.wire_laws.specs.Printed.{IsAllowed};
@@ -14,4 +25,24 @@ pub fn replies_are_read()
         → Items (reply code allow body) (head code ∷ whole body ∷ end ∷ []) }
 {
     wireclient::reply_reads_back();
+}
+
+/// A refusal that the hub writes, of what bytes ask or of a connection too many, is read by the client as its status,
+/// its Status object and the end.
+pub fn refusals_are_read()
+    ensures asked { (types : List ServedShape) (bytes : List ℕ) (d : Denied) → Asks types bytes (refused d)
+        → Items (refusal_reply d) (head (code_of d.reason) ∷ whole (compact_text (status_value d.reason d.message)) ∷ end ∷ []) }
+    ensures full { (d : Denied) → d ≡ as_denied too_many_connections
+        → Items (refusal_reply d) (head (code_of d.reason) ∷ whole (compact_text (status_value d.reason d.message)) ∷ end ∷ []) }
+{
+    replies_are_read();
+}
+
+/// The answer of a call, written with this text of its value, is read by the client as its status, this text and the
+/// end, where the text is not too long for a client.
+pub fn answers_are_read()
+    ensures { (types : List ServedShape) (m : Machine) (call : Call) (text : List ℕ) → length text ≤ max_body
+        → Items (reply (planned types m call).answer.status None text) (head (planned types m call).answer.status ∷ whole text ∷ end ∷ []) }
+{
+    replies_are_read();
 }

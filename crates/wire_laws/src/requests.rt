@@ -4,11 +4,13 @@ ghost use Rattle.std.specs.Prelude.{◌≡◌, ◌≤◌, ℕ, List, [], ◌∷�
 ghost use Rattle.std.specs.List.{All, list_any};
 ghost use Rattle.form_urlencoded.specs.Form.{extend_pairs};
 ghost use Rattle.params.specs.Query.{pairs_in};
+ghost use Rattle.schema.specs.TypesFile.{ServedShape};
+ghost use Rattle.httpedge.specs.Asks.{Asks};
 ghost use Rattle.httpedge.specs.Bodies.{body_in, max_body, needs_body, path_of, query_of, some_json, json_in};
 ghost use Rattle.httpedge.specs.Heads.{ReadsHead};
 ghost use Rattle.httpedge.specs.Decision.{accepted};
 ghost use Rattle.wireclient.specs.Request.{body_bytes, request};
-ghost use Rattle.wire_laws.specs.Printed.{IsPrinted, IsTextPair, is_question, said_of};
+ghost use Rattle.wire_laws.specs.Printed.{IsPrinted, IsTextPair, asked_by, is_question, said_of};
 
 /// A request that the client prints (RFC 9112, section 3) says on the server this method, this target and this media
 /// type, and its body stands after the head.
@@ -21,6 +23,14 @@ pub fn requests_are_read()
 pub fn bodies_are_read()
     ensures { (method target media bytes : List ℕ) → needs_body method ≡ true → length bytes ≤ max_body
         → body_in (said_of method target (Some (media, bytes))) bytes ≡ some_json (json_in bytes) }
+{}
+
+/// A request that the client prints asks what its path, its method and its media type lead to, with its query and with
+/// what its body is as JSON, where its method needs a body and the body isn't too long.
+pub fn requests_ask()
+    ensures { (types : List ServedShape) (method path query media bytes : List ℕ) → list_any is_question path ≡ false → needs_body method ≡ true → length bytes ≤ max_body
+        → IsPrinted method (path ++ 63 ∷ query) (Some (media, bytes))
+        → Asks types (request method (path ++ 63 ∷ query) (Some (media, bytes))) (asked_by types method path query media bytes) }
 {}
 
 /// A path and a form of pairs after a question mark: the path and the pairs come back.

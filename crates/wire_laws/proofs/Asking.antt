@@ -1,0 +1,58 @@
+-- What a request that the client prints asks.
+use Rattle.std.proofs.Common.{◌≡◌, ℕ, ◌≤◌, Bool, true, false, List, ◌∷◌, ◌++◌, length, Option, None, Some, refl, sym, ap, ◌∙◌}
+use Rattle.std.proofs.lemmas.Slice.Eq.{bytes_eq-Decides}
+use Rattle.std.specs.Prelude.{◌&&◌, ◌||◌, not, codes, if◌then◌else◌}
+use Rattle.std.specs.List.{list_any}
+use Rattle.std.specs.Str.{bytes_eq}
+use Rattle.serde_json.specs.Data.{Data}
+use Rattle.schema.specs.TypesFile.{ServedShape}
+use Rattle.verbs.specs.Admit.{admitted}
+use Rattle.httpedge.specs.Asks.{Asked, Asks}
+use Rattle.httpedge.specs.Bodies.{body_in, checked_media, max_body, may_have_body, needs_body, query_of}
+use Rattle.httpedge.specs.Decision.{Decision, accepted, and_then, decided_by}
+use Rattle.httpedge.specs.Heads.{Request}
+use Rattle.wireclient.specs.Request.{request}
+use Rattle.wire_laws.specs.Printed.{IsPrinted, asked_by, is_question, said_of}
+use Rattle.wire_laws.proofs.PrintedRequests.{body_back, request_says}
+use Rattle.wire_laws.proofs.Queries.{path_back, query_back}
+
+-- a method that needs a body is not DELETE
+no_delete : (method : List ℕ) → needs_body method ≡ true → may_have_body method ≡ false
+no_delete method needs = go (bytes_eq method (codes "POST")) (bytes_eq method (codes "PUT")) (bytes_eq method (codes "PATCH")) refl refl refl needs
+  where
+    is_that : (name : List ℕ) → bytes_eq method name ≡ true → may_have_body name ≡ false → may_have_body method ≡ false
+    is_that name is none = ap may_have_body ((bytes_eq-Decides method name).0 is) ∙ none
+
+    go : (post put patch : Bool) → bytes_eq method (codes "POST") ≡ post → bytes_eq method (codes "PUT") ≡ put → bytes_eq method (codes "PATCH") ≡ patch
+        → post || put || patch ≡ true → may_have_body method ≡ false
+    go true put patch is that other some = is_that (codes "POST") is refl
+    go false true patch is that other some = is_that (codes "PUT") that refl
+    go false false true is that other some = is_that (codes "PATCH") other refl
+    go false false false is that other some = absurd cc
+
+media_checked : (method target media bytes : List ℕ) → needs_body method ≡ true → checked_media (said_of method target (Some (media, bytes))) ≡ Some media
+media_checked method target media bytes needs = go (may_have_body method) _ (no_delete method needs)
+  where
+    go : (t other : Bool) → t ≡ false → (if t && other then None else Some media) ≡ Some media
+    go true other is = absurd cc
+    go false other is = refl
+
+-- by its parts
+abbrev asked_in : List ServedShape → List ℕ → List ℕ → Option (List ℕ) → List ℕ → Decision (Option Data) → Asked
+asked_in types method path media query body =
+    and_then (decided_by (admitted types method path media)) (λ target. and_then body (λ value. accepted (record { target = target; query = query; body = value })))
+
+pub request_asks : (types : List ServedShape) (method path query media bytes : List ℕ) → list_any is_question path ≡ false → needs_body method ≡ true → length bytes ≤ max_body
+    → IsPrinted method (path ++ 63 ∷ query) (Some (media, bytes)) → Asks types (request method (path ++ 63 ∷ query) (Some (media, bytes))) (asked_by types method path query media bytes)
+request_asks types method path query media bytes plain needs small printed =
+    let target = path ++ 63 ∷ query in
+    let said : Request = said_of method target (Some (media, bytes)) in (
+      accepted (said, bytes),
+      request_says method target (Some (media, bytes)) printed,
+      sym (
+          ap (λ (p : List ℕ). asked_in types method p (checked_media said) (query_of target) (body_in said bytes)) (path_back path query plain)
+          ∙ ap (λ (m : Option (List ℕ)). asked_in types method path m (query_of target) (body_in said bytes)) (media_checked method target media bytes needs)
+          ∙ ap (λ (q : List ℕ). asked_in types method path (Some media) q (body_in said bytes)) (query_back path query plain)
+          ∙ ap (λ (b : Decision (Option Data)). asked_in types method path (Some media) query b) (body_back method target media bytes needs small)
+          ),
+    )

@@ -1,0 +1,298 @@
+-- Each reply that a hub writes is one that its client reads: its status, what it allows, and how long it is.
+use Rattle.std.proofs.Common.{arith, ◌≡◌, ℕ, suc, ◌≤◌, Bool, true, false, List, length, take, drop, Option, None, Some, Result, Ok, Err, refl, sym, subst, inl, inr}
+use Rattle.std.proofs.lemmas.Bool.{leb-true}
+use Rattle.std.specs.FinMap as fin
+use Rattle.std.specs.Fmt.{digits}
+use Rattle.std.specs.Prelude.{◌==◌, codes, if◌then◌else◌, nat_le, nat_lt, slice_get, ⊤}
+use Rattle.http.specs.StatusCode.{IsStatusCode}
+use Rattle.httparse.specs.Grammar.{RequestHead, is_value_byte}
+use Rattle.serde_json.proofs.OnLiterals.{serde_json_on_literals}
+use Rattle.serde_json.specs.Data.{Data}
+use Rattle.serde_json.specs.Written.{compact_text}
+use Rattle.ownership.specs.Apply.{State}
+use Rattle.ownership.specs.Owners.{apply_operation, manager_of}
+use Rattle.ownership.specs.Sameness.{same_state}
+use Rattle.schema.specs.TypesFile.{ServedShape}
+use Rattle.verbs.specs.declared.method.Method.{Method}
+use Rattle.verbs.specs.declared.method.Method.TheVariants as method
+use Rattle.verbs.specs.declared.reason.Reason.{Reason}
+use Rattle.verbs.specs.declared.reason.Reason.TheVariants as reason
+use Rattle.verbs.specs.declared.resource.Resource.{Resource}
+use Rattle.verbs.specs.declared.resource.Resource.TheVariants as resource
+use Rattle.verbs.specs.Admit.{Place, admitted, allowed, denied_by, method_admitted, method_named, method_served, place_admitted, place_of, takes, target_at}
+use Rattle.verbs.specs.Calls.{Call, Denied, Plan, Target}
+use Rattle.verbs.specs.Envelope.{api_version_of}
+use Rattle.verbs.specs.Judged as judged
+use Rattle.verbs.specs.Judged.{Judged}
+use Rattle.verbs.specs.Machine.{Key, Machine, Object, Objects, standing}
+use Rattle.verbs.specs.Reasons.{code_of}
+use Rattle.verbs.specs.Status.{Denial, status_value}
+use Rattle.verbs.specs.Size.{size_judged}
+use Rattle.verbs.specs.Step as step
+use Rattle.httpedge.specs.Asks.{Asked, Asks, call_in, call_with}
+use Rattle.httpedge.specs.Bodies.{body_in, checked_media, declared_body, declared_length, json_in, max_body, may_have_body, needed_length, needs_body, optional_length, path_of, sized, some_json}
+use Rattle.httpedge.specs.Decision.{Decision, undecided, refused, accepted, and_then, decided_by}
+use Rattle.httpedge.specs.Heads.{HeadDecision, Length, ReadsHeadAt, Request, number, head_end, malformed, max_head, missing, validated_head}
+use Rattle.httpedge.specs.Refusals.{Refusal, as_denied, bad_head, bad_length, body_too_large, head_too_large, no_length, not_json, not_one_host, refuse, too_many_connections, transfer_encoding, wrong_version}
+use Rattle.wireclient.specs.Reads as client
+use Rattle.wire_laws.specs.Printed.{IsAllowed}
+use Rattle.wire_laws.proofs.Fields.{passes_each}
+
+-- ---- refusals
+
+-- the methods that it allows fit a field, and its Status fits a body
+pub record IsReadable (d : Denied) : Type 0 where
+  pub allow : IsAllowed d.allow
+  pub short : length (compact_text (status_value d.reason d.message)) ≤ client.max_body
+
+is_short : (r : Reason) (message : List ℕ) → nat_le (length (compact_text (status_value r message))) client.max_body ≡ true → length (compact_text (status_value r message)) ≤ client.max_body
+is_short r message is = leb-true _ _ is
+
+plain : (r : Reason) (message : List ℕ) → nat_le (length (compact_text (status_value r message))) client.max_body ≡ true → IsReadable (record { reason = r; message = message; allow = None })
+plain r message is = record { allow = tt {0}; short = is_short r message is }
+
+pub refusal_readable : (r : Refusal) → IsReadable (as_denied r)
+unfolding serde_json_on_literals digits
+refusal_readable head_too_large = plain reason.RequestHeaderFieldsTooLarge (codes "request head too large") refl
+refusal_readable bad_head = plain reason.BadRequest (codes "bad request head") refl
+refusal_readable wrong_version = plain reason.HttpVersionNotSupported (codes "HTTP/1.1 is needed") refl
+refusal_readable not_one_host = plain reason.BadRequest (codes "one Host field is needed") refl
+refusal_readable transfer_encoding = plain reason.NotImplemented (codes "Transfer-Encoding is not served") refl
+refusal_readable no_length = plain reason.LengthRequired (codes "Content-Length is needed") refl
+refusal_readable bad_length = plain reason.BadRequest (codes "bad Content-Length") refl
+refusal_readable body_too_large = plain reason.RequestEntityTooLarge (codes "body over 65536 bytes") refl
+refusal_readable not_json = plain reason.BadRequest (codes "body is not JSON") refl
+refusal_readable too_many_connections = plain reason.ServiceUnavailable (codes "too many connections") refl
+
+no_path_readable : IsReadable (record { reason = reason.NotFound; message = codes "no such path"; allow = None })
+unfolding serde_json_on_literals digits
+no_path_readable = plain reason.NotFound (codes "no such path") refl
+
+media_readable : IsReadable (record { reason = reason.UnsupportedMediaType; message = codes "media type not served"; allow = None })
+unfolding serde_json_on_literals digits
+media_readable = plain reason.UnsupportedMediaType (codes "media type not served") refl
+
+allowed_readable : (r : Resource) → IsAllowed (Some (allowed r))
+allowed_readable resource.Object = (passes_each is_value_byte (codes "PATCH") refl, omega arith)
+
+method_short : length (compact_text (status_value reason.MethodNotAllowed (codes "method not served here"))) ≤ client.max_body
+unfolding serde_json_on_literals digits
+method_short = is_short reason.MethodNotAllowed (codes "method not served here") refl
+
+pub code_is : (r : Reason) → IsStatusCode (code_of r)
+code_is reason.BadRequest = (omega arith, omega arith)
+code_is reason.NotFound = (omega arith, omega arith)
+code_is reason.MethodNotAllowed = (omega arith, omega arith)
+code_is reason.AlreadyExists = (omega arith, omega arith)
+code_is reason.Conflict = (omega arith, omega arith)
+code_is reason.Expired = (omega arith, omega arith)
+code_is reason.LengthRequired = (omega arith, omega arith)
+code_is reason.RequestEntityTooLarge = (omega arith, omega arith)
+code_is reason.UnsupportedMediaType = (omega arith, omega arith)
+code_is reason.Invalid = (omega arith, omega arith)
+code_is reason.RequestHeaderFieldsTooLarge = (omega arith, omega arith)
+code_is reason.NotImplemented = (omega arith, omega arith)
+code_is reason.ServiceUnavailable = (omega arith, omega arith)
+code_is reason.Timeout = (omega arith, omega arith)
+code_is reason.HttpVersionNotSupported = (omega arith, omega arith)
+
+-- ---- what bytes ask
+
+abbrev WhenRefused : {A : Type 0} → Decision A → Type 0
+WhenRefused undecided = ⊤
+WhenRefused (refused d) = IsReadable d
+WhenRefused (accepted a) = ⊤
+
+-- where it is refused, the refusal is one that the client reads
+pub record Readable (A : Type 0) (x : Decision A) : Type 0 where
+  pub is : WhenRefused x
+
+no : {A : Type 0} (r : Refusal) → Readable A (refuse r)
+no r = record { is = refusal_readable r }
+
+more : {A : Type 0} → Readable A undecided
+more = record { is = tt {0} }
+
+yes : {A : Type 0} (a : A) → Readable A (accepted a)
+yes a = record { is = tt {0} }
+
+if_readable : {A : Type 0} (b : Bool) (x y : Decision A) → Readable A x → Readable A y → Readable A (if b then x else y)
+if_readable true x y is other = is
+if_readable false x y is other = other
+
+then_readable : {A B : Type 0} (x : Decision A) (next : A → Decision B) → Readable A x → ((a : A) → Readable B (next a)) → Readable B (and_then x next)
+then_readable undecided next is later = more
+then_readable (refused d) next is later = record { is = is.is }
+then_readable (accepted a) next is later = later a
+
+abbrev WhenErr : {A : Type 0} → Result A Denied → Type 0
+WhenErr (Ok a) = ⊤
+WhenErr (Err d) = IsReadable d
+
+pub record ReadableResult (A : Type 0) (x : Result A Denied) : Type 0 where
+  pub is : WhenErr x
+
+err : {A : Type 0} (d : Denied) → IsReadable d → ReadableResult A (Err d)
+err d is = record { is = is }
+
+ok : {A : Type 0} (a : A) → ReadableResult A (Ok a)
+ok a = record { is = tt {0} }
+
+if_result : {A : Type 0} (b : Bool) (x y : Result A Denied) → ReadableResult A x → ReadableResult A y → ReadableResult A (if b then x else y)
+if_result true x y is other = is
+if_result false x y is other = other
+
+decided_readable : {A : Type 0} (r : Result A Denied) → ReadableResult A r → Readable A (decided_by r)
+decided_readable (Ok a) is = yes a
+decided_readable (Err d) is = record { is = is.is }
+
+four_readable : (s t u v : Bool) (head : Request × List ℕ)
+    → Readable (Request × List ℕ) (if s then refuse head_too_large else (if t then refuse wrong_version else (if u then refuse not_one_host else (if v then refuse bad_head else accepted head))))
+four_readable true t u v head = no head_too_large
+four_readable false true u v head = no wrong_version
+four_readable false false true v head = no not_one_host
+four_readable false false false true head = no bad_head
+four_readable false false false false head = yes head
+
+validated_readable : (h : RequestHead) (rest : List ℕ) → Readable (Request × List ℕ) (validated_head h rest)
+validated_readable h rest = four_readable _ _ _ _ _
+
+at_readable : (bytes : List ℕ) (o : Option ℕ) (head : HeadDecision) → ReadsHeadAt bytes o head → Readable (Request × List ℕ) head
+at_readable bytes None head is =
+    subst (λ (x : HeadDecision). Readable (Request × List ℕ) x) (sym is) (if_readable (nat_lt max_head (length bytes)) (refuse head_too_large) undecided (no head_too_large) more)
+at_readable bytes (Some n) head (inl (h, reads, is)) = subst (λ (x : HeadDecision). Readable (Request × List ℕ) x) (sym is) (validated_readable h (drop n bytes))
+at_readable bytes (Some n) head (inr (none, is)) = subst (λ (x : HeadDecision). Readable (Request × List ℕ) x) (sym is) (no bad_head)
+
+method_readable : (place : Place) (m : Option Method) (media : Option (List ℕ)) → ReadableResult Target (method_admitted place m media)
+method_readable place None media = err _ (record { allow = allowed_readable place.resource; short = method_short })
+method_readable place (Some m) media =
+    if_result (takes m media) (Ok (target_at place m)) (denied_by reason.UnsupportedMediaType (codes "media type not served") None) (ok (target_at place m)) (err _ media_readable)
+
+place_readable : (o : Option Place) (method : List ℕ) (media : Option (List ℕ)) → ReadableResult Target (place_admitted o method media)
+place_readable None method media = err _ no_path_readable
+place_readable (Some place) method media = method_readable place (method_served place.resource (method_named method)) media
+
+sized_readable : (n : ℕ) → ReadableResult (Option ℕ) (sized n)
+sized_readable n = if_result (nat_lt max_body n) (Err (as_denied body_too_large)) (Ok (Some n)) (err _ (refusal_readable body_too_large)) (ok (Some n))
+
+needed_readable : (l : Length) → ReadableResult (Option ℕ) (needed_length l)
+needed_readable missing = err _ (refusal_readable no_length)
+needed_readable malformed = err _ (refusal_readable bad_length)
+needed_readable (number n) = sized_readable n
+
+optional_readable : (l : Length) → ReadableResult (Option ℕ) (optional_length l)
+optional_readable missing = ok None
+optional_readable malformed = err _ (refusal_readable bad_length)
+optional_readable (number n) = if_result (n == 0) (Ok None) (sized n) (ok None) (sized_readable n)
+
+encoded_readable : (b : Bool) (x : Result (Option ℕ) Denied) → ReadableResult (Option ℕ) x → ReadableResult (Option ℕ) (if b then Err (as_denied transfer_encoding) else x)
+encoded_readable true x is = err _ (refusal_readable transfer_encoding)
+encoded_readable false x is = is
+
+by_method : (needs may : Bool) (x y : Result (Option ℕ) Denied) → ReadableResult (Option ℕ) x → ReadableResult (Option ℕ) y
+    → ReadableResult (Option ℕ) (if needs then x else (if may then y else Ok None))
+by_method true may x y is other = is
+by_method false true x y is other = other
+by_method false false x y is other = ok None
+
+declared_readable : (r : Request) → ReadableResult (Option ℕ) (declared_length r)
+declared_readable r =
+    by_method (needs_body r.method) (may_have_body r.method) (if r.transfer_encoded then Err (as_denied transfer_encoding) else needed_length r.length)
+    (if r.transfer_encoded then Err (as_denied transfer_encoding) else optional_length r.length)
+    (encoded_readable r.transfer_encoded (needed_length r.length) (needed_readable r.length)) (encoded_readable r.transfer_encoded (optional_length r.length) (optional_readable r.length))
+
+json_readable : (o : Option Data) → Readable (Option Data) (some_json o)
+json_readable None = no not_json
+json_readable (Some value) = yes (Some value)
+
+declared_body_readable : (o : Option ℕ) (rest : List ℕ) → Readable (Option Data) (declared_body o rest)
+declared_body_readable None rest = yes None
+declared_body_readable (Some n) rest = if_readable (nat_lt (length rest) n) undecided (some_json (json_in (take n rest))) more (json_readable (json_in (take n rest)))
+
+body_readable : (r : Request) (rest : List ℕ) → Readable (Option Data) (body_in r rest)
+body_readable r rest =
+    then_readable (decided_by (declared_length r)) (λ n. declared_body n rest) (decided_readable (declared_length r) (declared_readable r)) (λ n. declared_body_readable n rest)
+
+with_readable : (r : Request) (target : Target) (body : Decision (Option Data)) → Readable (Option Data) body → Readable Call (call_with r target body)
+with_readable r target undecided is = more
+with_readable r target (refused d) is = record { is = is.is }
+with_readable r target (accepted value) is = yes _
+
+call_readable : (types : List ServedShape) (r : Request) (rest : List ℕ) → Readable Call (call_in types r rest)
+call_readable types r rest =
+    let target = admitted types r.method (path_of r.request_target) (checked_media r) in
+    then_readable (decided_by target) (λ t. call_with r t (body_in r rest))
+    (decided_readable target (place_readable (place_of types (path_of r.request_target)) r.method (checked_media r)))
+    (λ t. with_readable r t (body_in r rest) (body_readable r rest))
+
+pub asked_readable : (types : List ServedShape) (bytes : List ℕ) (d : Denied) → Asks types bytes (refused d) → IsReadable d
+asked_readable types bytes d (head, reads, is) =
+    let all = then_readable head (λ r. call_in types r.0 r.1) (at_readable bytes (head_end (take max_head bytes)) head reads) (λ r. call_readable types r.0 r.1) in
+    (subst (λ (x : Asked). Readable Call x) (sym is) all).is
+
+-- ---- answers
+
+abbrev WhenDone : Judged Plan → Type 0
+WhenDone (Ok p) = IsStatusCode p.answer.status
+WhenDone (Err d) = ⊤
+
+-- where it is done, the answer's status is a status code
+pub record IsFine (j : Judged Plan) : Type 0 where
+  pub is : WhenDone j
+
+denied : (d : Denial) → IsFine (Err d)
+denied d = record { is = tt {0} }
+
+checked : {X : Type 0} (x : Judged X) (f : X → Judged Plan) → ((a : X) → IsFine (f a)) → IsFine (judged.and_then x f)
+checked (Ok a) f is = is a
+checked (Err d) f is = denied d
+
+if_fine : (b : Bool) (x y : Judged Plan) → IsFine x → IsFine y → IsFine (if b then x else y)
+if_fine true x y is other = is
+if_fine false x y is other = other
+
+stored_fine : (body : Data) (current : ℕ) (k : Key) (status : ℕ) (s : State) → IsStatusCode status → IsFine (step.stored_as body current k status s)
+stored_fine body current k status s is =
+    let plan : Plan = record {
+      answer = record { status = status; body = body };
+      change = Some (record { revision = suc current; key = k; object = Some s });
+    } in
+    let left : Unit {0} → Judged Plan = λ u. judged.and_then (step.revisions_left current) (λ v. Ok plan) in
+    checked (size_judged body) left (λ u. checked (step.revisions_left current) (λ v. Ok plan) (λ v. record { is = is }))
+
+over_fine : (t : ServedShape) (current : ℕ) (k : Key) (o : Option Object) (s : State) → IsFine (step.stored_over t current k o s)
+over_fine t current k None s = stored_fine (step.printed t k (suc current) s) current k 201 s (omega arith, omega arith)
+over_fine t current k (Some o) s =
+    if_fine (same_state s o.state) (Ok (step.kept t k o)) (step.stored t current k 200 s) (record { is = (omega arith, omega arith) })
+    (stored_fine (step.printed t k (suc current) s) current k 200 s (omega arith, omega arith))
+
+applied_fine : (t : ServedShape) (current : ℕ) (k : Key) (live : Option Object) (intent : step.Intent) → IsFine (step.applied_over t current k live intent)
+applied_fine t current k live intent =
+    let owned = step.ownership_judged (api_version_of t) (step.state_or_nothing live) intent.content (manager_of intent.manager apply_operation) intent.is_forced in
+    checked (step.version_checked intent.version live) (λ u. judged.and_then owned (step.stored_over t current k live))
+    (λ u. checked owned (step.stored_over t current k live) (λ s. over_fine t current k live s))
+
+apply_fine : (t : ServedShape) (current : ℕ) (objects : Objects) (k : Key) (query : List ℕ) (o : Option Data) → IsFine (step.apply_of_body t current objects k query o)
+apply_fine t current objects k query None = denied _
+apply_fine t current objects k query (Some body) =
+    checked (step.intent_of t k query body) (step.applied_over t current k (fin.get objects k)) (λ intent. applied_fine t current k (fin.get objects k) intent)
+
+method_fine : (m : Method) (t : ServedShape) (current : ℕ) (objects : Objects) (k : Key) (query : List ℕ) (o : Option Data) → IsFine (step.judged_by m t current objects k query o)
+method_fine method.Patch t current objects k query o = apply_fine t current objects k query o
+method_fine method.Get t current objects k query o = denied _
+method_fine method.Post t current objects k query o = denied _
+method_fine method.Put t current objects k query o = denied _
+method_fine method.Delete t current objects k query o = denied _
+
+at_fine : (o : Option ServedShape) (k : Option Key) (current : ℕ) (objects : Objects) (call : Call) → IsFine (step.judged_at o k current objects call)
+at_fine None k current objects call = denied _
+at_fine (Some t) None current objects call = denied _
+at_fine (Some t) (Some k) current objects call = method_fine call.target.method t current objects k call.query call.body
+
+told_fine : (j : Judged Plan) → IsFine j → IsStatusCode (step.told j).answer.status
+told_fine (Ok p) is = is.is
+told_fine (Err d) is = code_is d.reason
+
+pub status_is : (types : List ServedShape) (m : Machine) (call : Call) → IsStatusCode (step.planned types m call).answer.status
+status_is types m call =
+    told_fine (step.judged_over types m.current (standing m) call) (at_fine (slice_get types call.target.kind) (step.key_of call.target) m.current (standing m) call)
