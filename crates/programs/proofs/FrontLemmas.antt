@@ -3,7 +3,7 @@ use Rattle.std.proofs.Common.{◌∙◌, ℕ, ap, refl, sym, List, [], ◌++◌,
 use Rattle.std.proofs.lemmas.Grind.{flat_map-append}
 use Rattle.std.proofs.lemmas.List.{take-append-drop}
 use Rattle.schema.specs.TypesFile.{ServedShape}
-use Rattle.httpedge.specs.Connections.{out_on}
+use Rattle.httpedge.specs.Connections.{written_on}
 use Rattle.programs.specs.Replays.{PrintsFront, Run, Runs, connection_text, connections_text, start}
 use Rattle.programs.specs.Script.{Event}
 
@@ -23,6 +23,6 @@ at_connection types events i q text ran =
       sym (append-nil events),
       (q, text, ran, refl),
       ap (λ (ids : List ℕ). text ++ connections_text q.hub ids) (sym (take-append-drop i q.others))
-          ∙ ap (λ (s : List ℕ). text ++ s) (flat_map-append (λ (id : ℕ). connection_text id (out_on q.hub.connections id)) (take i q.others) (drop i q.others))
+          ∙ ap (λ (s : List ℕ). text ++ s) (flat_map-append (λ (id : ℕ). connection_text id (written_on q.hub.connections id)) (take i q.others) (drop i q.others))
           ∙ sym (append_assoc text (connections_text q.hub (take i q.others)) rest),
     )

@@ -4,7 +4,7 @@ use Rattle.std.specs.Prelude.{is_none, nat_lt}
 use Rattle.std.specs.List.{slice_index_or}
 use Rattle.std.proofs.lemmas.Bool.{lt-ltb, ltb-true}
 use Rattle.std.proofs.lemmas.List.{flat_map_more, map_more, take_more}
-use Rattle.httpedge.specs.Connections.{out_on}
+use Rattle.httpedge.specs.Connections.{written_on}
 use Rattle.httpedge.specs.Steps.{State}
 use Rattle.programs.specs.Replays.{Does, Run, Runs, connection_text, connections_text, next_id}
 use Rattle.programs.specs.Script.{Event}
@@ -26,9 +26,9 @@ joined a b c bytes =
 
 -- one connection more
 pub one_more : (s : State) (ids : List ℕ) (i d : ℕ) → i < length ids
-    → connections_text s (take i ids) ++ connection_text (slice_index_or ids i d) (out_on s.connections (slice_index_or ids i d)) ≡ connections_text s (take (i + 1) ids)
+    → connections_text s (take i ids) ++ connection_text (slice_index_or ids i d) (written_on s.connections (slice_index_or ids i d)) ≡ connections_text s (take (i + 1) ids)
 one_more s ids i d lt =
-    flat_map_more (λ (id : ℕ). connection_text id (out_on s.connections id)) [] (take i ids) (slice_index_or ids i d) ∙ ap (connections_text s) (sym (take_more ids i d lt))
+    flat_map_more (λ (id : ℕ). connection_text id (written_on s.connections id)) [] (take i ids) (slice_index_or ids i d) ∙ ap (connections_text s) (sym (take_more ids i d lt))
 
 -- one event more
 pub events_more : {A B : Type 0} (f : A → B) (xs : List A) (i : ℕ) (x : A) → i < length xs → x ≡ slice_index_or xs i x

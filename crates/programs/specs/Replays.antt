@@ -4,7 +4,7 @@ use Rattle.std.specs.List.{flat_map}
 use Rattle.std.specs.Fmt.{decimal}
 use Rattle.schema.specs.TypesFile.{ServedShape}
 use Rattle.verbs.specs.Machine.{fresh}
-use Rattle.httpedge.specs.Connections.{out_on}
+use Rattle.httpedge.specs.Connections.{written_on}
 use Rattle.httpedge.specs.Runs as runs
 use Rattle.httpedge.specs.Steps as edge
 use Rattle.wireclient.specs.Reads as reads
@@ -49,7 +49,7 @@ next_id highest = if nat_lt highest 18446744073709551615 then Some (highest + 1)
 abbrev pub Answers : edge.State → ℕ → Apply → List ℕ → edge.State → Type 0
 Answers s id a text t =
     (opened : edge.State) × (bytes : List ℕ) × runs.Steps s (edge.opens id) opened × IsRequestOf a bytes × runs.Steps opened (edge.comes id bytes) t
-    × TellsReply (out_on t.connections id) text
+    × TellsReply (written_on t.connections id) text
 
 abbrev pub Applies : Run → Apply → Option ℕ → List ℕ → Run → Type 0
 Applies r a None text q = (text ≡ []) × (q ≡ r)
@@ -74,7 +74,7 @@ Runs r (e ∷ es) text q = (p : Run) × (first : List ℕ) × (rest : List ℕ) 
 
 -- what was written on these connections
 abbrev pub connections_text : edge.State → List ℕ → List ℕ
-connections_text s ids = flat_map (λ id. connection_text id (out_on s.connections id)) ids
+connections_text s ids = flat_map (λ id. connection_text id (written_on s.connections id)) ids
 
 -- what the events print: the replies to the applies, then what was written on the other connections
 abbrev pub Prints : List ServedShape → List Event → List ℕ → Type 0

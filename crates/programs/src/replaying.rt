@@ -3,7 +3,7 @@ ghost use Rattle.std.specs.Prelude.{◌≡◌, ◌≢◌, ◌++◌, ℕ, [], Lis
 ghost use Rattle.std.specs.Io.KnownBytes.{Appends};
 ghost use Rattle.std.specs.List.{flat_map};
 ghost use Rattle.schema.specs.Served.{types_view};
-ghost use Rattle.httpedge.specs.HubSeen.{IsIn, event_of};
+ghost use Rattle.httpedge.specs.HubSeen.{event_of};
 ghost use Rattle.httpedge.specs.Runs.{Steps};
 ghost use Rattle.httpedge.specs.Steps as edge;
 ghost use Rattle.wireclient.specs.Reply as reply;
@@ -14,7 +14,7 @@ ghost use Rattle.programs.specs.Replays.{Answers, Applies, Does, Prints, PrintsF
 ghost use Rattle.programs.specs.Replays as replays;
 ghost use Rattle.programs.specs.Script.{opens, comes};
 ghost use Rattle.programs.specs.Requests.{IsRequestOf, query_of, target_of};
-ghost use Rattle.programs.specs.Running.{RunStands};
+ghost use Rattle.programs.specs.Running.{IsUntaken, RunStands};
 
 use crate::script::{ApplyLine, Event};
 use form_urlencoded::Serializer;
@@ -159,23 +159,26 @@ fn connection_lines(alloc: Global, id: u64, written: &[u8]) -> Result<Vec<u8>, A
 
 /// Hands an event to the hub: whether it was taken.
 fn is_taken(hub: &mut Hub, event: &httpedge::Event) -> Result<bool, ReplayFault>
-    ensures { (s : edge.State) → IsIn hub.old s → IfOk result (λ taken. (taken ≡ is_none (edge.refusal s (event_of event.now))) × ((t : edge.State) × Steps s (event_of event.now) t × IsIn hub.new t)) }
+    ensures { (s : edge.State) → IsUntaken hub.old s → IfOk result (λ taken. (taken ≡ is_none (edge.refusal s (event_of event.now))) × ((t : edge.State) × Steps s (event_of event.now) t × IsUntaken hub.new t)) }
 {
+    httpedge::all_is_out();
     match hub.on(event) {
         Ok(()) => Ok(true),
         Err(HubFault::IdNotAbove) => Ok(false),
         Err(HubFault::UnknownId) => Ok(false),
         Err(HubFault::Memory) => Err(ReplayFault::Memory),
+        Err(HubFault::Store) => Err(ReplayFault::Memory),
     }
 }
 
 /// Opens a connection for an apply line and hands it the request: the line that tells the reply.
 fn answer(alloc: Global, hub: &mut Hub, id: u64, line: &ApplyLine) -> Result<Vec<u8>, ReplayFault>
-    ensures { (s : edge.State) → IsIn hub.old s → IfOk result (λ v. (t : edge.State) × Answers s id (apply_of line.now) v.items t × IsIn hub.new t) }
+    ensures { (s : edge.State) → IsUntaken hub.old s → IfOk result (λ v. (t : edge.State) × Answers s id (apply_of line.now) v.items t × IsUntaken hub.new t) }
 {
     let request = request_of(alloc, line)?;
     is_taken(hub, &httpedge::Event::Open(id))?;
     is_taken(hub, &httpedge::Event::In(id, request))?;
+    httpedge::all_is_out();
     reply_line(alloc, hub.out(id))
 }
 
@@ -194,6 +197,7 @@ impl Run {
     fn new(alloc: Global, types: Types) -> Result<Run, Fault>
         ensures { IfOk result (λ run. RunStands run (start (types_view types))) }
     {
+        httpedge::all_is_out();
         Ok(Run {
             alloc,
             hub: Hub::new(alloc, Api::new(alloc, types)?),
@@ -273,9 +277,10 @@ fn write_connections<W: Write>(
     ids: &[u64],
     writer: &mut W,
 ) -> Result<(), ReplayFault>
-    ensures ok { (s : edge.State) → IsIn hub.now s → OnOk result (Appends (W.contents writer.old) (W.contents writer.new) (connections_text s ids.now)) }
-    ensures memory { (s : edge.State) → IsIn hub.now s → result ≡ Err ReplayFault.Memory → (i : ℕ) × Appends (W.contents writer.old) (W.contents writer.new) (connections_text s (take i ids.now)) }
+    ensures ok { (s : edge.State) → IsUntaken hub.now s → OnOk result (Appends (W.contents writer.old) (W.contents writer.new) (connections_text s ids.now)) }
+    ensures memory { (s : edge.State) → IsUntaken hub.now s → result ≡ Err ReplayFault.Memory → (i : ℕ) × Appends (W.contents writer.old) (W.contents writer.new) (connections_text s (take i ids.now)) }
 {
+    httpedge::all_is_out();
     for id in ids {
         let lines = connection_lines(alloc, *id, hub.out(*id))?;
         write(writer, &lines)?;

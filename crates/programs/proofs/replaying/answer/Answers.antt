@@ -1,4 +1,4 @@
-use Rattle.std.proofs.Common.{subst}
+use Rattle.std.proofs.Common.{◌∙◌, subst}
 use Rattle.std.proofs.lemmas.Result.{IfOk-weaker}
 use Rattle.programs.specs.Replays.{TellsReply}
 use Rattle.programs.proofs.replaying.answer.Goals as goal
@@ -15,7 +15,7 @@ returns c = λ s stands.
         opened.1,
         c.in_ok-request.ensures,
         t.1,
-        subst (λ bytes. TellsReply bytes v.items) (c.out.ensures t.0 t.2) tells,
+        subst (λ bytes. TellsReply bytes v.items) (c.out.ensures t.0 t.2.0 ∙ c.all_is_out.ensures.written t.0.connections c.args.id t.2.1) tells,
       ),
       t.2,
     ))

@@ -1,11 +1,11 @@
 use Rattle.std.proofs.Common.{List, take}
 use Rattle.std.specs.Io.KnownBytes.{Appends}
 use Rattle.httpedge.specs.Steps as edge
-use Rattle.httpedge.specs.HubSeen.{IsIn}
 use Rattle.programs.specs.Replays.{connections_text}
+use Rattle.programs.specs.Running.{IsUntaken}
 use Rattle.programs.proofs.replaying.write_connections.Given as goal
 
 abbrev pub invariant-loop-id : goal.invariant-loop-id
 invariant-loop-id g l =
-    (s : edge.State) → IsIn l.hub s
+    (s : edge.State) → IsUntaken l.hub s
     → Appends (g.W.Write.contents l.fn.writer) (g.W.Write.contents l.writer) (connections_text s (take l.id-index l.ids))
