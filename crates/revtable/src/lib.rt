@@ -3,7 +3,7 @@
 //! A table is seen as its history: the changes that are kept, oldest first, with the revision that stands now
 //! and the one up to which old changes are forgotten. Each call's answer is a filter of that history, and a call
 //! that fails leaves it as it was. It stands on `history` for these words, and on `sqlite` and that crate's promises
-//! over its memory store.
+//! over files in memory.
 #![tactic(auto)]
 
 mod change_log;
