@@ -178,7 +178,7 @@ PATCH /apis/demo.example/v1/namespaces/default/widgets/w1"#;
     assert_eq!(rt;
         all_denied(rt.alloc(), lines)?.as_str(),
         r#"404 NotFound, no such path, none
-405 MethodNotAllowed, method not served here, PATCH
+405 MethodNotAllowed, method not served here, DELETE, GET, PATCH, PUT
 415 UnsupportedMediaType, media type not served, none
 "#
     );

@@ -186,3 +186,50 @@ fn too_many_connections(rt: HostRuntime) -> Result<(), Fail> {
     assert_eq!(rt; written(alloc, &hub, 1_025)?.as_str(), TOO_MANY);
     Ok(())
 }
+
+fn takes(hub: &mut Hub, id: u64, count: usize) {
+    hub.take(id, count);
+}
+
+/// What stands on a connection after these many bytes were taken from it.
+fn standing_after(alloc: Global, hub: &mut Hub, id: u64, count: usize) -> Result<String, Fail> {
+    takes(hub, id, count);
+    standing(alloc, hub, id)
+}
+
+#[test]
+fn bytes_are_taken(rt: HostRuntime) -> Result<(), Fail> {
+    let alloc = rt.alloc();
+    let mut hub = hub_with(alloc, 1, 1)?;
+    comes(alloc, &mut hub, 1, APPLY.as_bytes())?;
+    assert_eq!(rt;
+        standing_after(alloc, &mut hub, 1, 96)?.as_str(),
+        "317 false true"
+    );
+    assert_eq!(rt;
+        standing_after(alloc, &mut hub, 1, 1_000)?.as_str(),
+        "0 false true"
+    );
+    assert_eq!(rt;
+        standing_after(alloc, &mut hub, 2, 5)?.as_str(),
+        "0 false false"
+    );
+    Ok(())
+}
+
+/// A get of an object that isn't there.
+const GET: &str =
+    "GET /apis/demo.example/v1/namespaces/default/widgets/w2 HTTP/1.1\r\nHost: localhost\r\n\r\n";
+
+/// Its reply.
+const NOT_FOUND: &str =
+    "HTTP/1.1 404 Not Found\r\nContent-Type: application/json\r\nContent-Length: 149\r\nConnection: close\r\n\r\n{\"apiVersion\":\"v1\",\"code\":404,\"kind\":\"Status\",\"message\":\"widgets.demo.example \\\"w2\\\" not found\",\"metadata\":{},\"reason\":\"NotFound\",\"status\":\"Failure\"}";
+
+#[test]
+fn get_of_what_is_absent(rt: HostRuntime) -> Result<(), Fail> {
+    let alloc = rt.alloc();
+    let mut hub = hub_with(alloc, 1, 1)?;
+    comes(alloc, &mut hub, 1, GET.as_bytes())?;
+    assert_eq!(rt; written(alloc, &hub, 1)?.as_str(), NOT_FOUND);
+    Ok(())
+}

@@ -30,3 +30,12 @@ pub fn api_with_one_left(alloc: Global) -> Result<Api, Fail> {
 pub fn text_of(alloc: Global, bytes: &[u8]) -> Result<String, Fail> {
     Ok(String::from_str(alloc, str::from_utf8(bytes)?)?)
 }
+
+/// One type, whose objects have a list of ports by name.
+const PORT_TYPES: &str =
+    r#"{"types":[{"group":"demo.example","version":"v1","kind":"Widget","plural":"widgets","schema":{"type":"object","properties":{"spec":{"type":"object","properties":{"ports":{"type":"array","x-kubernetes-list-type":"map","x-kubernetes-list-map-keys":["name"],"items":{"type":"object","properties":{"name":{"type":"string"},"note":{"type":"string"},"port":{"type":"integer"}}}}}}}}}]}"#;
+
+/// An API of widgets with ports, without objects.
+pub fn api_with_ports(alloc: Global) -> Result<Api, Fail> {
+    Ok(Api::new(alloc, types_of(alloc, PORT_TYPES)?)?)
+}

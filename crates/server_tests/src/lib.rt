@@ -15,3 +15,5 @@ mod recording;
 mod replays;
 #[cfg(test)]
 mod scripts;
+#[cfg(test)]
+mod single_objects;
