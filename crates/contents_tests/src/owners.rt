@@ -161,7 +161,7 @@ fn object_of(alloc: Global, schema: &Schema, owned: &Owned) -> Result<String, Fa
         namespace: "default",
         name: "w1",
     };
-    Ok(owned.to_object(alloc, schema, of, 4)?.to_string(alloc)?)
+    Ok(owned.to_object(alloc, schema, of, 4)?)
 }
 
 fn object_after(alloc: Global, lines: &str) -> Result<String, Fail> {

@@ -11,3 +11,11 @@ pub mod Placed
 pub mod Clauses
 pub mod Changing
 pub mod Objects
+pub mod Taken
+pub mod Rising
+pub mod Standing
+pub mod Envelopes
+pub mod Entered
+pub mod Textual
+pub mod Back
+pub mod Answered

@@ -109,7 +109,7 @@ within_both true false e f = absurd (true≢false e)
 within_both false true e f = absurd (true≢false f)
 within_both false false e f = refl
 
-within_at : (s t : PathSet) → is_within s t ≡ true → (q : PathTexts) → (set.contains s q && not (set.contains t q)) ≡ false
+pub within_at : (s t : PathSet) → is_within s t ≡ true → (q : PathTexts) → (set.contains s q && not (set.contains t q)) ≡ false
 within_at s t e q = sym (set.contains-difference path_cmp_total s t q) ∙ has_no_path (set.difference s t) e q
 
 pub within_both_ways : (s t : PathSet) → (is_within s t && is_within t s) ≡ true → s ≡ t

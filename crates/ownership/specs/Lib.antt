@@ -8,3 +8,5 @@ pub mod Sameness
 pub mod Keeping
 pub mod Update
 pub mod ObjectText
+pub mod ReadBack
+pub mod Parts

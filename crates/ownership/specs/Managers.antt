@@ -1,13 +1,12 @@
 -- What a `Manager` and an `Entry` stand for.
 use Rattle.std.specs.Prelude.{List, map, string_bytes}
 use Rattle.pathmap.specs.Contents.{PathSet}
-use Rattle.ownership.specs.Owners.{manager_of}
 use Rattle.ownership.specs.Owners as owners
 use Rattle.ownership.specs.declared.manager.Manager.{Manager}
 use Rattle.ownership.specs.declared.managers.Entry.{Entry}
 
 abbrev pub manager_view : Manager → owners.Manager
-manager_view m = manager_of (string_bytes m.name) m.operation
+manager_view m = record { name = string_bytes m.name; operation = m.operation; subresource = string_bytes m.subresource }
 
 abbrev pub pair : Entry → owners.Manager × PathSet
 pair e = (manager_view e.manager, e.paths)

@@ -22,16 +22,21 @@ abbrev pub members_or_none : Option Members → Members
 members_or_none None = no_members
 members_or_none (Some ms) = ms
 
--- a member more, unless its text is empty
-abbrev pub put_text : List ℕ → List ℕ → Members → Members
-put_text k [] ms = ms
-put_text k (b ∷ bs) ms = put k (string (b ∷ bs)) ms
+-- a text more, unless it is empty
+abbrev pub put_filled : List ℕ → List ℕ → Members → Members
+put_filled k [] ms = ms
+put_filled k (b ∷ bs) ms = put k (string (b ∷ bs)) ms
+
+abbrev pub put_manager : Manager → Members → Members
+put_manager m ms = put (codes "manager") (string m.name) (put (codes "operation") (string (operation_text m.operation)) (put_filled (codes "subresource") m.subresource ms))
+
+abbrev pub entry_members : Shape → List ℕ → Manager → PathSet → Members
+entry_members s api_version m paths =
+    put (codes "apiVersion") (string api_version) (put (codes "fieldsType") (string (codes "FieldsV1")) (put (codes "fieldsV1") (fields_v1_of s paths) (put_manager m no_members)))
 
 -- one entry of `managedFields`
 abbrev pub entry_value : Shape → List ℕ → Manager → PathSet → Data
-entry_value s api_version m paths =
-    object (put (codes "apiVersion") (string api_version) (put (codes "fieldsType") (string (codes "FieldsV1")) (put (codes "fieldsV1") (fields_v1_of s paths)
-    (put (codes "manager") (string m.name) (put (codes "operation") (string (operation_text m.operation)) (put_text (codes "subresource") m.subresource no_members))))))
+entry_value s api_version m paths = object (entry_members s api_version m paths)
 
 abbrev pub entry_items : Shape → List ℕ → List (Manager × PathSet) → Items
 entry_items s api_version [] = no_items

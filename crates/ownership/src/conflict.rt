@@ -1,6 +1,7 @@
 use crate::manager::Manager;
 use fieldpath::Path;
 use std::alloc::{AllocError, AllocFailed};
+use thiserror::Error;
 
 /// A path that another manager owns and to which an apply gives another value (Server-Side Apply, "Conflicts").
 #[derive(Debug, Drop)]
@@ -11,10 +12,13 @@ pub struct Conflict {
 }
 
 /// Why an apply was not done. Nothing was changed.
-#[derive(Debug, Drop)]
+#[derive(Debug, Drop, Error)]
 pub enum ApplyFault {
     /// All conflicts, by manager, operation and path.
+    #[error("the body changes paths that other managers own")]
     Conflicts(Vec<Conflict>),
+    /// A growth of memory was refused.
+    #[error("out of memory")]
     Memory,
 }
 

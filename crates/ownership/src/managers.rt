@@ -8,7 +8,8 @@ ghost use Rattle.pathmap.specs.Contents.{in_order};
 ghost use Rattle.ownership.specs.Apply.{clear_of_all, conflicts_with};
 ghost use Rattle.ownership.specs.Owners.{HavePaths, is_same, less, manager_cmp, others, taken_over};
 ghost use Rattle.ownership.specs.Managers.{pairs, manager_view};
-ghost use Rattle.ownership.specs.Ranks.{rank};
+ghost use Rattle.ownership.specs.Parts.{owners_of};
+ghost use Rattle.ownership.specs.Ranks.{have_paths, rank, rising};
 
 use crate::conflict::Conflict;
 use crate::manager::Manager;
@@ -58,6 +59,24 @@ fn rank(entries: &[Entry], manager: &Manager) -> usize
         rank += 1;
     }
     rank
+}
+
+/// Whether each entry's manager is above the one before it.
+fn are_rising(entries: &[Entry]) -> bool
+    ensures { result ≡ rising (pairs entries.now) }
+{
+    entries.is_sorted_by(|one, next| one.manager.compare(&next.manager).is_lt())
+}
+
+fn have_paths(entries: &[Entry]) -> bool
+    ensures { result ≡ have_paths (pairs entries.now) }
+{
+    for entry in entries {
+        if entry.paths.is_empty() {
+            return false;
+        }
+    }
+    true
 }
 
 /// All entries but the manager's, each less some paths; what is empty then vanishes.
@@ -171,6 +190,17 @@ impl Managers {
     {
         Managers {
             entries: Vec::new(alloc),
+        }
+    }
+
+    /// The owners that have these entries, if any: they stand in order, and each has a path.
+    pub(crate) fn with_entries(entries: Vec<Entry>) -> Option<Managers>
+        ensures { result ≡ owners_of (pairs entries.items) }
+    {
+        if are_rising(&entries) && have_paths(&entries) {
+            Some(Managers { entries })
+        } else {
+            None
         }
     }
 

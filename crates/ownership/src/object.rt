@@ -1,16 +1,19 @@
-ghost use Rattle.std.specs.Prelude.{◌≡◌, IfOk, OnOk, option_map, option_and_then};
+ghost use Rattle.std.specs.Prelude.{◌≡◌, true, IfOk, OnOk, option_map, option_and_then, string_bytes};
 ghost use Rattle.serde_json.specs.Data.{put, string};
 ghost use Rattle.serde_json.specs.Find.{as_object};
 ghost use Rattle.serde_json.specs.View.{items_view, members_view, view};
+ghost use Rattle.schema.specs.Lawful.{is_lawful};
 ghost use Rattle.schema.specs.Shape.{shape};
+ghost use Rattle.typed.specs.Fitting.{IsContent};
 ghost use Rattle.ownership.specs.Managers.{pair, pairs, manager_view};
-ghost use Rattle.ownership.specs.ObjectText.{entry_items, entry_value, members_or_none, metadata_members, metadata_of, object_value, put_entries};
+ghost use Rattle.ownership.specs.ObjectText.{entry_items, entry_value, members_or_none, metadata_members, metadata_of, object_text, object_value, put_entries, put_filled, put_manager};
 ghost use Rattle.ownership.specs.Results.{identity_of, state_of};
 
+use crate::manager::Manager;
 use crate::managers::Entry;
 use crate::owned::Owned;
 use schema::Schema;
-use serde_json::{Map, Value, json};
+use serde_json::{Map, Value};
 use std::alloc::{AllocError, Global};
 
 /// What an object is of, and its key (Kubernetes API conventions, "Types (Kinds)", "Metadata").
@@ -23,6 +26,34 @@ pub struct Identity<'a> {
     pub name: &'a str,
 }
 
+/// Puts a text, unless it is empty.
+fn put_filled(
+    members: &mut Map<String, Value>,
+    alloc: Global,
+    name: &str,
+    text: &str,
+) -> Result<(), AllocError>
+    ensures { OnOk result (members_view members.new.entries ≡ put_filled name.now text.now (members_view members.old.entries)) }
+{
+    if text.is_empty() {
+        return Ok(());
+    }
+    put_text(members, alloc, name, text)
+}
+
+/// Puts what an entry has of its manager.
+fn put_manager(
+    members: &mut Map<String, Value>,
+    alloc: Global,
+    manager: &Manager,
+) -> Result<(), AllocError>
+    ensures { OnOk result (members_view members.new.entries ≡ put_manager (manager_view manager.now) (members_view members.old.entries)) }
+{
+    put_filled(members, alloc, "subresource", manager.subresource.as_str())?;
+    put_text(members, alloc, "operation", manager.operation.text())?;
+    put_text(members, alloc, "manager", manager.name.as_str())
+}
+
 fn entry_value(
     alloc: Global,
     schema: &Schema,
@@ -32,13 +63,12 @@ fn entry_value(
     ensures { IfOk result (λ v. view v ≡ entry_value (shape schema.now) api_version.now (manager_view entry.now.manager) entry.now.paths) }
 {
     let fields = entry.paths.to_fields_v1(alloc, schema)?;
-    json!(in alloc; {
-        "apiVersion": api_version,
-        "fieldsType": "FieldsV1",
-        "fieldsV1": fields,
-        "manager": entry.manager.name.as_str(),
-        "operation": entry.manager.operation.text()
-    })
+    let mut members = Map::new(alloc);
+    put_manager(&mut members, alloc, &entry.manager)?;
+    serde_json::put(&mut members, alloc, "fieldsV1", fields)?;
+    put_text(&mut members, alloc, "fieldsType", "FieldsV1")?;
+    put_text(&mut members, alloc, "apiVersion", api_version)?;
+    Ok(Value::Object(members))
 }
 
 fn entry_items(
@@ -136,7 +166,7 @@ impl Owned {
     }
 
     /// The object: its envelope, its content, its version and who owns what.
-    pub fn to_object(
+    pub fn to_value(
         &self,
         alloc: Global,
         schema: &Schema,
@@ -153,5 +183,19 @@ impl Owned {
         put_text(&mut members, alloc, "kind", of.kind)?;
         put_text(&mut members, alloc, "apiVersion", of.api_version)?;
         Ok(Value::Object(members))
+    }
+
+    /// The object's text: its value as compact JSON.
+    pub fn to_object(
+        &self,
+        alloc: Global,
+        schema: &Schema,
+        of: Identity<'_>,
+        version: u64,
+    ) -> Result<String, AllocError>
+        ensures { is_lawful (shape schema.now) ≡ true → IsContent (shape schema.now) self.now.tree
+            → IfOk result (λ t. string_bytes t ≡ object_text (shape schema.now) (identity_of of.entry) version (state_of self.now)) }
+    {
+        self.to_value(alloc, schema, of, version)?.to_string(alloc)
     }
 }

@@ -10,7 +10,11 @@ use std::alloc::{AllocError, Global};
 use typed::Tree;
 
 /// Whether the other set has all these paths.
-fn is_within(alloc: Global, mine: &FieldSet, theirs: &FieldSet) -> Result<bool, AllocError>
+pub(crate) fn is_within(
+    alloc: Global,
+    mine: &FieldSet,
+    theirs: &FieldSet,
+) -> Result<bool, AllocError>
     ensures { IfOk result (λ b. b ≡ is_within mine.now theirs.now) }
 {
     Ok(mine.minus(alloc, theirs)?.is_empty())

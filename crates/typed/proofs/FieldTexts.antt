@@ -25,7 +25,7 @@ use Rattle.typed.proofs.RoundTrip.{heads_rise}
 use Rattle.typed.proofs.Spelling.{lawful_depth, textual}
 
 -- members in order, spelled, without floats, and no deeper than n
-abbrev Fine : ℕ → Members → Type 0
+abbrev pub Fine : ℕ → Members → Type 0
 Fine n ms = (ascend (member_names ms) ≡ true) × MembersAreSpelled ms × (members_have_float ms ≡ false) × (members_depth ms ≤ n)
 
 no_deeper : (a b n : ℕ) → a ≤ n → b ≤ n → max a b ≤ n
@@ -37,13 +37,13 @@ one_deeper a n h = omega (arith, h)
 none_deep : (n : ℕ) → 0 ≤ n
 none_deep n = omega arith
 
-fine_none : (n : ℕ) → Fine n no_members
+pub fine_none : (n : ℕ) → Fine n no_members
 fine_none n = (refl, tt, refl, none_deep n)
 
 more_deep : (a m n : ℕ) → a ≤ m → m ≤ n → a ≤ n
 more_deep a m n h k = omega (arith, h, k)
 
-fine_more : (m n : ℕ) (ms : Members) → m ≤ n → Fine m ms → Fine n ms
+pub fine_more : (m n : ℕ) (ms : Members) → m ≤ n → Fine m ms → Fine n ms
 fine_more m n ms h fine = (fine.0, fine.1, fine.2, more_deep (members_depth ms) m n fine.3 h)
 
 fine_if : (n : ℕ) (b : Bool) (ms ns : Members) → Fine n ms → Fine n ns → Fine n (cond b ms ns)
@@ -64,7 +64,7 @@ left_deep a b n h = omega (arith, h)
 right_deep : (a b n : ℕ) → max a b ≤ n → b ≤ n
 right_deep a b n h = omega (arith, h)
 
-put_depth : (n : ℕ) (k : List ℕ) (d : Data) (ms : Members) → depth d ≤ n → members_depth ms ≤ n → members_depth (put k d ms) ≤ n
+pub put_depth : (n : ℕ) (k : List ℕ) (d : Data) (ms : Members) → depth d ≤ n → members_depth ms ≤ n → members_depth (put k d ms) ≤ n
 put_depth n k d no_members one old = no_deeper (depth d) 0 n one (none_deep n)
 put_depth n k d (member l e ms) one old =
     let rest = right_deep (depth e) (members_depth ms) n old in
@@ -123,7 +123,7 @@ some_depth (map_of s b) = one_deeper 0 (depth_of s) (none_deep (depth_of s))
 some_depth (list_of s kind) = one_deeper 0 (depth_of s) (none_deep (depth_of s))
 
 mutual
-  members_fine : (s : Shape) (c : Content) → Fine (depth_of s) (v1.members_of s c)
+  pub members_fine : (s : Shape) (c : Content) → Fine (depth_of s) (v1.members_of s c)
   members_fine text c = fine_none 1
   members_fine whole c = fine_none 1
   members_fine truth c = fine_none 1

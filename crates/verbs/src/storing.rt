@@ -41,7 +41,7 @@ pub fn printed(
         namespace: key.namespace.as_str(),
         name: key.name.as_str(),
     };
-    owned.to_object(alloc, &served.schema, identity, revision)
+    owned.to_value(alloc, &served.schema, identity, revision)
 }
 
 fn no_object_message(alloc: Global, given: u64) -> Result<String, AllocError>

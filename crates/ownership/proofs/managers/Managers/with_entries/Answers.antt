@@ -1,0 +1,13 @@
+use Rattle.std.proofs.Common.{◌≡◌, true, ◌∙◌, sym, ap}
+use Rattle.ownership.specs.Managers.{pairs}
+use Rattle.ownership.specs.Ranks.{have_paths, rising}
+use Rattle.ownership.proofs.Entries.{entries-sorted}
+use Rattle.ownership.proofs.Rising.{rising_sorted, owners_have_paths}
+use Rattle.ownership.proofs.managers.Managers.with_entries.Goals as goal
+
+pub invariant_of-result : goal.invariant_of-result
+invariant_of-result c =
+    let es = pairs c.args.entries.items in
+    let up : rising es ≡ true = ap (λ l. rising (pairs l)) (sym c.deref.ensures.value) ∙ sym c.are_rising.ensures ∙ c.if-are_rising.true in
+    let some : have_paths es ≡ true = ap (λ l. have_paths (pairs l)) (sym c.deref-then-are_rising.ensures.value) ∙ sym c.have_paths.ensures ∙ c.if-have_paths.true in
+    (entries-sorted es (rising_sorted es up), owners_have_paths es some)

@@ -1,0 +1,113 @@
+//! Objects read back from their texts.
+ghost use Rattle.std.specs.Prelude.{◌≡◌, ℕ, IfOk};
+ghost use Rattle.serde_json.specs.Read.{read};
+ghost use Rattle.serde_json.specs.View.{view};
+ghost use Rattle.schema.specs.Shape.{shape};
+ghost use Rattle.typed.specs.Reading.{content_of};
+ghost use Rattle.ownership.specs.Apply.{State};
+ghost use Rattle.ownership.specs.Keeping.{OwnedStand};
+ghost use Rattle.ownership.specs.Managers.{pairs};
+ghost use Rattle.ownership.specs.Parts.{Gives, all_within, if_read, parts_in};
+ghost use Rattle.ownership.specs.ReadBack.{IsObjectShape, IsReadBack};
+ghost use Rattle.ownership.specs.Results.{identity_of, state_of};
+
+use crate::envelope::{fields_of, split, version_in};
+use crate::fault::ObjectFault;
+use crate::managed_fields::read_owners;
+use crate::managers::Entry;
+use crate::object::Identity;
+use crate::owned::Owned;
+use crate::same::is_within;
+use fieldset::FieldSet;
+use schema::Schema;
+use serde_json::Value;
+use std::alloc::{AllocError, Global};
+use typed::{ReadFault, Tree};
+
+/// The JSON value of a text.
+fn read_value(alloc: Global, text: &str) -> Result<Value, ObjectFault>
+    ensures { Gives view result (read text.now) }
+{
+    match Value::from_str(alloc, text) {
+        Ok(value) => Ok(value),
+        Err(error) => {
+            if error.is_memory() {
+                Err(ObjectFault::Memory)
+            } else {
+                Err(ObjectFault::NotCanonical)
+            }
+        }
+    }
+}
+
+fn read_content(alloc: Global, schema: &Schema, value: &Value) -> Result<Tree, ObjectFault>
+    ensures { Gives (λ t. t) result (if_read (content_of (shape schema.now) (view value.now))) }
+{
+    match Tree::read(schema, alloc, value) {
+        Ok(tree) => Ok(tree),
+        Err(ReadFault::Shape(_, _)) => Err(ObjectFault::NotCanonical),
+        Err(ReadFault::Memory) => Err(ObjectFault::Memory),
+    }
+}
+
+/// What stands in an object's value and who owns it, and its version.
+fn read_parts(alloc: Global, schema: &Schema, value: Value) -> Result<(Owned, u64), ObjectFault>
+    ensures parts { Gives {Y = State × ℕ} (λ o. (state_of o.0, o.1)) result (parts_in (shape schema.now) (view value)) }
+{
+    let Some((others, metadata)) = split(value) else {
+        return Err(ObjectFault::NotCanonical);
+    };
+    let Some(version) = version_in(&metadata) else {
+        return Err(ObjectFault::NotCanonical);
+    };
+    let managers = read_owners(alloc, schema, &metadata)?;
+    let fields = fields_of(alloc, others, metadata)?;
+    let tree = read_content(alloc, schema, &fields)?;
+    Ok((Owned { tree, managers }, version))
+}
+
+/// Whether the set has all paths of the entries.
+fn are_within(entries: &[Entry], alloc: Global, paths: &FieldSet) -> Result<bool, AllocError>
+    ensures { IfOk result (λ b. b ≡ all_within paths.now (pairs entries.now)) }
+{
+    for entry in entries {
+        if !is_within(alloc, &entry.paths, paths)? {
+            return Ok(false);
+        }
+    }
+    Ok(true)
+}
+
+impl Owned {
+    ghost use Rattle.std.specs.Prelude.{◌↔◌, IsTrue};
+
+    /// Whether each owned path stands in the content.
+    fn owned_stand(&self, alloc: Global) -> Result<bool, AllocError>
+        ensures { IfOk result (λ b. IsTrue b ↔ OwnedStand (state_of self.now)) }
+    {
+        let paths = self.tree.paths(alloc)?;
+        are_within(self.managers.entries(), alloc, &paths)
+    }
+
+    /// Reads an object of this type and key back: what stands in it, who owns what, and its version.
+    /// Refuses every text but those that `to_object` gives of a content with owners of its paths.
+    pub fn from_object(
+        alloc: Global,
+        schema: &Schema,
+        of: Identity<'_>,
+        text: &str,
+    ) -> Result<(Owned, u64), ObjectFault>
+        ensures { IsObjectShape (shape schema.now) → IsReadBack (shape schema.now) (identity_of of.entry) text.now result }
+    {
+        let value = read_value(alloc, text)?;
+        let (owned, version) = read_parts(alloc, schema, value)?;
+        if !owned.owned_stand(alloc)? {
+            return Err(ObjectFault::NotCanonical);
+        }
+        let printed = owned.to_object(alloc, schema, of, version)?;
+        if printed.as_str() == text {
+            return Ok((owned, version));
+        }
+        Err(ObjectFault::NotCanonical)
+    }
+}
