@@ -3,4 +3,7 @@ pub mod Reached
 pub mod Grows
 pub mod Lists
 pub mod Places
+pub mod Keyed
+pub mod Queries
+pub mod Taken
 pub mod Replays

@@ -5,3 +5,6 @@ pub mod Requests
 pub mod Follows
 pub mod Lists
 pub mod Replays
+pub mod Seen
+pub mod Mirrors
+pub mod Standing

@@ -8,6 +8,15 @@
 //! objects.
 #![tactic(auto)]
 
+mod asks;
 mod laws;
+mod mirror;
+mod notice;
+mod noting;
+mod requests;
+mod settings;
+mod taking;
 
 pub use laws::{follows_the_server, notices_tell, takes_whole_lists};
+pub use notice::Notice;
+pub use settings::Settings;

@@ -1,0 +1,42 @@
+-- What the crate's values say, without where they lie in memory.
+use Rattle.std.specs.Prelude.{ℕ, List, [], ◌∷◌, map, Option, Some, None, option_map, string_bytes}
+use Rattle.std.specs.FinMap as fin
+use Rattle.indexer.specs.Kept.{Held}
+use Rattle.indexer.specs.Objects.{Place, Stored, stored_of}
+use Rattle.decoder.specs.Seen.{wanted_of}
+use Rattle.reflector.specs.Client.{Asks, first, next, follow, Notice, added, updated, deleted}
+use Rattle.reflector.specs.Requests.{Settings, list_query, watch_query}
+use Rattle.reflector.specs.declared.settings.Settings as settings
+use Rattle.reflector.specs.declared.asks.Asks as asks
+use Rattle.reflector.specs.declared.asks.Asks.TheVariants as ask
+use Rattle.reflector.specs.declared.notice.Notice as notices
+use Rattle.reflector.specs.declared.notice.Notice.TheVariants as notice
+
+abbrev pub settings_of : settings.Settings → Settings
+settings_of s = record { wanted = wanted_of s.wanted; selector = string_bytes s.selector; page = s.page }
+
+abbrev pub asks_of : asks.Asks → Asks
+asks_of ask.First = first
+asks_of (ask.Next revision token aside) = next revision (string_bytes token) (map stored_of aside.items)
+asks_of ask.Follow = follow
+
+abbrev pub notice_seen : notices.Notice → Notice
+notice_seen (notice.Added new) = added (stored_of new)
+notice_seen (notice.Updated old new) = updated (stored_of old) (stored_of new)
+notice_seen (notice.Deleted old) = deleted (stored_of old)
+
+-- none or one
+abbrev pub told_of : Option notices.Notice → List Notice
+told_of None = []
+told_of (Some n) = notice_seen n ∷ []
+
+-- the object that an indexer holds at a place, without its keys
+abbrev pub object_in : Held → Place → Option Stored
+object_in held p = option_map (λ h. h.0) (fin.get held p)
+
+-- the query that asks this where the cache has a revision, or has none
+abbrev pub query_at : Settings → Asks → Option ℕ → List ℕ
+query_at s first revision = list_query s None
+query_at s (next r token aside) revision = list_query s (Some token)
+query_at s follow None = list_query s None
+query_at s follow (Some r) = watch_query s r
