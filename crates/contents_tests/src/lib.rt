@@ -16,6 +16,8 @@ mod owners;
 #[cfg(test)]
 mod readings;
 #[cfg(test)]
+mod rows;
+#[cfg(test)]
 mod sets;
 #[cfg(test)]
 mod types_files;

@@ -1,6 +1,7 @@
 //! Worked rows as far as owners go, each public call with ample memory, and applies that find none.
 
 use crate::given::{WIDGET_TYPES, first_schema, printed, push_paths, tree, types_of};
+use crate::rows::{expect_text, expect_true};
 use ownership::{
     ApplyFault, Conflict, Identity, Manager, Managers, Operation, Owned, apply, update,
 };
@@ -177,11 +178,10 @@ fn item_kept_for_other_owner(rt: HostRuntime) -> Result<(), Fail> {
     let lines = r#"alice {"ports":[{"name":"web","port":80}]}
 carol= {"ports":[{"name":"web","note":"x","port":80}]}
 alice {}"#;
-    assert_eq!(rt;
-        object_after(rt.alloc(), lines)?.as_str(),
-        r#"{"apiVersion":"demo.example/v1","kind":"Widget","metadata":{"managedFields":[{"apiVersion":"demo.example/v1","fieldsType":"FieldsV1","fieldsV1":{"f:spec":{"f:ports":{"k:{\"name\":\"web\"}":{"f:note":{}}}}},"manager":"carol","operation":"Update"}],"name":"w1","namespace":"default","resourceVersion":"4"},"spec":{"ports":[{"name":"web","note":"x"}]}}"#
-    );
-    Ok(())
+    expect_text(
+        object_after(rt.alloc(), lines)?,
+        r#"{"apiVersion":"demo.example/v1","kind":"Widget","metadata":{"managedFields":[{"apiVersion":"demo.example/v1","fieldsType":"FieldsV1","fieldsV1":{"f:spec":{"f:ports":{"k:{\"name\":\"web\"}":{"f:note":{}}}}},"manager":"carol","operation":"Update"}],"name":"w1","namespace":"default","resourceVersion":"4"},"spec":{"ports":[{"name":"web","note":"x"}]}}"#,
+    )
 }
 
 #[test]
@@ -189,14 +189,13 @@ fn set_items(rt: HostRuntime) -> Result<(), Fail> {
     let lines = r#"alice {"tags":["b","a"]}
 bob {"tags":["b","c"]}
 alice {}"#;
-    assert_eq!(rt;
-        answers(rt.alloc(), lines)?.as_str(),
+    expect_text(
+        answers(rt.alloc(), lines)?,
         r#"{"spec":{"tags":["a","b"]}} alice/Apply .spec.tags[="a"] .spec.tags[="b"]
 {"spec":{"tags":["a","b","c"]}} alice/Apply .spec.tags[="a"] .spec.tags[="b"] bob/Apply .spec.tags[="b"] .spec.tags[="c"]
 {"spec":{"tags":["b","c"]}} bob/Apply .spec.tags[="b"] .spec.tags[="c"]
-"#
-    );
-    Ok(())
+"#,
+    )
 }
 
 #[test]
@@ -204,14 +203,13 @@ fn atomic_list(rt: HostRuntime) -> Result<(), Fail> {
     let lines = r#"alice {"args":["x","y"]}
 bob {"args":["x"]}
 alice {"args":["x","y"],"tags":[]}"#;
-    assert_eq!(rt;
-        answers(rt.alloc(), lines)?.as_str(),
+    expect_text(
+        answers(rt.alloc(), lines)?,
         r#"{"spec":{"args":["x","y"]}} alice/Apply .spec.args
 conflicts: .spec.args alice/Apply
 {"spec":{"args":["x","y"]}} alice/Apply .spec.args as before
-"#
-    );
-    Ok(())
+"#,
+    )
 }
 
 #[test]
@@ -220,15 +218,14 @@ fn all_conflicts_listed(rt: HostRuntime) -> Result<(), Fail> {
 bob {"replicas":3}
 carol {"replicas":4}
 carol! {"replicas":4}"#;
-    assert_eq!(rt;
-        answers(rt.alloc(), lines)?.as_str(),
+    expect_text(
+        answers(rt.alloc(), lines)?,
         r#"{"spec":{"replicas":3}} alice/Apply .spec.replicas
 {"spec":{"replicas":3}} alice/Apply .spec.replicas bob/Apply .spec.replicas
 conflicts: .spec.replicas alice/Apply .spec.replicas bob/Apply
 {"spec":{"replicas":4}} carol/Apply .spec.replicas
-"#
-    );
-    Ok(())
+"#,
+    )
 }
 
 #[test]
@@ -236,30 +233,42 @@ fn update_and_version(rt: HostRuntime) -> Result<(), Fail> {
     let lines = r#"bob {"image":"a","replicas":5}
 dave= {"image":"a","replicas":5}
 dave= {"image":"b"}"#;
-    assert_eq!(rt;
-        answers(rt.alloc(), lines)?.as_str(),
+    expect_text(
+        answers(rt.alloc(), lines)?,
         r#"{"spec":{"image":"a","replicas":5}} bob/Apply .spec.image .spec.replicas
 {"spec":{"image":"a","replicas":5}} bob/Apply .spec.image .spec.replicas as before
 {"spec":{"image":"b"}} dave/Update .spec.image
-"#
-    );
-    Ok(())
+"#,
+    )
 }
 
 fn manager(alloc: Global, name: &str, operation: Operation) -> Result<Manager, AllocError> {
     Manager::new(alloc, name, operation)
 }
 
+/// Whether alice comes before bob, bob's applies before his updates, a manager is as its copy, and one that applies as
+/// one that updates.
+fn orders(alice: &Manager, bob: &Manager, update: &Manager) -> Result<[bool; 4], AllocError> {
+    let copy = bob.try_copy()?;
+    Ok([
+        alice.compare(bob).is_lt(),
+        bob.compare(update).is_lt(),
+        bob.is_same(&copy),
+        bob.is_same(update),
+    ])
+}
+
+fn orders_of_three(alloc: Global) -> Result<[bool; 4], AllocError> {
+    let alice = manager(alloc, "alice", Operation::Update)?;
+    let bob = manager(alloc, "bob", Operation::Apply)?;
+    let update = manager(alloc, "bob", Operation::Update)?;
+    orders(&alice, &bob, &update)
+}
+
 #[test]
 fn managers_in_order(rt: HostRuntime) -> Result<(), Fail> {
-    let alice = manager(rt.alloc(), "alice", Operation::Update)?;
-    let bob = manager(rt.alloc(), "bob", Operation::Apply)?;
-    let update = manager(rt.alloc(), "bob", Operation::Update)?;
-    assert!(rt; alice.compare(&bob).is_lt());
-    assert!(rt; bob.compare(&update).is_lt());
-    assert!(rt; bob.is_same(&bob.try_copy()?));
-    assert!(rt; !bob.is_same(&update));
-    Ok(())
+    let orders = orders_of_three(rt.alloc())?;
+    expect_true(orders == [true, true, true, false], "the order of managers")
 }
 
 /// Where the calls that `bench/failing_memory.py` refuses memory begin and end.
@@ -343,28 +352,42 @@ fn anew_after(alloc: Global, lines: &str, spec: &str, force: bool) -> Result<Str
     answer_anew(alloc, schema, &live, spec, force)
 }
 
-/// Run with each allocation refused in turn: an apply with conflicts, one by force, one that drops.
+/// Puts what alice's apply answers after some lines.
+fn push_anew(
+    alloc: Global,
+    all: &mut String,
+    lines: &str,
+    spec: &str,
+    force: bool,
+) -> Result<(), Fail> {
+    let text = anew_after(alloc, lines, spec, force)?;
+    all.push_str(text.as_str())?;
+    all.push_str("\n")?;
+    Ok(())
+}
+
+/// What alice's applies answer after some lines: of another content, of that by force, and of nothing; and what one
+/// answers that creates.
+fn anew_in_turn(alloc: Global, lines: &str, other: &str) -> Result<String, Fail> {
+    let mut all = String::new(alloc);
+    push_anew(alloc, &mut all, lines, other, false)?;
+    push_anew(alloc, &mut all, lines, other, true)?;
+    push_anew(alloc, &mut all, lines, "{}", false)?;
+    push_anew(alloc, &mut all, "carol= {}", r#"{"image":"a"}"#, false)?;
+    Ok(all)
+}
+
+/// Run with each allocation refused in turn: an apply with conflicts, one by force, one that drops, one that creates.
 #[test]
 fn memory_refused_in_apply(rt: HostRuntime) -> Result<(), Fail> {
-    let alloc = rt.alloc();
     let lines = r#"alice {"image":"a","ports":[{"name":"web","port":80}]}
 bob {"image":"a","tags":["x"]}"#;
-    let other = r#"{"image":"b","tags":["y"]}"#;
-    assert_eq!(rt;
-        anew_after(alloc, lines, other, false)?.as_str(),
-        "conflicts: .spec.image bob/Apply"
-    );
-    assert_eq!(rt;
-        anew_after(alloc, lines, other, true)?.as_str(),
-        r#"{"spec":{"image":"b","tags":["x","y"]}} alice/Apply .spec.image .spec.tags[="y"] bob/Apply .spec.tags[="x"]"#
-    );
-    assert_eq!(rt;
-        anew_after(alloc, lines, "{}", false)?.as_str(),
-        r#"{"spec":{"image":"a","tags":["x"]}} bob/Apply .spec.image .spec.tags[="x"]"#
-    );
-    assert_eq!(rt;
-        anew_after(alloc, "carol= {}", r#"{"image":"a"}"#, false)?.as_str(),
-        r#"{"spec":{"image":"a"}} alice/Apply .spec.image"#
-    );
-    Ok(())
+    expect_text(
+        anew_in_turn(rt.alloc(), lines, r#"{"image":"b","tags":["y"]}"#)?,
+        r#"conflicts: .spec.image bob/Apply
+{"spec":{"image":"b","tags":["x","y"]}} alice/Apply .spec.image .spec.tags[="y"] bob/Apply .spec.tags[="x"]
+{"spec":{"image":"a","tags":["x"]}} bob/Apply .spec.image .spec.tags[="x"]
+{"spec":{"image":"a"}} alice/Apply .spec.image
+"#,
+    )
 }

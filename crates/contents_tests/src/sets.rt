@@ -1,6 +1,7 @@
 //! Sets of paths and the maps that they are kept in: each public call with ample memory.
 
 use crate::given::{WIDGET_TYPES, first_schema, path, push_paths, types_of};
+use crate::rows::{Answers, expect_answers, expect_true};
 use fieldpath::Path;
 use fieldset::FieldSet;
 use pathmap::{Held, PathMap, put_over};
@@ -19,7 +20,7 @@ fn set(alloc: Global, paths: &str) -> Result<FieldSet, Fail> {
 
 /// Its paths as conflicts show them, each behind a blank.
 fn shown(alloc: Global, set: &FieldSet) -> Result<String, AllocError> {
-    let mut text = String::new(alloc);
+    let mut text = String::from_str(alloc, "paths")?;
     push_paths(alloc, &mut text, set)?;
     Ok(text)
 }
@@ -45,21 +46,26 @@ fn of_ports(alloc: Global, name: &str) -> Result<String, Fail> {
     Ok(shown(alloc, &made(alloc, &alice, name, &carol)?)?)
 }
 
+/// What an operation makes, by its name.
+#[derive(Drop)]
+struct Operations;
+
+impl Answers for Operations {
+    fn answer(&mut self, alloc: Global, question: &str) -> Result<String, Fail> {
+        of_ports(alloc, question)
+    }
+}
+
+const OPERATIONS: &str =
+    r#"union => paths .a .ports[name="web"] .ports[name="web"].note .ports[name="web"].port
+minus => paths .ports[name="web"] .ports[name="web"].port
+common => paths .a
+clear of => paths .ports[name="web"].port
+"#;
+
 #[test]
 fn set_operations(rt: HostRuntime) -> Result<(), Fail> {
-    let alloc = rt.alloc();
-    for (name, paths) in [
-        (
-            "union",
-            r#" .a .ports[name="web"] .ports[name="web"].note .ports[name="web"].port"#,
-        ),
-        ("minus", r#" .ports[name="web"] .ports[name="web"].port"#),
-        ("common", " .a"),
-        ("clear of", r#" .ports[name="web"].port"#),
-    ] {
-        assert_eq!(rt; of_ports(alloc, name)?.as_str(), paths, "{name}");
-    }
-    Ok(())
+    expect_answers(rt.alloc(), &mut Operations, OPERATIONS)
 }
 
 /// Whether the set of these paths has a path, has one at or below it, and has none.
@@ -73,14 +79,41 @@ fn looked(alloc: Global, paths: &str, elements: &str) -> Result<(bool, bool, boo
     ))
 }
 
+/// What is found of a path in the set of some paths, `PATH in PATHS`.
+#[derive(Drop)]
+struct Finds;
+
+impl Answers for Finds {
+    fn answer(&mut self, alloc: Global, question: &str) -> Result<String, Fail> {
+        let (elements, paths) = question.split_once(" in ").ok_or("no set")?;
+        let (has, has_below, is_empty) = looked(alloc, paths, elements)?;
+        Ok(format!(in alloc; "{has} {has_below} {is_empty}")?)
+    }
+}
+
+const FINDS: &str = "f:a f:b in f:a f:b => true true false
+f:a in f:a f:b => false true false
+f:a f:b in f:a => false false false
+";
+
+fn is_new_empty(alloc: Global) -> bool {
+    FieldSet::new(alloc).is_empty()
+}
+
 #[test]
 fn paths_are_found(rt: HostRuntime) -> Result<(), Fail> {
-    let alloc = rt.alloc();
-    assert_eq!(rt; looked(alloc, "f:a f:b", "f:a f:b")?, (true, true, false));
-    assert_eq!(rt; looked(alloc, "f:a f:b", "f:a")?, (false, true, false));
-    assert_eq!(rt; looked(alloc, "f:a", "f:a f:b")?, (false, false, false));
-    assert!(rt; FieldSet::new(alloc).is_empty());
-    Ok(())
+    expect_answers(rt.alloc(), &mut Finds, FINDS)?;
+    expect_true(is_new_empty(rt.alloc()), "a new set is empty")
+}
+
+/// The text of the paths between commas, as FieldsV1.
+#[derive(Drop)]
+struct Printed;
+
+impl Answers for Printed {
+    fn answer(&mut self, alloc: Global, question: &str) -> Result<String, Fail> {
+        fields_v1(alloc, question)
+    }
 }
 
 fn fields_v1(alloc: Global, paths: &str) -> Result<String, Fail> {
@@ -89,19 +122,14 @@ fn fields_v1(alloc: Global, paths: &str) -> Result<String, Fail> {
     Ok(value.to_string(alloc)?)
 }
 
+const FIELDS_V1: &str =
+    r#"f:spec f:image,f:spec f:tags v:"a" => {"f:spec":{"f:image":{},"f:tags":{"v:\"a\"":{}}}}
+f:spec f:ports k:{"name":"web"},f:spec f:ports k:{"name":"web"} f:port => {"f:spec":{"f:ports":{"k:{\"name\":\"web\"}":{".":{},"f:name":{},"f:port":{}}}}}
+"#;
+
 #[test]
 fn fields_v1_of_paths(rt: HostRuntime) -> Result<(), Fail> {
-    let alloc = rt.alloc();
-    assert_eq!(rt;
-        fields_v1(alloc, r#"f:spec f:image,f:spec f:tags v:"a""#)?.as_str(),
-        r#"{"f:spec":{"f:image":{},"f:tags":{"v:\"a\"":{}}}}"#
-    );
-    let web = r#"f:spec f:ports k:{"name":"web"}"#;
-    assert_eq!(rt;
-        fields_v1(alloc, format!(in alloc; "{web},{web} f:port")?.as_str())?.as_str(),
-        r#"{"f:spec":{"f:ports":{"k:{\"name\":\"web\"}":{".":{},"f:name":{},"f:port":{}}}}}"#
-    );
-    Ok(())
+    expect_answers(rt.alloc(), &mut Printed, FIELDS_V1)
 }
 
 /// A number, or else a text.
@@ -174,18 +202,32 @@ fn leaf_and_branch(alloc: Global) -> (bool, bool) {
     (leaf.get(&Path::new(alloc)).is_some(), branch.is_bare())
 }
 
+/// The paths of a map made of two, by name.
+#[derive(Drop)]
+struct Maps;
+
+impl Answers for Maps {
+    fn answer(&mut self, alloc: Global, question: &str) -> Result<String, Fail> {
+        paths_in(alloc, question)
+    }
+}
+
+const MAPS: &str = "over => paths .a .b .c .c.d
+without => paths
+changed => paths .a .c.d
+copy => paths .a .b .c.d
+";
+
 #[test]
 fn maps_of_paths(rt: HostRuntime) -> Result<(), Fail> {
     let alloc = rt.alloc();
-    for (name, paths) in [
-        ("over", " .a .b .c .c.d"),
-        ("without", ""),
-        ("changed", " .a .c.d"),
-        ("copy", " .a .b .c.d"),
-    ] {
-        assert_eq!(rt; paths_in(alloc, name)?.as_str(), paths, "{name}");
-    }
-    assert_eq!(rt; numbers_found(alloc)?, (true, false));
-    assert_eq!(rt; leaf_and_branch(alloc), (true, true));
-    Ok(())
+    expect_answers(alloc, &mut Maps, MAPS)?;
+    expect_true(
+        numbers_found(alloc)? == (true, false),
+        "the numbers of a map",
+    )?;
+    expect_true(
+        leaf_and_branch(alloc) == (true, true),
+        "a leaf and a branch",
+    )
 }
