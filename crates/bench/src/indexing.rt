@@ -107,29 +107,96 @@ fn keys(alloc: Global, size: u64) -> Result<Vec<ObjectKey>, AllocError> {
     Ok(keys)
 }
 
-/// Puts so many objects, puts each anew with another key, and finds them.
-fn run_puts(rt: &(impl Print + Eprint + CpuClock), alloc: Global, size: u64) -> anyhow::Result<()> {
+fn empty(alloc: Global) -> anyhow::Result<Indexer> {
     let mut indexes: Vec<Box<dyn IndexBy>> = Vec::new(alloc);
     indexes.push(Box::new(alloc, Namespace)?)?;
     indexes.push(Box::new(alloc, Part)?)?;
-    let mut indexer = Indexer::new(alloc, indexes)?;
-    for (what, first) in [("put of a new object", 1), ("put in place of one", 500)] {
-        let objects = objects(alloc, size, first)?;
-        let start = spent(rt)?;
-        for object in objects {
-            indexer.put(object)?;
-        }
-        tell(rt, what, size, start)?;
+    Ok(Indexer::new(alloc, indexes)?)
+}
+
+fn put(indexer: &mut Indexer, object: Object) -> Result<(), AllocError> {
+    indexer.put(object)?;
+    Ok(())
+}
+
+fn time_puts(
+    rt: &(impl Print + Eprint + CpuClock),
+    what: &str,
+    indexer: &mut Indexer,
+    objects: Vec<Object>,
+) -> anyhow::Result<()> {
+    let size = objects.len() as u64;
+    let start = spent(rt)?;
+    for object in objects {
+        put(indexer, object)?;
     }
+    tell(rt, what, size, start)?;
+    Ok(())
+}
+
+/// How many of so many objects are held.
+fn time_gets(
+    rt: &(impl Print + Eprint + CpuClock),
+    alloc: Global,
+    indexer: &Indexer,
+    size: u64,
+) -> anyhow::Result<u64> {
     let wanted = keys(alloc, size)?;
     let start = spent(rt)?;
-    let held = count_held(&indexer, &wanted);
+    let held = count_held(indexer, &wanted);
     tell(rt, "get", size, start)?;
+    Ok(held)
+}
+
+/// How many objects are found by the parts of so many.
+fn time_finds(
+    rt: &(impl Print + Eprint + CpuClock),
+    alloc: Global,
+    indexer: &Indexer,
+    size: u64,
+) -> anyhow::Result<u64> {
     let wanted = parts(alloc, size)?;
     let start = spent(rt)?;
-    let under = count_under(&indexer, &wanted);
+    let under = count_under(indexer, &wanted);
     tell(rt, "by_index", size, start)?;
+    Ok(under)
+}
+
+fn find(
+    rt: &(impl Print + Eprint + CpuClock),
+    alloc: Global,
+    indexer: &Indexer,
+    size: u64,
+) -> anyhow::Result<()> {
+    let held = time_gets(rt, alloc, indexer, size)?;
+    let under = time_finds(rt, alloc, indexer, size)?;
     println!(rt; "indexer: {held} of {size} held, {under} found by their parts")?;
+    Ok(())
+}
+
+/// Puts so many objects, puts each anew with another key, and finds them.
+fn run_puts(rt: &(impl Print + Eprint + CpuClock), alloc: Global, size: u64) -> anyhow::Result<()> {
+    let mut indexer = empty(alloc)?;
+    for (what, first) in [("put of a new object", 1), ("put in place of one", 500)] {
+        time_puts(rt, what, &mut indexer, objects(alloc, size, first)?)?;
+    }
+    find(rt, alloc, &indexer, size)
+}
+
+fn replace(indexer: &mut Indexer, objects: Vec<Object>) -> Result<(), AllocError> {
+    indexer.replace(objects)
+}
+
+fn time_replace(
+    rt: &(impl Print + Eprint + CpuClock),
+    what: &str,
+    indexer: &mut Indexer,
+    objects: Vec<Object>,
+) -> anyhow::Result<()> {
+    let size = objects.len() as u64;
+    let start = spent(rt)?;
+    replace(indexer, objects)?;
+    tell(rt, what, size, start)?;
     Ok(())
 }
 
@@ -139,18 +206,12 @@ fn run_replace(
     alloc: Global,
     size: u64,
 ) -> anyhow::Result<()> {
-    let mut indexes: Vec<Box<dyn IndexBy>> = Vec::new(alloc);
-    indexes.push(Box::new(alloc, Namespace)?)?;
-    indexes.push(Box::new(alloc, Part)?)?;
-    let mut indexer = Indexer::new(alloc, indexes)?;
+    let mut indexer = empty(alloc)?;
     for (what, first) in [
         ("object into an empty indexer by replace", 1),
         ("object by replace", 500),
     ] {
-        let objects = objects(alloc, size, first)?;
-        let start = spent(rt)?;
-        indexer.replace(objects)?;
-        tell(rt, what, size, start)?;
+        time_replace(rt, what, &mut indexer, objects(alloc, size, first)?)?;
     }
     Ok(())
 }

@@ -80,42 +80,113 @@ fn values(alloc: Global, bodies: &[String]) -> anyhow::Result<Vec<Value>> {
     Ok(all)
 }
 
-/// Serves each request on a connection of its own, and counts those that are served.
+fn on(hub: &mut Hub, event: &Event) -> Result<(), HubFault> {
+    hub.on(event)
+}
+
+fn is_served(hub: &Hub, id: u64) -> bool {
+    hub.out(id).starts_with(b"HTTP/1.1 20")
+}
+
+/// Serves a request on a connection of its own; whether it is served.
+fn serve(hub: &mut Hub, id: u64, request: Vec<u8>) -> Result<bool, HubFault> {
+    on(hub, &Event::Open(id))?;
+    on(hub, &Event::In(id, request))?;
+    Ok(is_served(hub, id))
+}
+
+/// Serves each request, and counts those that are served.
 fn serve_all(hub: &mut Hub, requests: Vec<Vec<u8>>) -> Result<u64, HubFault> {
     let mut served: u64 = 0;
     let mut id: u64 = 0;
     for request in requests {
         id = id.saturating_add(1);
-        hub.on(&Event::Open(id))?;
-        hub.on(&Event::In(id, request))?;
-        if hub.out(id).starts_with(b"HTTP/1.1 20") {
+        if serve(hub, id, request)? {
             served = served.saturating_add(1);
         }
     }
     Ok(served)
 }
 
+fn plan(api: &mut Api, call: &Call) -> Result<Plan, Fault> {
+    api.plan(call)
+}
+
+/// Plans a call and commits its change; whether it is served.
+fn answer(api: &mut Api, call: &Call) -> Result<bool, Fault> {
+    let Plan { answer, change } = plan(api, call)?;
+    let is_served = answer.status < 300;
+    if let Some(change) = change {
+        api.commit(change)?;
+    }
+    Ok(is_served)
+}
+
+/// Applies a body; whether it is served.
+fn apply(alloc: Global, api: &mut Api, body: Value) -> Result<bool, Fault> {
+    let Ok(target) = api.admit("PATCH", PATH, Some(MEDIA.as_bytes())) else {
+        return Ok(false);
+    };
+    let call = Call {
+        target,
+        query: Vec::from_slice(alloc, QUERY.as_bytes())?,
+        body: Some(body),
+    };
+    answer(api, &call)
+}
+
 /// Applies each body, and counts those that are served.
 fn apply_all(alloc: Global, api: &mut Api, bodies: Vec<Value>) -> Result<u64, Fault> {
     let mut served: u64 = 0;
     for body in bodies {
-        let Ok(target) = api.admit("PATCH", PATH, Some(MEDIA.as_bytes())) else {
-            return Ok(served);
-        };
-        let call = Call {
-            target,
-            query: Vec::from_slice(alloc, QUERY.as_bytes())?,
-            body: Some(body),
-        };
-        let Plan { answer, change } = api.plan(&call)?;
-        if answer.status < 300 {
+        if apply(alloc, api, body)? {
             served = served.saturating_add(1);
-        }
-        if let Some(change) = change {
-            api.commit(change)?;
         }
     }
     Ok(served)
+}
+
+fn time_serving(
+    rt: &(impl Print + Eprint + CpuClock),
+    hub: &mut Hub,
+    requests: Vec<Vec<u8>>,
+) -> anyhow::Result<()> {
+    let start = spent(rt)?;
+    let served = serve_all(hub, requests).unwrap_or(0);
+    tell(rt, "request through the hub", REQUESTS, start)?;
+    println!(rt; "hub: {served} of {REQUESTS} served through the hub")?;
+    Ok(())
+}
+
+fn time_applies(
+    rt: &(impl Print + Eprint + CpuClock),
+    alloc: Global,
+    api: &mut Api,
+    values: Vec<Value>,
+) -> anyhow::Result<()> {
+    let start = spent(rt)?;
+    let served = apply_all(alloc, api, values).unwrap_or(0);
+    tell(rt, "apply of a parsed body", REQUESTS, start)?;
+    println!(rt; "hub: {served} of {REQUESTS} applied without it")?;
+    Ok(())
+}
+
+fn run_hub(
+    rt: &(impl Print + Eprint + CpuClock),
+    alloc: Global,
+    bodies: &[String],
+) -> anyhow::Result<()> {
+    let mut hub = Hub::new(alloc, api_of_widgets(alloc)?);
+    time_serving(rt, &mut hub, requests(alloc, bodies)?)
+}
+
+fn run_applies(
+    rt: &(impl Print + Eprint + CpuClock),
+    alloc: Global,
+    bodies: &[String],
+) -> anyhow::Result<()> {
+    let mut api = api_of_widgets(alloc)?;
+    time_applies(rt, alloc, &mut api, values(alloc, bodies)?)
 }
 
 /// Serves the requests over objects of so many fields, and makes the same applies from parsed bodies.
@@ -125,17 +196,6 @@ pub(crate) fn run(
     size: u64,
 ) -> anyhow::Result<()> {
     let bodies = bodies(alloc, size)?;
-    let mut hub = Hub::new(alloc, api_of_widgets(alloc)?);
-    let requests = requests(alloc, &bodies)?;
-    let start = spent(rt)?;
-    let served = serve_all(&mut hub, requests).unwrap_or(0);
-    tell(rt, "request through the hub", REQUESTS, start)?;
-    println!(rt; "hub: {served} of {REQUESTS} served through the hub")?;
-    let mut api = api_of_widgets(alloc)?;
-    let values = values(alloc, &bodies)?;
-    let start = spent(rt)?;
-    let served = apply_all(alloc, &mut api, values).unwrap_or(0);
-    tell(rt, "apply of a parsed body", REQUESTS, start)?;
-    println!(rt; "hub: {served} of {REQUESTS} applied without it")?;
-    Ok(())
+    run_hub(rt, alloc, &bodies)?;
+    run_applies(rt, alloc, &bodies)
 }

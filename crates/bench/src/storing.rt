@@ -101,36 +101,74 @@ fn pages(
     Ok(())
 }
 
+fn time_writes(
+    rt: &(impl Print + Eprint + CpuClock),
+    what: &str,
+    store: &mut Store,
+    keys: &[Key],
+    body: &str,
+) -> anyhow::Result<()> {
+    let start = spent(rt)?;
+    write_all(store, keys, body)?;
+    tell(rt, what, keys.len() as u64, start)?;
+    Ok(())
+}
+
+fn time_gets(
+    rt: &(impl Print + Eprint + CpuClock),
+    store: &mut Store,
+    keys: &[Key],
+) -> anyhow::Result<()> {
+    let start = spent(rt)?;
+    let found = count_found(store, keys)?;
+    tell(rt, "get", keys.len() as u64, start)?;
+    println!(rt; "tables: {found} found")?;
+    Ok(())
+}
+
+fn run_writes(
+    rt: &(impl Print + Eprint + CpuClock),
+    alloc: Global,
+    store: &mut Store,
+    size: u64,
+) -> anyhow::Result<()> {
+    let keys = keys(alloc, size)?;
+    let body = body(alloc)?;
+    for what in ["first write", "second write"] {
+        time_writes(rt, what, store, &keys, &body)?;
+    }
+    let (some, _) = keys.split_at(keys.len().min(1_000));
+    time_gets(rt, store, some)
+}
+
+fn time_changes(
+    rt: &(impl Print + Eprint + CpuClock),
+    store: &mut Store,
+    revision: u64,
+) -> anyhow::Result<()> {
+    let start = spent(rt)?;
+    let changed = changes_after(store, revision)?;
+    tell(rt, "500 changes", 1, start)?;
+    println!(rt; "tables: {changed} changes")?;
+    Ok(())
+}
+
+fn time_compaction(rt: &(impl Print + Eprint + CpuClock), store: &mut Store) -> anyhow::Result<()> {
+    let start = spent(rt)?;
+    compact(store)?;
+    tell(rt, "compaction of half of the changes", 1, start)?;
+    Ok(())
+}
+
 /// Writes so many objects of 1 KB twice, reads single ones, pages and changes, and compacts half of the changes.
 pub(crate) fn run(
     rt: &(impl Print + Eprint + CpuClock),
     alloc: Global,
     size: u64,
 ) -> anyhow::Result<()> {
-    let keys = keys(alloc, size)?;
-    let body = body(alloc)?;
     let mut store = open(alloc)?;
-    let start = spent(rt)?;
-    write_all(&mut store, &keys, &body)?;
-    tell(rt, "first write", size, start)?;
-    let start = spent(rt)?;
-    write_all(&mut store, &keys, &body)?;
-    tell(rt, "second write", size, start)?;
-
-    let (some, _) = keys.split_at(keys.len().min(1_000));
-    let start = spent(rt)?;
-    let found = count_found(&mut store, some)?;
-    tell(rt, "get", some.len() as u64, start)?;
-    println!(rt; "tables: {found} found")?;
-
+    run_writes(rt, alloc, &mut store, size)?;
     pages(rt, alloc, &mut store, size)?;
-    let start = spent(rt)?;
-    let changed = changes_after(&mut store, size)?;
-    tell(rt, "500 changes", 1, start)?;
-    println!(rt; "tables: {changed} changes")?;
-
-    let start = spent(rt)?;
-    compact(&mut store)?;
-    tell(rt, "compaction of half of the changes", 1, start)?;
-    Ok(())
+    time_changes(rt, &mut store, size)?;
+    time_compaction(rt, &mut store)
 }
