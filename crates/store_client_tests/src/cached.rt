@@ -302,11 +302,7 @@ fn try_put(indexer: &mut Boxed, object: Object) -> Result<u64, AllocError> {
 }
 
 /// A put between marks; whether memory was refused.
-fn is_put_refused(
-    alloc: Global,
-    indexer: &mut Boxed,
-    object: Object,
-) -> Result<bool, AllocError> {
+fn is_put_refused(alloc: Global, indexer: &mut Boxed, object: Object) -> Result<bool, AllocError> {
     mark(alloc)?;
     let is_refused = try_put(indexer, object).is_err();
     mark(alloc)?;
