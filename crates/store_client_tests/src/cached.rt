@@ -1,7 +1,7 @@
 //! Puts, changes and removals under two indexes, and each refusal.
 
 use crate::marking::mark;
-use crate::rows::{Answers, answered_otherwise};
+use crate::rows::{Answers, expect_answers, expect_true};
 use indexer::{IndexBy, Indexer, NewError, Object, ObjectKey};
 use std::alloc::{AllocError, Global};
 use std::collections::BTreeMap;
@@ -230,12 +230,12 @@ fn told_counts(alloc: Global, indexer: &Boxed) -> Result<String, Fail> {
     Ok(format!(in alloc; "{all} {x} {y}")?)
 }
 
-/// The rows that an empty indexer answers otherwise.
-fn played_otherwise(alloc: Global, rows: &str) -> Result<String, Fail> {
+/// The test fails where rows that an empty indexer answers are answered otherwise.
+fn expect_played(alloc: Global, rows: &str) -> Result<(), Fail> {
     let mut cache = Cache {
         indexer: empty(alloc)?,
     };
-    answered_otherwise(alloc, &mut cache, rows)
+    expect_answers(alloc, &mut cache, rows)
 }
 
 const CHANGE: &str = "put a 2 x => 0
@@ -253,8 +253,7 @@ indexed none y => false
 
 #[test]
 fn an_index_follows_a_change(rt: HostRuntime) -> Result<(), Fail> {
-    assert_eq!(rt; played_otherwise(rt.alloc(), CHANGE)?.as_str(), "");
-    Ok(())
+    expect_played(rt.alloc(), CHANGE)
 }
 
 const REMOVALS: &str = "put a 4 y => 0
@@ -271,8 +270,7 @@ keys none => 0
 
 #[test]
 fn an_index_follows_removals(rt: HostRuntime) -> Result<(), Fail> {
-    assert_eq!(rt; played_otherwise(rt.alloc(), REMOVALS)?.as_str(), "");
-    Ok(())
+    expect_played(rt.alloc(), REMOVALS)
 }
 
 /// Whether an indexer of these indexes is refused since two have one name.
@@ -293,8 +291,8 @@ fn three_indexes(alloc: Global) -> Result<Vec<Box<dyn IndexBy>>, AllocError> {
 #[test]
 fn two_indexes_with_one_name(rt: HostRuntime) -> Result<(), Fail> {
     let alloc = rt.alloc();
-    assert!(rt; has_one_name_twice(alloc, three_indexes(alloc)?)?);
-    Ok(())
+    let is_refused = has_one_name_twice(alloc, three_indexes(alloc)?)?;
+    expect_true(is_refused, "two indexes with one name")
 }
 
 fn try_put(indexer: &mut Boxed, object: Object) -> Result<u64, AllocError> {
@@ -348,8 +346,7 @@ counts => 2 1 1
 /// it is called again.
 #[test]
 fn a_refused_put_changes_nothing(rt: HostRuntime) -> Result<(), Fail> {
-    assert_eq!(rt; played_otherwise(rt.alloc(), PUT_ANEW)?.as_str(), "");
-    Ok(())
+    expect_played(rt.alloc(), PUT_ANEW)
 }
 
 /// A replace between marks; whether memory was refused.
@@ -364,15 +361,16 @@ fn is_replace_refused(
     Ok(is_refused)
 }
 
-/// Whether a replace between marks, of `a` by two others, is done whole or changes nothing.
+/// Whether a replace between marks, of `a` alone by two others, is done whole or changes nothing.
 fn is_replaced_or_as_before(alloc: Global, indexer: &mut Boxed) -> Result<bool, AllocError> {
+    let was = put(alloc, indexer, "a", 4, "y")?;
     let others = two_objects(alloc, ("b", "x"), ("c", "x"))?;
     let place = key(alloc, "a")?;
     let wanted = match is_replace_refused(alloc, indexer, others)? {
         true => (4, (1, 0, 1)),
         false => (0, (2, 2, 0)),
     };
-    Ok(seen(indexer, &place) == wanted)
+    Ok(was == 0 && seen(indexer, &place) == wanted)
 }
 
 /// Whichever allocation of a replace is refused, the objects and both indexes are as they were.
@@ -380,7 +378,6 @@ fn is_replaced_or_as_before(alloc: Global, indexer: &mut Boxed) -> Result<bool, 
 fn a_refused_replace_changes_nothing(rt: HostRuntime) -> Result<(), Fail> {
     let alloc = rt.alloc();
     let mut indexer = empty(alloc)?;
-    assert_eq!(rt; put(alloc, &mut indexer, "a", 4, "y")?, 0);
-    assert!(rt; is_replaced_or_as_before(alloc, &mut indexer)?);
-    Ok(())
+    let is_as_wanted = is_replaced_or_as_before(alloc, &mut indexer)?;
+    expect_true(is_as_wanted, "a replace is done whole or not at all")
 }

@@ -1,6 +1,6 @@
 //! Names of the Kubernetes documentation, versions, and texts that are none.
 
-use crate::rows::{Answers, answered_otherwise, repeated};
+use crate::rows::{Answers, expect_answers, expect_true, repeated};
 use names::{
     decimal_up_to, is_dns_label, is_dns_subdomain, is_label_key, is_label_value, version_of,
 };
@@ -61,11 +61,7 @@ a-.b => false false
 
 #[test]
 fn names_of_namespaces_and_objects(rt: HostRuntime) -> Result<(), Fail> {
-    assert_eq!(rt;
-        answered_otherwise(rt.alloc(), &mut ObjectNames, OBJECT_NAMES)?.as_str(),
-        ""
-    );
-    Ok(())
+    expect_answers(rt.alloc(), &mut ObjectNames, OBJECT_NAMES)
 }
 
 const LABELS: &str = "app.kubernetes.io/name => true false
@@ -86,11 +82,7 @@ a b => false false
 
 #[test]
 fn keys_and_values_of_labels(rt: HostRuntime) -> Result<(), Fail> {
-    assert_eq!(rt;
-        answered_otherwise(rt.alloc(), &mut Labels, LABELS)?.as_str(),
-        ""
-    );
-    Ok(())
+    expect_answers(rt.alloc(), &mut Labels, LABELS)
 }
 
 /// The text of these three with a slash between the last two.
@@ -122,13 +114,13 @@ fn is_key_behind(alloc: Global, more: &str) -> Result<bool, AllocError> {
 #[test]
 fn at_most_63_and_253_bytes(rt: HostRuntime) -> Result<(), Fail> {
     let alloc = rt.alloc();
-    assert_eq!(rt; kinds_of_letters(alloc, 63)?, (true, true, true));
-    assert_eq!(rt; kinds_of_letters(alloc, 64)?, (false, false, true));
-    assert_eq!(rt;
-        (is_key_behind(alloc, "b")?, is_key_behind(alloc, "bb")?),
-        (true, false)
-    );
-    Ok(())
+    let kinds = (kinds_of_letters(alloc, 63)?, kinds_of_letters(alloc, 64)?);
+    expect_true(
+        kinds == ((true, true, true), (false, false, true)),
+        "63 bytes of a name",
+    )?;
+    let are_keys = (is_key_behind(alloc, "b")?, is_key_behind(alloc, "bb")?);
+    expect_true(are_keys == (true, false), "253 bytes of a prefix")
 }
 
 const VERSIONS: &str = "0 => Some(0)
@@ -155,13 +147,7 @@ fn decimals(max: u64, one: &str, other: &str) -> (Option<u64>, Option<u64>) {
 
 #[test]
 fn versions_and_other_decimals(rt: HostRuntime) -> Result<(), Fail> {
-    assert_eq!(rt;
-        answered_otherwise(rt.alloc(), &mut Versions, VERSIONS)?.as_str(),
-        ""
-    );
-    assert_eq!(rt;
-        decimals(2147483647, "2147483647", "2147483648"),
-        (Some(2147483647), None)
-    );
-    Ok(())
+    expect_answers(rt.alloc(), &mut Versions, VERSIONS)?;
+    let decimals = decimals(2147483647, "2147483647", "2147483648");
+    expect_true(decimals == (Some(2147483647), None), "a highest decimal")
 }

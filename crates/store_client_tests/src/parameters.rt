@@ -1,6 +1,6 @@
 //! Every parameter, what goes together, and which fault comes first.
 
-use crate::rows::{Answers, answered_otherwise};
+use crate::rows::{Answers, expect_answers, expect_text, expect_true};
 use params::{Asked, Parameter, Params, ParamsFault, Token, Watch};
 use std::alloc::{AllocError, Global};
 use std::collections::BTreeMap;
@@ -113,12 +113,9 @@ Put ?fieldManager=bob => read by bob
 #[test]
 fn managers_of_writes(rt: HostRuntime) -> Result<(), Fail> {
     let alloc = rt.alloc();
-    assert_eq!(rt;
-        answered_otherwise(alloc, &mut Readings, MANAGERS)?.as_str(),
-        ""
-    );
+    expect_answers(alloc, &mut Readings, MANAGERS)?;
     for call in ["Apply", "Post", "Put"] {
-        assert!(rt; has_at_most_128_letters(alloc, call)?, "{call}");
+        expect_true(has_at_most_128_letters(alloc, call)?, call)?;
     }
     Ok(())
 }
@@ -149,11 +146,7 @@ Get ?resourceVersion=7&resourceVersion=8 => read at 7
 
 #[test]
 fn faults_of_writes(rt: HostRuntime) -> Result<(), Fail> {
-    assert_eq!(rt;
-        answered_otherwise(rt.alloc(), &mut Readings, WRITES)?.as_str(),
-        ""
-    );
-    Ok(())
+    expect_answers(rt.alloc(), &mut Readings, WRITES)
 }
 
 const LISTS: &str = "List ? => read
@@ -200,15 +193,8 @@ List ?watch=false&continue=x => bad Continue
 
 #[test]
 fn faults_of_lists(rt: HostRuntime) -> Result<(), Fail> {
-    assert_eq!(rt;
-        answered_otherwise(rt.alloc(), &mut Readings, LISTS)?.as_str(),
-        ""
-    );
-    assert_eq!(rt;
-        answered_otherwise(rt.alloc(), &mut Readings, TOGETHER)?.as_str(),
-        ""
-    );
-    Ok(())
+    expect_answers(rt.alloc(), &mut Readings, LISTS)?;
+    expect_answers(rt.alloc(), &mut Readings, TOGETHER)
 }
 
 fn read(alloc: Global, query: &str) -> Result<Params, ParamsFault> {
@@ -230,23 +216,25 @@ fn selects(alloc: Global, params: &Params, value: &str) -> Result<bool, AllocErr
 }
 
 /// Whether a list's selector takes objects of the tiers `web` and `db`.
-fn selects_web_and_db(alloc: Global, query: &str) -> Result<(bool, bool), Fail> {
-    let params = read(alloc, query)?;
-    Ok((
-        selects(alloc, &params, "web")?,
-        selects(alloc, &params, "db")?,
-    ))
+#[derive(Drop)]
+struct Tiers;
+
+impl Answers for Tiers {
+    fn answer(&mut self, alloc: Global, question: &str) -> Result<String, Fail> {
+        let params = read(alloc, question)?;
+        let web = selects(alloc, &params, "web")?;
+        let db = selects(alloc, &params, "db")?;
+        Ok(format!(in alloc; "{web} {db}")?)
+    }
 }
+
+const TIERS: &str = "labelSelector=tier%3Dweb&limit=1 => true false
+labelSelector=tier!%3Dweb => false true
+";
 
 #[test]
 fn selectors_of_lists(rt: HostRuntime) -> Result<(), Fail> {
-    for (query, expected) in [
-        ("labelSelector=tier%3Dweb&limit=1", (true, false)),
-        ("labelSelector=tier!%3Dweb", (false, true)),
-    ] {
-        assert_eq!(rt; selects_web_and_db(rt.alloc(), query)?, expected, "{query}");
-    }
-    Ok(())
+    expect_answers(rt.alloc(), &mut Tiers, TIERS)
 }
 
 /// The token of a list's query, and its revision, namespace and name.
@@ -281,16 +269,12 @@ fn values_of_lists(rt: HostRuntime) -> Result<(), Fail> {
     let alloc = rt.alloc();
     let query =
         "labelSelector=tier%3Dweb&limit=1&resourceVersion=3&resourceVersionMatch=NotOlderThan&watch=0";
-    assert_eq!(rt;
-        values(alloc, query)?.as_str(),
-        "1 Some(NotOlderThan) read at 3"
-    );
-    assert_eq!(rt; token_of(alloc, query)?.as_str(), "");
-    assert_eq!(rt;
-        token_of(alloc, "limit=2&continue=4.default.w1.old")?.as_str(),
-        "4.default.w1.old 4 default w1.old"
-    );
-    Ok(())
+    expect_text(values(alloc, query)?, "1 Some(NotOlderThan) read at 3")?;
+    expect_text(token_of(alloc, query)?, "")?;
+    expect_text(
+        token_of(alloc, "limit=2&continue=4.default.w1.old")?,
+        "4.default.w1.old 4 default w1.old",
+    )
 }
 
 const WATCHES: &str = "List ?watch=true => read a watch false 0
@@ -315,13 +299,9 @@ fn printed(alloc: Global, parameter: Parameter) -> Result<String, AllocError> {
 #[test]
 fn watches(rt: HostRuntime) -> Result<(), Fail> {
     let alloc = rt.alloc();
-    assert_eq!(rt;
-        answered_otherwise(alloc, &mut Readings, WATCHES)?.as_str(),
-        ""
-    );
-    assert_eq!(rt;
-        printed(alloc, Parameter::ResourceVersionMatch)?.as_str(),
-        "bad parameter: resourceVersionMatch"
-    );
-    Ok(())
+    expect_answers(alloc, &mut Readings, WATCHES)?;
+    expect_text(
+        printed(alloc, Parameter::ResourceVersionMatch)?,
+        "bad parameter: resourceVersionMatch",
+    )
 }

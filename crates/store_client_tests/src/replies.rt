@@ -1,6 +1,6 @@
 //! Requests, and replies cut at every place.
 
-use crate::rows::{Answers, answered_otherwise};
+use crate::rows::{Answers, expect_answers, expect_text, expect_true};
 use std::alloc::{AllocError, Global};
 use std::test::Fail;
 use wireclient::{Item, ReadFault, ReplyReader, request_bytes};
@@ -145,11 +145,7 @@ const REPLIES: &str = "#0003¶¶abc HTTP => [200 body abc end]
 
 #[test]
 fn a_reply_is_told_the_same_however_it_is_cut(rt: HostRuntime) -> Result<(), Fail> {
-    assert_eq!(rt;
-        answered_otherwise(rt.alloc(), &mut Replies, REPLIES)?.as_str(),
-        ""
-    );
-    Ok(())
+    expect_answers(rt.alloc(), &mut Replies, REPLIES)
 }
 
 const BAD_BYTES: &str = "#1¶Content-Length: 1¶¶ => [ malformed]
@@ -199,12 +195,9 @@ fn are_malformed_after_a_bad_byte(alloc: Global) -> Result<(bool, bool), AllocEr
 #[test]
 fn a_bad_byte_is_told_when_it_comes(rt: HostRuntime) -> Result<(), Fail> {
     let alloc = rt.alloc();
-    assert_eq!(rt;
-        answered_otherwise(alloc, &mut Replies, BAD_BYTES)?.as_str(),
-        ""
-    );
-    assert_eq!(rt; are_malformed_after_a_bad_byte(alloc)?, (true, true));
-    Ok(())
+    expect_answers(alloc, &mut Replies, BAD_BYTES)?;
+    let are_malformed = are_malformed_after_a_bad_byte(alloc)?;
+    expect_true(are_malformed == (true, true), "bytes after a bad one")
 }
 
 /// What is told of a head with so many fields beside the body's length.
@@ -230,13 +223,10 @@ fn told_with_length(alloc: Global, length: usize) -> Result<String, AllocError> 
 #[test]
 fn a_head_has_16384_bytes_and_64_fields(rt: HostRuntime) -> Result<(), Fail> {
     let alloc = rt.alloc();
-    for (fields, expected) in [(63, "200"), (64, " malformed")] {
-        assert_eq!(rt; told_with_fields(alloc, fields)?.as_str(), expected);
-    }
-    for (length, expected) in [(16_384, "200"), (16_385, " malformed")] {
-        assert_eq!(rt; told_with_length(alloc, length)?.as_str(), expected);
-    }
-    Ok(())
+    expect_text(told_with_fields(alloc, 63)?, "200")?;
+    expect_text(told_with_fields(alloc, 64)?, " malformed")?;
+    expect_text(told_with_length(alloc, 16_384)?, "200")?;
+    expect_text(told_with_length(alloc, 16_385)?, " malformed")
 }
 
 /// A chunk of so many bytes in one line, its line feed the last.
@@ -274,9 +264,10 @@ fn told_of_long_line(alloc: Global, length: usize) -> Result<(usize, bool, bool)
 #[test]
 fn a_line_has_2097152_bytes(rt: HostRuntime) -> Result<(), Fail> {
     let alloc = rt.alloc();
-    assert_eq!(rt; told_of_long_line(alloc, 2_097_152)?, (1, true, false));
-    assert_eq!(rt; told_of_long_line(alloc, 2_097_153)?, (0, false, true));
-    Ok(())
+    let longest = told_of_long_line(alloc, 2_097_152)?;
+    expect_true(longest == (1, true, false), "a line of 2097152 bytes")?;
+    let too_long = told_of_long_line(alloc, 2_097_153)?;
+    expect_true(too_long == (0, false, true), "a line of 2097153 bytes")
 }
 
 /// Whether a bad byte is told of the piece.
@@ -326,21 +317,38 @@ fn a_limit_is_met_with_the_byte_that_passes_it(rt: HostRuntime) -> Result<(), Fa
             55 + 2_097_153,
         ),
     ] {
-        assert!(rt; is_bad_at(alloc, start, filler, wanted)?, "{filler}");
+        expect_true(is_bad_at(alloc, start, filler, wanted)?, filler)?;
     }
     Ok(())
 }
 
+/// Whether a request has these bytes.
+fn is_request(
+    alloc: Global,
+    (method, target): (&str, &str),
+    body: Option<(&str, &[u8])>,
+    wanted: &str,
+) -> Result<bool, AllocError> {
+    let bytes = request_bytes(alloc, method, target, body)?;
+    Ok(bytes.as_slice() == wanted.as_bytes())
+}
+
 #[test]
 fn requests_have_a_host_and_a_framed_body(rt: HostRuntime) -> Result<(), Fail> {
-    let alloc = rt.alloc();
-    let get = request_bytes(alloc, "GET", "/api/widgets?watch=true", None)?;
-    let expected = "GET /api/widgets?watch=true HTTP/1.1\r\nHost: localhost\r\n\r\n";
-    assert_eq!(rt; get.as_slice(), expected.as_bytes());
+    let get = ("GET", "/api/widgets?watch=true");
+    let wanted = "GET /api/widgets?watch=true HTTP/1.1\r\nHost: localhost\r\n\r\n";
+    expect_true(
+        is_request(rt.alloc(), get, None, wanted)?,
+        "a request without a body",
+    )?;
     let body: &[u8] = b"{\"a\":1}";
-    let patch = request_bytes(alloc, "PATCH", "/w", Some(("application/json", body)))?;
-    let expected =
+    let wanted =
         "PATCH /w HTTP/1.1\r\nHost: localhost\r\nContent-Type: application/json\r\nContent-Length: 7\r\n\r\n{\"a\":1}";
-    assert_eq!(rt; patch.as_slice(), expected.as_bytes());
-    Ok(())
+    let has_body = is_request(
+        rt.alloc(),
+        ("PATCH", "/w"),
+        Some(("application/json", body)),
+        wanted,
+    )?;
+    expect_true(has_body, "a request with a body")
 }

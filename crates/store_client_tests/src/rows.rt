@@ -8,8 +8,27 @@ pub trait Answers {
     fn answer(&mut self, alloc: Global, question: &str) -> Result<String, Fail>;
 }
 
+/// The test fails where rows `QUESTION => ANSWER` are answered otherwise, and shows those as they are answered.
+pub fn expect_answers<A: Answers>(alloc: Global, answers: &mut A, rows: &str) -> Result<(), Fail> {
+    expect_text(answered_otherwise(alloc, answers, rows)?, "")
+}
+
+/// The test fails where the text is another, and shows it.
+pub fn expect_text(text: String, wanted: &str) -> Result<(), Fail> {
+    if text.as_str() == wanted {
+        Ok(())
+    } else {
+        Err(Fail::new(text))
+    }
+}
+
+/// The test fails where this does not hold.
+pub fn expect_true(holds: bool, what: &str) -> Result<(), Fail> {
+    if holds { Ok(()) } else { Err(Fail::new(what)) }
+}
+
 /// The rows `QUESTION => ANSWER` that are answered otherwise, as they are answered.
-pub fn answered_otherwise<A: Answers>(
+fn answered_otherwise<A: Answers>(
     alloc: Global,
     answers: &mut A,
     rows: &str,

@@ -1,6 +1,6 @@
 //! Examples of the documentation "Labels and Selectors", and texts that are no selector.
 
-use crate::rows::{Answers, answered_otherwise, repeated};
+use crate::rows::{Answers, expect_answers, repeated};
 use selector::{Fault, ReadError, Selector};
 use std::alloc::{AllocError, Global};
 use std::collections::BTreeMap;
@@ -103,11 +103,7 @@ const SELECTED: &str = "{} => true true
 
 #[test]
 fn selects_by_every_kind_of_part(rt: HostRuntime) -> Result<(), Fail> {
-    assert_eq!(rt;
-        answered_otherwise(rt.alloc(), &mut Selections, SELECTED)?.as_str(),
-        ""
-    );
-    Ok(())
+    expect_answers(rt.alloc(), &mut Selections, SELECTED)
 }
 
 const FAULTS: &str = "{tier in (web, db),!old} => none
@@ -137,11 +133,7 @@ const FAULTS: &str = "{tier in (web, db),!old} => none
 
 #[test]
 fn the_first_fault_is_the_answer(rt: HostRuntime) -> Result<(), Fail> {
-    assert_eq!(rt;
-        answered_otherwise(rt.alloc(), &mut Faults, FAULTS)?.as_str(),
-        ""
-    );
-    Ok(())
+    expect_answers(rt.alloc(), &mut Faults, FAULTS)
 }
 
 /// The text with a prefix of 253 bytes in place of each `P`, and a name of 63 in place of each `N`.
@@ -190,9 +182,5 @@ const FILLED: &str = "{P/N=N} => none
 
 #[test]
 fn names_have_63_bytes_and_prefixes_253(rt: HostRuntime) -> Result<(), Fail> {
-    assert_eq!(rt;
-        answered_otherwise(rt.alloc(), &mut FaultsOfFilled, FILLED)?.as_str(),
-        ""
-    );
-    Ok(())
+    expect_answers(rt.alloc(), &mut FaultsOfFilled, FILLED)
 }

@@ -1,7 +1,7 @@
 //! A store over a table: that the calls succeed where memory is ample, and what refused memory leaves.
 
 use crate::marking::mark;
-use crate::rows::{Answers, answered_otherwise};
+use crate::rows::{Answers, expect_answers, expect_text};
 use crate::tables::{
     LAST_REVISION, done, key, number, pair, push_changes, push_page, table_at, two_namespaces,
 };
@@ -142,13 +142,13 @@ fn answer_to(
     }
 }
 
-/// The rows that a store which begins at this revision answers otherwise.
-fn played_otherwise(alloc: Global, revision: u64, rows: &str) -> Result<String, Fail> {
+/// The test fails where rows that a store which begins at this revision answers are answered otherwise.
+fn expect_played(alloc: Global, revision: u64, rows: &str) -> Result<(), Fail> {
     let mut play = Play {
         store: store_at(alloc, revision)?,
         only: key(alloc, "default", "w1")?,
     };
-    answered_otherwise(alloc, &mut play, rows)
+    expect_answers(alloc, &mut play, rows)
 }
 
 const FRESH: &str = "numbers => 1 1
@@ -162,8 +162,7 @@ compact 1 => done
 
 #[test]
 fn a_fresh_store(rt: HostRuntime) -> Result<(), Fail> {
-    assert_eq!(rt; played_otherwise(rt.alloc(), 1, FRESH)?.as_str(), "");
-    Ok(())
+    expect_played(rt.alloc(), 1, FRESH)
 }
 
 const DELETED: &str = "write a => 2
@@ -180,8 +179,7 @@ changes 4 => 0
 
 #[test]
 fn a_deleted_object_until_it_is_compacted(rt: HostRuntime) -> Result<(), Fail> {
-    assert_eq!(rt; played_otherwise(rt.alloc(), 1, DELETED)?.as_str(), "");
-    Ok(())
+    expect_played(rt.alloc(), 1, DELETED)
 }
 
 const USED_UP: &str = "write a => exhausted
@@ -190,11 +188,7 @@ get => none
 
 #[test]
 fn revisions_are_used_up(rt: HostRuntime) -> Result<(), Fail> {
-    assert_eq!(rt;
-        played_otherwise(rt.alloc(), LAST_REVISION, USED_UP)?.as_str(),
-        ""
-    );
-    Ok(())
+    expect_played(rt.alloc(), LAST_REVISION, USED_UP)
 }
 
 fn seen_of_store(store: &mut Store, alloc: Global) -> Result<String, Fail> {
@@ -241,11 +235,10 @@ fn seen_after_write(store: &mut Store, alloc: Global) -> Result<String, Fail> {
 #[test]
 fn a_write_that_is_refused_memory(rt: HostRuntime) -> Result<(), Fail> {
     let mut store = Store::new(two_namespaces(rt.alloc())?);
-    assert_eq!(rt;
-        seen_after_write(&mut store, rt.alloc())?.as_str(),
-        "1 to 7;; default/a a6 6 default/b b7 7 other/a o4 4; default/b b2 2 default/a a3 3 other/a o4 4 default/b gone 5 default/a a6 6 default/b b7 7"
-    );
-    Ok(())
+    expect_text(
+        seen_after_write(&mut store, rt.alloc())?,
+        "1 to 7;; default/a a6 6 default/b b7 7 other/a o4 4; default/b b2 2 default/a a3 3 other/a o4 4 default/b gone 5 default/a a6 6 default/b b7 7",
+    )
 }
 
 fn is_compaction_refused(store: &mut Store, alloc: Global) -> Result<bool, AllocError> {
@@ -277,9 +270,8 @@ fn seen_after_compaction(store: &mut Store, alloc: Global) -> Result<String, Fai
 #[test]
 fn a_compaction_that_is_refused_memory(rt: HostRuntime) -> Result<(), Fail> {
     let mut store = Store::new(two_namespaces(rt.alloc())?);
-    assert_eq!(rt;
-        seen_after_compaction(&mut store, rt.alloc())?.as_str(),
-        "5 to 6; default/a a3 3 other/a o4 4; default/a a6 6 other/a o4 4; default/a a6 6"
-    );
-    Ok(())
+    expect_text(
+        seen_after_compaction(&mut store, rt.alloc())?,
+        "5 to 6; default/a a3 3 other/a o4 4; default/a a6 6 other/a o4 4; default/a a6 6",
+    )
 }

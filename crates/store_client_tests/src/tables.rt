@@ -1,7 +1,7 @@
 //! Histories of objects in a table: that the calls succeed where memory is ample, and what refused memory leaves.
 
 use crate::marking::mark;
-use crate::rows::{Answers, answered_otherwise};
+use crate::rows::{Answers, expect_answers, expect_text};
 use history::Key;
 use revtable::{Change, Entry, Fault, Marks, Object, Table};
 use std::alloc::{AllocError, Global};
@@ -176,12 +176,12 @@ fn told_page(alloc: Global, page: &[Entry]) -> Result<String, Fail> {
     Ok(text)
 }
 
-/// The rows that a table which begins at this revision answers otherwise.
-fn played_otherwise(alloc: Global, revision: u64, rows: &str) -> Result<String, Fail> {
+/// The test fails where rows that a table which begins at this revision answers are answered otherwise.
+fn expect_played(alloc: Global, revision: u64, rows: &str) -> Result<(), Fail> {
     let mut play = Play {
         table: table_at(alloc, revision)?,
     };
-    answered_otherwise(alloc, &mut play, rows)
+    expect_answers(alloc, &mut play, rows)
 }
 
 /// One key has five writes, another is made and deleted: a prune leaves what still stands or came later.
@@ -203,8 +203,7 @@ marks => 8 8
 
 #[test]
 fn rows_after_a_prune(rt: HostRuntime) -> Result<(), Fail> {
-    assert_eq!(rt; played_otherwise(rt.alloc(), 1, PRUNED)?.as_str(), "");
-    Ok(())
+    expect_played(rt.alloc(), 1, PRUNED)
 }
 
 const HIGHEST: &str = "add w1 a => done
@@ -217,11 +216,7 @@ rows => 1
 
 #[test]
 fn the_highest_revision(rt: HostRuntime) -> Result<(), Fail> {
-    assert_eq!(rt;
-        played_otherwise(rt.alloc(), LAST_REVISION - 1, HIGHEST)?.as_str(),
-        ""
-    );
-    Ok(())
+    expect_played(rt.alloc(), LAST_REVISION - 1, HIGHEST)
 }
 
 pub fn two_namespaces(alloc: Global) -> Result<Table, Fault> {
@@ -259,11 +254,10 @@ fn page_after(table: &mut Table, max: u64) -> Result<Vec<Entry>, Fault> {
 #[test]
 fn pages_are_in_the_order_of_keys(rt: HostRuntime) -> Result<(), Fail> {
     let mut table = two_namespaces(rt.alloc())?;
-    assert_eq!(rt;
-        told_pages(&mut table, rt.alloc())?.as_str(),
-        "; default/a a3 3 default/b b2 2 other/a o4 4; default/a a6 6; default/b b2 2 other/a o4 4; default/b b2 2"
-    );
-    Ok(())
+    expect_text(
+        told_pages(&mut table, rt.alloc())?,
+        "; default/a a3 3 default/b b2 2 other/a o4 4; default/a a6 6; default/b b2 2 other/a o4 4; default/b b2 2",
+    )
 }
 
 /// The changes of `default` after revision 2 up to 6, and the first two of all after 1.
@@ -277,11 +271,10 @@ fn told_spans(table: &mut Table, alloc: Global) -> Result<String, Fault> {
 #[test]
 fn changes_are_in_the_order_of_revisions(rt: HostRuntime) -> Result<(), Fail> {
     let mut table = two_namespaces(rt.alloc())?;
-    assert_eq!(rt;
-        told_spans(&mut table, rt.alloc())?.as_str(),
-        "; default/a a3 3 default/b gone 5 default/a a6 6; default/b b2 2 default/a a3 3"
-    );
-    Ok(())
+    expect_text(
+        told_spans(&mut table, rt.alloc())?,
+        "; default/a a3 3 default/b gone 5 default/a a6 6; default/b b2 2 default/a a3 3",
+    )
 }
 
 fn push_line(
@@ -377,11 +370,10 @@ fn seen_after_put(table: &mut Table, alloc: Global) -> Result<String, Fail> {
 #[test]
 fn a_put_that_is_refused_memory(rt: HostRuntime) -> Result<(), Fail> {
     let mut table = two_namespaces(rt.alloc())?;
-    assert_eq!(rt;
-        seen_after_put(&mut table, rt.alloc())?.as_str(),
-        "1 to 7 in 5;; default/a a6 6 default/b b7 7 other/a o4 4; default/b b2 2 default/a a3 3 other/a o4 4 default/b gone 5 default/a a6 6 default/b b7 7"
-    );
-    Ok(())
+    expect_text(
+        seen_after_put(&mut table, rt.alloc())?,
+        "1 to 7 in 5;; default/a a6 6 default/b b7 7 other/a o4 4; default/b b2 2 default/a a3 3 other/a o4 4 default/b gone 5 default/a a6 6 default/b b7 7",
+    )
 }
 
 fn is_prune_refused(table: &mut Table, alloc: Global) -> Result<bool, AllocError> {
@@ -413,9 +405,8 @@ fn seen_after_prune(table: &mut Table, alloc: Global) -> Result<String, Fail> {
 #[test]
 fn a_prune_that_is_refused_memory(rt: HostRuntime) -> Result<(), Fail> {
     let mut table = two_namespaces(rt.alloc())?;
-    assert_eq!(rt;
-        seen_after_prune(&mut table, rt.alloc())?.as_str(),
-        "5 to 6 in 3; default/a a3 3 other/a o4 4; default/a a6 6 other/a o4 4; default/a a6 6"
-    );
-    Ok(())
+    expect_text(
+        seen_after_prune(&mut table, rt.alloc())?,
+        "5 to 6 in 3; default/a a3 3 other/a o4 4; default/a a6 6 other/a o4 4; default/a a6 6",
+    )
 }
