@@ -1,7 +1,7 @@
 //! What the head of a request says, and when it has come.
 
 ghost use Rattle.std.specs.Prelude.{◌≡◌, ◌≢◌, ◌≤◌, ◌++◌, ℕ, List, true, Some, None, [], length, take, drop, map, option_map, IfSome, IsUtf8};
-ghost use Rattle.std.specs.List.{All, list_all, list_any, filter};
+ghost use Rattle.std.specs.List.{All, list_all, filter};
 ghost use Rattle.std.specs.Char.{is_ascii_digit};
 ghost use Rattle.httparse.specs.Grammar.{RequestHead, ReadsRequest};
 ghost use Rattle.httparse.specs.Spans.{header_bytes, span_bytes, IsHeaderWithin, IsWithin, IsRequestWithin};

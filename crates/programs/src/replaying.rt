@@ -1,5 +1,5 @@
 //! Runs scripts.
-ghost use Rattle.std.specs.Prelude.{◌≡◌, ◌≢◌, ◌++◌, ℕ, [], List, Bool, IfOk, OnOk, is_none, map, take, option_map, string_bytes};
+ghost use Rattle.std.specs.Prelude.{◌≡◌, ◌≢◌, ◌++◌, ℕ, [], List, IfOk, OnOk, is_none, map, take, string_bytes};
 ghost use Rattle.std.specs.Io.KnownBytes.{Appends};
 ghost use Rattle.std.specs.List.{flat_map};
 ghost use Rattle.schema.specs.Served.{types_view};
@@ -7,7 +7,6 @@ ghost use Rattle.httpedge.specs.HubSeen.{event_of};
 ghost use Rattle.httpedge.specs.Runs.{Steps};
 ghost use Rattle.httpedge.specs.Steps as edge;
 ghost use Rattle.wireclient.specs.Reply as reply;
-ghost use Rattle.wireclient.specs.Reads as reads;
 ghost use Rattle.wireclient.specs.Views.{told_of};
 ghost use Rattle.programs.specs.ApplyLine.{apply_of, event_view};
 ghost use Rattle.programs.specs.Replays.{Answers, Applies, Does, Prints, PrintsFront, Runs, TellsReply, connection_text, connections_text, next_id, start, words_of};

@@ -1,4 +1,4 @@
-use Rattle.std.proofs.Common.{◌≡◌, ◌∙◌, false, refl, ap, subst}
+use Rattle.std.proofs.Common.{◌≡◌, false, refl, ap, subst}
 use Rattle.std.specs.Prelude.{is_none, ⊤}
 use Rattle.std.specs.declared.result.Result.TheVariants.{Err}
 use Rattle.httpedge.specs.declared.event.Event as events

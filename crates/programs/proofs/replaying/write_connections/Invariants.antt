@@ -1,4 +1,4 @@
-use Rattle.std.proofs.Common.{List, take}
+use Rattle.std.proofs.Common.{take}
 use Rattle.std.specs.Io.KnownBytes.{Appends}
 use Rattle.httpedge.specs.Steps as edge
 use Rattle.programs.specs.Replays.{connections_text}
