@@ -25,7 +25,7 @@ use Rattle.httpedge.specs.Held.{DiesAt, Holds, HoldsAt, PutAt, ReceivedAt, Recei
 use Rattle.httpedge.specs.HubSeen.{Happened, found_none, refusal_number}
 use Rattle.httpedge.specs.Refusals.{as_denied, too_many_connections}
 use Rattle.httpedge.specs.Runs.{Follows, Happening, happens, starves, Runs, Starves, Steps}
-use Rattle.httpedge.specs.Steps.{Event, State, opens, comes, goes, pumps, ticks, compacts, by_connection, connection_after, dead, opening, received, refusal, refusal_reply, start, taken, unless_refused, with_bytes_taken, with_connection}
+use Rattle.httpedge.specs.Steps.{Event, State, opens, comes, goes, pumps, ticks, compacts, by_connection, connection_after, dead, opening, received, refusal, refusal_reply, start, carried_out, unless_refused, with_bytes_taken, with_connection}
 use Rattle.httpedge.proofs.Connected.{Entries, ids, itself, new_put, new_still, one_if, open_put, opens_in, opens_of, tied_same, unknown}
 use Rattle.httpedge.proofs.Outcomes.{ComesBy, ComesOn}
 use Rattle.httpedge.proofs.Taking.{left_after}
@@ -300,12 +300,12 @@ comes_refused s id bytes None n got is = subst (λ (o : Option Connection). Come
 comes_refused s id bytes (Some c) n got is = absurd cc
 
 pub refused_stays : (s : State) (e : Event) (n : ℕ) → refusal s e ≡ Some n → Steps s e s
-refused_stays s (opens id) n is = (undecided, [], refl, refl, sym (ap (λ (o : Option ℕ). unless_refused o s (taken s (opens id) undecided [])) is))
+refused_stays s (opens id) n is = (undecided, [], refl, refl, sym (ap (λ (o : Option ℕ). unless_refused o s (carried_out s (opens id) undecided [])) is))
 refused_stays s (comes id bytes) n is = comes_refused s id bytes (fin.get s.connections id) n refl is
-refused_stays s (goes id) n is = (undecided, [], refl, refl, sym (ap (λ (o : Option ℕ). unless_refused o s (taken s (goes id) undecided [])) is))
-refused_stays s (pumps id max) n is = (undecided, [], refl, refl, sym (ap (λ (o : Option ℕ). unless_refused o s (taken s (pumps id max) undecided [])) is))
-refused_stays s (ticks ms) n is = (undecided, [], refl, refl, sym (ap (λ (o : Option ℕ). unless_refused o s (taken s (ticks ms) undecided [])) is))
-refused_stays s (compacts c) n is = (undecided, [], refl, refl, sym (ap (λ (o : Option ℕ). unless_refused o s (taken s (compacts c) undecided [])) is))
+refused_stays s (goes id) n is = (undecided, [], refl, refl, sym (ap (λ (o : Option ℕ). unless_refused o s (carried_out s (goes id) undecided [])) is))
+refused_stays s (pumps id max) n is = (undecided, [], refl, refl, sym (ap (λ (o : Option ℕ). unless_refused o s (carried_out s (pumps id max) undecided [])) is))
+refused_stays s (ticks ms) n is = (undecided, [], refl, refl, sym (ap (λ (o : Option ℕ). unless_refused o s (carried_out s (ticks ms) undecided [])) is))
+refused_stays s (compacts c) n is = (undecided, [], refl, refl, sym (ap (λ (o : Option ℕ). unless_refused o s (carried_out s (compacts c) undecided [])) is))
 
 pub runs_on : (r s t : State) (before : List Happening) (h : Happening) → Runs r before s → Follows s h t → Runs r (before ++ h ∷ []) t
 runs_on r s t [] h start follows = (t, subst (λ (x : State). Follows x h t) start follows, refl)

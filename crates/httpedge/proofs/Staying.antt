@@ -7,7 +7,7 @@ use Rattle.std.specs.Ordering.{nat_cmp, eq_by_cmp}
 use Rattle.httpedge.specs.Asks.{Asked}
 use Rattle.httpedge.specs.Connections.{Connection, Connections, Standing, waiting, watching, ended, gone, each, ended_on, has_ended, is_new, is_open, is_watching, watching_on, with_standing, with_taken}
 use Rattle.httpedge.specs.Runs.{Follows, Happening, HappensElsewhere, IsElsewhere, Starves, Steps, happens, starves, takes}
-use Rattle.httpedge.specs.Steps.{Event, State, opens, comes, goes, pumps, ticks, compacts, after_turn, by_connection, dead, dead_or_ticked, opening, received_by, refusal, starved, taken, unless_refused, with_connection, with_turn}
+use Rattle.httpedge.specs.Steps.{Event, State, opens, comes, goes, pumps, ticks, compacts, after_turn, by_connection, dead, dead_or_ticked, opening, received_by, refusal, starved, carried_out, unless_refused, with_connection, with_turn}
 use Rattle.httpedge.specs.Watches.{Turn, Watch, pumped, ticked}
 use Rattle.httpedge.proofs.Connected.{got_each, tied_same, unknown}
 
@@ -35,14 +35,14 @@ received_elsewhere s id q c (watching w) bytes text asked isnt = refl
 received_elsewhere s id q c ended bytes text asked isnt = refl
 received_elsewhere s id q c (gone had_ended) bytes text asked isnt = refl
 
-taken_elsewhere : (s : State) (e : Event) (asked : Asked) (text : List ℕ) (q : ℕ) → IsElsewhere e q → fin.get (taken s e asked text).connections q ≡ fin.get s.connections q
-taken_elsewhere s (opens id) asked text q isnt = put_elsewhere s.connections id q (opening s.connections) isnt
-taken_elsewhere s (comes id bytes) asked text q isnt =
+carried_elsewhere : (s : State) (e : Event) (asked : Asked) (text : List ℕ) (q : ℕ) → IsElsewhere e q → fin.get (carried_out s e asked text).connections q ≡ fin.get s.connections q
+carried_elsewhere s (opens id) asked text q isnt = put_elsewhere s.connections id q (opening s.connections) isnt
+carried_elsewhere s (comes id bytes) asked text q isnt =
     by_elsewhere s q (fin.get s.connections id) _ (λ c. received_elsewhere s id q c c.standing bytes text asked isnt)
-taken_elsewhere s (goes id) asked text q isnt = by_elsewhere s q (fin.get s.connections id) _ (λ c. put_elsewhere s.connections id q _ isnt)
-taken_elsewhere s (pumps id max) asked text q isnt = by_elsewhere s q (fin.get s.connections id) _ (λ c. put_elsewhere s.connections id q _ isnt)
-taken_elsewhere s (ticks ms) asked text q isnt = absurd isnt
-taken_elsewhere s (compacts c) asked text q isnt = refl
+carried_elsewhere s (goes id) asked text q isnt = by_elsewhere s q (fin.get s.connections id) _ (λ c. put_elsewhere s.connections id q _ isnt)
+carried_elsewhere s (pumps id max) asked text q isnt = by_elsewhere s q (fin.get s.connections id) _ (λ c. put_elsewhere s.connections id q _ isnt)
+carried_elsewhere s (ticks ms) asked text q isnt = absurd isnt
+carried_elsewhere s (compacts c) asked text q isnt = refl
 
 unless_elsewhere : (s t : State) (o : Option ℕ) (q : ℕ) → fin.get t.connections q ≡ fin.get s.connections q → fin.get (unless_refused o s t).connections q ≡ fin.get s.connections q
 unless_elsewhere s t None q same = same
@@ -58,7 +58,7 @@ starved_elsewhere s (compacts c) which q isnt = refl
 
 pub others : (s t : State) (h : Happening) (q : ℕ) → HappensElsewhere h q → Follows s h t → fin.get t.connections q ≡ fin.get s.connections q
 others s t (happens e) q elsewhere (asked, text, asks, told, is) =
-    ap (λ (x : State). fin.get x.connections q) is ∙ unless_elsewhere s (taken s e asked text) (refusal s e) q (taken_elsewhere s e asked text q elsewhere)
+    ap (λ (x : State). fin.get x.connections q) is ∙ unless_elsewhere s (carried_out s e asked text) (refusal s e) q (carried_elsewhere s e asked text q elsewhere)
 others s t (starves e which) q elsewhere (unrefused, memory, is) = ap (λ (x : State). fin.get x.connections q) is ∙ starved_elsewhere s e which q elsewhere
 others s t (takes id n) q elsewhere is =
     ap (λ (x : State). fin.get x.connections q) is ∙ by_elsewhere s q (fin.get s.connections id) _ (λ c. put_elsewhere s.connections id q _ elsewhere)
@@ -83,7 +83,7 @@ each_idle f id (Some c) stays is = ap (λ (d : Connection). Some d) (stays c is)
 pub ticked_idle : (s t : State) (ms id : ℕ) → watching_on s.connections id ≡ false → Steps s (ticks ms) t → fin.get t.connections id ≡ fin.get s.connections id
 ticked_idle s t ms id is (asked, text, asks, told, then) =
     ap (λ (x : State). fin.get x.connections id) then
-    ∙ unless_elsewhere s (taken s (ticks ms) asked text) (refusal s (ticks ms)) id
+    ∙ unless_elsewhere s (carried_out s (ticks ms) asked text) (refusal s (ticks ms)) id
     (got_each (λ q c. with_turn (ticked ms) c) s.connections id
     ∙ each_idle (λ q c. with_turn (ticked ms) c) id (fin.get s.connections id) (λ c idle. turn_idle (ticked ms) c c.standing idle) is)
 
@@ -161,23 +161,23 @@ unless_ended : (s t : State) (o : Option ℕ) (q : ℕ) → ended_on t.connectio
 unless_ended s t None q then is = then
 unless_ended s t (Some n) q then is = is
 
-stepped_ended : (s : State) (e : Event) (asked : Asked) (text : List ℕ) (q : ℕ) → ended_on s.connections q ≡ true → ended_on (unless_refused (refusal s e) s (taken s e asked text)).connections q ≡ true
+stepped_ended : (s : State) (e : Event) (asked : Asked) (text : List ℕ) (q : ℕ) → ended_on s.connections q ≡ true → ended_on (unless_refused (refusal s e) s (carried_out s e asked text)).connections q ≡ true
 stepped_ended s (opens id) asked text q is = opened_ended s id q (is_new s.connections id) refl is
 stepped_ended s (comes id bytes) asked text q is =
-    unless_ended s (taken s (comes id bytes) asked text) (refusal s (comes id bytes)) q
+    unless_ended s (carried_out s (comes id bytes) asked text) (refusal s (comes id bytes)) q
     (by_ended s id q (fin.get s.connections id) _ refl (λ c at. received_ended s id q c c.standing bytes text asked at refl is) is) is
 stepped_ended s (goes id) asked text q is =
-    unless_ended s (taken s (goes id) asked text) (refusal s (goes id)) q
+    unless_ended s (carried_out s (goes id) asked text) (refusal s (goes id)) q
     (by_ended s id q (fin.get s.connections id) _ refl (λ c at. put_ended s.connections id q (with_standing c (gone (has_ended c.standing))) (of_ended s.connections id c at) is) is) is
 stepped_ended s (pumps id max) asked text q is =
     let turn = pumped s.types s.machine max in
-    unless_ended s (taken s (pumps id max) asked text) (refusal s (pumps id max)) q
+    unless_ended s (carried_out s (pumps id max) asked text) (refusal s (pumps id max)) q
     (by_ended s id q (fin.get s.connections id) _ refl
     (λ c at. put_ended s.connections id q (with_turn turn c) (λ e. turn_ended turn c c.standing refl (of_ended s.connections id c at e)) is) is) is
 stepped_ended s (ticks ms) asked text q is =
-    unless_ended s (taken s (ticks ms) asked text) (refusal s (ticks ms)) q
+    unless_ended s (carried_out s (ticks ms) asked text) (refusal s (ticks ms)) q
     (in_each (λ id c. with_turn (ticked ms) c) s.connections q (λ c e. turn_ended (ticked ms) c c.standing refl e) is) is
-stepped_ended s (compacts c) asked text q is = unless_ended s (taken s (compacts c) asked text) (refusal s (compacts c)) q is is
+stepped_ended s (compacts c) asked text q is = unless_ended s (carried_out s (compacts c) asked text) (refusal s (compacts c)) q is is
 
 starved_ended : (s : State) (e : Event) (which : ℕ → Bool) (q : ℕ) → ended_on s.connections q ≡ true → ended_on (starved s e which).connections q ≡ true
 starved_ended s (opens id) which q is = is

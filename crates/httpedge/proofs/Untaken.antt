@@ -11,7 +11,7 @@ use Rattle.httpedge.specs.Connections.{AllIsOut, Connection, Connections, IsUnta
 use Rattle.httpedge.specs.Decision.{undecided, refused, accepted}
 use Rattle.httpedge.specs.Refusals.{as_denied, too_many_connections}
 use Rattle.httpedge.specs.Runs.{Steps, peer_goes}
-use Rattle.httpedge.specs.Steps.{Event, State, opens, comes, goes, pumps, ticks, compacts, after_turn, by_connection, connection_after, opening, received_by, refusal, refusal_reply, standing_after, start, taken, unless_refused, with_turn}
+use Rattle.httpedge.specs.Steps.{Event, State, opens, comes, goes, pumps, ticks, compacts, after_turn, by_connection, connection_after, opening, received_by, refusal, refusal_reply, standing_after, start, carried_out, unless_refused, with_turn}
 use Rattle.httpedge.specs.Watches.{Turn, Watch, pumped, ticked}
 use Rattle.httpedge.proofs.Connected.{got_each}
 
@@ -77,16 +77,16 @@ received_untaken s id c (watching w) bytes text asked out is = out
 received_untaken s id c ended bytes text asked out is = out
 received_untaken s id c (gone had_ended) bytes text asked out is = out
 
-taken_untaken : (s : State) (e : Event) (asked : Asked) (text : List ℕ) → peer_goes e ≡ false → AllIsOut s.connections → AllIsOut (taken s e asked text).connections
-taken_untaken s (opens id) asked text stays out = put_untaken s.connections id (opening s.connections) out (opened_untaken _ (refusal_reply (as_denied too_many_connections)))
-taken_untaken s (comes id bytes) asked text stays out =
+carried_untaken : (s : State) (e : Event) (asked : Asked) (text : List ℕ) → peer_goes e ≡ false → AllIsOut s.connections → AllIsOut (carried_out s e asked text).connections
+carried_untaken s (opens id) asked text stays out = put_untaken s.connections id (opening s.connections) out (opened_untaken _ (refusal_reply (as_denied too_many_connections)))
+carried_untaken s (comes id bytes) asked text stays out =
     by_untaken s (fin.get s.connections id) _ out (out id) (λ c is. received_untaken s id c c.standing bytes text asked out is)
-taken_untaken s (goes id) asked text stays out = absurd cc
-taken_untaken s (pumps id max) asked text stays out =
+carried_untaken s (goes id) asked text stays out = absurd cc
+carried_untaken s (pumps id max) asked text stays out =
     let turn = pumped s.types s.machine max in
     by_untaken s (fin.get s.connections id) _ out (out id) (λ c is. put_untaken s.connections id (with_turn turn c) out (turn_untaken turn c c.standing is))
-taken_untaken s (ticks ms) asked text stays out = each_untaken (λ id c. with_turn (ticked ms) c) s.connections (λ id c is. turn_untaken (ticked ms) c c.standing is) out
-taken_untaken s (compacts c) asked text stays out = out
+carried_untaken s (ticks ms) asked text stays out = each_untaken (λ id c. with_turn (ticked ms) c) s.connections (λ id c is. turn_untaken (ticked ms) c c.standing is) out
+carried_untaken s (compacts c) asked text stays out = out
 
 unless_untaken : (s t : State) (o : Option ℕ) → AllIsOut t.connections → AllIsOut s.connections → AllIsOut (unless_refused o s t).connections
 unless_untaken s t None then out = then
@@ -94,7 +94,7 @@ unless_untaken s t (Some n) then out = out
 
 pub all_out : (s t : State) (e : Event) → peer_goes e ≡ false → AllIsOut s.connections → Steps s e t → AllIsOut t.connections
 all_out s t e stays out (asked, text, asks, told, is) =
-    subst (λ (x : State). AllIsOut x.connections) (sym is) (unless_untaken s (taken s e asked text) (refusal s e) (taken_untaken s e asked text stays out) out)
+    subst (λ (x : State). AllIsOut x.connections) (sym is) (unless_untaken s (carried_out s e asked text) (refusal s e) (carried_untaken s e asked text stays out) out)
 
 pub none_out : (types : List ServedShape) (m : Machine) → AllIsOut (start types m).connections
 none_out types m = λ q. subst IsUntaken (sym (fin.get-empty nat_cmp q)) (tt {0})

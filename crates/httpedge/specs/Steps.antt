@@ -130,13 +130,13 @@ abbrev pub with_tick : State → ℕ → Connections → State
 with_tick s ms all = record { types = s.types; machine = s.machine; last_tick = ms; connections = all }
 
 -- the state after an event that is not refused: asked is what the bytes of its connection ask, and text is the text of the answer to a call
-abbrev pub taken : State → Event → Asked → List ℕ → State
-taken s (opens id) asked text = with_connection s id (opening s.connections)
-taken s (comes id bytes) asked text = on_connection s id (λ c. received_by s id c c.standing bytes asked text)
-taken s (goes id) asked text = on_connection s id (λ c. with_connection s id (with_standing c (gone (has_ended c.standing))))
-taken s (pumps id max) asked text = on_connection s id (λ c. with_connection s id (with_turn (pumped s.types s.machine max) c))
-taken s (ticks ms) asked text = with_tick s ms (each (λ id c. with_turn (ticked ms) c) s.connections)
-taken s (compacts c) asked text = with_machine s (compacted_to c s.machine)
+abbrev pub carried_out : State → Event → Asked → List ℕ → State
+carried_out s (opens id) asked text = with_connection s id (opening s.connections)
+carried_out s (comes id bytes) asked text = on_connection s id (λ c. received_by s id c c.standing bytes asked text)
+carried_out s (goes id) asked text = on_connection s id (λ c. with_connection s id (with_standing c (gone (has_ended c.standing))))
+carried_out s (pumps id max) asked text = on_connection s id (λ c. with_connection s id (with_turn (pumped s.types s.machine max) c))
+carried_out s (ticks ms) asked text = with_tick s ms (each (λ id c. with_turn (ticked ms) c) s.connections)
+carried_out s (compacts c) asked text = with_machine s (compacted_to c s.machine)
 
 abbrev pub unless_refused : Option ℕ → State → State → State
 unless_refused None s t = t
@@ -144,7 +144,7 @@ unless_refused (Some n) s t = s
 
 -- a refused event changes nothing
 abbrev pub stepped : State → Event → Asked → List ℕ → State
-stepped s e asked text = unless_refused (refusal s e) s (taken s e asked text)
+stepped s e asked text = unless_refused (refusal s e) s (carried_out s e asked text)
 
 -- ---- out of memory
 
