@@ -124,7 +124,7 @@ abbrev pub inner_at : Option Spot → Content → Members
 inner_at None c = no_members
 inner_at (Some p) c = members_at p c
 
-abbrev name_or : List ℕ → Option (List ℕ) → List ℕ
+abbrev pub name_or : List ℕ → Option (List ℕ) → List ℕ
 name_or f None = f
 name_or f (Some g) = g
 

@@ -6,3 +6,6 @@ pub mod Fronts
 pub mod Marks
 pub mod Written
 pub mod Placed
+pub mod Ordered
+pub mod Saying
+pub mod Back

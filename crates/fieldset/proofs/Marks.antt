@@ -23,7 +23,7 @@ use Rattle.fieldset.proofs.Places.{next, step_read}
 use Rattle.fieldset.proofs.Splits.{each_inside}
 use Rattle.fieldset.proofs.Taking.{joined-nothing}
 
-abbrev content_or : Content → Reading → Content
+abbrev pub content_or : Content → Reading → Content
 content_or c (Ok d) = d
 content_or c (Err e) = c
 

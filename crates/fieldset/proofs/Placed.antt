@@ -84,7 +84,7 @@ marked_place (value_of s) ms h = place-here s ∙ h
 marked_place set_item ms h = refl
 marked_place (map_item names all) ms h = refl
 
-when_some : (b : Bool) → is_some (mark_when b) ≡ b
+pub when_some : (b : Bool) → is_some (mark_when b) ≡ b
 when_some true = refl
 when_some false = refl
 
@@ -126,11 +126,11 @@ mutual
 
 -- ---- at the root
 
-abbrev set_or : PathSet → Result PathSet Refusal → PathSet
+abbrev pub set_or : PathSet → Result PathSet Refusal → PathSet
 set_or s (Ok t) = t
 set_or s (Err e) = s
 
-abbrev is_set : Result PathSet Refusal → Bool
+abbrev pub is_set : Result PathSet Refusal → Bool
 is_set (Ok t) = true
 is_set (Err e) = false
 

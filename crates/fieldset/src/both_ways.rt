@@ -1,8 +1,13 @@
-ghost use Rattle.fieldset.specs.BothWays.{ReadHavePlaces, WrittenIsRead};
+ghost use Rattle.fieldset.specs.BothWays.{ReadHavePlaces, ReadIsWritten, WrittenIsRead};
 
 /// What is written of a set of placed paths is read as this set.
 pub fn written_is_read()
     ensures { WrittenIsRead }
+{}
+
+/// What a value is read as is written as this value, if its members stand in byte order, each name once.
+pub fn readings_are_written()
+    ensures { ReadIsWritten }
 {}
 
 /// Each path of what a value is read as has a place.

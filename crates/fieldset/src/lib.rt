@@ -10,6 +10,6 @@ mod fields_v1;
 mod fieldset;
 mod read;
 
-pub use both_ways::{readings_have_places, written_is_read};
+pub use both_ways::{readings_are_written, readings_have_places, written_is_read};
 pub use fault::FieldsV1Fault;
 pub use fieldset::FieldSet;
