@@ -23,10 +23,10 @@ use Rattle.pathmap.proofs.Order.{get-marked}
 use Rattle.pathmap.proofs.Sets.{contains-dom}
 use Rattle.pathmap.proofs.Trees.{ties}
 use Rattle.schema.specs.Keywords.{has}
-use Rattle.schema.specs.Shape.{Shape, struct_of, Fields, shape_at}
+use Rattle.schema.specs.Shape.{Shape, Fields, shape_at}
 use Rattle.schema.specs.Steps.{Spot, value_of, set_item, map_item, is_leaf}
 use Rattle.fieldset.specs.BothWays.{ReadIsWritten}
-use Rattle.fieldset.specs.FieldsV1.{each, fields_v1_of, leaf, members_of, put_names, with_item}
+use Rattle.fieldset.specs.FieldsV1.{each, fields_v1_of, leaf, members_of, put_names}
 use Rattle.fieldset.specs.Reading.{Reading, and_then, are_due, dot, has_keys, is_empty, is_marked, joined, not_an_object, not_canonical, read_at, read_member, read_members, top}
 use Rattle.fieldset.proofs.Fronts.{IsGood, IsPlacedAt, all_lead, base-each, base_at, dressed, first_of, good_next, inner_at, inner_of, members_at, none_some, second_of}
 use Rattle.fieldset.proofs.Saying.{IsDue, Said, said}

@@ -1,5 +1,5 @@
 -- Members in byte order of their names, and what they have at a name.
-use Rattle.std.proofs.Common.{◌≡◌, ℕ, Bool, true, false, cond, ◌&&◌, ◌||◌, is_eq, nat_cmp, List, [], ◌∷◌, Option, Some, None, is_some, Ordering, Less, Equal, Greater, refl, sym, subst, ap, ap₂, ◌∙◌, true≢false}
+use Rattle.std.proofs.Common.{◌≡◌, ℕ, true, cond, ◌||◌, is_eq, nat_cmp, List, [], ◌∷◌, Option, Some, None, Ordering, Less, Equal, Greater, refl, sym, subst, ap, ap₂, ◌∙◌, true≢false}
 use Rattle.std.specs.Cmp.{tied_itself}
 use Rattle.std.specs.Cmp.Lexicographic.{slice_cmp}
 use Rattle.std.specs.List.{AllByRecursion, list_any}

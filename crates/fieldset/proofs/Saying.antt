@@ -1,6 +1,5 @@
 -- How a member that reads was read: as an element, or as a mark of its item.
-use Rattle.std.proofs.Common.{◌≡◌, ℕ, Bool, true, false, cond, ◌&&◌, ◌++◌, List, [], ◌∷◌, take, drop, take-append-drop, Option, Some, None, option_map, Result, Ok, Err, inl, inr, ◌⊎◌, refl, sym, ap, ap₂, ◌∙◌, true≢false}
-use Rattle.std.specs.List.{list_any}
+use Rattle.std.proofs.Common.{◌≡◌, ℕ, Bool, true, false, cond, ◌++◌, List, [], ◌∷◌, take, drop, take-append-drop, Option, Some, None, option_map, Result, Ok, Err, inl, inr, ◌⊎◌, refl, sym, ap, ap₂, ◌∙◌, true≢false}
 use Rattle.std.specs.Str.{bytes_eq}
 use Rattle.std.proofs.lemmas.Slice.Eq.{bytes_eq-Decides}
 use Rattle.serde_json.specs.Data.{Data, null, boolean, number, string, array, object, Members, no_members, member}
@@ -12,7 +11,7 @@ use Rattle.schema.specs.Keywords.{has}
 use Rattle.schema.specs.Shape.{shape_at}
 use Rattle.schema.specs.Steps.{Spot, value_of, set_item, map_item, step}
 use Rattle.fieldset.specs.FieldsV1.{leaf}
-use Rattle.fieldset.specs.Reading.{Reading, and_then, bad_key, dot, element_in, is_empty, is_key_field, may_have_dot, not_an_object, not_canonical, off_schema, read_below, read_mark, read_member, some_or}
+use Rattle.fieldset.specs.Reading.{Reading, and_then, bad_key, dot, element_in, is_key_field, may_have_dot, not_an_object, not_canonical, off_schema, read_below, read_mark, read_member, some_or}
 use Rattle.fieldset.proofs.Fronts.{name_or, none_some}
 use Rattle.fieldset.proofs.Marks.{dot_next, not_ok, same_ok}
 use Rattle.fieldset.proofs.Places.{next, step_read}
