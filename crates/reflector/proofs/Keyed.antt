@@ -1,10 +1,9 @@
 -- Objects with their keys.
-use Rattle.std.proofs.Common.{◌≡◌, ℕ, Bool, true, false, cond, ◌&&◌, ◌+◌, suc, T, List, [], ◌∷◌, length, map, Option, Some, None, is_some, is_eq, refl, sym, ap, ap₂, subst, ◌∙◌}
+use Rattle.std.proofs.Common.{◌≡◌, ℕ, Bool, true, false, cond, ◌&&◌, ◌+◌, suc, T, List, [], ◌∷◌, length, Option, Some, None, is_some, is_eq, refl, sym, ap, ap₂, subst, ◌∙◌}
 use Rattle.std.specs.Prelude.{option_map}
 use Rattle.std.specs.Ordering.{eq_by_cmp, is_lt}
 use Rattle.std.specs.FinMap as fin
 use Rattle.std.specs.FinMap.Entries as entries
-use Rattle.indexer.specs.Kept.{Held}
 use Rattle.indexer.specs.Objects.{Place, place_cmp, Stored}
 use Rattle.reflector.specs.Client.{Objects}
 use Rattle.reflector.specs.Mirrors.{Keys, with_keys, keyed}

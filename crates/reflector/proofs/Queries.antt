@@ -1,5 +1,5 @@
 -- A query with a selector.
-use Rattle.std.proofs.Common.{◌≡◌, ℕ, Bool, false, List, [], ◌∷◌, length, codes, refl}
+use Rattle.std.proofs.Common.{◌≡◌, ℕ, false, List, [], ◌∷◌, length, codes, refl}
 use Rattle.std.specs.Prelude.{◌==◌}
 use Rattle.form_urlencoded.specs.Form.{append_pair}
 use Rattle.reflector.specs.Requests.{with_selector}

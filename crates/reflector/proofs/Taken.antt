@@ -1,11 +1,11 @@
 -- A line taken in, beside the client that hears it.
 use Rattle.std.proofs.lemmas.Bool.Decides.{leb_tells}
-use Rattle.std.proofs.Common.{arith, inl, inr, suc, not, ◌≡◌, ℕ, Bool, true, false, cond, ◌&&◌, List, [], ◌++◌, map, Option, Some, None, append-nil, unwrap_or, refl, sym, ap, subst, ◌∙◌}
+use Rattle.std.proofs.Common.{arith, inl, inr, suc, not, ◌≡◌, ℕ, Bool, true, false, cond, ◌&&◌, List, [], ◌++◌, Option, Some, None, append-nil, unwrap_or, refl, sym, ap, subst, ◌∙◌}
 use Rattle.std.specs.Prelude.{option_map, nat_lt, nat_le}
 use Rattle.std.specs.FinMap as fin
 use Rattle.indexer.specs.Kept.{Held}
 use Rattle.indexer.specs.Objects.{Place, Stored}
-use Rattle.reflector.specs.Client.{Objects, place_in, max_objects, Notice, Cache, follow, Client, kept, notice_of}
+use Rattle.reflector.specs.Client.{place_in, max_objects, Notice, Cache, Client, kept, notice_of}
 use Rattle.decoder.specs.Lines.{Line}
 use Rattle.reflector.specs.Items.{line}
 use Rattle.reflector.specs.Run.{again, moved, with_put, with_deleted, with_bookmark, with_line, with_watch}

@@ -1,7 +1,7 @@
-use Rattle.std.proofs.Common.{◌≡◌, map, refl, ap, ap₂, string_bytes, List, ℕ, ◌∙◌, ◌++◌, None, option_map}
+use Rattle.std.proofs.Common.{◌≡◌, map, refl, ap, ap₂, List, ℕ, ◌∙◌, ◌++◌, None, option_map}
 use Rattle.std.specs.FinMap as fin
 use Rattle.indexer.specs.Indexer.{held_of, indexes_of}
-use Rattle.indexer.specs.Objects.{stored_of, Place, place_of}
+use Rattle.indexer.specs.Objects.{stored_of, place_of}
 use Rattle.reflector.specs.Client.{place_in, notice_of}
 use Rattle.reflector.specs.Seen.{notice_seen}
 use Rattle.reflector.proofs.Taken.{after_deleted, not_deleted}
