@@ -21,10 +21,14 @@ use Rattle.verbs.specs.declared.resource.Resource.{Resource}
 use Rattle.verbs.specs.declared.resource.Resource.TheVariants as resource
 use Rattle.verbs.specs.Admit.{Place, admitted, allowed, denied_by, method_admitted, method_named, method_served, place_admitted, place_of, takes, target_at}
 use Rattle.verbs.specs.Calls.{Call, Denied, Plan, Target}
-use Rattle.verbs.specs.Envelope.{api_version_of}
+use Rattle.params.specs.declared.params.Asked.TheVariants as asked
+use Rattle.verbs.specs.Envelope.{api_version_of, name_in}
 use Rattle.verbs.specs.Judged as judged
 use Rattle.verbs.specs.Judged.{Judged}
 use Rattle.verbs.specs.Machine.{Key, Machine, Object, Objects, standing}
+use Rattle.verbs.specs.Naming.{marks_judged, names_judged, required_name}
+use Rattle.verbs.specs.Options.{options_judged}
+use Rattle.verbs.specs.Parameters.{parameters_judged}
 use Rattle.verbs.specs.Reasons.{code_of}
 use Rattle.verbs.specs.Status.{Denial, status_value}
 use Rattle.verbs.specs.Size.{size_judged}
@@ -73,7 +77,8 @@ unfolding serde_json_on_literals digits
 media_readable = plain reason.UnsupportedMediaType (codes "media type not served") refl
 
 allowed_readable : (r : Resource) → IsAllowed (Some (allowed r))
-allowed_readable resource.Object = (passes_each is_value_byte (codes "PATCH") refl, omega arith)
+allowed_readable resource.Collection = (passes_each is_value_byte (codes "POST") refl, omega arith)
+allowed_readable resource.Object = (passes_each is_value_byte (codes "DELETE, GET, PATCH, PUT") refl, omega arith)
 
 method_short : length (compact_text (status_value reason.MethodNotAllowed (codes "method not served here"))) ≤ client.max_body
 unfolding serde_json_on_literals digits
@@ -272,22 +277,92 @@ applied_fine t current k live intent =
     checked (step.version_checked intent.version live) (λ u. judged.and_then owned (step.stored_over t current k live))
     (λ u. checked owned (step.stored_over t current k live) (λ s. over_fine t current k live s))
 
-apply_fine : (t : ServedShape) (current : ℕ) (objects : Objects) (k : Key) (query : List ℕ) (o : Option Data) → IsFine (step.apply_of_body t current objects k query o)
-apply_fine t current objects k query None = denied _
-apply_fine t current objects k query (Some body) =
-    checked (step.intent_of t k query body) (step.applied_over t current k (fin.get objects k)) (λ intent. applied_fine t current k (fin.get objects k) intent)
+fine : (p : Plan) → IsStatusCode p.answer.status → IsFine (Ok p)
+fine p is = record { is = is }
 
-method_fine : (m : Method) (t : ServedShape) (current : ℕ) (objects : Objects) (k : Key) (query : List ℕ) (o : Option Data) → IsFine (step.judged_by m t current objects k query o)
-method_fine method.Patch t current objects k query o = apply_fine t current objects k query o
-method_fine method.Get t current objects k query o = denied _
-method_fine method.Post t current objects k query o = denied _
-method_fine method.Put t current objects k query o = denied _
-method_fine method.Delete t current objects k query o = denied _
+apply_fine : (t : ServedShape) (current : ℕ) (objects : Objects) (k : Key) (query : List ℕ) (body : Data) → IsFine (step.apply_judged t current objects k query body)
+apply_fine t current objects k query body =
+    checked (step.intent_of (step.at_path t k method.Patch) asked.Apply query body)
+    (λ intent. judged.and_then (names_judged k.namespace k.name intent.rest) (λ u. step.applied_over t current k (fin.get objects k) intent))
+    (λ intent. checked (names_judged k.namespace k.name intent.rest) (λ u. step.applied_over t current k (fin.get objects k) intent)
+    (λ u. applied_fine t current k (fin.get objects k) intent))
 
-at_fine : (o : Option ServedShape) (k : Option Key) (current : ℕ) (objects : Objects) (call : Call) → IsFine (step.judged_at o k current objects call)
-at_fine None k current objects call = denied _
-at_fine (Some t) None current objects call = denied _
-at_fine (Some t) (Some k) current objects call = method_fine call.target.method t current objects k call.query call.body
+get_fine : (t : ServedShape) (current : ℕ) (objects : Objects) (k : Key) (query : List ℕ) → IsFine (step.get_judged t current objects k query)
+get_fine t current objects k query =
+    checked (parameters_judged asked.Get query)
+    (λ values. judged.and_then (step.there t k.name (fin.get objects k)) (λ o. judged.and_then (step.version_come values.version current) (λ u. Ok (step.kept t k o))))
+    (λ values. checked (step.there t k.name (fin.get objects k)) (λ o. judged.and_then (step.version_come values.version current) (λ u. Ok (step.kept t k o)))
+    (λ o. checked (step.version_come values.version current) (λ u. Ok (step.kept t k o)) (λ u. fine (step.kept t k o) (omega arith, omega arith))))
+
+created_fine : (t : ServedShape) (current : ℕ) (objects : Objects) (k : Key) (intent : step.Intent) → IsFine (step.created_as t current objects k intent)
+created_fine t current objects k intent =
+    let new = step.updated_by intent (step.state_or_nothing None) in
+    checked (names_judged k.namespace k.name intent.rest)
+    (λ u. judged.and_then (step.not_there t k.name (fin.get objects k)) (λ v. step.stored t current k 201 new))
+    (λ u. checked (step.not_there t k.name (fin.get objects k)) (λ v. step.stored t current k 201 new)
+    (λ v. stored_fine (step.printed t k (suc current) new) current k 201 new (omega arith, omega arith)))
+
+create_fine : (t : ServedShape) (current : ℕ) (objects : Objects) (kind : ℕ) (namespace query : List ℕ) (body : Data) → IsFine (step.create_judged t current objects kind namespace query body)
+create_fine t current objects kind namespace query body =
+    checked (step.intent_of (record { served = t; namespace = namespace; name = None; method = method.Post }) asked.Post query body)
+    (λ intent. judged.and_then (required_name (name_in body)) (λ name. step.created_as t current objects (record { kind = kind; namespace = namespace; name = name }) intent))
+    (λ intent. checked (required_name (name_in body)) (λ name. step.created_as t current objects (record { kind = kind; namespace = namespace; name = name }) intent)
+    (λ name. created_fine t current objects (record { kind = kind; namespace = namespace; name = name }) intent))
+
+updated_fine : (t : ServedShape) (current : ℕ) (k : Key) (live : Option Object) (intent : step.Intent) → IsFine (step.updated_over t current k live intent)
+updated_fine t current k live intent =
+    checked (step.there t k.name live)
+    (λ o. judged.and_then (step.version_checked intent.version live) (λ u. step.stored_over t current k live (step.updated_by intent o.state)))
+    (λ o. checked (step.version_checked intent.version live) (λ u. step.stored_over t current k live (step.updated_by intent o.state))
+    (λ u. over_fine t current k live (step.updated_by intent o.state)))
+
+update_fine : (t : ServedShape) (current : ℕ) (objects : Objects) (k : Key) (query : List ℕ) (body : Data) → IsFine (step.update_judged t current objects k query body)
+update_fine t current objects k query body =
+    checked (step.intent_of (step.at_path t k method.Put) asked.Put query body)
+    (λ intent. judged.and_then (marks_judged intent.rest) (λ u. step.updated_over t current k (fin.get objects k) intent))
+    (λ intent. checked (marks_judged intent.rest) (λ u. step.updated_over t current k (fin.get objects k) intent)
+    (λ u. updated_fine t current k (fin.get objects k) intent))
+
+deleted_fine : (t : ServedShape) (current : ℕ) (k : Key) (live : Option Object) (version : Option ℕ) → IsFine (step.deleted_over t current k live version)
+deleted_fine t current k live version =
+    checked (step.there t k.name live)
+    (λ o. judged.and_then (step.version_checked version live) (λ u. judged.and_then (step.revisions_left current) (λ v. Ok (step.deleted t current k o))))
+    (λ o. checked (step.version_checked version live) (λ u. judged.and_then (step.revisions_left current) (λ v. Ok (step.deleted t current k o)))
+    (λ u. checked (step.revisions_left current) (λ v. Ok (step.deleted t current k o)) (λ v. fine (step.deleted t current k o) (omega arith, omega arith))))
+
+delete_fine : (t : ServedShape) (current : ℕ) (objects : Objects) (k : Key) (query : List ℕ) (body : Option Data) → IsFine (step.delete_judged t current objects k query body)
+delete_fine t current objects k query body =
+    checked (options_judged body) (λ version. judged.and_then (parameters_judged asked.Delete query) (λ values. step.deleted_over t current k (fin.get objects k) version))
+    (λ version. checked (parameters_judged asked.Delete query) (λ values. step.deleted_over t current k (fin.get objects k) version)
+    (λ values. deleted_fine t current k (fin.get objects k) version))
+
+with_body : (o : Option Data) (judge : Data → Judged Plan) → ((body : Data) → IsFine (judge body)) → IsFine (judged.and_then (step.body_of o) judge)
+with_body o judge is = checked (step.body_of o) judge is
+
+object_fine : (m : Method) (t : ServedShape) (current : ℕ) (objects : Objects) (k : Key) (query : List ℕ) (o : Option Data) → IsFine (step.object_judged_by m t current objects k query o)
+object_fine method.Get t current objects k query o = get_fine t current objects k query
+object_fine method.Post t current objects k query o = denied _
+object_fine method.Put t current objects k query o = with_body o (step.update_judged t current objects k query) (update_fine t current objects k query)
+object_fine method.Patch t current objects k query o = with_body o (step.apply_judged t current objects k query) (apply_fine t current objects k query)
+object_fine method.Delete t current objects k query o = delete_fine t current objects k query o
+
+collection_fine : (m : Method) (t : ServedShape) (current : ℕ) (objects : Objects) (kind : ℕ) (namespace query : List ℕ) (o : Option Data)
+    → IsFine (step.collection_judged_by m t current objects kind namespace query o)
+collection_fine method.Post t current objects kind namespace query o = with_body o (step.create_judged t current objects kind namespace query) (create_fine t current objects kind namespace query)
+collection_fine method.Get t current objects kind namespace query o = denied _
+collection_fine method.Put t current objects kind namespace query o = denied _
+collection_fine method.Patch t current objects kind namespace query o = denied _
+collection_fine method.Delete t current objects kind namespace query o = denied _
+
+in_fine : (t : ServedShape) (current : ℕ) (objects : Objects) (call : Call) (namespace name : Option (List ℕ)) → IsFine (step.judged_in t current objects call namespace name)
+in_fine t current objects call None name = denied _
+in_fine t current objects call (Some namespace) None = collection_fine call.target.method t current objects call.target.kind namespace call.query call.body
+in_fine t current objects call (Some namespace) (Some name) =
+    object_fine call.target.method t current objects (record { kind = call.target.kind; namespace = namespace; name = name }) call.query call.body
+
+at_fine : (o : Option ServedShape) (current : ℕ) (objects : Objects) (call : Call) → IsFine (step.judged_at o current objects call)
+at_fine None current objects call = denied _
+at_fine (Some t) current objects call = in_fine t current objects call call.target.namespace call.target.name
 
 told_fine : (j : Judged Plan) → IsFine j → IsStatusCode (step.told j).answer.status
 told_fine (Ok p) is = is.is
@@ -295,4 +370,4 @@ told_fine (Err d) is = code_is d.reason
 
 pub status_is : (types : List ServedShape) (m : Machine) (call : Call) → IsStatusCode (step.planned types m call).answer.status
 status_is types m call =
-    told_fine (step.judged_over types m.current (standing m) call) (at_fine (slice_get types call.target.kind) (step.key_of call.target) m.current (standing m) call)
+    told_fine (step.judged_over types m.current (standing m) call) (at_fine (slice_get types call.target.kind) m.current (standing m) call)
