@@ -249,7 +249,7 @@ def routes():
     namespace = "/apis/demo.example/v1/namespaces/default/"
     for path in (namespace + "gadgets/w1", namespace + "widgets//", WIDGETS + "w1/status", "/%61pis" + WIDGETS[5:] + "w1"):
         apply("", body_of(), refused("no such path"), path=path)
-    asked(patch("{}", method="PURGE"), refused("method not served here"), allow="PATCH")
+    asked(patch("{}", method="PURGE"), refused("method not served here"), allow="DELETE, GET, PATCH, PUT")
     asked(request(HOST + ["Content-Type: application/json", "Content-Length: 2"], "{}"), refused("media type not served"))
     asked(request(HOST + ["Content-Length: 2"], "{}"), refused("media type not served"))
 
@@ -413,7 +413,7 @@ def connections():
     comes(refused_one, patch(body, target=WIDGETS + "w1?fieldManager=alice"))
     apply("w1", body_of(), full)
     comes(waiting[-1], patch("{}", method="PURGE"))
-    written[waiting[-1]] = reply(*refused("method not served here"), allow="PATCH")
+    written[waiting[-1]] = reply(*refused("method not served here"), allow="DELETE, GET, PATCH, PUT")
     apply("w9", [], refused("{}: not an object", "."))
 
 
