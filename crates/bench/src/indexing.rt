@@ -8,45 +8,30 @@ use std::alloc::{AllocError, Global};
 use std::collections::BTreeMap;
 use std::time::CpuClock;
 
-/// By the namespace.
+/// An index by the revision's last three digits, or by the namespace.
 #[derive(Drop)]
-struct Namespace;
-
-impl IndexBy for Namespace {
-    ghost use Rattle.std.specs.Prelude.{codes, [], ◌∷◌};
-
-    ghost title = { λ _. codes "namespace" };
-
-    ghost keys = { λ _ o. o.namespace ∷ [] };
-
-    fn name(&self) -> &str {
-        "namespace"
-    }
-
-    fn keys_of(&self, alloc: Global, object: &Object) -> Result<Vec<String>, AllocError> {
-        Ok(vec![in alloc; object.namespace.clone()?]?)
-    }
+struct By {
+    is_part: bool,
 }
 
-/// By the revision's last three digits.
-#[derive(Drop)]
-struct Part;
-
-impl IndexBy for Part {
-    ghost use Rattle.std.specs.Prelude.{codes, ◌%◌, [], ◌∷◌};
+impl IndexBy for By {
+    ghost use Rattle.std.specs.Prelude.{codes, ◌%◌, [], ◌∷◌, if◌then◌else◌};
     ghost use Rattle.std.specs.Fmt.{decimal};
 
-    ghost title = { λ _. codes "part" };
+    ghost title = { λ b. if b.is_part then codes "part" else codes "namespace" };
 
-    ghost keys = { λ _ o. decimal (o.revision % 1000) ∷ [] };
+    ghost keys = { λ b o. if b.is_part then decimal (o.revision % 1000) ∷ [] else o.namespace ∷ [] };
 
     fn name(&self) -> &str {
-        "part"
+        if self.is_part { "part" } else { "namespace" }
     }
 
     fn keys_of(&self, alloc: Global, object: &Object) -> Result<Vec<String>, AllocError> {
-        let part = object.revision % 1000;
-        Ok(vec![in alloc; part.to_string(alloc)?]?)
+        if self.is_part {
+            let part = object.revision % 1000;
+            return Ok(vec![in alloc; part.to_string(alloc)?]?);
+        }
+        Ok(vec![in alloc; object.namespace.clone()?]?)
     }
 }
 
@@ -69,7 +54,7 @@ fn objects(alloc: Global, size: u64, first: u64) -> Result<Vec<Object>, AllocErr
     Ok(all)
 }
 
-fn count_under(indexer: &Indexer<Box<dyn IndexBy>>, keys: &[String]) -> u64 {
+fn count_under(indexer: &Indexer<By>, keys: &[String]) -> u64 {
     let mut count: u64 = 0;
     for key in keys {
         if let Some(objects) = indexer.by_index("part", key) {
@@ -79,7 +64,7 @@ fn count_under(indexer: &Indexer<Box<dyn IndexBy>>, keys: &[String]) -> u64 {
     count
 }
 
-fn count_held(indexer: &Indexer<Box<dyn IndexBy>>, keys: &[ObjectKey]) -> u64 {
+fn count_held(indexer: &Indexer<By>, keys: &[ObjectKey]) -> u64 {
     let mut count: u64 = 0;
     for key in keys {
         if indexer.get(key).is_some() {
@@ -107,14 +92,14 @@ fn keys(alloc: Global, size: u64) -> Result<Vec<ObjectKey>, AllocError> {
     Ok(keys)
 }
 
-fn empty(alloc: Global) -> anyhow::Result<Indexer> {
-    let mut indexes: Vec<Box<dyn IndexBy>> = Vec::new(alloc);
-    indexes.push(Box::new(alloc, Namespace)?)?;
-    indexes.push(Box::new(alloc, Part)?)?;
+fn empty(alloc: Global) -> anyhow::Result<Indexer<By>> {
+    let mut indexes = Vec::new(alloc);
+    indexes.push(By { is_part: false })?;
+    indexes.push(By { is_part: true })?;
     Ok(Indexer::new(alloc, indexes)?)
 }
 
-fn put(indexer: &mut Indexer, object: Object) -> Result<(), AllocError> {
+fn put(indexer: &mut Indexer<By>, object: Object) -> Result<(), AllocError> {
     indexer.put(object)?;
     Ok(())
 }
@@ -122,7 +107,7 @@ fn put(indexer: &mut Indexer, object: Object) -> Result<(), AllocError> {
 fn time_puts(
     rt: &(impl Print + Eprint + CpuClock),
     what: &str,
-    indexer: &mut Indexer,
+    indexer: &mut Indexer<By>,
     objects: Vec<Object>,
 ) -> anyhow::Result<()> {
     let size = objects.len() as u64;
@@ -138,7 +123,7 @@ fn time_puts(
 fn time_gets(
     rt: &(impl Print + Eprint + CpuClock),
     alloc: Global,
-    indexer: &Indexer,
+    indexer: &Indexer<By>,
     size: u64,
 ) -> anyhow::Result<u64> {
     let wanted = keys(alloc, size)?;
@@ -152,7 +137,7 @@ fn time_gets(
 fn time_finds(
     rt: &(impl Print + Eprint + CpuClock),
     alloc: Global,
-    indexer: &Indexer,
+    indexer: &Indexer<By>,
     size: u64,
 ) -> anyhow::Result<u64> {
     let wanted = parts(alloc, size)?;
@@ -165,7 +150,7 @@ fn time_finds(
 fn find(
     rt: &(impl Print + Eprint + CpuClock),
     alloc: Global,
-    indexer: &Indexer,
+    indexer: &Indexer<By>,
     size: u64,
 ) -> anyhow::Result<()> {
     let held = time_gets(rt, alloc, indexer, size)?;
@@ -183,14 +168,14 @@ fn run_puts(rt: &(impl Print + Eprint + CpuClock), alloc: Global, size: u64) -> 
     find(rt, alloc, &indexer, size)
 }
 
-fn replace(indexer: &mut Indexer, objects: Vec<Object>) -> Result<(), AllocError> {
+fn replace(indexer: &mut Indexer<By>, objects: Vec<Object>) -> Result<(), AllocError> {
     indexer.replace(objects)
 }
 
 fn time_replace(
     rt: &(impl Print + Eprint + CpuClock),
     what: &str,
-    indexer: &mut Indexer,
+    indexer: &mut Indexer<By>,
     objects: Vec<Object>,
 ) -> anyhow::Result<()> {
     let size = objects.len() as u64;
