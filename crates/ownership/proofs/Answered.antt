@@ -11,18 +11,19 @@ use Rattle.serde_json.proofs.Views.{Entry}
 use Rattle.serde_json.specs.Read.{read}
 use Rattle.fieldpath.proofs.Spelled.{spelled-read}
 use Rattle.schema.specs.Lawful.{is_lawful, is_well_formed}
+use Rattle.schema.specs.ObjectShape.{IsObjectShape}
 use Rattle.schema.specs.Shape.{Shape}
 use Rattle.typed.specs.Fitting.{IsContent}
 use Rattle.ownership.specs.Apply.{State}
 use Rattle.ownership.specs.Keeping.{OwnedStand}
 use Rattle.ownership.specs.ObjectText.{Identity, object_value, object_text}
 use Rattle.ownership.specs.Parts.{Gives, parts_in, put_labels}
-use Rattle.ownership.specs.ReadBack.{IsObjectShape, IsObjectText, IsReadBack}
+use Rattle.ownership.specs.ReadBack.{IsObjectText, IsReadBack}
 use Rattle.ownership.specs.Results.{state_of}
 use Rattle.ownership.specs.declared.fault.ObjectFault.{ObjectFault}
 use Rattle.ownership.specs.declared.fault.ObjectFault.TheVariants.{NotCanonical, Memory}
 use Rattle.ownership.specs.declared.owned.Owned.{Owned}
-use Rattle.ownership.proofs.Back.{shape_lawful, text_read, parts_back, parts_content}
+use Rattle.ownership.proofs.Back.{text_read, parts_back, parts_content}
 use Rattle.ownership.proofs.Taken.{no_some, same_some}
 
 module _ (s : Shape) (of : Identity) (t : List ℕ) (shaped : IsObjectShape s) where
@@ -51,12 +52,12 @@ module _ (s : Shape) (of : Identity) (t : List ℕ) (shaped : IsObjectShape s) w
       pub not_printed : (printed : List ℕ) → (is_lawful s ≡ true → IsContent s state.content → printed ≡ object_text s of v state) → (printed ≡ t → ⊥) → IsReadBack s of t (Err NotCanonical)
       not_printed printed is other = λ w said_state said.
           let same = same_parts w said_state said in
-          other (is (shape_lawful s shaped) (subst (λ p. IsContent s p.0.content) same said.placed.0) ∙ sym (said.is_text ∙ ap (λ p. object_text s of p.1 p.0) same))
+          other (is shaped.1 (subst (λ p. IsContent s p.0.content) same said.placed.0) ∙ sym (said.is_text ∙ ap (λ p. object_text s of p.1 p.0) same))
 
   pub read_back : (d : Data) (state : State) (v : ℕ) (printed : List ℕ) → read t ≡ Some d → parts_in s d ≡ Some (state, v) → OwnedStand state
       → (is_lawful s ≡ true → IsContent s state.content → printed ≡ object_text s of v state) → printed ≡ t → IsObjectText s of v state t
   read_back d state v printed reads parts stand is same =
-      let lawful = shape_lawful s shaped in
+      let lawful = shaped.1 in
       let spelled = spelled-read t d reads in
       let content = parts_content s d state v (and_parts (is_well_formed s) _ lawful).0 spelled.0 spelled.1 parts in
       record { placed = (content.0, (content.1, stand)); numbered = content.2; is_text = sym same ∙ is lawful content.0 }

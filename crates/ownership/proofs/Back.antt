@@ -16,6 +16,7 @@ use Rattle.names.proofs.Decimals.{exact}
 use Rattle.pathmap.specs.Contents.{Content}
 use Rattle.pathmap.specs.Insides.{inside}
 use Rattle.schema.specs.Lawful.{is_lawful, is_well_formed, names_of, are_well_formed}
+use Rattle.schema.specs.ObjectShape.{IsObjectShape}
 use Rattle.schema.specs.Shape.{Shape, text, whole, truth, struct_of, map_of, list_of, Fields, shape_at}
 use Rattle.schema.specs.TypesFile.{metadata}
 use Rattle.typed.specs.Faults.{Read}
@@ -36,7 +37,7 @@ use Rattle.ownership.specs.ObjectText.{Identity, members_printed, metadata_membe
 use Rattle.ownership.specs.Owners.{Owners, HavePaths}
 use Rattle.ownership.specs.Parts.{if_read, less, own_members, in_two, split, version_in, labels_left, put_labels, entries_in, items_or_none, owners_of, owners_in, fields_of, state_with, parts_of, parts_in}
 use Rattle.ownership.specs.Ranks.{have_paths, rising}
-use Rattle.ownership.specs.ReadBack.{IsObjectShape, IsObjectText, OneForOne, max_version}
+use Rattle.ownership.specs.ReadBack.{IsObjectText, OneForOne, max_version}
 use Rattle.ownership.proofs.Entered.{AllPlaced, entries_there, items_put, owners_back}
 use Rattle.ownership.proofs.Envelopes.{found_field, absent_field, metadata_printed, members_back, with_name, labels_back, version_there, items_there, with_metadata, whole as the_whole, whole_split, fields_back, content_back}
 use Rattle.ownership.proofs.Entries.{Pairs}
@@ -133,26 +134,18 @@ module _ (all : Fields) (of : Identity) (v : ℕ) (state : State) where
 
 -- an object's value says what it was written of
 pub parts_back : (s : Shape) (of : Identity) (v : ℕ) (state : State) → IsObjectShape s → IsPlacedState s state → v ≤ max_version → parts_in s (object_value s of v state) ≡ Some (state, v)
-parts_back text of v state shaped placed low = absurd shaped
-parts_back whole of v state shaped placed low = absurd shaped
-parts_back truth of v state shaped placed low = absurd shaped
-parts_back (struct_of all true) of v state shaped placed low = absurd (true≢false shaped.0)
+parts_back text of v state shaped placed low = absurd (true≢false (sym shaped.0))
+parts_back whole of v state shaped placed low = absurd (true≢false (sym shaped.0))
+parts_back truth of v state shaped placed low = absurd (true≢false (sym shaped.0))
+parts_back (struct_of all true) of v state shaped placed low = absurd (true≢false (sym shaped.0))
 parts_back (struct_of all false) of v state shaped placed low = struct_back all of v state shaped.1 shaped.2 shaped.3 shaped.4 placed low
-parts_back (map_of s b) of v state shaped placed low = absurd shaped
-parts_back (list_of s kind) of v state shaped placed low = absurd shaped
-
-pub shape_lawful : (s : Shape) → IsObjectShape s → is_lawful s ≡ true
-shape_lawful text shaped = absurd shaped
-shape_lawful whole shaped = absurd shaped
-shape_lawful truth shaped = absurd shaped
-shape_lawful (struct_of all b) shaped = shaped.1
-shape_lawful (map_of s b) shaped = absurd shaped
-shape_lawful (list_of s kind) shaped = absurd shaped
+parts_back (map_of s b) of v state shaped placed low = absurd (true≢false (sym shaped.0))
+parts_back (list_of s kind) of v state shaped placed low = absurd (true≢false (sym shaped.0))
 
 -- an object's text is read as its value
 pub text_read : (s : Shape) (of : Identity) (v : ℕ) (state : State) (t : List ℕ) → IsObjectShape s → IsObjectText s of v state t → read t ≡ Some (object_value s of v state)
 unfolding object_text
-text_read s of v state t shaped said = ap read said.is_text ∙ (value_textual s (shape_lawful s shaped) of v state said.placed.0).3
+text_read s of v state t shaped said = ap read said.is_text ∙ (value_textual s shaped.1 of v state said.placed.0).3
 
 pub one_for_one : OneForOne
 one_for_one s of v w a b t shaped one other =

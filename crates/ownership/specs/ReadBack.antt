@@ -1,10 +1,9 @@
 -- What an object's text says: of one type and key, it is the text of one version, content and owners.
-use Rattle.std.specs.Prelude.{◌≡◌, ◌≤◌, ℕ, false, true, List, Some, None, codes}
+use Rattle.std.specs.Prelude.{◌≡◌, ◌≤◌, ℕ, List}
 use Rattle.std.specs.declared.result.Result.{Result}
 use Rattle.std.specs.declared.result.Result.TheVariants.{Ok, Err}
-use Rattle.schema.specs.Lawful.{is_lawful}
-use Rattle.schema.specs.Shape.{Shape, struct_of, shape_at}
-use Rattle.schema.specs.TypesFile.{metadata}
+use Rattle.schema.specs.ObjectShape.{IsObjectShape}
+use Rattle.schema.specs.Shape.{Shape}
 use Rattle.ownership.specs.Apply.{State}
 use Rattle.ownership.specs.Keeping.{IsPlacedState}
 use Rattle.ownership.specs.ObjectText.{Identity, object_text}
@@ -16,12 +15,6 @@ use Rattle.ownership.specs.declared.owned.Owned.{Owned}
 -- the highest version
 abbrev pub max_version : ℕ
 max_version = 9223372036854775807
-
--- a type's schema: a granular struct with the `metadata` of every type, and no field that the envelope would hide
-abbrev pub IsObjectShape : Shape → Type 0
-IsObjectShape (struct_of all is_atomic) =
-    (is_atomic ≡ false) × (is_lawful (struct_of all is_atomic) ≡ true) × (shape_at (codes "metadata") all ≡ Some metadata) × (shape_at (codes "apiVersion") all ≡ None) × (shape_at (codes "kind") all ≡ None)
-IsObjectShape _ = ⊥
 
 -- the text of an object at a version: a content of the type's schema, and owners of its paths
 pub record IsObjectText (s : Shape) (of : Identity) (version : ℕ) (state : State) (text : List ℕ) : Type 0 where

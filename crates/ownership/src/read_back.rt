@@ -2,13 +2,14 @@
 ghost use Rattle.std.specs.Prelude.{◌≡◌, ℕ, IfOk};
 ghost use Rattle.serde_json.specs.Read.{read};
 ghost use Rattle.serde_json.specs.View.{view};
+ghost use Rattle.schema.specs.ObjectShape.{IsObjectShape};
 ghost use Rattle.schema.specs.Shape.{shape};
 ghost use Rattle.typed.specs.Reading.{content_of};
 ghost use Rattle.ownership.specs.Apply.{State};
 ghost use Rattle.ownership.specs.Keeping.{OwnedStand};
 ghost use Rattle.ownership.specs.Managers.{pairs};
 ghost use Rattle.ownership.specs.Parts.{Gives, all_within, if_read, parts_in};
-ghost use Rattle.ownership.specs.ReadBack.{IsObjectShape, IsReadBack};
+ghost use Rattle.ownership.specs.ReadBack.{IsReadBack};
 ghost use Rattle.ownership.specs.Results.{identity_of, state_of};
 
 use crate::envelope::{fields_of, split, version_in};

@@ -6,6 +6,7 @@ use Rattle.std.proofs.lemmas.Bool.Decides.{nat_tests}
 use Rattle.std.proofs.lemmas.Cmp.{nat_list_cmp_total}
 use Rattle.std.proofs.lemmas.Map.Keys.{sorted_head, sorted_tail}
 use Rattle.std.proofs.lemmas.Map.Text.{is_eq-slice_cmp}
+use Rattle.std.proofs.lemmas.Slice.Eq.{bytes_eq-Decides}
 use Rattle.std.specs.Cmp.Derive.{both_true}
 use Rattle.std.specs.Cmp.Lexicographic.{slice_cmp}
 use Rattle.std.specs.List.{AllByRecursion, list_any}
@@ -18,7 +19,7 @@ use Rattle.serde_json.specs.View.{view, members_view}
 use Rattle.fieldpath.specs.Scalars.{ascend, ascend_from}
 use Rattle.fieldpath.proofs.KeyFields.{Entry, ascend_keys}
 use Rattle.schema.specs.Depths.{KeepsAt, KeepAt, AreFieldsAt}
-use Rattle.schema.specs.Lawful.{names_of, depth_of, fields_depth, is_well_formed, are_well_formed, item_is_lawful, is_type_shape}
+use Rattle.schema.specs.Lawful.{names_of, depth_of, fields_depth, is_well_formed, are_well_formed, item_is_lawful, is_lawful}
 use Rattle.schema.specs.Shape.{Kind, Shape, struct_of, list_of, Fields, no_fields, field, shape, fields_in}
 use Rattle.schema.specs.TypesFile.{fields_of, fields_at, shape_in, is_envelope, own_properties, metadata, put_field}
 use Rattle.schema.specs.declared.schema.Schema.{Schema}
@@ -116,25 +117,24 @@ own_ascend (e ∷ es) sorted =
 abbrev pub Lacks : List ℕ → List (List ℕ) → Type 0
 Lacks f names = list_any (bytes_eq f) names ≡ false
 
-no_metadata : (k : List ℕ) → is_envelope k ≡ false → bytes_eq (codes "metadata") k ≡ false
-no_metadata k h =
-    let first = or_parts (bytes_eq (codes "apiVersion") k) _ h in
-    let second = or_parts (bytes_eq (codes "kind") k) _ first.1 in
-    (or_parts (bytes_eq (codes "metadata") k) false second.1).0
+-- the names of every object are no names of a type's own properties
+apart_by : (f k : List ℕ) (b : Bool) → is_envelope f ≡ true → is_envelope k ≡ false → bytes_eq f k ≡ b → b ≡ false
+apart_by f k false known other is = refl
+apart_by f k true known other is = absurd (true≢false (sym known ∙ ap is_envelope ((bytes_eq-Decides f k).0 is) ∙ other))
 
-lacks_at : (k : List ℕ) (d : Data) (ms : Members) (b : Bool) → is_envelope k ≡ b → Lacks (codes "metadata") (names_in ms) → Lacks (codes "metadata") (names_in (cond b ms (member k d ms)))
-lacks_at k d ms true is h = h
-lacks_at k d ms false is h = ap₂ (λ a b. a || b) (no_metadata k is) h
+lacks_at : (f k : List ℕ) (d : Data) (ms : Members) (b : Bool) → is_envelope f ≡ true → is_envelope k ≡ b → Lacks f (names_in ms) → Lacks f (names_in (cond b ms (member k d ms)))
+lacks_at f k d ms true known is h = h
+lacks_at f k d ms false known is h = ap₂ (λ a b. a || b) (apart_by f k (bytes_eq f k) known is refl) h
 
-own_lack : (ms : Members) → Lacks (codes "metadata") (names_in (own_properties ms))
-own_lack no_members = refl
-own_lack (member k d ms) = lacks_at k d (own_properties ms) (is_envelope k) refl (own_lack ms)
+own_lack : (f : List ℕ) (ms : Members) → is_envelope f ≡ true → Lacks f (names_in (own_properties ms))
+own_lack f no_members known = refl
+own_lack f (member k d ms) known = lacks_at f k d (own_properties ms) (is_envelope k) known refl (own_lack f ms known)
 
 pub own_fields_ascend : (es : List Entry) (all : Fields) → IsStrictlySortedBy string_cmp (keys_of es) → fields_of 1 (own_properties (members_view es)) ≡ Ok all → ascend (names_of all) ≡ true
 own_fields_ascend es all sorted read = ap ascend (names-fields_of 1 (own_properties (members_view es)) all read) ∙ own_ascend es sorted
 
-pub own_fields_lack : (ms : Members) (all : Fields) → fields_of 1 (own_properties ms) ≡ Ok all → Lacks (codes "metadata") (names_of all)
-own_fields_lack ms all read = ap (list_any (bytes_eq (codes "metadata"))) (names-fields_of 1 (own_properties ms) all read) ∙ own_lack ms
+pub own_fields_lack : (f : List ℕ) (ms : Members) (all : Fields) → is_envelope f ≡ true → fields_of 1 (own_properties ms) ≡ Ok all → Lacks f (names_of all)
+own_fields_lack f ms all known read = ap (list_any (bytes_eq f)) (names-fields_of 1 (own_properties ms) all read) ∙ own_lack f ms known
 
 -- ---- a field put in its place
 
@@ -197,7 +197,7 @@ put_depth n f s (field g t more) one h =
 le_true : (m n : ℕ) → m ≤ n → nat_le m n ≡ true
 le_true m n h = grind (arith, nat_tests)
 
-pub type_kept : (all : Fields) → AreFieldsAt 1 all → Lacks (codes "metadata") (names_of all) → is_type_shape (struct_of (put_field (codes "metadata") metadata all) false) ≡ true
+pub type_kept : (all : Fields) → AreFieldsAt 1 all → Lacks (codes "metadata") (names_of all) → is_lawful (struct_of (put_field (codes "metadata") metadata all) false) ≡ true
 type_kept all kept lack =
     let deep : fields_depth (put_field (codes "metadata") metadata all) ≤ 15 = put_depth 15 (codes "metadata") metadata all (omega arith) (omega (arith, kept.0.1)) in
     both_true (both_true (put_ascend (codes "metadata") metadata all kept.1 lack) (put_well (codes "metadata") metadata all refl kept.0.0))

@@ -191,7 +191,7 @@ was_field k (Err e) rest all h = absurd cc
 was_field k (Ok s) (Err e) all h = absurd cc
 was_field k (Ok s) (Ok more) all h = (s, more, refl, refl, sym (same_ok (field k s more) all h))
 
-bytes_eq-swap : (b c : Bool) (x y : List ℕ) → bytes_eq x y ≡ b → bytes_eq y x ≡ c → b ≡ c
+pub bytes_eq-swap : (b c : Bool) (x y : List ℕ) → bytes_eq x y ≡ b → bytes_eq y x ≡ c → b ≡ c
 bytes_eq-swap true true x y p q = refl
 bytes_eq-swap false false x y p q = refl
 bytes_eq-swap true false x y p q = absurd (true≢false (sym ((bytes_eq-Decides y x).1 (sym ((bytes_eq-Decides x y).0 p))) ∙ q))

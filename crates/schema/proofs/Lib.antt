@@ -1,6 +1,8 @@
 pub mod Items
 pub mod Depths
 pub mod Lists
+pub mod ObjectShapes
+pub mod ObjectTests
 pub mod Placing
 pub mod Reading
 pub mod Shapes

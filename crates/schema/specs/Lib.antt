@@ -3,6 +3,8 @@ pub mod Place
 pub mod Steps
 pub mod Spots
 pub mod Lawful
+pub mod ObjectShape
+pub mod ObjectTest
 pub mod Depths
 pub mod Names
 pub mod Refusals

@@ -1,5 +1,5 @@
 //! Reads the types of a types file.
-ghost use Rattle.std.specs.Prelude.{◌≡◌, true, false, IfOk, OnOk, string_bytes, codes, map, length, vec_len, ◌≤◌};
+ghost use Rattle.std.specs.Prelude.{◌≡◌, ℕ, List, true, false, IfOk, OnOk, string_bytes, codes, map, length, vec_len, ◌≤◌};
 ghost use Rattle.serde_json.specs.Find.{as_object};
 ghost use Rattle.serde_json.specs.View.{view, items_view, members_view};
 ghost use Rattle.schema.specs.Shape.{shape, map_of, text, fields_in};
@@ -10,8 +10,9 @@ ghost use Rattle.schema.specs.TypesFile.{text_where, fields_of, is_envelope, own
 ghost use Rattle.schema.specs.Served.{served};
 ghost use Rattle.schema.specs.Seen.{Gives};
 ghost use Rattle.schema.specs.Depths.{AreFieldsAt};
-ghost use Rattle.schema.specs.Lawful.{is_type_shape, names_of};
-ghost use Rattle.std.specs.List.{list_all, list_any};
+ghost use Rattle.schema.specs.Lawful.{names_of};
+ghost use Rattle.schema.specs.ObjectShape.{IsObjectShape};
+ghost use Rattle.std.specs.List.{All, list_any};
 ghost use Rattle.std.specs.Str.{bytes_eq};
 
 use crate::fault::TypesFault;
@@ -44,7 +45,7 @@ fn own_fields(
 ) -> Result<Vec<(String, Schema)>, TypesFault>
     ensures read { Gives (λ v. fields_in v.items) result (fields_of 1 (own_properties (members_view properties.now.entries))) }
     ensures kept { IfOk result (λ v. AreFieldsAt 1 (fields_in v.items)) }
-    ensures apart { IfOk result (λ v. list_any (bytes_eq (codes "metadata")) (names_of (fields_in v.items)) ≡ false) }
+    ensures apart { IfOk result (λ v. (k : List ℕ) → is_envelope k ≡ true → list_any (bytes_eq k) (names_of (fields_in v.items)) ≡ false) }
 {
     let mut fields = Vec::new(alloc);
     for (name, value) in properties.iter() {
@@ -92,7 +93,7 @@ fn put_field(
 /// Reads the schema of a type, and adds what every type has.
 fn read_root(alloc: Global, schema: &Map<String, Value>) -> Result<Schema, TypesFault>
     ensures read { Gives shape result (type_shape (Some (members_view schema.now.entries))) }
-    ensures kept { IfOk result (λ s. is_type_shape (shape s) ≡ true) }
+    ensures kept { IfOk result (λ s. IsObjectShape (shape s)) }
 {
     let Form::Object(false) = own_form(alloc, 1, schema)? else {
         return Err(TypesFault::Misfit);
@@ -148,7 +149,7 @@ fn plural_of<'a>(members: &'a Map<String, Value>) -> Result<&'a str, TypesFault>
 /// Reads a type.
 pub(crate) fn read_type(alloc: Global, value: &Value) -> Result<Served, TypesFault>
     ensures read { Gives served result (type_of (view value.now)) }
-    ensures kept { IfOk result (λ t. is_type_shape (shape t.schema) ≡ true) }
+    ensures kept { IfOk result (λ t. IsObjectShape (shape t.schema)) }
 {
     let Some(members) = value.as_object() else {
         return Err(TypesFault::NotTheForm);
@@ -179,7 +180,7 @@ pub(crate) fn read_type(alloc: Global, value: &Value) -> Result<Served, TypesFau
 pub(crate) fn read_types(alloc: Global, values: &[Value]) -> Result<Vec<Served>, TypesFault>
     ensures types { Gives (λ v. map served v.items) result (types_of (items_view values.now)) }
     ensures each { IfOk result (λ v. length v.items ≡ length values.now) }
-    ensures kept { IfOk result (λ v. list_all (λ t. is_type_shape (shape t.schema)) v.items ≡ true) }
+    ensures kept { IfOk result (λ v. All (λ t. IsObjectShape (shape t.schema)) v.items) }
 {
     let mut types = Vec::new(alloc);
     for value in values {

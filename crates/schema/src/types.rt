@@ -1,6 +1,6 @@
 ghost use Rattle.std.specs.Prelude.{◌≡◌, ◌≤◌, true, vec_len};
 ghost use Rattle.std.specs.List.{list_all};
-ghost use Rattle.schema.specs.Lawful.{is_type_shape};
+ghost use Rattle.schema.specs.ObjectTest.{is_object_shape};
 ghost use Rattle.schema.specs.Shape.{shape};
 
 use crate::fault::TypesFault;
@@ -14,14 +14,16 @@ use std::alloc::Global;
 pub struct Types {
     all: Vec<Served>,
     ghost few: { vec_len all ≤ 4294967295 },
-    ghost lawful: { list_all (λ t. is_type_shape (shape t.schema)) all.items ≡ true },
+    ghost objects: { list_all (λ t. is_object_shape (shape t.schema)) all.items ≡ true },
 }
 
 impl Types {
     ghost use Rattle.std.specs.Prelude.{◌≡◌, true, slice_get, option_map, IfSome};
+    ghost use Rattle.std.specs.List.{All};
     ghost use Rattle.serde_json.specs.View.{view};
     ghost use Rattle.schema.specs.Served.{served, types_view};
     ghost use Rattle.schema.specs.Lawful.{is_granular_struct, is_lawful};
+    ghost use Rattle.schema.specs.ObjectShape.{IsObjectShape};
     ghost use Rattle.schema.specs.Shape.{shape};
     ghost use Rattle.schema.specs.Seen.{Gives};
     ghost use Rattle.schema.specs.TypesFile.{declared_types, type_number};
@@ -53,12 +55,19 @@ impl Types {
         None
     }
 
-    /// The type of this number. Its schema is a granular struct that keeps the rules of a types file.
+    /// The type of this number. Its schema is a granular struct that keeps the rules of a types file,
+    /// has the `metadata` of every type and no field `apiVersion` or `kind`.
     pub fn get(&self, number: u32) -> Option<&Served>
         ensures found { option_map (λ s. served s.now) result ≡ slice_get (types_view self.now) number }
         ensures lawful { IfSome result (λ s. is_lawful (shape s.now.schema) ≡ true) }
         ensures granular { IfSome result (λ s. is_granular_struct (shape s.now.schema) ≡ true) }
+        ensures object { IfSome result (λ s. IsObjectShape (shape s.now.schema)) }
     {
         self.all.get(number as usize)
     }
+
+    /// Each type's schema is that of an object.
+    pub fn types_are_of_objects(&self)
+        ensures { All (λ t. IsObjectShape t.shape) (types_view self.now) }
+    {}
 }

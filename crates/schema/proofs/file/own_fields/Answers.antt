@@ -40,4 +40,4 @@ returns-clause-kept c =
     (c.loop-name.invariant.0, own_fields_ascend c.args.properties.now.entries (fields_in c.loop-name.fields.items) c.loop-name.invariant.2 read)
 
 pub returns-clause-apart : goal.returns-clause-apart
-returns-clause-apart c = own_fields_lack (members_view c.args.properties.now.entries) (fields_in c.loop-name.fields.items) (returns-clause-read c)
+returns-clause-apart c k known = own_fields_lack k (members_view c.args.properties.now.entries) (fields_in c.loop-name.fields.items) known (returns-clause-read c)

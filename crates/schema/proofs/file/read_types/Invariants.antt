@@ -1,7 +1,7 @@
-use Rattle.std.proofs.Common.{◌≡◌, true, map, length, drop}
-use Rattle.std.specs.List.{list_all}
+use Rattle.std.proofs.Common.{◌≡◌, map, length, drop}
+use Rattle.std.specs.List.{All}
 use Rattle.serde_json.specs.View.{items_view}
-use Rattle.schema.specs.Lawful.{is_type_shape}
+use Rattle.schema.specs.ObjectShape.{IsObjectShape}
 use Rattle.schema.specs.Shape.{shape}
 use Rattle.schema.specs.Served.{served}
 use Rattle.schema.specs.TypesFile.{types_of}
@@ -11,4 +11,4 @@ use Rattle.schema.proofs.file.read_types.Given as goal
 abbrev pub invariant-loop-value : goal.invariant-loop-value
 invariant-loop-value l =
     (types_of (items_view l.values) ≡ after (map served l.types.items) (types_of (items_view (drop l.value-index l.values)))) × (length l.types.items ≡ l.value-index)
-    × (list_all (λ t. is_type_shape (shape t.schema)) l.types.items ≡ true)
+    × All (λ t. IsObjectShape (shape t.schema)) l.types.items
