@@ -17,7 +17,7 @@ use Rattle.indexer.specs.declared.entry.Entry.{Entry}
 use Rattle.indexer.specs.declared.object.ObjectKey.{ObjectKey}
 use Rattle.indexer.specs.Keys.{key_cmp, is_same}
 use Rattle.indexer.specs.Indexer.{has_one, is_under_number}
-use Rattle.indexer.specs.Kept.{held_in, seen_of, has_key, HoldsPostings}
+use Rattle.indexer.specs.Kept.{held_in, seen_of, has_key, objects_in, HoldsPostings}
 use Rattle.indexer.specs.Postings.{Postings}
 use Rattle.indexer.specs.Objects.{Place, place_cmp, place_of, Stored, under_number}
 use Rattle.indexer.proofs.Same.{then_equal, texts_equal, equal_texts}
@@ -163,11 +163,22 @@ shown_length : (es : List (ObjectKey × Entry)) → length (map shown es) ≡ le
 shown_length [] = refl
 shown_length (e ∷ es) = ap suc (shown_length es)
 
-pub held_len : (objects : BTreeMap ObjectKey Entry) → IsStrictlySortedBy key_cmp (keys_of objects.entries) → length objects.entries ≡ fin.len (held_in objects)
-held_len objects h =
+abbrev pub without_keys : ObjectKey × Entry → Place × Stored
+without_keys e = (place_of e.0, (seen_of e.1).0)
+
+held_entries : (objects : BTreeMap ObjectKey Entry) → IsStrictlySortedBy key_cmp (keys_of objects.entries) → fin.entries (held_in objects) ≡ map shown objects.entries
+held_entries objects h =
     let es = map shown objects.entries in
     let sorted = in_order objects.entries h in
-    sym (
-    ap fin.len (fin.same_map place_total place_antisymmetric (held_in objects) (fin.from_sorted es) (λ q. fin.get-from_entries place_total es q ∙ sym (fin.get-from_sorted place_cmp es q sorted)))
-    ∙ fin.len-entries (fin.from_sorted {R = place_cmp} es) ∙ ap length (fin.entries-from_sorted place_cmp es sorted) ∙ shown_length objects.entries
-    )
+    ap fin.entries (fin.same_map place_total place_antisymmetric (held_in objects) (fin.from_sorted es) (λ q. fin.get-from_entries place_total es q ∙ sym (fin.get-from_sorted place_cmp es q sorted)))
+    ∙ fin.entries-from_sorted place_cmp es sorted
+
+bare : (es : List (ObjectKey × Entry)) → map (λ e. (e.0, e.1.0)) (map shown es) ≡ map without_keys es
+bare [] = refl
+bare (e ∷ es) = ap (λ rest. (place_of e.0, (seen_of e.1).0) ∷ rest) (bare es)
+
+pub held_objects : (objects : BTreeMap ObjectKey Entry) → IsStrictlySortedBy key_cmp (keys_of objects.entries) → map without_keys objects.entries ≡ objects_in (held_in objects)
+held_objects objects h = sym (ap (map (λ e. (e.0, e.1.0))) (held_entries objects h) ∙ bare objects.entries)
+
+pub held_len : (objects : BTreeMap ObjectKey Entry) → IsStrictlySortedBy key_cmp (keys_of objects.entries) → length objects.entries ≡ fin.len (held_in objects)
+held_len objects h = sym (fin.len-entries (held_in objects) ∙ ap length (held_entries objects h) ∙ shown_length objects.entries)

@@ -1,11 +1,11 @@
 -- What an indexer keeps, and that every index follows the objects.
 use Rattle.std.specs.Prelude.{◌≡◌, ℕ, Bool, false, List, map, Option, None, Some}
 use Rattle.std.specs.BTreeMap.{BTreeMap, get}
-use Rattle.std.specs.FinMap.{FinMap, from_entries}
+use Rattle.std.specs.FinMap.{FinMap, entries, from_entries}
 use Rattle.indexer.specs.declared.entry.Entry.{Entry}
 use Rattle.indexer.specs.declared.object.ObjectKey.{ObjectKey}
 use Rattle.indexer.specs.Keys.{key_cmp}
-use Rattle.indexer.specs.Objects.{place_cmp, place_of, Stored, stored_of, texts_of, texts_at, is_among, under_at}
+use Rattle.indexer.specs.Objects.{Place, place_cmp, place_of, Stored, stored_of, texts_of, texts_at, is_among, under_at}
 use Rattle.indexer.specs.Postings.{Postings}
 
 -- objects by place, each with its keys in each index
@@ -17,6 +17,10 @@ seen_of e = (stored_of e.object, texts_of e.keys.items)
 
 abbrev pub held_in : BTreeMap ObjectKey Entry → Held
 held_in objects = from_entries (map (λ e. (place_of e.0, seen_of e.1)) objects.entries)
+
+-- the objects without their keys in the indexes, in order of places
+abbrev pub objects_in : Held → List (Place × Stored)
+objects_in held = map (λ e. (e.0, e.1.0)) (entries held)
 
 -- whether an object has the key in index number i
 abbrev pub has_key : Option Entry → ℕ → List ℕ → Bool

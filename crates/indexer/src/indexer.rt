@@ -95,6 +95,7 @@ impl<I: IndexBy> Indexer<I> {
     ghost use Rattle.std.specs.Ordering.{nat_cmp};
     ghost use Rattle.indexer.specs.declared.object.ObjectKey.{ObjectKey};
     ghost use Rattle.indexer.specs.Indexer.{held_of, indexes_of, names_of, is_under};
+    ghost use Rattle.indexer.specs.Kept.{objects_in};
     ghost use Rattle.indexer.specs.Names.{are_distinct};
     ghost use Rattle.indexer.specs.PutAll.{put_all};
     ghost use Rattle.indexer.specs.Objects.{place_of, place_of_object, stored_of, is_among};
@@ -170,11 +171,28 @@ impl<I: IndexBy> Indexer<I> {
         }
     }
 
+    /// Keeps no object. Takes no memory.
+    pub fn clear(&mut self)
+        ensures held { held_of self.new ≡ fin.empty }
+        ensures indexes { indexes_of self.new ≡ indexes_of self.old }
+        ensures names { names_of self.new ≡ names_of self.old }
+    {
+        self.objects = BTreeMap::new(self.alloc);
+        self.postings = Vec::new(self.alloc);
+    }
+
     /// The object at the key. Takes no memory.
     pub fn get(&self, key: &ObjectKey) -> Option<&Object>
         ensures { option_map (λ o. stored_of o.now) result ≡ option_map (λ h. h.0) (fin.get (held_of self.now) (place_of key.now)) }
     {
         kept::object_at(&self.objects, key)
+    }
+
+    /// The objects, each beside its key, in order of keys.
+    pub fn objects(&self) -> Result<Vec<(&ObjectKey, &Object)>, AllocError>
+        ensures { IfOk result (λ v. map (λ e. (place_of e.0.now, stored_of e.1.now)) v.items ≡ objects_in (held_of self.now)) }
+    {
+        kept::all_of(self.alloc, &self.objects)
     }
 
     /// How many objects there are. Takes no memory.

@@ -1,10 +1,10 @@
 //! The objects and the postings of every index, changed together.
 
-ghost use Rattle.std.specs.Prelude.{◌≡◌, true, ℕ, List, cond, IfOk, OnOk, OnErr, option_map};
+ghost use Rattle.std.specs.Prelude.{◌≡◌, true, ℕ, List, cond, map, IfOk, OnOk, OnErr, option_map};
 ghost use Rattle.std.specs.BTreeMap.{get};
-ghost use Rattle.std.specs.FinMap as map;
+ghost use Rattle.std.specs.FinMap as fin;
 ghost use Rattle.indexer.specs.Keys.{key_cmp, is_same};
-ghost use Rattle.indexer.specs.Kept.{held_in, seen_of, has_key, HoldsPostings};
+ghost use Rattle.indexer.specs.Kept.{held_in, seen_of, has_key, objects_in, HoldsPostings};
 ghost use Rattle.indexer.specs.Objects.{place_of, place_of_object, stored_of, texts_of, texts_at, is_among, under_at};
 ghost use Rattle.indexer.specs.declared.object.ObjectKey.{ObjectKey};
 
@@ -44,8 +44,8 @@ pub(crate) fn put(
 ) -> Result<Option<Entry>, AllocError>
     requires { HoldsPostings objects.old postings.old.items }
     ensures holds { HoldsPostings objects.new postings.new.items }
-    ensures ok { OnOk result (held_in objects.new ≡ map.insert (held_in objects.old) (place_of_object object) (stored_of object, texts_of keys.items)) }
-    ensures was { IfOk result (λ o. option_map seen_of o ≡ map.get (held_in objects.old) (place_of_object object)) }
+    ensures ok { OnOk result (held_in objects.new ≡ fin.insert (held_in objects.old) (place_of_object object) (stored_of object, texts_of keys.items)) }
+    ensures was { IfOk result (λ o. option_map seen_of o ≡ fin.get (held_in objects.old) (place_of_object object)) }
     ensures err { OnErr result (held_in objects.new ≡ held_in objects.old) }
 {
     match objects.entry(ObjectKey::of(&object)?)? {
@@ -72,8 +72,8 @@ pub(crate) fn remove(
 ) -> Option<Entry>
     requires { HoldsPostings objects.old postings.old.items }
     ensures holds { HoldsPostings objects.new postings.new.items }
-    ensures removed { held_in objects.new ≡ map.remove (held_in objects.old) (place_of key.now) }
-    ensures was { option_map seen_of result ≡ map.get (held_in objects.old) (place_of key.now) }
+    ensures removed { held_in objects.new ≡ fin.remove (held_in objects.old) (place_of key.now) }
+    ensures was { option_map seen_of result ≡ fin.get (held_in objects.old) (place_of key.now) }
 {
     let was = objects.remove(key);
     if let Some(entry) = &was {
@@ -87,7 +87,7 @@ pub(crate) fn object_at<'a>(
     objects: &'a BTreeMap<ObjectKey, Entry>,
     key: &ObjectKey,
 ) -> Option<&'a Object>
-    ensures { option_map (λ o. stored_of o.now) result ≡ option_map (λ h. h.0) (map.get (held_in objects.now) (place_of key.now)) }
+    ensures { option_map (λ o. stored_of o.now) result ≡ option_map (λ h. h.0) (fin.get (held_in objects.now) (place_of key.now)) }
 {
     match objects.get(key) {
         Some(entry) => Some(&entry.object),
@@ -97,7 +97,21 @@ pub(crate) fn object_at<'a>(
 
 /// How many objects there are.
 pub(crate) fn count(objects: &BTreeMap<ObjectKey, Entry>) -> usize
-    ensures { result ≡ map.len (held_in objects.now) }
+    ensures { result ≡ fin.len (held_in objects.now) }
 {
     objects.len()
+}
+
+/// The objects, each beside its key, in order of keys.
+pub(crate) fn all_of(
+    alloc: Global,
+    objects: &BTreeMap<ObjectKey, Entry>,
+) -> Result<Vec<(&ObjectKey, &Object)>, AllocError>
+    ensures { IfOk result (λ v. map (λ e. (place_of e.0.now, stored_of e.1.now)) v.items ≡ objects_in (held_in objects.now)) }
+{
+    let mut all = Vec::with_capacity(alloc, objects.len())?;
+    for (key, entry) in objects.iter() {
+        all.push((key, &entry.object))?;
+    }
+    Ok(all)
 }
