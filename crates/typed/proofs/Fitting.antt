@@ -21,7 +21,8 @@ use Rattle.schema.specs.Shape.{atomic, set, keyed, Shape, text, whole, truth, st
 use Rattle.typed.specs.Fitting.{IsWholeValue, AtEnd, MarkOrBelow, FitsAt, FitsItem, FitsField, Stands, FitsAll, IsClosed, IsContent, ContentsArePlaced}
 use Rattle.typed.specs.Placed.{When, IsWithin, IsAtomic, is_field, IsSetItem, IsItem, IsPlaced, ArePlaced}
 use Rattle.typed.specs.Reading.{leaf}
-use Rattle.typed.proofs.Insides.{get-inside, itself}
+use Rattle.pathmap.proofs.Heads.{itself}
+use Rattle.pathmap.proofs.Insides.{get-inside}
 use Rattle.typed.proofs.KeyFields.{AreRising, ascend_rising}
 use Rattle.typed.proofs.Places.{none_there, one_of, same_name, other_name}
 use Rattle.typed.proofs.Placing.{prefix_of_name}

@@ -23,7 +23,7 @@ use Rattle.typed.specs.Faults.{below}
 use Rattle.typed.specs.Printing.{with_member, print, print_fields}
 use Rattle.typed.specs.Reading.{is_null, is_there, have_keys, put_some, keys_in, at_field, joined, members_at, beside_keys, content_of, content_of_field}
 use Rattle.typed.proofs.ElementTexts.{scalar_same, scalar_reads}
-use Rattle.typed.proofs.Insides.{all_above, itself}
+use Rattle.pathmap.proofs.Heads.{all_above, itself}
 use Rattle.typed.proofs.Prints.{print-nothing}
 use Rattle.typed.proofs.Putting.{with_other}
 

@@ -11,7 +11,8 @@ use Rattle.pathmap.specs.Insides.{inside, heads}
 use Rattle.pathmap.proofs.Contents.{same, either, get-nothing, get-over, get-under, get-under-top, get-here-below}
 use Rattle.pathmap.proofs.Merging.{get-here-top}
 use Rattle.pathmap.proofs.Trees.{ties}
-use Rattle.typed.proofs.Insides.{get-inside, heads-inside, no_path}
+use Rattle.pathmap.proofs.Heads.{heads-inside, no_path}
+use Rattle.pathmap.proofs.Insides.{get-inside}
 
 merged : (t b : Bool) (x : Option Standing) → either (cond t x None) (cond b x None) ≡ cond (t || b) x None
 merged true true None = refl

@@ -18,7 +18,7 @@ use Rattle.schema.specs.declared.place.Place.{Place}
 use Rattle.schema.specs.declared.place.Place.TheVariants.{Leaf, SetItem}
 use Rattle.typed.specs.Placed.{IsAtomic, is_field, IsSetItem, HasKeys, IsItem, ArePlaced, HavePlaces}
 use Rattle.typed.specs.Reading.{leaf}
-use Rattle.typed.proofs.Insides.{get-inside}
+use Rattle.pathmap.proofs.Insides.{get-inside}
 use Rattle.typed.proofs.RoundTrip.{leaf_is}
 
 pub none_there : (c : Content) (p : PathTexts) → c ≡ nothing → is_some (fin.get c p) ≡ true → ⊥

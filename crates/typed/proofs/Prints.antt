@@ -18,7 +18,8 @@ use Rattle.schema.specs.declared.schema.Schema.{Schema, Struct, the_lemmas}
 use Rattle.std.proofs.lemmas.List.{drop_more}
 use Rattle.fieldpath.specs.Elements.{name_text}
 use Rattle.typed.specs.Printing.{value_at, value_of, object_or_none, array_or_none, with_member, with_named, with_item, after, each_member, each_item, scalar_in, keys_in, print, print_item, print_fields}
-use Rattle.typed.proofs.Insides.{Children, living, has_path, no_path, nothing_path, inside-nothing, heads-nothing, heads-map, AreInside, children-inside}
+use Rattle.pathmap.proofs.Heads.{has_path, no_path, nothing_path, inside-nothing, heads-nothing}
+use Rattle.typed.proofs.Insides.{Children, living, heads-map, AreInside, children-inside}
 
 value_at-nothing : value_at nothing ≡ None
 value_at-nothing = ap (option_and_then value_of) (get-nothing [])

@@ -29,7 +29,8 @@ use Rattle.typed.specs.Printing.{value_at, value_of, object_or_none, array_or_no
 use Rattle.typed.specs.Printing as printing
 use Rattle.typed.specs.Reading.{is_null, plain_of, leaf, joined, members_at, marked, one_item, items_at, named_item, set_item, keyed_item, beside_keys, keys_in, content_of, content_of_item, content_of_field}
 use Rattle.typed.proofs.ElementTexts.{value_element, key_element, scalar_same, scalar_reads}
-use Rattle.typed.proofs.Insides.{heads-inside, has_path, nothing_path, itself, rising, get-inside}
+use Rattle.pathmap.proofs.Heads.{heads-inside, has_path, nothing_path, itself, rising}
+use Rattle.pathmap.proofs.Insides.{get-inside}
 use Rattle.typed.proofs.KeyFields.{AreRising, ascend_rising, AreKeys, keys_text, keys_fit, keys_there, keys_same, keys_found, keys_absent, keys_read, fields_keep}
 use Rattle.typed.proofs.Parts.{with_parts, parts, IsAll, with_parts-all, parts-all, marked_parts-all, heads-all}
 use Rattle.typed.proofs.Prints.{print-nothing}

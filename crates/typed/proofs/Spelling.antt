@@ -26,7 +26,7 @@ use Rattle.typed.specs.Reading.{leaf}
 use Rattle.typed.proofs.Depths.{content_deep}
 use Rattle.typed.proofs.Fitting.{here_same, content_placed}
 use Rattle.typed.proofs.Floats.{content_clean}
-use Rattle.typed.proofs.Insides.{get-inside}
+use Rattle.pathmap.proofs.Insides.{get-inside}
 use Rattle.typed.proofs.Places.{none_there}
 use Rattle.typed.proofs.RoundTrip.{leaf_is, round}
 use Rattle.pathmap.proofs.Merging.{get-here-top}
