@@ -2,13 +2,16 @@
 
 use crate::malformed::Malformed;
 use std::alloc::{AllocError, AllocFailed};
+use thiserror::Error;
 
 /// Why nothing was read.
-#[derive(Clone, Copy, Debug, PartialEq, Eq)]
+#[derive(Clone, Copy, Debug, PartialEq, Eq, Error)]
 pub enum DecodeFault {
     /// This is amiss.
+    #[error("malformed reply: {0}")]
     Malformed(Malformed),
     /// There was no memory.
+    #[error("out of memory")]
     Memory,
 }
 

@@ -1,17 +1,23 @@
 use std::alloc::{AllocError, AllocFailed};
+use thiserror::Error;
 
 /// Why a value is no FieldsV1 value of a set of paths under a schema: the first fault, or memory ran out.
-#[derive(Clone, Copy, Debug, PartialEq, Eq)]
+#[derive(Clone, Copy, Debug, PartialEq, Eq, Error)]
 pub enum FieldsV1Fault {
     /// 1: not an object where one is due.
+    #[error("not an object")]
     NotAnObject,
     /// 2: a name other than `.` that is no element's text.
+    #[error("not the text of an element")]
     BadKey,
     /// 3: an empty object where members are due, or a `.` or key fields that aren't as they are written.
+    #[error("not as FieldsV1 is written")]
     NotCanonical,
     /// 4: an element that the schema has no place for.
+    #[error("no place in the schema")]
     OffSchema,
     /// Memory ran out.
+    #[error("out of memory")]
     Memory,
 }
 

@@ -3,6 +3,7 @@ ghost use Rattle.typed.specs.Faults.{Fault, Tells, fault_below, shown_name, show
 
 use std::alloc::{AllocError, AllocFailed, Global};
 use std::fmt;
+use thiserror::Error;
 
 /// What is wrong with a value's shape.
 #[derive(Clone, Copy, Debug, PartialEq, Eq)]
@@ -33,10 +34,17 @@ impl fmt::Display for Cause {
 
 /// Why a value has no content: the first fault, with its path as shown, or want of memory.
 /// The path of the value itself is the empty text.
-#[derive(Debug, Drop)]
+#[derive(Debug, Drop, Error)]
 pub enum ReadFault {
+    #[error("{path}: {0}", path = shown(.1))]
     Shape(Cause, String),
+    #[error("out of memory")]
     Memory,
+}
+
+/// A path as a message tells it: that of the value itself is `.`.
+fn shown(path: &String) -> &str {
+    if path.is_empty() { "." } else { path.as_str() }
 }
 
 impl From<AllocError> for ReadFault {
