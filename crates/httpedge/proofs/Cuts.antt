@@ -4,7 +4,7 @@ use Rattle.std.proofs.lemmas.Bool.{ltb-true, lt-ltb}
 use Rattle.std.proofs.lemmas.List.{take-append-le, drop-append-le, length-take}
 use Rattle.httparse.specs.Grammar.{RequestHead}
 use Rattle.httparse.proofs.GrammarLemmas.{request_unique}
-use Rattle.httpedge.specs.Decision.{Decision, undecided, refused, accepted}
+use Rattle.httpedge.specs.Decision.{Decision, undecided, accepted}
 use Rattle.httpedge.specs.Refusals.{head_too_large, bad_head, wrong_version, not_one_host, refuse}
 use Rattle.httpedge.specs.Heads.{max_head, end_inside, end_after, head_end, Request, validated_head, with_more, ReadsHead, ReadsHeadAt, ReadsWholeHead}
 
@@ -83,13 +83,19 @@ after_within n (b ∷ bytes) m h =
     either (eqb b 13 || eqb b 10) (end_after (n + 1) bytes) (end_inside n (b ∷ bytes)) m (n + length (b ∷ bytes))
     (λ e. let low = after_within (n + 1) bytes m e in omega (arith, low)) (inside_within n (b ∷ bytes) m) h
 
-take_front : (n : ℕ) (xs ys : List ℕ) → (zs : List ℕ) × (take n (xs ++ ys) ≡ take n xs ++ zs)
+pub take_front : (n : ℕ) (xs ys : List ℕ) → (zs : List ℕ) × (take n (xs ++ ys) ≡ take n xs ++ zs)
 take_front zero xs ys = ([], refl)
 take_front (suc n) [] ys = (take (suc n) ys, refl)
 take_front (suc n) (x ∷ xs) ys = let rest = take_front n xs ys in (rest.0, ap (λ (s : List ℕ). x ∷ s) rest.1)
 
-front_within : (bytes : List ℕ) (m : ℕ) → head_end (take max_head bytes) ≡ Some m → m ≤ length bytes
+pub front_within : (bytes : List ℕ) (m : ℕ) → head_end (take max_head bytes) ≡ Some m → m ≤ length bytes
 front_within bytes m h =
+    let low = after_within 0 (take max_head bytes) m h in
+    let taken = length-take max_head bytes in
+    omega (arith, low, taken)
+
+pub front_short : (bytes : List ℕ) (m : ℕ) → head_end (take max_head bytes) ≡ Some m → m ≤ max_head
+front_short bytes m h =
     let low = after_within 0 (take max_head bytes) m h in
     let taken = length-take max_head bytes in
     omega (arith, low, taken)
@@ -152,3 +158,7 @@ at_one bytes (Some n) f g is that = whole_one (take n bytes) (drop n bytes) f g 
 
 pub reads_one : (bytes : List ℕ) (f g : Decision (Request × List ℕ)) → ReadsHead bytes f → ReadsHead bytes g → f ≡ g
 reads_one bytes f g is that = at_one bytes (head_end (take max_head bytes)) f g is that
+
+-- by where the head ends
+pub reads_at : (bytes : List ℕ) (end : Option ℕ) (front : Decision (Request × List ℕ)) → end ≡ head_end (take max_head bytes) → ReadsHeadAt bytes end front → ReadsHead bytes front
+reads_at bytes end front is says = subst (λ (o : Option ℕ). ReadsHeadAt bytes o front) is says

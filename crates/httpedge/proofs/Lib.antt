@@ -8,6 +8,7 @@ pub mod Numbers
 pub mod Outcomes
 pub mod Representing
 pub mod Saying
+pub mod Searching
 pub mod Staying
 pub mod Taking
 pub mod Targets

@@ -1,18 +1,16 @@
 -- What is written for an answer, and what is asked once a head has come.
-use Rattle.std.proofs.Common.{◌≡◌, ℕ, false, List, ◌++◌, Option, Some, None, Result, Ok, Err, refl, sym, ap, subst, ◌∙◌, append_assoc, append-nil}
+use Rattle.std.proofs.Common.{◌≡◌, ℕ, false, List, ◌++◌, Some, Result, Ok, Err, refl, sym, ap, subst, ◌∙◌, append_assoc}
 use Rattle.std.specs.Prelude.{OnErr}
 use Rattle.serde_json.specs.Written.{has_float}
 use Rattle.schema.specs.TypesFile.{ServedShape}
-use Rattle.verbs.specs.Calls.{Call, Denied, Target}
 use Rattle.verbs.specs.declared.reason.Reason.{Reason}
-use Rattle.verbs.specs.Seen.{call_of, denied_of}
 use Rattle.verbs.specs.Status.{status_value}
 use Rattle.httpedge.specs.declared.asking.Asked as askings
 use Rattle.httpedge.specs.declared.asking.Asked.TheVariants as asking
 use Rattle.httpedge.specs.declared.asking.Pending as pendings
-use Rattle.httpedge.specs.Asks.{Asked, Asks, asked_by, call_in}
-use Rattle.httpedge.specs.Decision.{Decision, undecided, refused, accepted}
-use Rattle.httpedge.specs.Heads.{Request, HeadDecision, ReadsHead, with_more}
+use Rattle.httpedge.specs.Asks.{Asks, call_in}
+use Rattle.httpedge.specs.Decision.{accepted}
+use Rattle.httpedge.specs.Heads.{Request, ReadsHead}
 use Rattle.httpedge.specs.Pendings.{Awaits, Carries, Finds, asked_of, pending_call}
 use Rattle.httpedge.proofs.Cuts.{reads_more}
 

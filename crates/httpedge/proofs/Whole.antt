@@ -1,7 +1,5 @@
 -- What the parser answers of the bytes up to the first empty line.
-use Rattle.std.proofs.Common.{arith, ◌≡◌, ◌≢◌, ℕ, suc, ◌+◌, ◌*◌, ◌≤◌, List, [], ◌∷◌, ◌++◌, length, take, Option, Some, None, Result, Ok, Err, refl, sym, ap, ◌∙◌, length-append, append-nil}
-use Rattle.std.specs.Prelude.{IfSome}
-use Rattle.std.proofs.lemmas.List.{length-take}
+use Rattle.std.proofs.Common.{arith, ◌≡◌, ◌≢◌, ℕ, suc, ◌+◌, ◌*◌, ◌≤◌, List, [], ◌∷◌, ◌++◌, length, Result, Ok, Err, refl, sym, ap, ◌∙◌, length-append, append-nil}
 use Rattle.std.specs.List.{All, flat_map}
 use Rattle.httparse.specs.declared.Error.{Error}
 use Rattle.httparse.specs.declared.Status.{Status}
@@ -11,23 +9,6 @@ use Rattle.httparse.specs.declared.spans.RequestSpans.{RequestSpans}
 use Rattle.httparse.specs.Ascii.{colon}
 use Rattle.httparse.specs.Grammar.{LineEnd, crlf, lf, print_end, Field, IsField, print_field, print_section, RequestHead, print_request, ReadsRequest}
 use Rattle.httparse.specs.Spans.{IsRequestAt, FindsRequest}
-use Rattle.httpedge.specs.Heads.{max_head}
-
--- ---- a head's end in the first 16,384 bytes
-
-pub end_within : (o : Option ℕ) (front bytes : List ℕ) → front ≡ take max_head bytes → IfSome o (λ n. n ≤ length front) → IfSome o (λ n. n ≤ length bytes)
-end_within None front bytes is h = h
-end_within (Some n) front bytes is h =
-    let same : length front ≡ length (take max_head bytes) = ap (λ (s : List ℕ). length s) is in
-    let taken = length-take max_head bytes in
-    omega (arith, h, same, taken)
-
-pub end_short : (o : Option ℕ) (front bytes : List ℕ) → front ≡ take max_head bytes → IfSome o (λ n. n ≤ length front) → IfSome o (λ n. n ≤ max_head)
-end_short None front bytes is h = h
-end_short (Some n) front bytes is h =
-    let same : length front ≡ length (take max_head bytes) = ap (λ (s : List ℕ). length s) is in
-    let taken = length-take max_head bytes in
-    omega (arith, h, same, taken)
 
 -- ---- a head of n bytes has at most n / 3 fields
 

@@ -1,5 +1,4 @@
 -- What the bytes that came on a connection come to: more are needed, or they are refused or accepted.
-use Rattle.std.specs.Prelude.{List}
 use Rattle.std.specs.declared.result.Result.{Result}
 use Rattle.std.specs.declared.result.Result.TheVariants.{Ok, Err}
 use Rattle.verbs.specs.Calls.{Denied}

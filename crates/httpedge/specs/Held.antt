@@ -40,7 +40,7 @@ waiting_for front = with_standing opened (waiting front)
 
 -- the code holds this connection, by these types
 abbrev pub Holds : List ServedShape → conns.Connection → Connection → Type 0
-Holds types (conn.Head front) c = c ≡ waiting_for front.items
+Holds types (conn.Head front) c = c ≡ waiting_for front.bytes.items
 Holds types (conn.Body p) c = (front : List ℕ) × (c ≡ waiting_for front) × Awaits types front p
 Holds types (conn.Ended out) c = (c.standing ≡ ended) × (drop c.taken c.written ≡ left out)
 

@@ -1,6 +1,7 @@
 pub mod Decision
 pub mod Refusals
 pub mod Heads
+pub mod HeadEnds
 pub mod Bodies
 pub mod ReplyBytes
 pub mod Asks

@@ -1,15 +1,16 @@
 //! What a connection asks, by all the bytes that came on it.
 
-ghost use Rattle.std.specs.Prelude.{◌≡◌, ◌++◌, IfOk};
+ghost use Rattle.std.specs.Prelude.{◌≡◌, ◌++◌, IfOk, take};
 ghost use Rattle.verbs.specs.Seen.{target_of, types_of};
 ghost use Rattle.httpedge.specs.Asks.{call_with, call_in};
 ghost use Rattle.httpedge.specs.Bodies.{body_in, declared_body};
+ghost use Rattle.httpedge.specs.Heads.{head_end, max_head};
 ghost use Rattle.httpedge.specs.Pendings.{Carries, FindsAll, asked_of, pending_call, sized_call};
 ghost use Rattle.httpedge.specs.Views.{request_in};
 
 use crate::body::{body_of, declared_length};
 use crate::decision::Decision;
-use crate::head::{Head, read_head};
+use crate::head::{Head, read_to};
 use crate::target::{checked_media, path_of, query_of};
 use std::alloc::{AllocError, Global};
 use verbs::{Api, Call, Denied, Target};
@@ -133,11 +134,17 @@ fn ask_in(alloc: Global, api: &Api, head: &Head<'_>) -> Result<Asked, AllocError
     }
 }
 
-/// What the bytes that came on a connection ask; none while the head hasn't come whole.
-pub(crate) fn ask(alloc: Global, api: &Api, bytes: &[u8]) -> Result<Option<Asked>, AllocError>
+/// What the bytes that came on a connection ask, by where their head ends; none while it hasn't come whole.
+pub(crate) fn ask(
+    alloc: Global,
+    api: &Api,
+    bytes: &[u8],
+    end: Option<usize>,
+) -> Result<Option<Asked>, AllocError>
+    requires { end ≡ head_end (take max_head bytes.now) }
     ensures { IfOk result (λ o. FindsAll (types_of api.now) bytes.now o) }
 {
-    match read_head(bytes) {
+    match read_to(bytes, end) {
         Decision::Undecided => Ok(None),
         Decision::Refused(denied) => Ok(Some(Asked::Refused(denied))),
         Decision::Accepted(head) => Ok(Some(ask_in(alloc, api, &head)?)),

@@ -12,6 +12,7 @@ ghost use Rattle.httpedge.specs.Steps.{opening};
 
 use crate::answering::{refusal_reply, serve};
 use crate::asking::{Asked, Pending, ask, ask_on};
+use crate::front::Front;
 use crate::out::Out;
 use crate::refusal::Refusal;
 use std::alloc::{AllocError, Global};
@@ -23,8 +24,8 @@ const MAX_OPEN: usize = 1_024;
 /// What has become of a connection.
 #[derive(Debug, Drop)]
 pub(crate) enum Connection {
-    /// The head of its request hasn't come whole; the bytes that came.
-    Head(Vec<u8>),
+    /// The head of its request hasn't come whole.
+    Head(Front),
     /// The body of its request hasn't come whole.
     Body(Pending),
     /// It has ended.
@@ -36,7 +37,7 @@ pub(crate) fn opening(alloc: Global, count: usize) -> Result<Connection, AllocEr
     ensures { (types : List ServedShape) (all : Connections) → count ≡ open_count all → IfOk result (λ c. Holds types c (opening all)) }
 {
     if count < MAX_OPEN {
-        return Ok(Connection::Head(Vec::new(alloc)));
+        return Ok(Connection::Head(Front::new(alloc)));
     }
     let reply = refusal_reply(alloc, Refusal::TooManyConnections.denied())?;
     Ok(Connection::Ended(Out::of(reply)))
@@ -103,14 +104,15 @@ fn decided(alloc: Global, api: &mut Api, asked: Asked) -> Result<Connection, Fau
 fn receive_head(
     alloc: Global,
     api: &mut Api,
-    mut front: Vec<u8>,
+    front: Front,
     bytes: &[u8],
 ) -> Result<Connection, Fault>
-    ensures ok { (types : List ServedShape) (m : Machine) → Stands api.old types m → IfOk result (λ c. Becomes types m (front.items ++ bytes.now) c api.new) }
+    ensures ok { (types : List ServedShape) (m : Machine) → Stands api.old types m → IfOk result (λ c. Becomes types m (front.bytes.items ++ bytes.now) c api.new) }
     ensures err { (types : List ServedShape) (m : Machine) → Stands api.old types m → OnErr result (Stands api.new types m) }
 {
-    front.extend_from_slice(bytes)?;
-    match ask(alloc, api, &front)? {
+    let mut front = front.with(bytes)?;
+    let end = front.find_end();
+    match ask(alloc, api, front.bytes(), end)? {
         None => Ok(Connection::Head(front)),
         Some(asked) => decided(alloc, api, asked),
     }

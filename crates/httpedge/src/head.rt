@@ -5,16 +5,15 @@ ghost use Rattle.std.specs.List.{All, list_all, filter};
 ghost use Rattle.std.specs.Char.{is_ascii_digit};
 ghost use Rattle.httparse.specs.Grammar.{RequestHead, ReadsRequest};
 ghost use Rattle.httparse.specs.Spans.{header_bytes, span_bytes, IsHeaderWithin, IsWithin, IsRequestWithin};
-ghost use Rattle.httpedge.specs.Heads.{max_head, end_inside, head_end, has_name, is_host, media_in, is_transfer_encoded, decimal_value, length_in, agreed, length_after, missing, number, validated, ReadsWholeHead, ReadsHeadAt, HeadDecision, ReadsHead, with_more};
+ghost use Rattle.httpedge.specs.Heads.{max_head, head_end, has_name, is_host, media_in, is_transfer_encoded, decimal_value, length_in, agreed, length_after, missing, number, validated, ReadsWholeHead, ReadsHeadAt, HeadDecision, ReadsHead, with_more};
 ghost use Rattle.httpedge.specs.Decision.{undecided};
 ghost use Rattle.httpedge.specs.Views.{decision_of, head_of, is_plain, length_of, without_zeros, IsPlain, IsWholeAt};
 
 use crate::decision::Decision;
+use crate::head_end::{MAX_HEAD, end_of};
 use crate::refusal::Refusal;
 use httparse::Status;
 use httparse::spans::{EMPTY_HEADER_SPAN, HeaderSpan, RequestSpans, parse_request};
-
-const MAX_HEAD: usize = 16_384;
 
 const MAX_FIELDS: usize = 64;
 
@@ -43,39 +42,6 @@ pub struct Head<'b> {
     pub is_transfer_encoded: bool,
     pub length: Length<'b>,
     pub rest: &'b [u8],
-}
-
-/// How many bytes there are up to the first empty line, and with it, from a byte inside the head.
-fn end_inside(bytes: &[u8], from: usize) -> Option<usize>
-    requires { from ≤ length bytes.now }
-    ensures value { result ≡ end_inside from (drop from bytes.now) }
-    ensures within { IfSome result (λ n. n ≤ length bytes.now) }
-{
-    for i in from..bytes.len() {
-        if bytes[i] == b'\n' {
-            let rest = &bytes[i + 1..];
-            if rest.starts_with(b"\n") {
-                return Some(i + 2);
-            }
-            if rest.starts_with(b"\r\n") {
-                return Some(i + 3);
-            }
-        }
-    }
-    None
-}
-
-/// How many bytes the head has, where it ends in these.
-fn head_end(bytes: &[u8]) -> Option<usize>
-    ensures value { result ≡ head_end bytes.now }
-    ensures within { IfSome result (λ n. n ≤ length bytes.now) }
-{
-    for (i, byte) in bytes.iter().enumerate() {
-        if *byte != b'\r' && *byte != b'\n' {
-            return end_inside(bytes, i);
-        }
-    }
-    None
 }
 
 fn has_name(head: &[u8], field: &HeaderSpan, word: &[u8]) -> bool
@@ -281,25 +247,6 @@ fn validate<'b>(head: &'b [u8], rest: &'b [u8]) -> Decision<Head<'b>>
     }
 }
 
-fn front_of(bytes: &[u8]) -> &[u8]
-    ensures { result.now ≡ take max_head bytes.now }
-{
-    if bytes.len() > MAX_HEAD {
-        &bytes[..MAX_HEAD]
-    } else {
-        bytes
-    }
-}
-
-/// How many bytes the head has, where it ends within the limit.
-fn end_of(bytes: &[u8]) -> Option<usize>
-    ensures value { result ≡ head_end (take max_head bytes.now) }
-    ensures within { IfSome result (λ n. n ≤ length bytes.now) }
-    ensures short { IfSome result (λ n. n ≤ max_head) }
-{
-    head_end(front_of(bytes))
-}
-
 fn validate_at(bytes: &[u8], end: usize) -> Decision<Head<'_>>
     requires within { end ≤ length bytes.now }
     requires short { end ≤ max_head }
@@ -308,10 +255,12 @@ fn validate_at(bytes: &[u8], end: usize) -> Decision<Head<'_>>
     validate(&bytes[..end], &bytes[end..])
 }
 
-fn read_front(bytes: &[u8]) -> Decision<Head<'_>>
+/// What these bytes say of a head that has so many bytes, or none while it hasn't come whole.
+pub(crate) fn read_to(bytes: &[u8], end: Option<usize>) -> Decision<Head<'_>>
+    requires { end ≡ head_end (take max_head bytes.now) }
     ensures { ReadsHead bytes.now (decision_of head_of result) }
 {
-    match end_of(bytes) {
+    match end {
         Some(end) => validate_at(bytes, end),
         None if bytes.len() > MAX_HEAD => Decision::Refused(Refusal::HeadTooLarge.denied()),
         None => Decision::Undecided,
@@ -325,5 +274,5 @@ pub fn read_head(bytes: &[u8]) -> Decision<Head<'_>>
     ensures alone { (front : HeadDecision) → ReadsHead bytes.now front → front ≡ decision_of head_of result }
     ensures stays { (more : List ℕ) → decision_of head_of result ≢ undecided → ReadsHead (bytes.now ++ more) (with_more more (decision_of head_of result)) }
 {
-    read_front(bytes)
+    read_to(bytes, end_of(bytes))
 }

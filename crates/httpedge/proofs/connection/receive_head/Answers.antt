@@ -9,21 +9,22 @@ use Rattle.httpedge.proofs.connection.receive_head.Goals as goal
 
 pub returns-in-None-clause-ok : goal.returns-in-None-clause-ok
 returns-in-None-clause-ok c = λ types m stands.
-    let whole = c.args.front.items ++ c.args.bytes.now in
-    let same = c.deref.ensures.value ∙ c.in_ok-extend_from_slice.ensures.items in
-    let found = subst (FindsAll (types_of c.args.api.now) c.deref.result.now) c.in-None.is c.in_ok-ask.ensures in (
+    let whole = c.args.front.bytes.items ++ c.args.bytes.now in
+    let came = ap (λ v. v.items) c.find_end-end.ensures.bytes ∙ c.in_ok-front.ensures in
+    let found = subst (FindsAll (types_of c.args.api.now) c.bytes.result.now) c.in-None.is c.in_ok-ask.ensures in (
       undecided,
       [],
-      subst (λ (ts : List ServedShape). Asks ts whole undecided) stands.serves (subst (λ (bs : List ℕ). Asks (types_of c.args.api.now) bs undecided) same found),
+      subst (λ (ts : List ServedShape). Asks ts whole undecided) stands.serves
+          (subst (λ (bs : List ℕ). Asks (types_of c.args.api.now) bs undecided) (c.bytes.ensures ∙ came) found),
       refl,
-      ap waiting_for (sym c.in_ok-extend_from_slice.ensures.items),
+      ap waiting_for (sym came),
       stands,
     )
 
 pub returns-in-Some-clause-ok : goal.returns-in-Some-clause-ok
 returns-in-Some-clause-ok c = λ types m stands.
-    let whole = c.args.front.items ++ c.args.bytes.now in
-    let same = c.deref.ensures.value ∙ c.in_ok-extend_from_slice.ensures.items in
-    let found = subst (FindsAll (types_of c.args.api.now) c.deref.result.now) c.in-Some.is c.in_ok-ask.ensures in
+    let whole = c.args.front.bytes.items ++ c.args.bytes.now in
+    let same = c.bytes.ensures ∙ ap (λ v. v.items) c.find_end-end.ensures.bytes ∙ c.in_ok-front.ensures in
+    let found = subst (FindsAll (types_of c.args.api.now) c.bytes.result.now) c.in-Some.is c.in_ok-ask.ensures in
     c.decided.ensures.ok types m whole stands
     (subst (λ (ts : List ServedShape). Finds ts whole c.in-Some.asked) stands.serves (subst (λ (bs : List ℕ). Finds (types_of c.args.api.now) bs c.in-Some.asked) same found))

@@ -1,7 +1,7 @@
 use Rattle.std.proofs.Common.{arith, sym}
 use Rattle.std.proofs.lemmas.List.{take_all, length-take}
 use Rattle.httpedge.specs.Heads.{max_head}
-use Rattle.httpedge.proofs.head.front_of.Goals as goal
+use Rattle.httpedge.proofs.head_end.front_of.Goals as goal
 
 pub returns-else-bytes-gt-MAX_HEAD : goal.returns-else-bytes-gt-MAX_HEAD
 returns-else-bytes-gt-MAX_HEAD c = sym (take_all max_head c.args.bytes.now c.if-bytes-gt-MAX_HEAD.false)
