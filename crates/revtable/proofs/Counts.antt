@@ -7,8 +7,8 @@ use Rattle.sqlite.specs.Order.{Row}
 use Rattle.sqlite.specs.Tree.{Trees}
 use Rattle.sqlite.specs.Query.{output, Output, matches_as, end, IsAnswerAs}
 use Rattle.sqlite.specs.Program.{overlay}
-use Rattle.sqlite.specs.State.{State, Shown}
-use Rattle.sqlite.proofs.Callers.{reads_as, one_permutation}
+use Rattle.sqlite.specs.Effect.{Answers, Database}
+use Rattle.sqlite.proofs.Callers.{one_permutation}
 use Rattle.std.proofs.lemmas.List.{length-map}
 use Rattle.std.specs.List.{AllZip}
 use Rattle.std.proofs.lemmas.List.Sorted.{length_permutation}
@@ -17,10 +17,10 @@ use Rattle.sqlite.specs.Term.{lit}
 use Rattle.sqlite_sql.specs.Group.{IsSummary, Summarizes, value_over}
 use Rattle.history.specs.History.{Change}
 use Rattle.history.specs.Kept.{with_body}
-use Rattle.revtable.specs.Rows.{change_schema, row_of, IsKept, changes_in}
+use Rattle.revtable.specs.Rows.{row_of}
 use Rattle.revtable.proofs.Last.{kept_if}
 use Rattle.revtable.proofs.Where.{count_tests}
-use Rattle.revtable.proofs.Texts.{count_grouping, count_all, count_text, count_query, count_is, count_plain}
+use Rattle.revtable.proofs.Texts.{count_grouping, count_all, count_query}
 
 matched : (lost : Value) (trees : Trees) (changes : List Change) → trees 0 ≡ map row_of changes → matches_as lost trees count_query.filter count_query.from ([] ∷ []) ≡ map (λ c. [] ∷ row_of c ∷ []) (with_body changes)
 matched lost trees changes is = ap (flat_map (λ row. matches_as lost trees count_query.filter end ([] ∷ row ∷ []))) is ∙ go changes
@@ -51,15 +51,15 @@ counted all staged g =
     let rows : g.rows ≡ (Int (pos (min (length order) most)) ∷ []) ∷ [] = one_row order g.rows (subst (λ l. AllZip (IsSummary count_grouping) l g.rows) g.grouping.2 g.summaries) in
     g.having ∙ ap (λ l. filter (λ env. true) (map (λ r. [] ∷ r ∷ []) l)) rows ∙ ap (λ n. ([] ∷ (Int (pos (min n most)) ∷ []) ∷ []) ∷ []) (length_permutation all order g.grouping.1)
 
-pub finds_count : (old new : State) (rows : List Row) → IsKept old → Shown count_text [] old new rows → rows ≡ (Int (pos (min (length (with_body (changes_in old))) most)) ∷ []) ∷ []
-finds_count old new rows was h =
-    let got = reads_as count_text [] old new change_schema was.schema _ count_is.0 count_plain count_is.1 rows h in
-    let a : IsAnswerAs Null count_query (overlay old.now.trees []) [] rows = got.answer Null in
-    let number : Value = Int (pos (min (length (with_body (changes_in old))) most)) in
-    let all : List Env = map (λ c. [] ∷ row_of c ∷ []) (with_body (changes_in old)) in
+pub finds_count : (db : Database) (changes : List Change) (rows : List Row) → db.trees 0 ≡ map row_of changes → Answers db (record { lets = []; body = count_query }) [] rows
+    → rows ≡ (Int (pos (min (length (with_body changes)) most)) ∷ []) ∷ []
+finds_count db changes rows is h =
+    let a : IsAnswerAs Null count_query (overlay db.trees []) [] rows = h.answer Null in
+    let number : Value = Int (pos (min (length (with_body changes)) most)) in
+    let all : List Env = map (λ c. [] ∷ row_of c ∷ []) (with_body changes) in
     let staged : a.staged ≡ ([] ∷ (number ∷ []) ∷ []) ∷ [] =
-    counted _ a.staged a.grouped ∙ ap (λ (l : List Env). ([] ∷ (Int (pos (min (length l) most)) ∷ []) ∷ []) ∷ []) (matched Null old.now.trees (changes_in old) was.rows)
-    ∙ ap (λ n. ([] ∷ (Int (pos (min n most)) ∷ []) ∷ []) ∷ []) (length-map (with_body (changes_in old)) (λ (c : Change). [] ∷ row_of c ∷ [])) in
+    counted _ a.staged a.grouped ∙ ap (λ (l : List Env). ([] ∷ (Int (pos (min (length l) most)) ∷ []) ∷ []) ∷ []) (matched Null db.trees changes is)
+    ∙ ap (λ n. ([] ∷ (Int (pos (min n most)) ∷ []) ∷ []) ∷ []) (length-map (with_body changes) (λ (c : Change). [] ∷ row_of c ∷ [])) in
     let one : Output = ([], number ∷ []) in
     let kept : a.kept ≡ one ∷ [] = a.distinct ∙ ap (map (output count_query)) staged in
     let ordered = one_permutation one a.ordered (subst (λ l. IsPermutation l a.ordered) kept a.same) in

@@ -13,8 +13,7 @@ use Rattle.sqlite.specs.Order.{Row}
 use Rattle.sqlite.specs.Tree.{Trees, IsAscending}
 use Rattle.sqlite.specs.Query.{output, Output, matches_as, end, IsAnswerAs, output_cmp}
 use Rattle.sqlite.specs.Program.{overlay}
-use Rattle.sqlite.specs.State.{State, Shown}
-use Rattle.sqlite.proofs.Callers.{reads_as}
+use Rattle.sqlite.specs.Effect.{Answers, Database}
 use Rattle.sqlite_sql.specs.Term.{Env}
 use Rattle.sqlite_sql.proofs.QueryLemmas.{output_cmp_total}
 use Rattle.sqlite_value.proofs.OrderLemmas.{value_cmp-Int}
@@ -22,11 +21,11 @@ use Rattle.sqlite_keyed.proofs.SortLemmas.{sorted_unique}
 use Rattle.sqlite_keyed.proofs.ListLemmas.{map-map, ascending-map, ascending-filter, ascending_weaker}
 use Rattle.history.specs.History.{Key, Change, Object, Objects, key_cmp, left_by, is_same_key, changed, put_or_remove, up_to, state_at}
 use Rattle.revtable.specs.Asked.{is_last_of, last_change}
-use Rattle.revtable.specs.Rows.{change_schema, row_of, shown, IsOrdered, IsKept, changes_in}
+use Rattle.revtable.specs.Rows.{row_of, shown, IsOrdered}
 use Rattle.history.proofs.Keys.{get-put_or_remove}
 use Rattle.revtable.proofs.Lists.{reverse-cons, map-reverse, ascending-reverse}
 use Rattle.revtable.proofs.Where.{bound_key, last_tests, same_key_symm}
-use Rattle.revtable.proofs.Texts.{last_text, last_query, last_is, last_plain}
+use Rattle.revtable.proofs.Texts.{last_query}
 
 abbrev env_of : Key → ℕ → Change → Env
 env_of k r c = bound_key k r ∷ row_of c ∷ []
@@ -53,14 +52,12 @@ first_of : (cs : List Change) → take 1 (map shown cs) ≡ map shown (option_to
 first_of [] = refl
 first_of (c ∷ cs) = refl
 
-pub finds_last : (old new : State) (k : Key) (r : ℕ) (rows : List Row) → IsKept old → IsOrdered (changes_in old) → Shown last_text (bound_key k r) old new rows
-    → rows ≡ map shown (option_to_list (last_change k r (changes_in old)))
-finds_last old new k r rows was rising h =
-    let changes = changes_in old in
-    let got = reads_as last_text (bound_key k r) old new change_schema was.schema _ last_is.0 last_plain last_is.1 rows h in
-    let a : IsAnswerAs Null last_query (overlay old.now.trees []) (bound_key k r) rows = got.answer Null in
+pub finds_last : (db : Database) (changes : List Change) (k : Key) (r : ℕ) (rows : List Row) → db.trees 0 ≡ map row_of changes → IsOrdered changes → Answers db (record { lets = []; body = last_query }) (bound_key k r) rows
+    → rows ≡ map shown (option_to_list (last_change k r changes))
+finds_last db changes k r rows is rising h =
+    let a : IsAnswerAs Null last_query (overlay db.trees []) (bound_key k r) rows = h.answer Null in
     let mine = filter (is_last_of k r) changes in
-    let staged : a.staged ≡ map (env_of k r) mine = a.grouped ∙ matched Null k r changes old.now.trees was.rows in
+    let staged : a.staged ≡ map (env_of k r) mine = a.grouped ∙ matched Null k r changes db.trees is in
     let kept : a.kept ≡ map shows mine = a.distinct ∙ ap (map (output last_query)) staged ∙ map-map (output last_query) (env_of k r) mine in
     let up : IsAscending (λ x y. output_cmp last_query x y ≡ Less) (reverse (map shows mine)) =
     ascending-reverse (λ x y. output_cmp last_query y x ≡ Less) (map shows mine) (ascending-map (λ x y. output_cmp last_query y x ≡ Less) shows mine (ascending_weaker _ _ later_first mine (ascending-filter _ (is_last_of k r) changes rising))) in

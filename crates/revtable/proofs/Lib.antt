@@ -1,5 +1,8 @@
+pub mod Compacting
 pub mod Counts
+pub mod Deleting
 pub mod Entries
+pub mod Fields
 pub mod Files
 pub mod Halves
 pub mod Inserts
@@ -8,7 +11,7 @@ pub mod Lists
 pub mod Numbers
 pub mod Outcomes
 pub mod Pages
-pub mod Keeping
+pub mod Revision
 pub mod Span
 pub mod Where
 pub mod Texts

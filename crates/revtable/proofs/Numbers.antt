@@ -1,5 +1,5 @@
 -- The two numbers beside the rows.
-use Rattle.std.proofs.Common.{◌≡◌, ℕ, zero, suc, ◌<◌, ◌≤◌, ◌^◌, Bool, true, false, cond, List, [], ◌∷◌, ◌++◌, map, slice_get, refl, sym, ap, ap₂, subst, ◌∙◌, Option, Some, None, arith, option_and_then, min, max, pos, is_some, unwrap_or}
+use Rattle.std.proofs.Common.{◌≡◌, ℕ, zero, suc, ◌<◌, ◌≤◌, Bool, true, false, cond, List, [], ◌∷◌, map, slice_get, refl, sym, ap, ap₂, subst, ◌∙◌, Option, Some, None, arith, option_and_then, min, pos, is_some, unwrap_or}
 use Rattle.std.proofs.Common.{leb-true, leb-false, le-leb, ltb-true, ltb-false, lt-ltb, le-ltb, zero-le}
 use Rattle.std.proofs.lemmas.Bool.{lt-leb}
 use Rattle.std.specs.Prelude.{nat_le, nat_lt, take, ◌+◌, ◌-◌, length}
@@ -12,11 +12,10 @@ use Rattle.sqlite_keyed.proofs.ListLemmas.{all_weaker, map_back}
 use Rattle.revtable.specs.Asked.{as_change, last_change}
 use Rattle.revtable.specs.Decoded.{change_shown, entry_shown}
 use Rattle.history.specs.History.{Key, Change, Object, Objects, History, IsHistory, IsRising, key_cmp, last_revision, changed, later, left_by, object_by, put_or_remove, state_at, up_to}
-use Rattle.history.specs.Kept.{IsPruned, kept, with_body}
+use Rattle.history.specs.Kept.{IsPruned, with_body}
 use Rattle.history.specs.Page.{changes_within, listed, page, picked}
 use Rattle.revtable.specs.Rows.{IsOrdered, AreBelow, shown, body_value, body_in, number_in}
 use Rattle.history.proofs.Keys.{key_cmp_total}
-use Rattle.history.proofs.Kept.{written_is, pruned_is}
 use Rattle.revtable.proofs.Last.{get_last}
 use Rattle.history.proofs.Revisions.{all_above, all_within, rising-filter}
 use Rattle.history.proofs.Standing.{filter_same_on}
@@ -28,15 +27,10 @@ ascending lo top (c ∷ cs) rise = (all_above c.revision top cs rise.1, ascendin
 pub ordered : (h : History) → IsPruned h → IsOrdered h.changes
 ordered h p = ascending 0 h.current h.changes p.is.rising
 
-pub rises : (h : History) → IsPruned h → (top : ℕ) × IsRising 0 h.changes top × (top < 2 ^ 63)
-rises h p =
-    let high : h.current ≤ last_revision = p.is.high in
-    (h.current, p.is.rising, omega arith)
+below_next : (h : History) → IsHistory h → AreBelow (suc h.current) h.changes
+below_next h p = all_weaker (λ c. c.revision ≤ h.current) (λ c. c.revision < suc h.current) (λ c (le : c.revision ≤ h.current). omega arith) h.changes (all_within 0 h.current h.changes p.rising)
 
-below_next : (h : History) → IsPruned h → AreBelow (suc h.current) h.changes
-below_next h p = all_weaker (λ c. c.revision ≤ h.current) (λ c. c.revision < suc h.current) (λ c (le : c.revision ≤ h.current). omega arith) h.changes (all_within 0 h.current h.changes p.is.rising)
-
-pub below_at : (h : History) (n : ℕ) → IsPruned h → n ≡ suc h.current → AreBelow n h.changes
+pub below_at : (h : History) (n : ℕ) → IsHistory h → n ≡ suc h.current → AreBelow n h.changes
 below_at h n p is = subst (λ m. AreBelow m h.changes) (sym is) (below_next h p)
 
 -- a revision past the current one counts as that
@@ -92,20 +86,6 @@ first_left cs k r rows is = ap (λ l. option_and_then left_shown (slice_get l 0)
 pub latest_is : (h : History) (k : Key) (r m : ℕ) (rows : List Row) → IsPruned h → m ≡ min r h.current → rows ≡ map shown (option_to_list (last_change k m h.changes))
     → option_and_then left_shown (slice_get rows 0) ≡ fin.get (state_at h.changes r) k
 latest_is h k r m rows p is found = first_left h.changes k m rows found ∙ ap (λ n. fin.get (state_at h.changes n) k) is ∙ ap (λ s. fin.get s k) (state_min h r p.is)
-
--- ---- the numbers after a write and after a prune
-
-pub after_put : (h : History) (n : ℕ) (k : Key) (body : Option (List ℕ)) (cs : List Change) → IsPruned h → n ≡ suc h.current → n ≤ last_revision → cs ≡ h.changes ++ record { revision = n; key = k; body = body } ∷ []
-    → IsPruned (record { changes = cs; current = n; compacted = h.compacted })
-after_put h n k body cs p is fits changes =
-    subst (λ l. IsPruned (record { changes = l; current = n; compacted = h.compacted })) (sym changes)
-    (subst (λ m. IsPruned (record { changes = h.changes ++ record { revision = m; key = k; body = body } ∷ []; current = m; compacted = h.compacted })) (sym is)
-    (written_is h k body p (subst (λ m. m ≤ last_revision) is fits)))
-
-pub after_prune : (h : History) (r low m : ℕ) (cs : List Change) → IsPruned h → low ≡ min r h.current → m ≡ max low h.compacted → cs ≡ kept m h.changes → IsPruned (record { changes = cs; current = h.current; compacted = m })
-after_prune h r low m cs p is found changes =
-    let fits : h.compacted ≤ h.current = p.is.low in
-    subst (λ l. IsPruned (record { changes = l; current = h.current; compacted = m })) (sym changes) (pruned_is h m p.is (omega arith))
 
 -- ---- how many there can be
 

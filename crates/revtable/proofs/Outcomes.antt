@@ -5,16 +5,17 @@ use Rattle.std.specs.Prelude.{Vec, IfErr}
 use Rattle.std.specs.declared.alloc.Global.{Global}
 use Rattle.sqlite.specs.Order.{Row}
 use Rattle.sqlite.specs.declared.error.Error.{Error}
-use Rattle.sqlite.specs.Effect.{Database}
+use Rattle.sqlite.specs.Effect.{Database, Reads}
 use Rattle.sqlite_resolve.specs.declared.compiled.Compiled.{Compiled}
 use Rattle.sqlite_schema.specs.declared.command.Command.{Command}
 use Rattle.sqlite_schema.specs.declared.command.Command.TheVariants.{Select, Insert, InsertOr, Update, Delete, CreateTable, CreateIndex, DropTable, DropIndex, Begin, Commit, Rollback, Savepoint as Save, Release, RollbackTo, Nothing, CreateView, DropView, Rows}
 use Rattle.sqlite_schema.specs.declared.command.Returning.{Returning}
-use Rattle.sqlite.specs.Listing.{understood}
+use Rattle.sqlite.specs.Listing.{understood, reads_listing}
 use Rattle.sqlite.specs.State.{State, Executes, Shown, IsUnchanged, FailsToQuery, FailsToShow, ShowsRows, Fails, IsNotRun, IsRolledBack, ExecutesIn, RunsCommand, Runs, ReleasesAt, shows_rows}
-use Rattle.sqlite.proofs.Callers.{IsPlain}
+use Rattle.sqlite.proofs.Callers.{IsPlain, command_of, reads_as}
+use Rattle.sqlite_resolve.specs.declared.error.CompileError.{CompileError}
 use Rattle.history.specs.History.{Change}
-use Rattle.revtable.specs.Rows.{change_schema, row_of, change_in, changes_in, body_value, body_in, IsKept, Keeps, IsSame}
+use Rattle.revtable.specs.Rows.{change_schema, row_of, change_in, changes_in, body_value, body_in, command_in, IsAnswer, IsKept, Keeps, IsSame}
 
 -- a part that gave a value did not stop on the way
 pub went : {B E R : Type 0} {b : B} {Stops : E → Type 0} → ((stop : E) × Stops stop × (Ok b ≡ Err stop)) ⊎ R → R
@@ -199,13 +200,26 @@ asked_keeps sql plain old new params cs r keeps ok err =
           (all.0, all.1 ∙ was.1);
     }
 
+same_command : (r : Result Compiled CompileError) → command_of r ≡ command_in r
+same_command (Ok c) = refl
+same_command (Err e) = refl
+
 -- an answer is one to the rows that the connection keeps
-pub answers : (sql : List ℕ) (old new : State) (params : Row) (cs : List Change) (r : Result (Vec Row Global) Error) (found : List Change → List Row) → Keeps cs old
-    → ((rows : List Row) → IsKept old → changes_in old ≡ cs → Shown sql params old new rows → rows ≡ found (changes_in old))
-    → IfOk r (λ rows. Shown sql params old new rows.items) → IfOk r (λ rows. rows.items ≡ found cs)
-answers sql old new params cs r found keeps finds ok = when_ok r _ _ (λ rows h.
-    let was = keeps.rows (open_if_shown old new sql params rows.items h).0 in
-    finds rows.items was.0 was.1 h ∙ ap found was.1) ok
+pub shows : (sql : List ℕ) → IsPlain (understood change_schema sql) → reads_listing change_schema sql ≡ false → (old new : State) (params : Row) (cs : List Change) (r : Result (Vec Row Global) Error) → Keeps cs old
+    → IfOk r (λ rows. Shown sql params old new rows.items) → IfOk r (λ rows. IsAnswer sql params cs rows.items)
+shows sql plain unlisted old new params cs r keeps ok = when_ok r _ _ (λ rows h.
+    let was = keeps.rows (open_if_shown old new sql params rows.items h).0 in (
+      old.now,
+      was.0.rows ∙ ap (map row_of) was.1,
+      subst (λ k. Reads k old.now params rows.items) (same_command (understood change_schema sql)) (reads_as sql params old new change_schema was.0.schema _ refl plain unlisted rows.items h),
+    )) ok
+
+-- what a command finds of the rows that keep the changes
+pub answered : {E : Type 0} (sql : List ℕ) (command : Command) (params : Row) (cs : List Change) (r : Result (Vec Row Global) E) (found : List Row) → command_of (understood change_schema sql) ≡ command
+    → ((db : Database) (rows : List Row) → db.trees 0 ≡ map row_of cs → Reads command db params rows → rows ≡ found)
+    → IfOk r (λ rows. IsAnswer sql params cs rows.items) → IfOk r (λ rows. rows.items ≡ found)
+answered sql command params cs r found is finds ok =
+    when_ok r _ _ (λ rows h. finds h.0 rows.items h.1 (subst (λ k. Reads k h.0 params rows.items) (sym (same_command (understood change_schema sql)) ∙ is) h.2)) ok
 
 -- a statement that is refused or fails leaves what the connection keeps
 pub refused_still : (old new : State) (sql : List ℕ) (params : Row) (e : Error) (cs : List Change) → Keeps cs old → Executes sql params old new (Err e) → Keeps cs new

@@ -1,5 +1,5 @@
 -- The objects of a page: what the query finds.
-use Rattle.std.proofs.Common.{◌≡◌, ℕ, List, [], ◌∷◌, map, Bool, true, false, cond, ◌&&◌, Option, refl, sym, ap, subst, ◌∙◌, take, Less, Equal, Greater, Ordering, IsPermutation, filter, ◌==◌}
+use Rattle.std.proofs.Common.{◌≡◌, ℕ, suc, pos, List, [], ◌∷◌, ◌++◌, length, map, Bool, true, false, cond, ◌&&◌, Option, refl, sym, ap, subst, ◌∙◌, take, Less, Equal, Greater, Ordering, IsPermutation, filter, ◌==◌}
 use Rattle.std.proofs.Common.{eqb-true}
 use Rattle.std.specs.Ordering.{is_eq, nat_cmp, ordering_then}
 use Rattle.std.specs.List.{flat_map, list_all, AllByRecursion}
@@ -8,32 +8,41 @@ use Rattle.std.specs.FinMap as fin
 use Rattle.std.proofs.lemmas.Cmp.{tied_itself}
 use Rattle.std.proofs.lemmas.List.Sorted.{IsPermutation-sym, IsPermutation-trans, IsPermutation-map}
 use Rattle.sqlite.specs.declared.types.Value.{Value}
-use Rattle.sqlite.specs.declared.types.Value.TheVariants.{Null, Text as Words}
+use Rattle.sqlite.specs.declared.types.Value.TheVariants.{Null, Int, Text as Words}
 use Rattle.sqlite.specs.Order.{Row}
 use Rattle.sqlite.specs.Term.{Term, col}
 use Rattle.sqlite.specs.Tree.{Trees, IsAscending}
 use Rattle.sqlite.specs.Query.{output, Output, matches_as, inner, counted, end, IsAnswerAs, output_cmp}
 use Rattle.sqlite.specs.Program.{overlay}
-use Rattle.sqlite.specs.State.{State, Shown}
-use Rattle.sqlite.proofs.Callers.{reads_as, IsPlain, command_of}
-use Rattle.sqlite.specs.Listing.{understood, reads_listing}
-use Rattle.sqlite.specs.Command.TheVariants.{Select}
-use Rattle.sqlite_sql.specs.Term.{Env, holds}
+use Rattle.sqlite.specs.Effect.{Answers, Database}
+use Rattle.sqlite_sql.specs.Term.{Env, eval, holds}
 use Rattle.sqlite_sql.proofs.QueryLemmas.{output_cmp_total}
 use Rattle.sqlite_value.proofs.OrderLemmas.{value_cmp-Text}
 use Rattle.sqlite_keyed.proofs.SortLemmas.{sorted_unique}
 use Rattle.sqlite_keyed.proofs.ListLemmas.{map-map, ascending-map, ascending-filter, ascending_weaker, filter-map, all_both, IsPermutation-filter}
 use Rattle.history.specs.History.{Key, Change, text_cmp, key_cmp, state_at, IsRising}
 use Rattle.revtable.specs.Asked.{as_change, is_in_one, is_from, in_one, in_from}
-use Rattle.history.specs.Kept.{stands}
-use Rattle.revtable.specs.Rows.{change_schema, row_of, shown, IsKept, changes_in}
+use Rattle.history.specs.Kept.{replaces, stands}
+use Rattle.revtable.specs.Rows.{row_of, shown}
 use Rattle.revtable.proofs.Entries.{Entry, entries_ascend, standing_entries}
 use Rattle.revtable.proofs.Last.{kept_if}
-use Rattle.revtable.proofs.Keeping.{counted_are}
 use Rattle.history.proofs.Lists.{filter_both}
 use Rattle.revtable.proofs.Span.{take-map}
-use Rattle.revtable.proofs.Where.{bound_page, bound_in, bound_from, beside, in_tests_are, from_tests_are}
-use Rattle.revtable.proofs.Texts.{page_query, names, later_tests, in_text, in_tests, in_is, in_plain, from_text, from_tests, from_is, from_plain}
+use Rattle.revtable.proofs.Where.{later_are, bound_page, bound_in, bound_from, beside, in_tests_are, from_tests_are}
+use Rattle.revtable.proofs.Texts.{page_query, later_tests, in_tests, from_tests}
+
+-- how many replace it
+counted_are : (lost : Value) (trees : Trees) (params : Row) (to : Term) (c : ℕ) (it : Change) (cs : List Change)
+    → ((later : Change) → eval to (params ∷ row_of it ∷ row_of later ∷ []) ≡ Int (pos c))
+    → length (flat_map (λ r. matches_as lost trees (later_tests to) end (params ∷ row_of it ∷ r ∷ [])) (map row_of cs)) ≡ length (filter (replaces c it) cs)
+counted_are lost trees params to c it [] is = refl
+counted_are lost trees params to c it (x ∷ cs) is = rw (later_are params c it x to (is x)) (go (replaces c it x) (counted_are lost trees params to c it cs is))
+  where
+    go : (b : Bool) → length (flat_map (λ r. matches_as lost trees (later_tests to) end (params ∷ row_of it ∷ r ∷ [])) (map row_of cs)) ≡ length (filter (replaces c it) cs)
+        → length (cond b ((params ∷ row_of it ∷ row_of x ∷ []) ∷ []) [] ++ flat_map (λ r. matches_as lost trees (later_tests to) end (params ∷ row_of it ∷ r ∷ [])) (map row_of cs))
+        ≡ length (cond b (x ∷ filter (replaces c it) cs) (filter (replaces c it) cs))
+    go true more = ap suc more
+    go false more = more
 
 -- what the query of a page finds: the standing changes whose keys are wanted
 module _ (asked : List Term) (rest : Row) (wanted : Key → Bool) (r max : ℕ) where
@@ -88,17 +97,13 @@ same_kind a b e = ap (λ o. ordering_then o (ordering_then (text_cmp a.namespace
 lesser_first : (asked : List Term) (e f : Entry) → e.0.kind ≡ f.0.kind → key_cmp e.0 f.0 ≡ Less → output_cmp (page_query asked) (shows (as_change e)) (shows (as_change f)) ≡ Less
 lesser_first asked e f is lt = rw (value_cmp-Text e.0.namespace f.0.namespace, value_cmp-Text e.0.name f.0.name) (less_by_name _ _ (sym (same_kind e.0 f.0 is) ∙ lt))
 
-pub finds_page : (text : List ℕ) (asked : List Term) (rest : Row) (wanted : Key → Bool) (kind : ℕ) (old new : State) (r max top : ℕ) (rows : List Row)
-    → (command_of (understood change_schema text) ≡ Select (record { lets = []; body = page_query asked }) names) × (reads_listing change_schema text ≡ false) → IsPlain (understood change_schema text)
-    → AreTests asked rest wanted r max → ((k : Key) → wanted k ≡ true → k.kind ≡ kind) → IsKept old → IsRising 0 (changes_in old) top
-    → Shown text (bound_page r max rest) old new rows → rows ≡ map (λ e. shown (as_change e)) (take max (filter (λ e. wanted e.0) (fin.entries (state_at (changes_in old) r))))
-finds_page text asked rest wanted kind old new r max top rows is plain tests of_kind was rising h =
-    let changes = changes_in old in
-    let params = bound_page r max rest in
-    let got = reads_as text params old new change_schema was.schema _ is.0 plain is.1 rows h in
-    let a : IsAnswerAs Null (page_query asked) (overlay old.now.trees []) params rows = got.answer Null in
+pub finds_page : (asked : List Term) (rest : Row) (wanted : Key → Bool) (kind : ℕ) (db : Database) (changes : List Change) (r max top : ℕ) (rows : List Row) → AreTests asked rest wanted r max
+    → ((k : Key) → wanted k ≡ true → k.kind ≡ kind) → db.trees 0 ≡ map row_of changes → IsRising 0 changes top → Answers db (record { lets = []; body = page_query asked }) (bound_page r max rest) rows
+    → rows ≡ map (λ e. shown (as_change e)) (take max (filter (λ e. wanted e.0) (fin.entries (state_at changes r))))
+finds_page asked rest wanted kind db changes r max top rows tests of_kind is rising h =
+    let a : IsAnswerAs Null (page_query asked) (overlay db.trees []) (bound_page r max rest) rows = h.answer Null in
     let mine = filter (is_on_page asked rest wanted r max changes) changes in
-    let staged : a.staged ≡ map (env_of asked rest wanted r max changes) mine = a.grouped ∙ matched asked rest wanted r max tests Null old.now.trees changes was.rows in
+    let staged : a.staged ≡ map (env_of asked rest wanted r max changes) mine = a.grouped ∙ matched asked rest wanted r max tests Null db.trees changes is in
     let kept : a.kept ≡ map shows mine = a.distinct ∙ ap (map (output (page_query asked))) staged ∙ map-map (output (page_query asked)) (env_of asked rest wanted r max changes) mine in
     let es = fin.entries (state_at changes r) in
     let there = filter (λ (e : Entry). wanted e.0) es in
@@ -128,12 +133,12 @@ one_kind kind ns name k e = eqb-true _ _ (and_left (k.kind == kind) _ (and_left 
 pub from_kind : (kind : ℕ) (low : List ℕ) (k : Key) → is_from kind low k ≡ true → k.kind ≡ kind
 from_kind kind low k e = eqb-true _ _ (and_left (k.kind == kind) _ e)
 
-pub finds_in : (old new : State) (kind : ℕ) (ns : List ℕ) (name : Option (List ℕ)) (r max top : ℕ) (rows : List Row) → IsKept old → IsRising 0 (changes_in old) top
-    → Shown in_text (bound_page r max (bound_in kind ns name)) old new rows → rows ≡ map (λ e. shown (as_change e)) (take max (in_one kind ns name (state_at (changes_in old) r)))
-finds_in old new kind ns name r max top rows was rising h =
-    finds_page in_text in_tests (bound_in kind ns name) (is_in_one kind ns name) kind old new r max top rows in_is in_plain (in_tests_are kind ns name r max) (one_kind kind ns name) was rising h
+pub finds_in : (db : Database) (changes : List Change) (kind : ℕ) (ns : List ℕ) (name : Option (List ℕ)) (r max top : ℕ) (rows : List Row) → db.trees 0 ≡ map row_of changes → IsRising 0 changes top
+    → Answers db (record { lets = []; body = page_query in_tests }) (bound_page r max (bound_in kind ns name)) rows → rows ≡ map (λ e. shown (as_change e)) (take max (in_one kind ns name (state_at changes r)))
+finds_in db changes kind ns name r max top rows is rising h =
+    finds_page in_tests (bound_in kind ns name) (is_in_one kind ns name) kind db changes r max top rows (in_tests_are kind ns name r max) (one_kind kind ns name) is rising h
 
-pub finds_from : (old new : State) (kind : ℕ) (low : List ℕ) (r max top : ℕ) (rows : List Row) → IsKept old → IsRising 0 (changes_in old) top
-    → Shown from_text (bound_page r max (bound_from kind low)) old new rows → rows ≡ map (λ e. shown (as_change e)) (take max (in_from kind low (state_at (changes_in old) r)))
-finds_from old new kind low r max top rows was rising h =
-    finds_page from_text from_tests (bound_from kind low) (is_from kind low) kind old new r max top rows from_is from_plain (from_tests_are kind low r max) (from_kind kind low) was rising h
+pub finds_from : (db : Database) (changes : List Change) (kind : ℕ) (low : List ℕ) (r max top : ℕ) (rows : List Row) → db.trees 0 ≡ map row_of changes → IsRising 0 changes top
+    → Answers db (record { lets = []; body = page_query from_tests }) (bound_page r max (bound_from kind low)) rows → rows ≡ map (λ e. shown (as_change e)) (take max (in_from kind low (state_at changes r)))
+finds_from db changes kind low r max top rows is rising h =
+    finds_page from_tests (bound_from kind low) (is_from kind low) kind db changes r max top rows (from_tests_are kind low r max) (from_kind kind low) is rising h

@@ -10,8 +10,7 @@ use Rattle.sqlite.specs.Order.{Row}
 use Rattle.sqlite.specs.Tree.{Trees, IsAscending}
 use Rattle.sqlite.specs.Query.{output, Output, matches_as, end, IsAnswerAs, output_cmp}
 use Rattle.sqlite.specs.Program.{overlay}
-use Rattle.sqlite.specs.State.{State, Shown}
-use Rattle.sqlite.proofs.Callers.{reads_as}
+use Rattle.sqlite.specs.Effect.{Answers, Database}
 use Rattle.sqlite_sql.specs.Term.{Env}
 use Rattle.sqlite_sql.proofs.QueryLemmas.{output_cmp_total}
 use Rattle.sqlite_value.proofs.OrderLemmas.{value_cmp-Int}
@@ -19,11 +18,11 @@ use Rattle.sqlite_keyed.proofs.SortLemmas.{sorted_unique}
 use Rattle.sqlite_keyed.proofs.ListLemmas.{map-map, ascending-map, ascending-filter, ascending_weaker, filter_same}
 use Rattle.history.specs.History.{Change, up_to, later}
 use Rattle.history.specs.Page.{is_within, changes_within}
-use Rattle.revtable.specs.Rows.{change_schema, row_of, shown, IsOrdered, IsKept, changes_in}
+use Rattle.revtable.specs.Rows.{row_of, shown, IsOrdered}
 use Rattle.revtable.proofs.Last.{kept_if}
 use Rattle.history.proofs.Lists.{filter_both}
 use Rattle.revtable.proofs.Where.{bound_span, is_in_span, span_tests}
-use Rattle.revtable.proofs.Texts.{span_text, span_query, span_is, span_plain}
+use Rattle.revtable.proofs.Texts.{span_query}
 
 pub take-map : {X Y : Type 0} (f : X → Y) (n : ℕ) (xs : List X) → take n (map f xs) ≡ map f (take n xs)
 take-map f zero xs = refl
@@ -55,15 +54,13 @@ in_parts from to kind ns cs =
     grouped true b c = refl
     grouped false b c = refl
 
-pub finds_span : (old new : State) (from to kind : ℕ) (ns : Option (List ℕ)) (max : ℕ) (rows : List Row) → IsKept old → IsOrdered (changes_in old) → Shown span_text (bound_span from to kind ns max) old new rows
-    → rows ≡ map shown (changes_within kind ns max (up_to to (later from (changes_in old))))
-finds_span old new from to kind ns max rows was rising h =
-    let changes = changes_in old in
-    let got = reads_as span_text (bound_span from to kind ns max) old new change_schema was.schema _ span_is.0 span_plain span_is.1 rows h in
-    let a : IsAnswerAs Null span_query (overlay old.now.trees []) (bound_span from to kind ns max) rows = got.answer Null in
+pub finds_span : (db : Database) (changes : List Change) (from to kind : ℕ) (ns : Option (List ℕ)) (max : ℕ) (rows : List Row) → db.trees 0 ≡ map row_of changes → IsOrdered changes
+    → Answers db (record { lets = []; body = span_query }) (bound_span from to kind ns max) rows → rows ≡ map shown (changes_within kind ns max (up_to to (later from changes)))
+finds_span db changes from to kind ns max rows is rising h =
+    let a : IsAnswerAs Null span_query (overlay db.trees []) (bound_span from to kind ns max) rows = h.answer Null in
     let mine = filter (is_in_span from to kind ns) changes in
     let env : Change → Env = λ c. bound_span from to kind ns max ∷ row_of c ∷ [] in
-    let staged : a.staged ≡ map env mine = a.grouped ∙ matched from to kind ns max Null changes old.now.trees was.rows in
+    let staged : a.staged ≡ map env mine = a.grouped ∙ matched from to kind ns max Null changes db.trees is in
     let kept : a.kept ≡ map shows mine = a.distinct ∙ ap (map (output span_query)) staged ∙ map-map (output span_query) env mine in
     let up : IsAscending (λ x y. output_cmp span_query x y ≡ Less) (map shows mine) =
     ascending-map (λ x y. output_cmp span_query x y ≡ Less) shows mine (ascending_weaker _ _ older_first mine (ascending-filter _ (is_in_span from to kind ns) changes rising)) in

@@ -3,14 +3,14 @@ use Rattle.std.proofs.Common.{◌≡◌, ℕ, pos, negsuc, List, [], ◌∷◌, 
 use Rattle.sqlite.specs.declared.types.Value.TheVariants.{Null, Int}
 use Rattle.sqlite.specs.Term.{Term, lit, col, op1, op2}
 use Rattle.sqlite.specs.Collation.TheVariants.{Binary}
-use Rattle.sqlite_sql.specs.declared.ops.CompareOp.TheVariants.{Eq, Gt, Ge, Le}
-use Rattle.sqlite_sql.specs.declared.ops.BinaryOp.TheVariants.{Compare, And, Or, Is}
+use Rattle.sqlite_sql.specs.declared.ops.CompareOp.TheVariants.{Eq, Gt, Ge, Le, Lt}
+use Rattle.sqlite_sql.specs.declared.ops.BinaryOp.TheVariants.{Compare, Or, Is}
 use Rattle.sqlite_sql.specs.declared.ops.UnaryOp.TheVariants.{Not}
 use Rattle.sqlite_sql.specs.declared.aggregate.AggregateOp.TheVariants.{CountRows as Count}
 use Rattle.sqlite_sql.specs.Group.{Aggregate, Grouping}
 use Rattle.sqlite.specs.Query.{Query, inner, counted, end}
 use Rattle.sqlite.specs.Source.TheVariants.{Values}
-use Rattle.sqlite.specs.Command.TheVariants.{Insert, Select, CreateTable}
+use Rattle.sqlite.specs.Command.TheVariants.{Insert, Select, Delete, CreateTable}
 use Rattle.sqlite.specs.Compile.{table_defined_by}
 use Rattle.sqlite_tied.specs.Compute.{everything}
 use Rattle.sqlite.specs.Listing.{understood, reads_listing}
@@ -149,14 +149,14 @@ pub from_plain : IsPlain (understood change_schema from_text)
 unfolding understood everything
 from_plain = (refl, refl)
 
--- the kept changes
-abbrev pub kept_text : List ℕ
-kept_text = codes "SELECT revision, kind, namespace, name, body FROM change WHERE revision > ?1 OR body IS NOT NULL AND NOT EXISTS (SELECT 1 FROM change AS later WHERE change.kind = later.kind AND change.namespace = later.namespace AND change.name = later.name AND later.revision > change.revision AND NOT later.revision > ?1) ORDER BY revision"
+-- the change of a revision
+abbrev pub at_text : List ℕ
+at_text = codes "SELECT revision, kind, namespace, name, body FROM change WHERE revision = ?1 ORDER BY revision"
 
-abbrev pub kept_query : Query
-kept_query = record {
-  from = inner 0 (counted 1 (inner 0 end) (later_tests (col 0 0)) end);
-  filter = op2 Or (op2 (Compare Gt Binary) (col 1 0) (col 0 0)) (op2 And (op1 Not (op2 (Is Binary) (col 1 5) (lit Null))) (op1 Not (col 2 0))) ∷ [];
+abbrev pub at_query : Query
+at_query = record {
+  from = inner 0 end;
+  filter = op2 (Compare Eq Binary) (col 1 0) (col 0 0) ∷ [];
   group = None;
   project = col 1 0 ∷ col 1 2 ∷ col 1 3 ∷ col 1 4 ∷ col 1 5 ∷ [];
   distinct = false;
@@ -166,13 +166,39 @@ kept_query = record {
   offset = lit (Int (pos 0));
 }
 
-pub kept_is : (command_of (understood change_schema kept_text) ≡ Select (record { lets = []; body = kept_query }) names) × (reads_listing change_schema kept_text ≡ false)
+pub at_is : (command_of (understood change_schema at_text) ≡ Select (record { lets = []; body = at_query }) names) × (reads_listing change_schema at_text ≡ false)
 unfolding understood everything
-kept_is = (refl, refl)
+at_is = (refl, refl)
 
-pub kept_plain : IsPlain (understood change_schema kept_text)
+pub at_plain : IsPlain (understood change_schema at_text)
 unfolding understood everything
-kept_plain = (refl, refl)
+at_plain = (refl, refl)
+
+-- what a change superseded
+abbrev pub delete_text : List ℕ
+delete_text = codes "DELETE FROM change WHERE kind = ?1 AND namespace = ?2 AND name = ?3 AND revision <= ?4 AND (revision < ?4 OR body IS NULL)"
+
+abbrev pub delete_query : Query
+delete_query = record {
+  from = inner 0 end;
+  filter = op2 (Compare Eq Binary) (col 1 2) (col 0 0) ∷ op2 (Compare Eq Binary) (col 1 3) (col 0 1) ∷ op2 (Compare Eq Binary) (col 1 4) (col 0 2) ∷ op2 (Compare Le Binary) (col 1 0) (col 0 3)
+      ∷ op2 Or (op2 (Compare Lt Binary) (col 1 0) (col 0 3)) (op2 (Is Binary) (col 1 5) (lit Null)) ∷ [];
+  group = None;
+  project = col 1 0 ∷ [];
+  distinct = false;
+  collations = [];
+  order = [];
+  limit = lit (Int (negsuc 0));
+  offset = lit (Int (pos 0));
+}
+
+pub delete_is : command_of (understood change_schema delete_text) ≡ Delete 0 (record { lets = []; body = delete_query })
+unfolding understood everything
+delete_is = refl
+
+pub delete_plain : IsPlain (understood change_schema delete_text)
+unfolding understood everything
+delete_plain = (refl, refl)
 
 abbrev pub count_text : List ℕ
 count_text = codes "SELECT COUNT(*) FROM change WHERE body IS NOT NULL"

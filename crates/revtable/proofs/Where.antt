@@ -1,7 +1,7 @@
 -- What the tests of WHERE say of a change.
 use Rattle.std.proofs.Common.{◌≡◌, ℕ, pos, List, [], ◌∷◌, Bool, true, false, not, ◌&&◌, ◌||◌, refl, ap, ◌∙◌, arith, Option, Some, None, is_some, unwrap_or, is_eq, min, int_cmp, Ordering, Less, Equal, Greater, cond, length, suc, zero, filter, ◌==◌}
 use Rattle.std.specs.Prelude.{nat_lt, nat_le, is_none}
-use Rattle.std.specs.Ordering.{int_eq, is_gt, is_ge, is_le, nat_cmp, ordering_then}
+use Rattle.std.specs.Ordering.{int_eq, is_gt, is_ge, is_le, is_lt, nat_cmp, ordering_then}
 use Rattle.std.specs.List.{list_any, list_all}
 use Rattle.std.specs.Cmp.{eq_by_cmp_equiv}
 use Rattle.std.proofs.lemmas.Int.{ints}
@@ -10,20 +10,20 @@ use Rattle.std.proofs.lemmas.Cmp.{tied_itself}
 use Rattle.sqlite.specs.declared.types.Value.{Value}
 use Rattle.sqlite.specs.declared.types.Value.TheVariants.{Null, Int, Text as Words}
 use Rattle.sqlite.specs.Collation.TheVariants.{Binary}
-use Rattle.sqlite_sql.specs.declared.ops.CompareOp.TheVariants.{Eq, Gt, Ge, Le}
+use Rattle.sqlite_sql.specs.declared.ops.CompareOp.TheVariants.{Eq, Gt, Ge, Le, Lt}
 use Rattle.sqlite_sql.specs.declared.ops.BinaryOp.TheVariants.{Compare, Or, Is}
 use Rattle.sqlite_sql.specs.declared.ops.UnaryOp.TheVariants.{Not}
 use Rattle.sqlite_sql.specs.Term.{holds}
-use Rattle.sqlite_sql.specs.Ops.{binary, unary, truth, from_truth, and3, or3, not3}
+use Rattle.sqlite_sql.specs.Ops.{binary, unary, truth, from_truth, or3, not3}
 use Rattle.sqlite_value.proofs.OrderLemmas.{value_cmp-Int, value_cmp-Text, value_cmp_total, value_cmp-apart}
 use Rattle.sqlite_value.specs.Order.{value_cmp, Row}
 use Rattle.history.specs.History.{Key, Change, text_cmp, is_same_key}
-use Rattle.revtable.specs.Asked.{is_last_of, is_past_name, is_in_one, is_from, low_of}
+use Rattle.revtable.specs.Asked.{is_last_of, is_superseded, is_past_name, is_in_one, is_from, low_of}
 use Rattle.history.specs.Kept.{replaces, stands}
 use Rattle.history.specs.Page.{is_within}
 use Rattle.revtable.specs.Rows.{row_of, body_value}
 use Rattle.history.proofs.Keys.{key_cmp_total}
-use Rattle.revtable.proofs.Texts.{last_query, span_query, kept_query, count_query, later_tests, in_tests, from_tests}
+use Rattle.revtable.proofs.Texts.{last_query, span_query, at_query, delete_query, count_query, later_tests, in_tests, from_tests}
 
 pub truth_back : (b : Bool) → unwrap_or (truth (from_truth (Some b))) false ≡ b
 truth_back true = refl
@@ -172,9 +172,6 @@ bound_in kind ns name = Int (pos kind) ∷ Words ns ∷ Words (low_of name) ∷ 
 abbrev pub bound_from : ℕ → List ℕ → Row
 bound_from kind ns = Int (pos kind) ∷ Words ns ∷ []
 
-abbrev or_value : Value → Value → Value
-or_value a b = from_truth (or3 (truth a) (truth b))
-
 -- each test, of the values that it compares
 abbrev passes : Value → Bool
 passes v = unwrap_or (truth v) false
@@ -280,40 +277,31 @@ from_tests_are kind low r max all it =
     rw (of_kind it.key.kind kind, from_low it.key.namespace low, up_to_revision it.revision r, has_body it.body, not_counted n, with_true (not (nat_lt 0 n)), some_counted (replaces r it) all)
     (later_turn (it.key.kind == kind) (is_ge (text_cmp it.key.namespace low)) (stands r all it))
 
--- ---- what is kept
+-- ---- the change of a revision, and what it superseded
 
-kept_by : (a b c : Bool) → passes (or_value (from_truth (Some a)) (from_truth (and3 (truth (from_truth (not3 (truth (from_truth (Some b)))))) (truth (from_truth (not3 (Some c))))))) ≡ (a || (not b && not c))
-kept_by true true true = refl
-kept_by true true false = refl
-kept_by true false true = refl
-kept_by true false false = refl
-kept_by false true true = refl
-kept_by false true false = refl
-kept_by false false true = refl
-kept_by false false false = refl
+pub at_tests : (r : ℕ) (c : Change) → list_all (holds ((Int (pos r) ∷ []) ∷ row_of c ∷ [])) at_query.filter ≡ (c.revision == r)
+at_tests r c = rw (of_kind c.revision r) (with_true (c.revision == r))
 
-not_below : (n c : ℕ) → nat_lt c n ≡ not (nat_le n c)
-not_below n c = grind (arith, nat_tests)
+lt_is : (a b : ℕ) → is_lt (int_cmp (pos a) (pos b)) ≡ nat_lt a b
+lt_is a b = grind (arith, ints, nat_tests)
 
-or_up_to : (l s : Bool) → (not l || s) ≡ (not l || (l && s))
-or_up_to true s = refl
-or_up_to false s = refl
+older_or_none : (a r : ℕ) (b : Option (List ℕ)) → passes (binary Or (binary (Compare Lt Binary) (Int (pos a)) (Int (pos r))) (binary (Is Binary) (body_value b) Null)) ≡ (nat_lt a r || is_none b)
+unfolding binary
+older_or_none a r b = rw (value_cmp-Int (pos a) (pos r)) (rw (null_is b) (or_both (is_lt (int_cmp (pos a) (pos r))) (is_none b) ∙ ap (λ t. t || is_none b) (lt_is a r)))
 
-pub kept_tests_are : (c : ℕ) (all : List Change) (it : Change)
-    → list_all (holds ((Int (pos c) ∷ []) ∷ row_of it ∷ beside c all it ∷ [])) kept_query.filter ≡ (nat_lt c it.revision || stands c all it)
-unfolding binary unary
-kept_tests_are c all it =
-    let n = length (filter (replaces c it) all) in
-    rw (value_cmp-Int (pos it.revision) (pos c)) (rw (null_is it.body) (
-    rw (
-      kept_by (is_gt (int_cmp (pos it.revision) (pos c))) (is_none it.body) (not (int_eq (pos (min 1 n)) (pos 0))),
-      gt_is it.revision c,
-      not_null it.body,
-      nonzero n,
-      some_counted (replaces c it) all,
-      with_true (nat_lt c it.revision || (is_some it.body && not (list_any (replaces c it) all))),
-      not_below it.revision c,
-    ) (or_up_to (nat_le it.revision c) (is_some it.body && not (list_any (replaces c it) all)))))
+same_kind : (a b : ℕ) → passes (binary (Compare Eq Binary) (Int (pos a)) (Int (pos b))) ≡ is_eq (nat_cmp a b)
+unfolding binary
+same_kind a b = rw (value_cmp-Int (pos a) (pos b)) (truth_back (is_eq (int_cmp (pos a) (pos b))) ∙ eq_is a b)
+
+and_and : (a b c : Bool) → (a && (b && c)) ≡ ((a && b) && c)
+and_and true b c = refl
+and_and false b c = refl
+
+pub delete_tests : (k : Key) (r : ℕ) (c : Change) → list_all (holds (bound_key k r ∷ row_of c ∷ [])) delete_query.filter ≡ is_superseded k r c
+delete_tests k r c =
+    rw (same_kind c.key.kind k.kind, same_text c.key.namespace k.namespace, same_text c.key.name k.name, up_to_revision c.revision r, older_or_none c.revision r c.body, with_true (nat_lt c.revision r || is_none c.body))
+    (three (nat_cmp c.key.kind k.kind) (text_cmp c.key.namespace k.namespace) (text_cmp c.key.name k.name) (nat_le c.revision r && (nat_lt c.revision r || is_none c.body))
+    ∙ and_and (is_same_key c.key k) (nat_le c.revision r) (nat_lt c.revision r || is_none c.body))
 
 pub count_tests : (c : Change) → list_all (holds ([] ∷ row_of c ∷ [])) count_query.filter ≡ is_some c.body
 count_tests c = rw (has_body c.body) (with_true (is_some c.body))

@@ -1,5 +1,5 @@
 -- What the statements find among the changes that the rows keep.
-use Rattle.std.specs.Prelude.{ℕ, Bool, true, List, [], Option, Some, None, ◌&&◌, ◌==◌, nat_le, filter, reverse, slice_get}
+use Rattle.std.specs.Prelude.{ℕ, Bool, true, List, [], Option, Some, None, ◌&&◌, ◌||◌, ◌==◌, not, nat_le, nat_lt, is_none, filter, reverse, slice_get}
 use Rattle.std.specs.Ordering.{is_ge, is_gt}
 use Rattle.std.specs.declared.cmp.Ordering.{Ordering}
 use Rattle.std.specs.declared.cmp.Ordering.TheVariants.{Less, Equal, Greater}
@@ -13,6 +13,17 @@ is_last_of k r c = is_same_key c.key k && nat_le c.revision r
 -- the last change of the key up to the revision
 abbrev pub last_change : Key → ℕ → List Change → Option Change
 last_change k r cs = slice_get (reverse (filter (is_last_of k r) cs)) 0
+
+-- the change of a revision, if it is among these
+abbrev pub made_at : ℕ → List Change → List Change
+made_at r = filter (λ c. c.revision == r)
+
+-- a change that the key's change of that revision superseded: an older one of the key, and itself if it is a deletion
+abbrev pub is_superseded : Key → ℕ → Change → Bool
+is_superseded k r c = is_last_of k r c && (nat_lt c.revision r || is_none c.body)
+
+abbrev pub without : Key → ℕ → List Change → List Change
+without k r = filter (λ c. not (is_superseded k r c))
 
 -- the change that left an object
 abbrev pub as_change : Key × Object → Change

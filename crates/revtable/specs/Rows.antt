@@ -1,11 +1,17 @@
 -- The rows that keep the changes: one for each, by its revision (SQLite, "CREATE TABLE", "STRICT Tables").
-use Rattle.std.specs.Prelude.{◌≡◌, ℕ, ◌<◌, pos, true, false, List, [], ◌∷◌, map, Option, Some, None, codes, IsTrue}
+use Rattle.std.specs.Prelude.{◌≡◌, ℕ, ◌<◌, pos, true, false, List, [], ◌∷◌, map, Option, Some, None, codes, IsTrue, Result, Ok, Err}
 use Rattle.std.specs.List.{AllByRecursion}
 use Rattle.sqlite.specs.Collation.TheVariants.{Binary}
 use Rattle.sqlite.specs.declared.types.Value.{Value}
 use Rattle.sqlite.specs.declared.types.Value.TheVariants.{Null, Int, Text as Words}
 use Rattle.sqlite.specs.Order.{Row, column}
 use Rattle.sqlite.specs.State.{State}
+use Rattle.sqlite.specs.Effect.{Database, Reads}
+use Rattle.sqlite.specs.Listing.{understood}
+use Rattle.sqlite_resolve.specs.declared.compiled.Compiled.{Compiled}
+use Rattle.sqlite_resolve.specs.declared.error.CompileError.{CompileError}
+use Rattle.sqlite.specs.Command.{Command}
+use Rattle.sqlite.specs.Command.TheVariants.{Nothing}
 use Rattle.sqlite.specs.Tree.{IsAscending}
 use Rattle.sqlite.specs.Table.{Table as SqlTable}
 use Rattle.sqlite.specs.Schema.{Schema}
@@ -95,6 +101,15 @@ pub record IsKept (s : State) : Type 0 where
 pub record Keeps (changes : List Change) (s : State) : Type 0 where
   pub autocommit : s.in_transaction ≡ false
   pub rows : IsTrue s.is_open → IsKept s × (changes_in s ≡ changes)
+
+-- the command that a text is
+abbrev pub command_in : Result Compiled CompileError → Command
+command_in (Ok c) = c.command
+command_in (Err e) = Nothing
+
+-- rows that the text reads from a database whose rows keep these changes
+abbrev pub IsAnswer : List ℕ → Row → List Change → List Row → Type 0
+IsAnswer sql params changes rows = (db : Database) × (db.trees 0 ≡ map row_of changes) × Reads (command_in (understood change_schema sql)) db params rows
 
 -- a call left what the connection shows as it was
 pub record IsSame (old new : State) : Type 0 where

@@ -7,12 +7,13 @@
 #![tactic(auto)]
 
 mod change_log;
-mod copying;
+mod compaction;
 mod fault;
 mod file;
 mod paging;
 mod reading;
 mod row;
+mod statements;
 mod table;
 
 pub use fault::Fault;

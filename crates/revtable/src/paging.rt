@@ -2,12 +2,12 @@
 
 ghost use Rattle.std.specs.Prelude.{◌≡◌, [], ◌∷◌, ◌++◌, ℕ, ◌^◌, ◌<◌, List, Option, map, take, IfOk, option_map, string_bytes};
 ghost use Rattle.revtable.specs.Asked.{as_change, begins as place_of, in_later, in_one};
-ghost use Rattle.history.specs.History.{IsRising, state_at};
+ghost use Rattle.history.specs.History.{state_at};
 ghost use Rattle.history.specs.Page.{page};
 ghost use Rattle.revtable.specs.Rows.{shown};
 
-use crate::change_log::Log;
 use crate::fault::Fault;
+use crate::table::Table;
 use sqlite::Row;
 use std::alloc::{AllocError, Global};
 use std::cmp::Ordering;
@@ -45,7 +45,7 @@ fn next_after(alloc: Global, text: &str) -> Result<String, AllocError>
 /// The first objects of a type at a revision: what is left of a namespace, and then of those after it.
 fn listed_on(
     alloc: Global,
-    log: &mut Log,
+    table: &mut Table,
     kind: u32,
     first: &str,
     name: Option<&str>,
@@ -54,16 +54,15 @@ fn listed_on(
 ) -> Result<Vec<Row>, Fault>
     requires fits { revision < 2 ^ 63 }
     requires max { max < 2 ^ 63 }
-    requires rising { (top : ℕ) × IsRising 0 log.old top }
-    ensures same { log.new ≡ log.old }
+    ensures same { table.new ≡ table.old }
     ensures ok { IfOk result (λ rows. rows.items ≡ map (λ e. shown (as_change e))
-        (take max (in_one kind first.now (option_map (λ b. b.now) name.entry) (state_at log.old revision)
-        ++ in_later kind first.now (state_at log.old revision)))) }
+        (take max (in_one kind first.now (option_map (λ b. b.now) name.entry) (state_at table.old.changes revision)
+        ++ in_later kind first.now (state_at table.old.changes revision)))) }
 {
-    let mut rows = log.listed_in(kind, first, name, revision, max)?;
+    let mut rows = table.listed_in(kind, first, name, revision, max)?;
     let left = max.saturating_sub(rows.len() as u64);
     let next = next_after(alloc, first)?;
-    let mut more = log.listed_from(kind, next.as_str(), revision, left)?;
+    let mut more = table.listed_from(kind, next.as_str(), revision, left)?;
     rows.append(&mut more)?;
     Ok(rows)
 }
@@ -71,7 +70,7 @@ fn listed_on(
 /// The first objects of a type, and of a namespace if one is named, at a revision and after a namespace and name.
 pub(crate) fn listed(
     alloc: Global,
-    log: &mut Log,
+    table: &mut Table,
     kind: u32,
     namespace: Option<&str>,
     revision: u64,
@@ -80,17 +79,16 @@ pub(crate) fn listed(
 ) -> Result<Vec<Row>, Fault>
     requires fits { revision < 2 ^ 63 }
     requires max { max < 2 ^ 63 }
-    requires rising { (top : ℕ) × IsRising 0 log.old top }
-    ensures same { log.new ≡ log.old }
+    ensures same { table.new ≡ table.old }
     ensures ok { IfOk result (λ rows. rows.items ≡ map (λ e. shown (as_change e))
-        (page kind (option_map (λ b. b.now) namespace.entry) (option_map (λ p. (p.0.now, p.1.now)) after.entry) max (state_at log.old revision))) }
+        (page kind (option_map (λ b. b.now) namespace.entry) (option_map (λ p. (p.0.now, p.1.now)) after.entry) max (state_at table.old.changes revision))) }
 {
     let Some((first, name)) = begins(namespace, after) else {
         return Ok(Vec::new(alloc));
     };
     if namespace.is_some() {
-        Ok(log.listed_in(kind, first, name, revision, max)?)
+        table.listed_in(kind, first, name, revision, max)
     } else {
-        listed_on(alloc, log, kind, first, name, revision, max)
+        listed_on(alloc, table, kind, first, name, revision, max)
     }
 }

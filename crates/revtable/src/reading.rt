@@ -12,7 +12,7 @@ use history::Key;
 use sqlite::{Error, Row};
 use std::alloc::Global;
 
-fn read_key(row: &Row) -> Result<Key, Error>
+pub(crate) fn read_key(row: &Row) -> Result<Key, Error>
     ensures { IfOk result (λ k. key_of k ≡ key_shown row.now) }
 {
     Ok(Key {
@@ -22,7 +22,7 @@ fn read_key(row: &Row) -> Result<Key, Error>
     })
 }
 
-pub(crate) fn read_change(row: &Row) -> Result<Change, Error>
+fn read_change(row: &Row) -> Result<Change, Error>
     ensures { IfOk result (λ c. change_of c ≡ change_shown row.now) }
 {
     Ok(Change {

@@ -1,17 +1,23 @@
-ghost use Rattle.std.specs.Prelude.{◌≡◌, suc, ◌≤◌, true, map, IfOk, OnOk, OnErr, Some, None, option_map, length};
+ghost use Rattle.std.specs.Prelude.{◌≡◌, suc, ◌≤◌, true, map, IfOk, OnOk, OnErr, Some, None, option_map, length, false};
 ghost use Rattle.std.specs.FinMap as fin;
 ghost use Rattle.history.specs.History.{fresh, last_revision, later, standing, state_at, up_to, written};
 ghost use Rattle.history.specs.Kept.{IsPruned, between_marks, pruned, with_body};
 ghost use Rattle.history.specs.Page.{changes_within, listed, page, picked};
 ghost use Rattle.history.specs.Read.{key_of};
 ghost use Rattle.revtable.specs.Read.{change_of, entry_of, object_of};
+ghost use Rattle.revtable.specs.Rows.{change_schema, IsAnswer};
+ghost use Rattle.sqlite.specs.Given.{IsPlain};
+ghost use Rattle.sqlite.specs.Listing.{reads_listing, understood};
+ghost use Rattle.sqlite.specs.Values.{bound};
 
 use crate::change_log::Log;
 use crate::fault::Fault;
 use crate::reading::{read_changes, read_entries, read_left};
 use crate::row::{Change, Entry, Marks, Object};
-use crate::{copying, paging};
+use crate::{compaction, paging};
 use history::Key;
+use sqlite::Row;
+use sqlite::types::ValueRef;
 use std::alloc::Global;
 use std::marker::Model;
 
@@ -25,17 +31,20 @@ pub struct Table {
     log: Log,
     current: u64,
     compacted: u64,
+    /// Up to which revision the rows that a compaction forgets are deleted: what is not yet is forgotten all the same.
+    deleted_to: u64,
 }
 
 impl Model for Table {
     ghost use Rattle.history.specs.History.{History};
-    ghost use Rattle.history.specs.Kept.{IsPruned};
+    ghost use Rattle.history.specs.Kept.{pruned};
+    ghost use Rattle.revtable.specs.Deleted.{IsDeletedTo};
 
     ghost Value = { History };
 
-    ghost view = { λ t. record { changes = t.log; current = t.current; compacted = t.compacted } };
+    ghost view = { λ t. pruned t.compacted (record { changes = t.log; current = t.current; compacted = t.compacted }) };
 
-    ghost invariant = { λ t. IsPruned (record { changes = t.log; current = t.current; compacted = t.compacted }) };
+    ghost invariant = { λ t. IsDeletedTo t.deleted_to (record { changes = t.log; current = t.current; compacted = t.compacted }) };
 }
 
 impl Table {
@@ -57,6 +66,7 @@ impl Table {
             log: Log::open(alloc)?,
             current: revision,
             compacted: revision,
+            deleted_to: revision,
         })
     }
 
@@ -99,7 +109,7 @@ impl Table {
         ensures same { self.new ≡ self.old }
     {
         let revision = revision.min(self.current);
-        let rows = self.log.newest(key, revision)?;
+        let rows = self.newest(key, revision)?;
         match rows.first() {
             None => Ok(None),
             Some(row) => Ok(read_left(row)?),
@@ -124,16 +134,9 @@ impl Table {
     {
         let revision = revision.min(self.current);
         let max = max.min(LAST_REVISION);
-        let rows = paging::listed(
-            self.alloc,
-            &mut self.log,
-            kind,
-            namespace,
-            revision,
-            after,
-            max,
-        )?;
-        read_entries(self.alloc, &rows)
+        let alloc = self.alloc;
+        let rows = paging::listed(alloc, self, kind, namespace, revision, after, max)?;
+        read_entries(alloc, &rows)
     }
 
     /// The first `max` changes of a type after one revision up to another, oldest first: of one namespace or of all.
@@ -152,7 +155,7 @@ impl Table {
         let from = from.min(self.current);
         let to = to.min(self.current);
         let max = max.min(LAST_REVISION);
-        let rows = self.log.spanned(kind, namespace, from, to, max)?;
+        let rows = self.spanned(kind, namespace, from, to, max)?;
         read_changes(self.alloc, &rows)
     }
 
@@ -161,7 +164,7 @@ impl Table {
         ensures ok { IfOk result (λ n. n ≡ length (with_body self.old.changes)) }
         ensures same { self.new ≡ self.old }
     {
-        let rows = self.log.counted()?;
+        let rows = self.counted()?;
         match rows.first() {
             None => Err(Fault::Store),
             Some(row) => Ok(row.get(0)?),
@@ -174,9 +177,21 @@ impl Table {
         ensures ok { OnOk result (self.new ≡ pruned (between_marks self.old revision) self.old) }
         ensures err { OnErr result (self.new ≡ self.old) }
     {
-        let revision = revision.min(self.current).max(self.compacted);
-        self.log = copying::copied(self.alloc, &mut self.log, revision)?;
-        self.compacted = revision;
+        self.compacted = revision.min(self.current).max(self.compacted);
+        // What a deletion that fails leaves is forgotten all the same, and the next question goes on from there.
+        let _ = compaction::delete_to(&mut self.log, &mut self.deleted_to, self.compacted);
         Ok(())
+    }
+
+    /// What a SELECT over the kept changes shows, once the rows of all others are deleted.
+    pub(crate) fn ask(&mut self, sql: &str, params: &[ValueRef<'_>]) -> Result<Vec<Row>, Fault>
+        requires plain { IsPlain (understood change_schema sql.now) }
+        requires unlisted { reads_listing change_schema sql.now ≡ false }
+        ensures ok { IfOk result (λ rows. IsAnswer sql.now (bound params.now) self.old.changes rows.items) }
+        ensures same { self.new ≡ self.old }
+        ensures sound { IsPruned self.old }
+    {
+        compaction::delete_to(&mut self.log, &mut self.deleted_to, self.compacted)?;
+        Ok(self.log.ask(sql, params)?)
     }
 }

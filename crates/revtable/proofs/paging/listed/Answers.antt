@@ -12,21 +12,22 @@ show = map (λ (e : Entry). shown (as_change e))
 
 pub returns-in_default-clause-ok : goal.returns-in_default-clause-ok
 returns-in_default-clause-ok c =
-    let objects = state_at c.args.log.now c.args.revision in
+    let objects = state_at c.args.table.now.changes c.args.revision in
     let named : Option (List ℕ) = option_map (λ b. b.now) c.args.namespace in
     let place : Option (List ℕ × List ℕ) = option_map (λ p. (p.0.now, p.1.now)) c.args.after in
     c.new.ensures.items ∙ sym (ap show (page_none c.args.kind named place c.args.max objects (sym c.in_default.ensures)))
 
-pub returns-in_ok-listed_in-clause-ok : goal.returns-in_ok-listed_in-clause-ok
-returns-in_ok-listed_in-clause-ok c =
-    let objects = state_at c.args.log.now c.args.revision in
+pub returns-then-is_some-clause-ok : goal.returns-then-is_some-clause-ok
+returns-then-is_some-clause-ok c =
+    let objects = state_at c.args.table.now.changes c.args.revision in
     let named : Option (List ℕ) = option_map (λ b. b.now) c.args.namespace in
     let place : Option (List ℕ × List ℕ) = option_map (λ p. (p.0.now, p.1.now)) c.args.after in
-    c.in_ok-listed_in.ensures.ok ∙ sym (ap show (page_one c.args.kind named place c.args.max objects _ _ (still_some _ c.args.namespace ∙ sym c.is_some.ensures ∙ c.if-is_some.true) (sym c.in-Some.ensures)))
+    when_ok c.listed_in.result _ _ (λ v h.
+    h ∙ sym (ap show (page_one c.args.kind named place c.args.max objects _ _ (still_some _ c.args.namespace ∙ sym c.is_some.ensures ∙ c.if-is_some.true) (sym c.in-Some.ensures)))) c.listed_in.ensures.ok
 
 pub returns-else-is_some-clause-ok : goal.returns-else-is_some-clause-ok
 returns-else-is_some-clause-ok c =
-    let objects = state_at c.args.log.now c.args.revision in
+    let objects = state_at c.args.table.now.changes c.args.revision in
     let named : Option (List ℕ) = option_map (λ b. b.now) c.args.namespace in
     let place : Option (List ℕ × List ℕ) = option_map (λ p. (p.0.now, p.1.now)) c.args.after in
     when_ok c.listed_on.result _ _ (λ v h.
