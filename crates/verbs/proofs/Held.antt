@@ -9,7 +9,7 @@ use Rattle.std.specs.Ordering.{match_ordering, eq_by_cmp, ordering_then}
 use Rattle.std.specs.String.{string_cmp}
 use Rattle.verbs.specs.declared.objects.Key.{Key as TheKey}
 use Rattle.verbs.specs.declared.objects.Stored.{Stored}
-use Rattle.verbs.specs.Machine.{Key, Object, key_cmp}
+use Rattle.history.specs.History.{Key, Object, key_cmp}
 use Rattle.verbs.specs.Seen.{key_of, object_of, objects_in}
 use Rattle.verbs.proofs.Keys.{key_cmp_total, key_cmp_antisymmetric, same_key, key_itself}
 

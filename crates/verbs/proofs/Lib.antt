@@ -2,13 +2,17 @@ pub mod Ascii
 pub mod Blanks
 pub mod Changes
 pub mod Causes
+pub mod Checks
+pub mod Contents
 pub mod Counts
 pub mod Entries
 pub mod Found
 pub mod Held
 pub mod Keys
+pub mod Machines
 pub mod Places
 pub mod Planning
 pub mod Promise
 pub mod Refusals
 pub mod Statuses
+pub mod Said

@@ -1,9 +1,8 @@
--- An apply without force changes no field that another manager owns, and an update takes from others only what it changes.
+-- What a call plans may come next; an apply without force changes no field that another manager owns, and an update takes from others only what it changes.
 use Rattle.std.proofs.Common.{◌≡◌, ℕ, suc, ◌<◌, ◌≤◌, Bool, true, false, cond, List, [], Option, Some, None, Ok, Err, refl, sym, ap, subst, ◌∙◌, is_some, not, ◌&&◌, ◌||◌, ap₂, true≢false, ltb-true}
-use Rattle.std.specs.Prelude.{nat_lt, option_map, slice_get}
+use Rattle.std.specs.Prelude.{nat_lt, slice_get, IfSome}
 use Rattle.std.specs.FinMap as fin
 use Rattle.std.specs.FinSet as set
-use Rattle.std.specs.Ordering.{eq_by_cmp}
 use Rattle.serde_json.specs.Data.{Data}
 use Rattle.params.specs.Values.{Values}
 use Rattle.params.specs.declared.params.Asked.{Asked}
@@ -13,60 +12,51 @@ use Rattle.pathmap.specs.Contents.{Standing, Content, dom}
 use Rattle.pathmap.specs.Beside.{changed, same_value}
 use Rattle.pathmap.proofs.Contents.{path_cmp_total}
 use Rattle.pathmap.proofs.Sets.{contains-changed, contains-dom}
+use Rattle.typed.specs.Fitting.{IsContent}
 use Rattle.typed.specs.Reading.{content_of}
+use Rattle.history.specs.History.{Key, Change, Object, Objects, History, is_same_key, last_revision, object_by, put_or_remove, standing, written}
+use Rattle.history.proofs.Keys.{get-put_or_remove, tied}
 use Rattle.ownership.specs.Owners.{Manager, is_same, manager_of, apply_operation, owned_by, update_operation}
 use Rattle.ownership.specs.Update.{removed, updated}
+use Rattle.schema.specs.ObjectShape.{IsObjectShape}
+use Rattle.ownership.specs.ReadBack.{IsObjectText}
+use Rattle.ownership.proofs.Placed.{applied_placed, updated_placed}
 use Rattle.ownership.proofs.Sameness.{both_true, same_manager-is, same_value-itself}
+use Rattle.ownership.proofs.Taken.{no_some, same_some}
 use Rattle.ownership.proofs.Taking.{owned_other}
 use Rattle.ownership.specs.Apply.{State, conflicts, applied, is_refused}
-use Rattle.ownership.specs.Keeping.{OthersKeep}
+use Rattle.ownership.specs.Keeping.{IsPlacedState, OthersKeep}
 use Rattle.ownership.specs.Sameness.{same_state}
 use Rattle.ownership.proofs.Keeping.{others_keep}
 use Rattle.verbs.specs.declared.method.Method.{Method}
-use Rattle.verbs.specs.declared.method.Method.TheVariants.{Patch, Put}
-use Rattle.verbs.specs.declared.reason.Reason.{Reason}
+use Rattle.verbs.specs.declared.method.Method.TheVariants.{Get, Post, Put, Patch, Delete}
 use Rattle.verbs.specs.Calls.{Call, Plan}
-use Rattle.verbs.specs.Envelope.{Expected, envelope_of}
+use Rattle.verbs.specs.Json.{IsJson, IsJsonBody}
+use Rattle.verbs.specs.Envelope.{Expected, api_version_of, envelope_of, name_in}
 use Rattle.verbs.specs.Judged.{Judged, and_then, unless}
-use Rattle.verbs.specs.Machine.{Key, Change, Object, Objects, Machine, IsMachine, key_cmp, last_revision, put_or_remove, changed_by, standing, after}
-use Rattle.verbs.specs.Naming.{marks_judged, names_judged}
+use Rattle.verbs.specs.Machine.{IsBodyAt, IsMachine, IsNext, after, identity_of, no_state, state_by, state_of_live, state_said, state_under}
+use Rattle.verbs.specs.Naming.{marks_judged, names_judged, required_name}
+use Rattle.verbs.specs.Options.{options_judged}
 use Rattle.verbs.specs.Parameters.{parameters_judged}
-use Rattle.verbs.specs.Promise.{AppliesKeepOthers, OthersKeepUnchanged, UpdatesTakeChanges, state_under}
+use Rattle.verbs.specs.Promise.{AppliesKeepOthers, OthersKeepUnchanged, PlansComeNext, StepsKeepMachines, TextsSayStates, UpdatesTakeChanges}
 use Rattle.verbs.specs.Size.{size_judged}
 use Rattle.verbs.specs.Status.{Denial}
-use Rattle.verbs.specs.Step.{Intent, applied_over, apply_judged, at_path, body_of, collection_judged_by, conflict_denial, intent_of, judged_at, judged_in, judged_over, kept, object_judged_by, ownership_judged, printed, revisions_left, shape_judged, state_or_nothing, stored, stored_over, told, update_judged, updated_by, updated_over, version_checked}
-use Rattle.verbs.proofs.Changes.{standing_next}
-use Rattle.verbs.proofs.Keys.{key_cmp_total, same_key}
+use Rattle.verbs.specs.Step.{Intent, applied_over, apply_judged, at_path, body_of, collection_judged_by, conflict_denial, create_judged, created_in, delete_judged, deleted, deleted_over, get_judged, intent_of, judged_at, judged_in, judged_over, kept, key_at, not_there, object_judged_by, ownership_judged, planned, printed, revisions_left, shape_judged, stored, stored_over, text_at, there, told, update_judged, updated_by, updated_over, version_checked, version_come}
+use Rattle.verbs.proofs.Changes.{AreTexts, machine_next, standing_next, standing_texts}
+use Rattle.verbs.proofs.Checks.{held, no_err, ok_is, passed}
+use Rattle.verbs.proofs.Contents.{intended_content}
+use Rattle.verbs.proofs.Said.{Shapes, nothing_placed, printed_is_text, said_back, shapes_of}
 
--- ---- checks that were passed
+-- ---- what a call plans: no change; a deletion of what is there; or a text of a placed state that is as R says beside the one before
 
-abbrev is_ok : {X : Type 0} → Judged X → Bool
-is_ok (Ok x) = true
-is_ok (Err d) = false
+abbrev BodyBy : List ServedShape → Objects → Type 0 → (State → State → Type 0) → Change → Option (List ℕ) → Type 0
+BodyBy types objects D R c None = D × (fin.contains_key objects c.key ≡ true)
+BodyBy types objects D R c (Some text) =
+    (t : ServedShape) × (slice_get types c.key.kind ≡ Some t) × (s : State) × IsPlacedState t.shape s × (text ≡ text_at t c.key c.revision s) × R (state_under types objects c.key) s
 
-abbrev or_else : {X : Type 0} → X → Judged X → X
-or_else x (Ok y) = y
-or_else x (Err d) = x
-
-no_err : {A X : Type 0} (d : Denial) (y : X) → Err d ≡ Ok y → A
-no_err d y e = absurd (true≢false (sym (ap is_ok e)))
-
-ok_is : {X : Type 0} (x y : X) → ◌≡◌ {A = Judged X} (Ok x) (Ok y) → x ≡ y
-ok_is x y e = ap (or_else x) e
-
-passed : {X Y : Type 0} (j : Judged X) (f : X → Judged Y) (y : Y) → and_then j f ≡ Ok y → (x : X) × (j ≡ Ok x) × (f x ≡ Ok y)
-passed (Ok x) f y e = (x, refl, e)
-passed (Err d) f y e = no_err d y e
-
-held : (b : Bool) (r : Reason) (message : List ℕ) (u : Unit {0}) → unless b r message ≡ Ok u → b ≡ true
-held true r message u e = refl
-held false r message u e = absurd (true≢false (sym (ap is_ok e)))
-
--- ---- what a write plans: no change, or one of the next revision whose object is as R says beside the one before
-
-abbrev KeepsBy : ℕ → Objects → (State → State → Type 0) → Option Change → Type 0
-KeepsBy current objects R None = Unit {0}
-KeepsBy current objects R (Some c) = (c.revision ≡ suc current) × (c.revision ≤ last_revision) × ((s : State) × (c.object ≡ Some s) × R (state_under objects c.key) s)
+abbrev WritesBy : List ServedShape → ℕ → Objects → Type 0 → (State → State → Type 0) → Option Change → Type 0
+WritesBy types current objects D R None = Unit {0}
+WritesBy types current objects D R (Some c) = (c.revision ≡ suc current) × (c.revision ≤ last_revision) × BodyBy types objects D R c c.body
 
 abbrev change_in : Judged Plan → Option Change
 change_in (Ok p) = p.change
@@ -75,21 +65,25 @@ change_in (Err d) = None
 next_left : (n : ℕ) → n < last_revision → suc n ≤ last_revision
 next_left n lt = lt
 
-module _ (t : ServedShape) (current : ℕ) (objects : Objects) (k : Key) (R : State → State → Type 0) where
-  stored_keeps : (status : ℕ) (s : State) (p : Plan) → R (state_under objects k) s → stored t current k status s ≡ Ok p → KeepsBy current objects R p.change
-  stored_keeps status s p keeps e =
+-- of a type and key, over what stands there
+module _ (types : List ServedShape) (current : ℕ) (objects : Objects) (t : ServedShape) (k : Key) (serves : slice_get types k.kind ≡ Some t) (D : Type 0) (R : State → State → Type 0) where
+  under : state_under types objects k ≡ state_of_live t (fin.get objects k)
+  under = ap (λ o. state_by o (fin.get objects k)) serves
+
+  stored_writes : (status : ℕ) (s : State) (p : Plan) → IsPlacedState t.shape s → R (state_of_live t (fin.get objects k)) s → stored t current k status s ≡ Ok p → WritesBy types current objects D R p.change
+  stored_writes status s p placed keeps e =
       let sized = passed (size_judged (printed t k (suc current) s)) _ p e in
       let left = passed (revisions_left current) _ p sized.2 in
-      subst (KeepsBy current objects R) (ap change_in left.2)
-      (refl, next_left current (ltb-true _ _ (held (nat_lt current last_revision) _ _ left.0 left.1)), (s, refl, keeps))
+      subst (WritesBy types current objects D R) (ap change_in left.2)
+      (refl, next_left current (ltb-true _ _ (held (nat_lt current last_revision) _ _ left.0 left.1)), (t, serves, s, placed, refl, subst (λ x. R x s) (sym under) keeps))
 
-  over_keeps : (live : Option Object) (s : State) (p : Plan) → R (state_under objects k) s → stored_over t current k live s ≡ Ok p → KeepsBy current objects R p.change
-  over_keeps None s p keeps e = stored_keeps 201 s p keeps e
-  over_keeps (Some o) s p keeps e = go (same_state s o.state) e
+  over_writes : (found : Option Object) (s : State) (p : Plan) → IsPlacedState t.shape s → R (state_of_live t (fin.get objects k)) s → stored_over t current k found s ≡ Ok p → WritesBy types current objects D R p.change
+  over_writes None s p placed keeps e = stored_writes 201 s p placed keeps e
+  over_writes (Some o) s p placed keeps e = go (same_state s (state_said t.shape o.body)) e
     where
-      go : (b : Bool) → cond b (Ok (kept t k o)) (stored t current k 200 s) ≡ Ok p → KeepsBy current objects R p.change
-      go true f = subst (KeepsBy current objects R) (ap change_in f) tt
-      go false f = stored_keeps 200 s p keeps f
+      go : (b : Bool) → cond b (Ok (kept o)) (stored t current k 200 s) ≡ Ok p → WritesBy types current objects D R p.change
+      go true f = subst (WritesBy types current objects D R) (ap change_in f) tt
+      go false f = stored_writes 200 s p placed keeps f
 
 -- ---- what the parameters say is what is intended
 
@@ -125,23 +119,6 @@ owned_keeps api_version live config mgr false s gentle e = go (is_refused (confl
 abbrev AsApplied : List ℕ → State → State → Type 0
 AsApplied name old new = OthersKeep old new (manager_of name apply_operation)
 
-applied_keeps : (t : ServedShape) (current : ℕ) (objects : Objects) (k : Key) (intent : Intent) (p : Plan) → intent.is_forced ≡ false
-    → applied_over t current k (fin.get objects k) intent ≡ Ok p → KeepsBy current objects (AsApplied intent.manager) p.change
-applied_keeps t current objects k intent p gentle e =
-    let version = passed (version_checked intent.version (fin.get objects k)) _ p e in
-    let owned = passed (ownership_judged _ (state_under objects k) intent.content (manager_of intent.manager apply_operation) intent.is_forced) _ p version.2 in
-    over_keeps t current objects k (AsApplied intent.manager) (fin.get objects k) owned.0 p
-    (owned_keeps _ (state_under objects k) intent.content (manager_of intent.manager apply_operation) intent.is_forced owned.0 gentle owned.1) owned.2
-
-apply_keeps : (t : ServedShape) (current : ℕ) (objects : Objects) (k : Key) (query : List ℕ) (values : Values) → parameters_judged asked.Apply query ≡ Ok values → values.is_forced ≡ false
-    → (body : Data) (p : Plan) → apply_judged t current objects k query body ≡ Ok p → KeepsBy current objects (AsApplied values.manager) p.change
-apply_keeps t current objects k query values is gentle body p e =
-    let intent = passed (intent_of (at_path t k Patch) asked.Apply query body) _ p e in
-    let named = passed (names_judged k.namespace k.name intent.0.rest) _ p intent.2 in
-    let said = intended (at_path t k Patch) asked.Apply query body intent.0 values intent.1 is in
-    subst (λ w. KeepsBy current objects (AsApplied w) p.change) (sym said.0)
-    (applied_keeps t current objects k intent.0 p (sym said.1 ∙ gentle) named.2)
-
 -- ---- an update
 
 not_lost : (a b : Option Standing) → a ≡ b → ((is_some a && not (same_value a b)) || (is_some b && not (is_some a))) ≡ false
@@ -175,88 +152,273 @@ updated_keeps live new m k p apart is same =
 abbrev AsUpdated : List ℕ → State → State → Type 0
 AsUpdated name old new = OthersKeepUnchanged old new (manager_of name update_operation)
 
-over_what_stands : (t : ServedShape) (current : ℕ) (objects : Objects) (k : Key) (intent : Intent) (p : Plan)
-    → updated_over t current k (fin.get objects k) intent ≡ Ok p → KeepsBy current objects (AsUpdated intent.manager) p.change
-over_what_stands t current objects k intent p e = go (fin.get objects k) refl e
-  where
-    go : (live : Option Object) → fin.get objects k ≡ live → updated_over t current k live intent ≡ Ok p → KeepsBy current objects (AsUpdated intent.manager) p.change
-    go None is f = no_err _ p f
-    go (Some o) is f =
-        let version = passed (version_checked intent.version (Some o)) _ p f in
-        over_keeps t current objects k (AsUpdated intent.manager) (Some o) (updated_by intent o.state) p
-        (subst (λ live. OthersKeepUnchanged (state_or_nothing live) (updated_by intent o.state) (manager_of intent.manager update_operation)) (sym is)
-        (updated_keeps o.state intent.content (manager_of intent.manager update_operation))) version.2
+-- ---- each write
 
-update_keeps : (t : ServedShape) (current : ℕ) (objects : Objects) (k : Key) (query : List ℕ) (values : Values) → parameters_judged asked.Put query ≡ Ok values
-    → (body : Data) (p : Plan) → update_judged t current objects k query body ≡ Ok p → KeepsBy current objects (AsUpdated values.manager) p.change
-update_keeps t current objects k query values is body p e =
-    let intent = passed (intent_of (at_path t k Put) asked.Put query body) _ p e in
-    let marks = passed (marks_judged intent.0.rest) _ p intent.2 in
-    let said = intended (at_path t k Put) asked.Put query body intent.0 values intent.1 is in
-    subst (λ w. KeepsBy current objects (AsUpdated w) p.change) (sym said.0) (over_what_stands t current objects k intent.0 p marks.2)
+-- the applied state is of a content and owners of its paths
+owned_placed : (t : ServedShape) (api_version : List ℕ) (before : State) (config : Content) (mgr : Manager) (is_forced : Bool) (s : State)
+    → IsPlacedState t.shape before → IsContent t.shape config → ownership_judged api_version before config mgr is_forced ≡ Ok s → IsPlacedState t.shape s
+owned_placed t api_version before config mgr is_forced s placed content e = go (is_refused (conflicts before config mgr) is_forced) e
+  where
+    go : (b : Bool) → cond b (Err (conflict_denial api_version (conflicts before config mgr))) (Ok (applied before config mgr)) ≡ Ok s → IsPlacedState t.shape s
+    go true f = no_err _ s f
+    go false f = subst (IsPlacedState t.shape) (ok_is _ s f) (applied_placed before config mgr t.shape content placed)
+
+module _ (types : List ServedShape) (current : ℕ) (objects : Objects) (shapes : Shapes types) (texts : AreTexts types objects) where
+  -- the state that stands under a key is placed
+  live_placed : (t : ServedShape) (k : Key) → slice_get types k.kind ≡ Some t → (found : Option Object) → fin.get objects k ≡ found → IsPlacedState t.shape (state_of_live t found)
+  live_placed t k serves None is = nothing_placed t.shape
+  live_placed t k serves (Some o) is =
+      let x = texts k o is in
+      let same : x.t ≡ t = same_some x.t t (sym x.served ∙ serves) in
+      subst (λ (u : ServedShape). IsPlacedState u.shape (state_said u.shape o.body)) same
+      (subst (IsPlacedState x.t.shape) (sym (said_back x.t.shape _ o.revision x.state o.body (shapes k.kind x.t x.served) x.says)) x.says.placed)
+
+  module _ (t : ServedShape) (k : Key) (serves : slice_get types k.kind ≡ Some t) (D : Type 0) (R : State → State → Type 0) where
+    shaped : IsObjectShape t.shape
+    shaped = shapes k.kind t serves
+
+    applied_writes : (intent : Intent) (p : Plan) → IsContent t.shape intent.content
+        → ((before s : State) → ownership_judged (api_version_of t) before intent.content (manager_of intent.manager apply_operation) intent.is_forced ≡ Ok s → R before s)
+        → applied_over t current k (fin.get objects k) intent ≡ Ok p → WritesBy types current objects D R p.change
+    applied_writes intent p content keeps e =
+        let version = passed (version_checked intent.version (fin.get objects k)) _ p e in
+        let before = state_of_live t (fin.get objects k) in
+        let owned = passed (ownership_judged (api_version_of t) before intent.content (manager_of intent.manager apply_operation) intent.is_forced) _ p version.2 in
+        over_writes types current objects t k serves D R (fin.get objects k) owned.0 p
+        (owned_placed t _ before intent.content _ intent.is_forced owned.0 (live_placed t k serves (fin.get objects k) refl) content owned.1) (keeps before owned.0 owned.1) owned.2
+
+    apply_writes : (query : List ℕ) (body : Data) (p : Plan) → IsJson body
+        → ((i : Intent) → intent_of (at_path t k Patch) asked.Apply query body ≡ Ok i → (before s : State)
+        → ownership_judged (api_version_of t) before i.content (manager_of i.manager apply_operation) i.is_forced ≡ Ok s → R before s)
+        → apply_judged t current (fin.get objects k) k query body ≡ Ok p → WritesBy types current objects D R p.change
+    apply_writes query body p json keeps e =
+        let intent = passed (intent_of (at_path t k Patch) asked.Apply query body) _ p e in
+        let named = passed (names_judged k.namespace k.name intent.0.rest) _ p intent.2 in
+        applied_writes intent.0 p (intended_content (at_path t k Patch) asked.Apply query body intent.0 shaped json intent.1) (keeps intent.0 intent.1) named.2
+
+    updated_writes : (intent : Intent) (p : Plan) → IsContent t.shape intent.content → ((before : State) → R before (updated_by intent before))
+        → (found : Option Object) → fin.get objects k ≡ found → updated_over t current k found intent ≡ Ok p → WritesBy types current objects D R p.change
+    updated_writes intent p content keeps None is e = no_err _ p e
+    updated_writes intent p content keeps (Some o) is e =
+        let version = passed (version_checked intent.version (Some o)) _ p e in
+        let before = state_said t.shape o.body in
+        over_writes types current objects t k serves D R (Some o) (updated_by intent before) p
+        (updated_placed before intent.content _ t.shape content (live_placed t k serves (Some o) is))
+        (subst (λ found. R (state_of_live t found) (updated_by intent before)) (sym is) (keeps before)) version.2
+
+    update_writes : (query : List ℕ) (body : Data) (p : Plan) → IsJson body
+        → ((i : Intent) → intent_of (at_path t k Put) asked.Put query body ≡ Ok i → (before : State) → R before (updated_by i before))
+        → update_judged t current (fin.get objects k) k query body ≡ Ok p → WritesBy types current objects D R p.change
+    update_writes query body p json keeps e =
+        let intent = passed (intent_of (at_path t k Put) asked.Put query body) _ p e in
+        let marks = passed (marks_judged intent.0.rest) _ p intent.2 in
+        updated_writes intent.0 p (intended_content (at_path t k Put) asked.Put query body intent.0 shaped json intent.1) (keeps intent.0 intent.1) (fin.get objects k) refl marks.2
+
+    deleted_writes : D → (version : Option ℕ) (p : Plan) (found : Option Object) → fin.get objects k ≡ found → deleted_over t current k found version ≡ Ok p → WritesBy types current objects D R p.change
+    deleted_writes d version p None is e = no_err _ p e
+    deleted_writes d version p (Some o) is e =
+        let checked = passed (version_checked version (Some o)) _ p e in
+        let left = passed (revisions_left current) _ p checked.2 in
+        subst (WritesBy types current objects D R) (ap change_in left.2)
+        (refl, next_left current (ltb-true _ _ (held (nat_lt current last_revision) _ _ left.0 left.1)), (d, ap is_some is))
+
+    delete_writes : D → (query : List ℕ) (body : Option Data) (p : Plan) → delete_judged t current (fin.get objects k) k query body ≡ Ok p → WritesBy types current objects D R p.change
+    delete_writes d query body p e =
+        let version = passed (options_judged body) _ p e in
+        let values = passed (parameters_judged asked.Delete query) _ p version.2 in
+        deleted_writes d version.0 p (fin.get objects k) refl values.2
+
+    get_writes : (query : List ℕ) (p : Plan) → get_judged t current (fin.get objects k) k query ≡ Ok p → WritesBy types current objects D R p.change
+    get_writes query p e =
+        let values = passed (parameters_judged asked.Get query) _ p e in
+        let o = passed (there t k.name (fin.get objects k)) _ p values.2 in
+        let come = passed (version_come values.0.version current) _ p o.2 in
+        subst (WritesBy types current objects D R) (ap change_in come.2) tt
+
+  -- a creation: nothing stands under its key
+  created_writes : (t : ServedShape) (k : Key) → slice_get types k.kind ≡ Some t → (intent : Intent) (p : Plan) → IsContent t.shape intent.content
+      → (found : Option Object) → fin.get objects k ≡ found → and_then (not_there t k.name found) (λ u. stored t current k 201 (updated_by intent no_state)) ≡ Ok p → WritesBy types current objects (Unit {0}) (λ old new. Unit {0}) p.change
+  created_writes t k serves intent p content (Some o) is e = no_err _ p e
+  created_writes t k serves intent p content None is e =
+      stored_writes types current objects t k serves (Unit {0}) (λ old new. Unit {0}) 201 (updated_by intent no_state) p (updated_placed no_state intent.content _ t.shape content (nothing_placed t.shape)) tt e
+
+  create_writes : (t : ServedShape) (kind : ℕ) → slice_get types kind ≡ Some t → (namespace query : List ℕ) (body : Data) (p : Plan) → IsJson body
+      → create_judged t current objects kind namespace query body ≡ Ok p → WritesBy types current objects (Unit {0}) (λ old new. Unit {0}) p.change
+  create_writes t kind serves namespace query body p json e =
+      let of : Expected = record { served = t; namespace = namespace; name = None; method = Post } in
+      let intent = passed (intent_of of asked.Post query body) _ p e in
+      let name = passed (required_name (name_in body)) _ p intent.2 in
+      let k : Key = record { kind = kind; namespace = namespace; name = name.0 } in
+      let named = passed (names_judged k.namespace k.name intent.0.rest) _ p name.2 in
+      created_writes t k serves intent.0 p (intended_content of asked.Post query body intent.0 (shapes kind t serves) json intent.1) (fin.get objects k) refl named.2
+
+-- ---- each call
+
+body_json : (body : Option Data) (d : Data) → IsJsonBody body → body_of body ≡ Ok d → IsJson d
+body_json None d json e = no_err _ d e
+body_json (Some x) d json e = subst IsJson (ok_is x d e) json
+
+module _ (types : List ServedShape) (current : ℕ) (objects : Objects) (shapes : Shapes types) (texts : AreTexts types objects) (call : Call) (json : IsJsonBody call.body) where
+  abbrev Writes : Judged Plan → Type 0
+  Writes j = (p : Plan) → j ≡ Ok p → WritesBy types current objects (Unit {0}) (λ old new. Unit {0}) p.change
+
+  with_body : (judged : Data → Judged Plan) → ((body : Data) → IsJson body → Writes (judged body)) → Writes (and_then (body_of call.body) judged)
+  with_body judged writes p e =
+      let body = passed (body_of call.body) judged p e in
+      writes body.0 (body_json call.body body.0 json body.1) p body.2
+
+  object_writes : (w : Method) (t : ServedShape) (k : Key) → slice_get types k.kind ≡ Some t → Writes (object_judged_by w t current (fin.get objects k) k call.query call.body)
+  object_writes Get t k serves p e = get_writes types current objects shapes texts t k serves (Unit {0}) (λ old new. Unit {0}) call.query p e
+  object_writes Post t k serves p e = no_err _ p e
+  object_writes Put t k serves p e = with_body _ (λ body read q f. update_writes types current objects shapes texts t k serves (Unit {0}) (λ old new. Unit {0}) call.query body q read (λ i is before. tt) f) p e
+  object_writes Patch t k serves p e = with_body _ (λ body read q f. apply_writes types current objects shapes texts t k serves (Unit {0}) (λ old new. Unit {0}) call.query body q read (λ i is before s owned. tt) f) p e
+  object_writes Delete t k serves p e = delete_writes types current objects shapes texts t k serves (Unit {0}) (λ old new. Unit {0}) tt call.query call.body p e
+
+  collection_writes : (w : Method) (t : ServedShape) (kind : ℕ) (namespace : List ℕ) → slice_get types kind ≡ Some t → Writes (collection_judged_by w t current objects kind namespace call.query call.body)
+  collection_writes Post t kind namespace serves p e = with_body _ (λ body read q f. create_writes types current objects shapes texts t kind serves namespace call.query body q read f) p e
+  collection_writes Get t kind namespace serves p e = no_err _ p e
+  collection_writes Put t kind namespace serves p e = no_err _ p e
+  collection_writes Patch t kind namespace serves p e = no_err _ p e
+  collection_writes Delete t kind namespace serves p e = no_err _ p e
+
+  in_writes : (t : ServedShape) → slice_get types call.target.kind ≡ Some t → (namespace name : Option (List ℕ)) → Writes (judged_in t current objects call namespace name)
+  in_writes t serves None name p e = no_err _ p e
+  in_writes t serves (Some namespace) None p e = collection_writes call.target.method t call.target.kind namespace serves p e
+  in_writes t serves (Some namespace) (Some name) p e = object_writes call.target.method t (key_at call namespace name) serves p e
+
+  at_writes : (found : Option ServedShape) → slice_get types call.target.kind ≡ found → Writes (judged_at found current objects call)
+  at_writes None is p e = no_err _ p e
+  at_writes (Some t) is p e = in_writes t is call.target.namespace call.target.name p e
+
+  call_writes : (j : Judged Plan) → judged_over types current objects call ≡ j → WritesBy types current objects (Unit {0}) (λ old new. Unit {0}) (told j).change
+  call_writes (Err d) e = tt
+  call_writes (Ok p) e = at_writes (slice_get types call.target.kind) refl p e
+
+-- ---- what is planned may come next
+
+written_text : (types : List ServedShape) (objects : Objects) (D : Type 0) (R : State → State → Type 0) (c : Change) (body : Option (List ℕ)) → c.revision ≤ last_revision → BodyBy types objects D R c body → IsBodyAt types c.key c.revision body
+written_text types objects D R c None low is = tt
+written_text types objects D R c (Some text) low is = record {
+  t = is.0;
+  served = is.1;
+  state = is.2;
+  says = subst (λ x. IsObjectText is.0.shape (identity_of is.0 c.key) c.revision is.2 x) (sym is.4) (printed_is_text is.0 c.key c.revision is.2 is.3 low);
+}
+
+gone_there : (types : List ServedShape) (objects : Objects) (D : Type 0) (R : State → State → Type 0) (c : Change) (body : Option (List ℕ)) → BodyBy types objects D R c body → body ≡ None → fin.contains_key objects c.key ≡ true
+gone_there types objects D R c None is e = is.1
+gone_there types objects D R c (Some text) is e = no_some text e
+
+comes_next : (types : List ServedShape) (m : History) (D : Type 0) (R : State → State → Type 0) (c : Change) → WritesBy types m.current (standing m) D R (Some c) → IsNext types m c
+comes_next types m D R c is = record {
+  next = is.0;
+  high = is.1;
+  there = gone_there types (standing m) D R c c.body is.2;
+  is_text = written_text types (standing m) D R c c.body is.1 is.2;
+}
+
+if_next : (types : List ServedShape) (m : History) (D : Type 0) (R : State → State → Type 0) (change : Option Change) → WritesBy types m.current (standing m) D R change → IfSome change (IsNext types m)
+if_next types m D R None is = tt
+if_next types m D R (Some c) is = comes_next types m D R c is
+
+pub plans_come_next : PlansComeNext
+plans_come_next types m call is json =
+    if_next types m (Unit {0}) (λ old new. Unit {0}) (planned types m call).change
+    (call_writes types m.current (standing m) (shapes_of types is.shapes) (standing_texts types m is) call json (judged_over types m.current (standing m) call) refl)
+
+pub after_machine : (types : List ServedShape) (m : History) (change : Option Change) → IsMachine types m → IfSome change (IsNext types m) → IsMachine types (after m change)
+after_machine types m None is next = is
+after_machine types m (Some c) is next = machine_next types m c is next
+
+pub steps_keep_machines : StepsKeepMachines
+steps_keep_machines types m call is json = after_machine types m (planned types m call).change is (plans_come_next types m call is json)
+
+pub texts_say_states : TextsSayStates
+texts_say_states types m k o is there =
+    let x = standing_texts types m is k o there in
+    (x, sym (ap (λ u. state_by u (fin.get (standing m) k)) x.served ∙ ap (state_of_live x.t) there ∙ said_back x.t.shape _ o.revision x.state o.body ((shapes_of types is.shapes) k.kind x.t x.served) x.says))
 
 -- ---- a call whose method is a write of an object
 
-module _ (current : ℕ) (objects : Objects) (call : Call) (R : State → State → Type 0) (w : Method) (judged : ServedShape → Key → Data → Judged Plan)
+module _ (types : List ServedShape) (current : ℕ) (objects : Objects) (call : Call) (json : IsJsonBody call.body) (R : State → State → Type 0) (w : Method) (judged : ServedShape → Key → Data → Judged Plan)
     (is : call.target.method ≡ w)
     (alone : (t : ServedShape) (kind : ℕ) (namespace : List ℕ) (p : Plan) → collection_judged_by w t current objects kind namespace call.query call.body ≡ Ok p → ⊥)
-    (object : (t : ServedShape) (k : Key) → object_judged_by w t current objects k call.query call.body ≡ and_then (body_of call.body) (judged t k))
-    (keeps : (t : ServedShape) (k : Key) (body : Data) (p : Plan) → judged t k body ≡ Ok p → KeepsBy current objects R p.change) where
-  in_keeps : (t : ServedShape) (namespace name : Option (List ℕ)) (p : Plan) → judged_in t current objects call namespace name ≡ Ok p → KeepsBy current objects R p.change
-  in_keeps t None name p e = no_err _ p e
-  in_keeps t (Some namespace) None p e =
+    (object : (t : ServedShape) (k : Key) → object_judged_by w t current (fin.get objects k) k call.query call.body ≡ and_then (body_of call.body) (judged t k))
+    (keeps : (t : ServedShape) (k : Key) → slice_get types k.kind ≡ Some t → (body : Data) (p : Plan) → IsJson body → judged t k body ≡ Ok p → WritesBy types current objects ⊥ R p.change) where
+  in_keeps : (t : ServedShape) → slice_get types call.target.kind ≡ Some t → (namespace name : Option (List ℕ)) (p : Plan) → judged_in t current objects call namespace name ≡ Ok p → WritesBy types current objects ⊥ R p.change
+  in_keeps t serves None name p e = no_err _ p e
+  in_keeps t serves (Some namespace) None p e =
       absurd (alone t call.target.kind namespace p (subst (λ (m : Method). collection_judged_by m t current objects call.target.kind namespace call.query call.body ≡ Ok p) is e))
-  in_keeps t (Some namespace) (Some name) p e =
-      let k : Key = record { kind = call.target.kind; namespace = namespace; name = name } in
-      let served = sym (object t k) ∙ subst (λ (m : Method). object_judged_by m t current objects k call.query call.body ≡ Ok p) is e in
+  in_keeps t serves (Some namespace) (Some name) p e =
+      let k = key_at call namespace name in
+      let served = sym (object t k) ∙ subst (λ (m : Method). object_judged_by m t current (fin.get objects k) k call.query call.body ≡ Ok p) is e in
       let body = passed (body_of call.body) (judged t k) p served in
-      keeps t k body.0 p body.2
+      keeps t k serves body.0 p (body_json call.body body.0 json body.1) body.2
 
-  at_keeps : (t : Option ServedShape) (p : Plan) → judged_at t current objects call ≡ Ok p → KeepsBy current objects R p.change
-  at_keeps None p e = no_err _ p e
-  at_keeps (Some t) p e = in_keeps t call.target.namespace call.target.name p e
+  at_keeps : (found : Option ServedShape) → slice_get types call.target.kind ≡ found → (p : Plan) → judged_at found current objects call ≡ Ok p → WritesBy types current objects ⊥ R p.change
+  at_keeps None serves p e = no_err _ p e
+  at_keeps (Some t) serves p e = in_keeps t serves call.target.namespace call.target.name p e
 
-  plan_keeps : (types : List ServedShape) (planned : Judged Plan) → judged_over types current objects call ≡ planned → KeepsBy current objects R (told planned).change
-  plan_keeps types (Err d) e = tt
-  plan_keeps types (Ok p) e = at_keeps (slice_get types call.target.kind) p e
+  plan_keeps : (j : Judged Plan) → judged_over types current objects call ≡ j → WritesBy types current objects ⊥ R (told j).change
+  plan_keeps (Err d) e = tt
+  plan_keeps (Ok p) e = at_keeps (slice_get types call.target.kind) refl p e
 
 -- ---- the machine after it
 
-module _ (R : State → State → Type 0) (stays : (s : State) → R s s) where
-  under_put : (os : Objects) (key : Key) (o : Object) (k : Key) → R (state_under os key) o.state → R (state_under os k) (state_under (fin.insert os key o) k)
-  under_put os key o k keeps =
-      subst (λ found. R (state_under os k) (state_or_nothing found)) (sym (fin.get-insert key_cmp_total os key o k)) (go (eq_by_cmp key_cmp k key) refl)
+module _ (types : List ServedShape) (m : History) (is : IsMachine types m) (R : State → State → Type 0) (stays : (s : State) → R s s) where
+  -- the state under the key of the change
+  changed_keeps : (c : Change) (body : Option (List ℕ)) → c.revision ≤ last_revision → BodyBy types (standing m) ⊥ R c body
+      → R (state_under types (standing m) c.key) (state_by (slice_get types c.key.kind) (object_by (suc m.current) body))
+  changed_keeps c None low b = absurd b.0
+  changed_keeps c (Some text) low b =
+      let says = printed_is_text b.0 c.key c.revision b.2 b.3 low in
+      subst (R (state_under types (standing m) c.key))
+      (sym (ap (λ u. state_by u (object_by (suc m.current) (Some text))) b.1 ∙ ap (state_said b.0.shape) b.4
+      ∙ said_back b.0.shape _ c.revision b.2 (text_at b.0 c.key c.revision b.2) ((shapes_of types is.shapes) c.key.kind b.0 b.1) says))
+      b.5
+
+  under_put : (c : Change) (k : Key) → R (state_under types (standing m) c.key) (state_by (slice_get types c.key.kind) (object_by (suc m.current) c.body))
+      → R (state_under types (standing m) k) (state_under types (put_or_remove (standing m) c.key (object_by (suc m.current) c.body)) k)
+  under_put c k keeps =
+      subst (λ found. R (state_under types (standing m) k) (state_by (slice_get types k.kind) found)) (sym (get-put_or_remove (standing m) c.key (object_by (suc m.current) c.body) k)) (go (is_same_key k c.key) refl)
     where
-      go : (b : Bool) → eq_by_cmp key_cmp k key ≡ b → R (state_under os k) (state_or_nothing (cond b (Some o) (fin.get os k)))
-      go true is = subst (λ q. R (state_under os q) o.state) (sym (same_key k key is)) keeps
-      go false is = stays (state_under os k)
+      go : (b : Bool) → is_same_key k c.key ≡ b → R (state_under types (standing m) k) (state_by (slice_get types k.kind) (cond b (object_by (suc m.current) c.body) (fin.get (standing m) k)))
+      go true same = subst (λ q. R (state_under types (standing m) q) (state_by (slice_get types q.kind) (object_by (suc m.current) c.body))) (sym (tied k c.key same)) keeps
+      go false same = stays (state_under types (standing m) k)
 
-  put_keeps : (os : Objects) (c : Change) (s : State) (k : Key) → c.object ≡ Some s → R (state_under os c.key) s → R (state_under os k) (state_under (changed_by os c) k)
-  put_keeps os c s k is keeps =
-      subst (λ now. R (state_under os k) (state_under (put_or_remove os c.key (option_map (λ s. record { revision = c.revision; state = s }) now)) k)) (sym is)
-      (under_put os c.key (record { revision = c.revision; state = s }) k keeps)
-
-  after_keeps : (m : Machine) (change : Option Change) → IsMachine m → KeepsBy m.current (standing m) R change → (k : Key)
-      → R (state_under (standing m) k) (state_under (standing (after m change)) k)
-  after_keeps m None is keeps k = stays (state_under (standing m) k)
-  after_keeps m (Some c) is keeps k =
-      subst (λ os. R (state_under (standing m) k) (state_under os k)) (sym (standing_next m c is (record { next = keeps.0; high = keeps.1 })))
-      (put_keeps (standing m) c keeps.2.0 k keeps.2.1 keeps.2.2)
+  after_keeps : (change : Option Change) → WritesBy types m.current (standing m) ⊥ R change → (k : Key)
+      → R (state_under types (standing m) k) (state_under types (standing (after m change)) k)
+  after_keeps None writes k = stays (state_under types (standing m) k)
+  after_keeps (Some c) writes k =
+      subst (λ os. R (state_under types (standing m) k) (state_under types os k)) (sym (standing_next types m c is (comes_next types m ⊥ R c writes)))
+      (under_put c k (changed_keeps c c.body writes.1 writes.2))
 
 -- ---- the two laws
 
 pub applies_keep_others : AppliesKeepOthers
-applies_keep_others types m call values is patch read gentle =
+applies_keep_others types m call values is json patch read gentle =
     let R = AsApplied values.manager in
-    after_keeps R (λ s k p apart owns. (refl, owns)) m (told (judged_over types m.current (standing m) call)).change is
-    (plan_keeps m.current (standing m) call R Patch (λ t k. apply_judged t m.current (standing m) k call.query) patch
-    (λ t kind namespace p e. no_err _ p e) (λ t k. refl) (λ t k. apply_keeps t m.current (standing m) k call.query values read gentle)
-    types (judged_over types m.current (standing m) call) refl)
+    let texts = standing_texts types m is in
+    after_keeps types m is R (λ s k p apart owns. (refl, owns)) (told (judged_over types m.current (standing m) call)).change
+    (plan_keeps types m.current (standing m) call json R Patch (λ t k. apply_judged t m.current (fin.get (standing m) k) k call.query) patch
+    (λ t kind namespace p e. no_err _ p e) (λ t k. refl)
+    (λ t k serves body p spelled e. apply_writes types m.current (standing m) (shapes_of types is.shapes) texts t k serves ⊥ R call.query body p spelled
+    (λ i intends before s owned.
+    let said = intended (at_path t k Patch) asked.Apply call.query body i values intends read in
+    subst (λ w. AsApplied w before s) (sym said.0)
+    (owned_keeps _ before i.content (manager_of i.manager apply_operation) i.is_forced s (sym said.1 ∙ gentle) owned)) e)
+    (judged_over types m.current (standing m) call) refl)
 
 pub updates_take_changes : UpdatesTakeChanges
-updates_take_changes types m call values is put read =
+updates_take_changes types m call values is json put read =
     let R = AsUpdated values.manager in
-    after_keeps R (λ s k p apart owns same. owns) m (told (judged_over types m.current (standing m) call)).change is
-    (plan_keeps m.current (standing m) call R Put (λ t k. update_judged t m.current (standing m) k call.query) put
-    (λ t kind namespace p e. no_err _ p e) (λ t k. refl) (λ t k. update_keeps t m.current (standing m) k call.query values read)
-    types (judged_over types m.current (standing m) call) refl)
+    let texts = standing_texts types m is in
+    after_keeps types m is R (λ s k p apart owns same. owns) (told (judged_over types m.current (standing m) call)).change
+    (plan_keeps types m.current (standing m) call json R Put (λ t k. update_judged t m.current (fin.get (standing m) k) k call.query) put
+    (λ t kind namespace p e. no_err _ p e) (λ t k. refl)
+    (λ t k serves body p spelled e. update_writes types m.current (standing m) (shapes_of types is.shapes) texts t k serves ⊥ R call.query body p spelled
+    (λ i intends before.
+    let said = intended (at_path t k Put) asked.Put call.query body i values intends read in
+    subst (λ w. AsUpdated w before (updated_by i before)) (sym said.0)
+    (updated_keeps before i.content (manager_of i.manager update_operation))) e)
+    (judged_over types m.current (standing m) call) refl)

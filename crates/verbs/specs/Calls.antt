@@ -1,9 +1,9 @@
 -- Calls and their answers (Kubernetes docs, "Kubernetes API Concepts", "Resource URIs", "API Verbs").
 use Rattle.std.specs.Prelude.{ℕ, List, Option}
 use Rattle.serde_json.specs.Data.{Data}
+use Rattle.history.specs.History.{Change}
 use Rattle.verbs.specs.declared.method.Method.{Method}
 use Rattle.verbs.specs.declared.reason.Reason.{Reason}
-use Rattle.verbs.specs.Machine.{Change}
 
 -- what a call is of: the number of a type, a namespace unless it is over all, and a name unless it is of a collection
 pub record Target : Type 0 where
@@ -18,9 +18,10 @@ pub record Call : Type 0 where
   pub query : List ℕ
   pub body : Option Data
 
+-- the body is a text
 pub record Answer : Type 0 where
   pub status : ℕ
-  pub body : Data
+  pub body : List ℕ
 
 -- what a call comes to: its answer, and the change that it makes, if any
 pub record Plan : Type 0 where

@@ -1,104 +1,90 @@
--- The machine: every change ever made, oldest first, and the objects that stand at a revision
+-- The machine: a history whose bodies are texts of objects, each of the type and key of its change
 -- (resourceVersion and its order: Kubernetes "API Concepts", "Resource versions").
-use Rattle.std.specs.Prelude.{◌≡◌, ℕ, suc, ◌<◌, ◌≤◌, List, [], ◌∷◌, ◌++◌, filter, Option, Some, None, option_map, nat_lt, nat_le}
-use Rattle.std.specs.Ordering.{nat_cmp, then_cmp, on}
-use Rattle.std.specs.Cmp.Lexicographic.{slice_cmp}
-use Rattle.std.specs.declared.cmp.Ordering.{Ordering}
+use Rattle.std.specs.Prelude.{◌≡◌, ℕ, suc, ◌≤◌, true, List, Option, Some, None, option_and_then, slice_get}
 use Rattle.std.specs.FinMap as fin
+use Rattle.std.specs.List.{All, AllByRecursion}
+use Rattle.serde_json.specs.Read.{read}
+use Rattle.schema.specs.Shape.{Shape}
+use Rattle.schema.specs.TypesFile.{ServedShape}
+use Rattle.pathmap.specs.Contents.{nothing}
+use Rattle.history.specs.History.{Key, Change, Object, Objects, History, last_revision, standing, written}
+use Rattle.history.specs.Whole.{IsWhole}
 use Rattle.ownership.specs.Apply.{State}
+use Rattle.ownership.specs.ObjectText.{Identity}
+use Rattle.ownership.specs.Parts.{parts_in}
+use Rattle.schema.specs.ObjectShape.{IsObjectShape}
+use Rattle.ownership.specs.ReadBack.{IsObjectText}
+use Rattle.verbs.specs.Envelope.{api_version_of}
 
--- what names an object: the number of its type, and its namespace and name in bytes
-pub record Key : Type 0 where
-  pub kind : ℕ
-  pub namespace : List ℕ
-  pub name : List ℕ
+-- ---- what stands
 
-abbrev pub text_cmp : List ℕ → List ℕ → Ordering
-text_cmp = slice_cmp nat_cmp
+-- no content, owned by nobody
+abbrev pub no_state : State
+no_state = record { content = nothing; owners = fin.empty }
 
--- by kind, then by namespace, then by name
-abbrev pub key_cmp : Key → Key → Ordering
-key_cmp = then_cmp (on (λ k. k.kind) nat_cmp) (then_cmp (on (λ k. k.namespace) text_cmp) (on (λ k. k.name) text_cmp))
+abbrev pub state_or_none : Option (State × ℕ) → State
+state_or_none None = no_state
+state_or_none (Some p) = p.0
 
--- without an object it is a deletion
-pub record Change : Type 0 where
-  pub revision : ℕ
-  pub key : Key
-  pub object : Option State
+-- what an object's text says: its content, and who owns what
+unfoldable pub state_said : Shape → List ℕ → State
+state_said s text = state_or_none (option_and_then (parts_in s) (read text))
 
--- what stands under a key: the revision of the key's last change, and the content and owners
-pub record Object : Type 0 where
-  pub revision : ℕ
+-- what a call starts from: the state of the object that stands, or nothing
+abbrev pub state_of_live : ServedShape → Option Object → State
+state_of_live t None = no_state
+state_of_live t (Some o) = state_said t.shape o.body
+
+abbrev pub state_by : Option ServedShape → Option Object → State
+state_by None live = no_state
+state_by (Some t) live = state_of_live t live
+
+-- content and owners under a key, both empty where there is no object
+abbrev pub state_under : List ServedShape → Objects → Key → State
+state_under types s k = state_by (slice_get types k.kind) (fin.get s k)
+
+-- ---- texts of objects
+
+-- what an object of a type is of, and its key
+abbrev pub identity_of : ServedShape → Key → Identity
+identity_of t k = record { api_version = api_version_of t; kind = t.kind; namespace = k.namespace; name = k.name }
+
+-- the text is that of an object of the key and its type, at the revision: of a content of the type, with owners of its paths
+pub record IsTextAt (types : List ServedShape) (k : Key) (revision : ℕ) (text : List ℕ) : Type 0 where
+  pub t : ServedShape
+  pub served : slice_get types k.kind ≡ Some t
   pub state : State
+  pub says : IsObjectText t.shape (identity_of t k) revision state text
 
--- from keys to what stands there, in the order of keys
-abbrev pub Objects : Type 0
-Objects = fin.FinMap key_cmp Object
+-- a deletion has no text
+abbrev pub IsBodyAt : List ServedShape → Key → ℕ → Option (List ℕ) → Type 0
+IsBodyAt types k revision None = Unit {0}
+IsBodyAt types k revision (Some text) = IsTextAt types k revision text
 
--- what a change leaves under its key
-abbrev pub left_by : Change → Option Object
-left_by c = option_map (λ s. record { revision = c.revision; state = s }) c.object
+abbrev pub IsOfTypes : List ServedShape → Change → Type 0
+IsOfTypes types c = IsBodyAt types c.key c.revision c.body
 
-abbrev pub put_or_remove : Objects → Key → Option Object → Objects
-put_or_remove os k None = fin.remove os k
-put_or_remove os k (Some o) = fin.insert os k o
+-- each type's schema is that of an object
+abbrev pub AreObjectTypes : List ServedShape → Type 0
+AreObjectTypes types = All (λ t. IsObjectShape t.shape) types
 
-abbrev pub changed_by : Objects → Change → Objects
-changed_by os c = put_or_remove os c.key (left_by c)
+-- ---- the machine
 
--- what the changes make of these objects
-abbrev pub changed : Objects → List Change → Objects
-changed os [] = os
-changed os (c ∷ cs) = changed (changed_by os c) cs
-
-abbrev pub up_to : ℕ → List Change → List Change
-up_to r = filter (λ c. nat_le c.revision r)
-
-abbrev pub later : ℕ → List Change → List Change
-later r = filter (λ c. nat_lt r c.revision)
-
--- each key's last change up to r, unless it is a deletion
-abbrev pub state_at : List Change → ℕ → Objects
-state_at cs r = changed fin.empty (up_to r cs)
-
--- the changes, oldest first, the revision that stands now, and the one up to which old changes may be forgotten
-pub record Machine : Type 0 where
-  pub changes : List Change
-  pub current : ℕ
-  pub compacted : ℕ
-
--- the highest revision: 9223372036854775807
-abbrev pub last_revision : ℕ
-last_revision = 9223372036854775807
-
--- each revision is above the last, all are above lo, and none is above top
-abbrev pub IsRising : ℕ → List Change → ℕ → Type 0
-IsRising lo [] top = lo ≤ top
-IsRising lo (c ∷ cs) top = (lo < c.revision) × IsRising c.revision cs top
-
-pub record IsMachine (m : Machine) : Type 0 where
-  pub rising : IsRising 0 m.changes m.current
-  pub low : m.compacted ≤ m.current
-  pub high : m.current ≤ last_revision
-
--- no change yet, and both numbers n
-abbrev pub fresh : ℕ → Machine
-fresh n = record { changes = []; current = n; compacted = n }
-
--- one more change
-abbrev pub with_change : Machine → Change → Machine
-with_change m c = record { changes = m.changes ++ c ∷ []; current = c.revision; compacted = m.compacted }
+-- nothing of it is forgotten since it began at a revision, and each body is an object's text
+pub record IsMachine (types : List ServedShape) (m : History) : Type 0 where
+  pub first : ℕ
+  pub whole : IsWhole first m
+  pub shapes : AreObjectTypes types
+  pub texts : AllByRecursion (IsOfTypes types) m.changes
 
 -- the machine after a call that made this change, or none
-abbrev pub after : Machine → Option Change → Machine
+abbrev pub after : History → Option Change → History
 after m None = m
-after m (Some c) = with_change m c
+after m (Some c) = written m c.key c.body
 
--- a change that may come next: it has the next revision
-pub record IsNext (m : Machine) (c : Change) : Type 0 where
+-- a change that may come next: it has the next revision; a deletion is of what stands, and a text is an object's
+pub record IsNext (types : List ServedShape) (m : History) (c : Change) : Type 0 where
   pub next : c.revision ≡ suc m.current
   pub high : c.revision ≤ last_revision
-
--- the objects that stand now
-abbrev pub standing : Machine → Objects
-standing m = state_at m.changes m.current
+  pub there : c.body ≡ None → fin.contains_key (standing m) c.key ≡ true
+  pub is_text : IsOfTypes types c

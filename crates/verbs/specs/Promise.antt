@@ -1,31 +1,60 @@
--- What a call leaves to the managers of other fields (Kubernetes docs, "Server-Side Apply", "Conflicts", "Transferring ownership").
-use Rattle.std.specs.Prelude.{◌≡◌, false, List}
+-- What a call leaves to the managers of other fields (Kubernetes docs, "Server-Side Apply", "Conflicts", "Transferring ownership"),
+-- and what it leaves of the machine.
+use Rattle.std.specs.Prelude.{◌≡◌, ◌≤◌, ℕ, false, List, Some, IfSome}
 use Rattle.std.specs.declared.result.Result.TheVariants.{Ok}
 use Rattle.std.specs.FinMap as fin
+use Rattle.std.specs.List.{AllByRecursion}
 use Rattle.params.specs.Values.{Values}
 use Rattle.params.specs.declared.params.Asked.TheVariants as asked
 use Rattle.schema.specs.TypesFile.{ServedShape}
 use Rattle.fieldpath.specs.Paths.{PathTexts}
+use Rattle.history.specs.History.{Key, Object, History, compacted_to, fresh, last_revision, standing}
+use Rattle.history.specs.View.{view}
 use Rattle.ownership.specs.Owners.{Manager, manager_of, apply_operation, update_operation}
 use Rattle.ownership.specs.Apply.{State}
 use Rattle.ownership.specs.Keeping.{OthersKeep, Owns}
+use Rattle.ownership.specs.ReadBack.{IsObjectText}
 use Rattle.verbs.specs.declared.method.Method.TheVariants.{Patch, Put}
 use Rattle.verbs.specs.Calls.{Call}
-use Rattle.verbs.specs.Machine.{Key, Objects, Machine, IsMachine, standing}
+use Rattle.verbs.specs.Json.{IsJsonBody}
+use Rattle.verbs.specs.Machine.{AreObjectTypes, IsMachine, IsNext, IsTextAt, identity_of, state_under}
 use Rattle.verbs.specs.Parameters.{parameters_judged}
-use Rattle.verbs.specs.Step.{state_or_nothing, step}
+use Rattle.verbs.specs.Step.{planned, planned_in, step, steps}
 
--- content and owners under a key, both empty where there is no object
-abbrev pub state_under : Objects → Key → State
-state_under os k = state_or_nothing (fin.get os k)
+-- what a call plans may come next, so the machine is one after each call whose body is a value that a JSON text spells
+abbrev pub PlansComeNext : Type 0
+PlansComeNext = (types : List ServedShape) (m : History) (call : Call) → IsMachine types m → IsJsonBody call.body → IfSome (planned types m call).change (IsNext types m)
+
+abbrev pub StepsKeepMachines : Type 0
+StepsKeepMachines = (types : List ServedShape) (m : History) (call : Call) → IsMachine types m → IsJsonBody call.body → IsMachine types (step types m call).1
+
+-- a machine begins without a change at any revision, and stays one over calls, one after the other, and over a compaction
+abbrev pub MachinesBegin : Type 0
+MachinesBegin = (types : List ServedShape) (n : ℕ) → AreObjectTypes types → 1 ≤ n → n ≤ last_revision → IsMachine types (fresh n)
+
+abbrev pub CallsKeepMachines : Type 0
+CallsKeepMachines = (types : List ServedShape) (m : History) (calls : List Call) → IsMachine types m → AllByRecursion (λ call. IsJsonBody call.body) calls → IsMachine types (steps types m calls).1
+
+abbrev pub CompactionsKeepMachines : Type 0
+CompactionsKeepMachines = (types : List ServedShape) (m : History) (c : ℕ) → IsMachine types m → m.compacted ≤ c → c ≤ m.current → IsMachine types (compacted_to c m)
+
+-- what is planned depends on the view of the history alone
+abbrev pub PlansByViews : Type 0
+PlansByViews = (types : List ServedShape) (m : History) (call : Call) → IsMachine types m → planned types m call ≡ planned_in types (view m) call
+
+-- what stands under a key is the text of the state that is read of it, at its revision
+abbrev pub TextsSayStates : Type 0
+TextsSayStates =
+    (types : List ServedShape) (m : History) (k : Key) (o : Object) → IsMachine types m → fin.get (standing m) k ≡ Some o
+    → (t : IsTextAt types k o.revision o.body) × (t.state ≡ state_under types (standing m) k)
 
 -- An apply without force changes no field that another manager owns: after the call, whatever it answers, each path of each
 -- object that another manager owned has the value and the owner that it had.
 abbrev pub AppliesKeepOthers : Type 0
 AppliesKeepOthers =
-    (types : List ServedShape) (m : Machine) (call : Call) (values : Values)
-    → IsMachine m → call.target.method ≡ Patch → parameters_judged asked.Apply call.query ≡ Ok values → values.is_forced ≡ false
-    → (k : Key) → OthersKeep (state_under (standing m) k) (state_under (standing (step types m call).1) k) (manager_of values.manager apply_operation)
+    (types : List ServedShape) (m : History) (call : Call) (values : Values) → IsMachine types m → IsJsonBody call.body
+    → call.target.method ≡ Patch → parameters_judged asked.Apply call.query ≡ Ok values → values.is_forced ≡ false
+    → (k : Key) → OthersKeep (state_under types (standing m) k) (state_under types (standing (step types m call).1) k) (manager_of values.manager apply_operation)
 
 -- each path that another manager owned, and that has the value that it had, is still owned by that manager
 abbrev pub OthersKeepUnchanged : State → State → Manager → Type 0
@@ -34,6 +63,6 @@ OthersKeepUnchanged old new m = (k : Manager) (p : PathTexts) → ¬ (k ≡ m) �
 -- an update takes from other managers only what it changes
 abbrev pub UpdatesTakeChanges : Type 0
 UpdatesTakeChanges =
-    (types : List ServedShape) (m : Machine) (call : Call) (values : Values)
-    → IsMachine m → call.target.method ≡ Put → parameters_judged asked.Put call.query ≡ Ok values
-    → (k : Key) → OthersKeepUnchanged (state_under (standing m) k) (state_under (standing (step types m call).1) k) (manager_of values.manager update_operation)
+    (types : List ServedShape) (m : History) (call : Call) (values : Values) → IsMachine types m → IsJsonBody call.body
+    → call.target.method ≡ Put → parameters_judged asked.Put call.query ≡ Ok values
+    → (k : Key) → OthersKeepUnchanged (state_under types (standing m) k) (state_under types (standing (step types m call).1) k) (manager_of values.manager update_operation)

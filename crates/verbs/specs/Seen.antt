@@ -7,7 +7,6 @@ use Rattle.std.specs.FinMap as fin
 use Rattle.serde_json.specs.View.{view, items_view}
 use Rattle.schema.specs.Served.{served, types_view}
 use Rattle.schema.specs.TypesFile.{ServedShape}
-use Rattle.ownership.specs.Results.{state_of}
 use Rattle.verbs.specs.declared.calls.Target.{Target as TheTarget}
 use Rattle.verbs.specs.declared.calls.Call.{Call as TheCall}
 use Rattle.verbs.specs.declared.calls.Answer.{Answer as TheAnswer}
@@ -18,7 +17,7 @@ use Rattle.verbs.specs.declared.objects.Stored.{Stored}
 use Rattle.verbs.specs.declared.admitting.Denied.{Denied as TheDenied}
 use Rattle.verbs.specs.declared.admitting.Refusal.{Refusal}
 use Rattle.verbs.specs.declared.admitting.Refusal.TheVariants as refusal
-use Rattle.verbs.specs.declared.status.Denial.{Denial as TheDenial}
+use Rattle.verbs.specs.declared.denial.Denial.{Denial as TheDenial}
 use Rattle.verbs.specs.declared.fault.Stop.{Stop}
 use Rattle.verbs.specs.declared.fault.Stop.TheVariants as stop
 use Rattle.verbs.specs.declared.api.Api.{Api}
@@ -34,7 +33,10 @@ use Rattle.matchit.specs.declared.params.Params.{Params}
 use Rattle.verbs.specs.Status.{Denial}
 use Rattle.verbs.specs.Judged.{Judged, denial}
 use Rattle.verbs.specs.declared.reason.Reason.{Reason}
-use Rattle.verbs.specs.Machine.{Key, Change, Object, Objects, Machine, IsMachine, standing}
+use Rattle.history.specs.History.{Key, Change, Object, Objects, History, standing}
+use Rattle.verbs.specs.Machine.{IsMachine}
+use Rattle.verbs.specs.declared.body.Body.{Body}
+use Rattle.serde_json.specs.Data.{Data}
 use Rattle.verbs.specs.Calls.{Target, Call, Answer, Plan, Denied}
 
 -- ---- calls and answers
@@ -42,17 +44,20 @@ use Rattle.verbs.specs.Calls.{Target, Call, Answer, Plan, Denied}
 abbrev pub target_of : TheTarget → Target
 target_of t = record { kind = t.kind; namespace = option_map string_bytes t.namespace; name = option_map string_bytes t.name; method = t.method }
 
+abbrev pub body_seen : Body → Data
+body_seen b = view b.value
+
 abbrev pub call_of : TheCall → Call
-call_of c = record { target = target_of c.target; query = c.query.items; body = option_map view c.body }
+call_of c = record { target = target_of c.target; query = c.query.items; body = option_map body_seen c.body }
 
 abbrev pub answer_of : TheAnswer → Answer
-answer_of a = record { status = a.status; body = view a.body }
+answer_of a = record { status = a.status; body = string_bytes a.body }
 
 abbrev pub key_of : TheKey → Key
 key_of k = record { kind = k.kind; namespace = string_bytes k.namespace; name = string_bytes k.name }
 
 abbrev pub change_of : TheChange → Change
-change_of c = record { revision = c.revision; key = key_of c.key; object = option_map state_of c.object }
+change_of c = record { revision = c.revision; key = key_of c.key; body = option_map string_bytes c.body }
 
 abbrev pub plan_of : ThePlan → Plan
 plan_of p = record { answer = answer_of p.answer; change = option_map change_of p.change }
@@ -64,15 +69,17 @@ denial_of d = record { reason = d.reason; message = string_bytes d.message; caus
 
 abbrev pub Refuses : Stop → Denial → Type 0
 Refuses stop.Memory d = Unit {0}
+Refuses stop.Store d = Unit {0}
 Refuses (stop.Denied e) d = denial_of e ≡ d
 
--- the refusal is of this reason and message, without causes, unless memory ran out
+-- the refusal is of this reason and message, without causes, unless memory ran out or a stored text is no object's
 abbrev pub Denies : Stop → Reason → List ℕ → Type 0
 Denies e r message = Refuses e (denial r message)
 
--- what a check answered, seen by see, is what is judged, unless memory ran out
+-- what a check answered, seen by see, is what is judged, unless memory ran out or a stored text is no object's
 abbrev pub Fails : {Y : Type 0} → Stop → Judged Y → Type 0
 Fails stop.Memory judged = Unit {0}
+Fails stop.Store judged = Unit {0}
 Fails (stop.Denied d) judged = judged ≡ Err (denial_of d)
 
 abbrev pub Gives : {X Y : Type 0} → (X → Y) → Result X Stop → Judged Y → Type 0
@@ -108,7 +115,7 @@ place_seen p = record { resource = p.resource; kind = p.kind; namespace = option
 -- ---- the API
 
 abbrev pub object_of : Stored → Object
-object_of s = record { revision = s.revision; state = state_of s.owned }
+object_of s = record { revision = s.revision; body = string_bytes s.text }
 
 abbrev pub objects_in : BTreeMap TheKey Stored → Objects
 objects_in m = fin.from_entries (map (λ e. (key_of e.0, object_of e.1)) m.entries)
@@ -118,8 +125,8 @@ abbrev pub types_of : Api → List ServedShape
 types_of api = types_view api.types
 
 -- the API serves these types, and its revision and objects are those of the machine
-pub record Stands (api : Api) (types : List ServedShape) (m : Machine) : Type 0 where
-  pub is_machine : IsMachine m
+pub record Stands (api : Api) (types : List ServedShape) (m : History) : Type 0 where
+  pub is_machine : IsMachine types m
   pub serves : types_of api ≡ types
   pub current : api.current ≡ m.current
   pub objects : objects_in api.objects ≡ standing m

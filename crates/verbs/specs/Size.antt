@@ -1,5 +1,5 @@
 -- Limits of an object: 64 labels, and 262,144 bytes of its text.
-use Rattle.std.specs.Prelude.{ℕ, suc, min, ◌^◌, ◌-◌, Bool, not, length, nat_le, nat_lt, Option, Some, None, codes}
+use Rattle.std.specs.Prelude.{ℕ, suc, Bool, not, length, nat_le, nat_lt, Option, Some, None, codes}
 use Rattle.serde_json.specs.Data.{Data, Members, no_members, member}
 use Rattle.serde_json.specs.Written.{compact_text}
 use Rattle.verbs.specs.declared.reason.Reason.TheVariants.{Invalid}
@@ -29,7 +29,3 @@ abbrev pub size_judged : Data → Judged (Unit {0})
 size_judged d =
     and_then (unless (nat_le (count_if_there (metadata_object (codes "labels") d)) max_labels) Invalid (codes "metadata.labels: more than 64")) (λ u.
     unless (not (is_over d)) Invalid (codes "object over 262144 bytes"))
-
--- for private clauses: a number of bytes, or the most that a count holds
-abbrev pub capped : ℕ → ℕ
-capped n = min n (2 ^ 64 - 1)

@@ -4,18 +4,21 @@ use Rattle.std.specs.Prelude.{ℕ, suc, Bool, ◌==◌, nat_le, nat_lt, List, []
 use Rattle.std.specs.declared.result.Result.TheVariants.{Ok, Err}
 use Rattle.std.specs.FinMap as fin
 use Rattle.serde_json.specs.Data.{Data, string, object, Items, no_items, item, no_members, put}
+use Rattle.serde_json.specs.Written.{compact_text}
 use Rattle.fieldpath.specs.Elements.{shown}
-use Rattle.pathmap.specs.Contents.{Content, nothing}
+use Rattle.pathmap.specs.Contents.{Content}
 use Rattle.schema.specs.TypesFile.{ServedShape}
 use Rattle.typed.specs.declared.fault.Cause.{Cause}
 use Rattle.typed.specs.declared.fault.Cause.TheVariants.{NotAnObject, UnknownField, WrongType, DuplicateItem, KeyFieldMissing}
 use Rattle.typed.specs.Faults.{Read, cause_text}
 use Rattle.typed.specs.Reading.{content_of}
 use Rattle.ownership.specs.Owners.{Manager, manager_of, apply_operation, update_operation}
+use Rattle.history.specs.History.{Key, Object, Objects, History, last_revision, standing}
+use Rattle.history.specs.View.{View, state_in}
 use Rattle.ownership.specs.Apply.{State, Conflict, conflicts, applied, is_refused}
 use Rattle.ownership.specs.Update.{updated}
 use Rattle.ownership.specs.Sameness.{same_state}
-use Rattle.ownership.specs.ObjectText.{Identity, object_value}
+use Rattle.ownership.specs.ObjectText.{object_value}
 use Rattle.params.specs.declared.params.Asked.{Asked}
 use Rattle.params.specs.declared.params.Asked.TheVariants as asked
 use Rattle.verbs.specs.declared.method.Method.{Method}
@@ -26,7 +29,7 @@ use Rattle.verbs.specs.declared.reason.Reason.TheVariants as reason
 use Rattle.verbs.specs.Reasons.{code_of}
 use Rattle.verbs.specs.Status.{Denial, denial_value}
 use Rattle.verbs.specs.Judged.{Judged, and_then, denied, unless}
-use Rattle.verbs.specs.Machine.{Key, Object, Objects, Machine, last_revision, standing, after}
+use Rattle.verbs.specs.Machine.{after, identity_of, no_state, state_of_live, state_said}
 use Rattle.verbs.specs.Calls.{Call, Answer, Plan}
 use Rattle.verbs.specs.Envelope.{Expected, api_version_of, envelope_of, name_in}
 use Rattle.verbs.specs.Parameters.{parameters_judged}
@@ -50,12 +53,12 @@ shape_judged (Err e) = denied (fault_reason e.0) (e.1 ++ codes ": " ++ cause_tex
 
 -- ---- the object
 
-abbrev pub identity_of : ServedShape → Key → Identity
-identity_of t k = record { api_version = api_version_of t; kind = t.kind; namespace = k.namespace; name = k.name }
-
--- the object as it is printed
+-- the object's value and its text
 abbrev pub printed : ServedShape → Key → ℕ → State → Data
 printed t k revision s = object_value t.shape (identity_of t k) revision s
+
+abbrev pub text_at : ServedShape → Key → ℕ → State → List ℕ
+text_at t k revision s = compact_text (printed t k revision s)
 
 -- ---- version
 
@@ -121,38 +124,33 @@ intent_of of asked query body =
 abbrev pub at_path : ServedShape → Key → Method → Expected
 at_path t k method = record { served = t; namespace = k.namespace; name = Some k.name; method = method }
 
--- what a write starts from: the object that stands, or nothing
-abbrev pub state_or_nothing : Option Object → State
-state_or_nothing None = record { content = nothing; owners = fin.empty }
-state_or_nothing (Some o) = o.state
-
 -- ---- what is stored
 
 abbrev pub revisions_left : ℕ → Judged (Unit {0})
 revisions_left current = unless (nat_lt current last_revision) ServiceUnavailable (codes "revisions are used up")
 
--- the object of this body, unless it is too large or revisions are used up
-abbrev pub stored_as : Data → ℕ → Key → ℕ → State → Judged Plan
-stored_as body current k status s =
+-- the object of this value, unless it is too large or revisions are used up
+abbrev pub stored_as : Data → ℕ → Key → ℕ → Judged Plan
+stored_as body current k status =
     and_then (size_judged body) (λ u.
     and_then (revisions_left current) (λ u.
     Ok (record {
-      answer = record { status = status; body = body };
-      change = Some (record { revision = suc current; key = k; object = Some s });
+      answer = record { status = status; body = compact_text body };
+      change = Some (record { revision = suc current; key = k; body = Some (compact_text body) });
     })))
 
 -- the object with the next revision
 abbrev pub stored : ServedShape → ℕ → Key → ℕ → State → Judged Plan
-stored t current k status s = stored_as (printed t k (suc current) s) current k status s
+stored t current k status s = stored_as (printed t k (suc current) s) current k status
 
 -- the object as it stands
-abbrev pub kept : ServedShape → Key → Object → Plan
-kept t k o = record { answer = record { status = 200; body = printed t k o.revision o.state }; change = None }
+abbrev pub kept : Object → Plan
+kept o = record { answer = record { status = 200; body = o.body }; change = None }
 
--- a creation, or a change of what stands, unless it changes nothing
+-- a creation, or a change of what stands, unless it changes nothing of what that says
 abbrev pub stored_over : ServedShape → ℕ → Key → Option Object → State → Judged Plan
 stored_over t current k None s = stored t current k 201 s
-stored_over t current k (Some o) s = if same_state s o.state then Ok (kept t k o) else stored t current k 200 s
+stored_over t current k (Some o) s = if same_state s (state_said t.shape o.body) then Ok (kept o) else stored t current k 200 s
 
 -- ---- apply
 
@@ -160,14 +158,14 @@ stored_over t current k (Some o) s = if same_state s o.state then Ok (kept t k o
 abbrev pub applied_over : ServedShape → ℕ → Key → Option Object → Intent → Judged Plan
 applied_over t current k live intent =
     and_then (version_checked intent.version live) (λ u.
-    and_then (ownership_judged (api_version_of t) (state_or_nothing live) intent.content (manager_of intent.manager apply_operation) intent.is_forced) (λ s.
+    and_then (ownership_judged (api_version_of t) (state_of_live t live) intent.content (manager_of intent.manager apply_operation) intent.is_forced) (λ s.
     stored_over t current k live s))
 
-abbrev pub apply_judged : ServedShape → ℕ → Objects → Key → List ℕ → Data → Judged Plan
-apply_judged t current objects k query body =
+abbrev pub apply_judged : ServedShape → ℕ → Option Object → Key → List ℕ → Data → Judged Plan
+apply_judged t current live k query body =
     and_then (intent_of (at_path t k Patch) asked.Apply query body) (λ intent.
     and_then (names_judged k.namespace k.name intent.rest) (λ u.
-    applied_over t current k (fin.get objects k) intent))
+    applied_over t current k live intent))
 
 -- ---- objects that are there, and that are not
 
@@ -194,51 +192,54 @@ version_come None current = Ok tt
 version_come (Some n) current = unless (nat_le n current) Timeout (too_large_message n current)
 
 -- parameters, object there or not, version
-abbrev pub get_judged : ServedShape → ℕ → Objects → Key → List ℕ → Judged Plan
-get_judged t current objects k query =
+abbrev pub get_judged : ServedShape → ℕ → Option Object → Key → List ℕ → Judged Plan
+get_judged t current live k query =
     and_then (parameters_judged asked.Get query) (λ values.
-    and_then (there t k.name (fin.get objects k)) (λ o.
+    and_then (there t k.name live) (λ o.
     and_then (version_come values.version current) (λ u.
-    Ok (kept t k o))))
+    Ok (kept o))))
 
 -- ---- creation and update ("Server-Side Apply", "Comparison with Client-Side Apply": they own what they change)
 
 abbrev pub updated_by : Intent → State → State
 updated_by intent s = updated s intent.content (manager_of intent.manager update_operation)
 
-abbrev pub created_as : ServedShape → ℕ → Objects → Key → Intent → Judged Plan
-created_as t current objects k intent =
+abbrev pub created_as : ServedShape → ℕ → Option Object → Key → Intent → Judged Plan
+created_as t current live k intent =
     and_then (names_judged k.namespace k.name intent.rest) (λ u.
-    and_then (not_there t k.name (fin.get objects k)) (λ u.
-    stored t current k 201 (updated_by intent (state_or_nothing None))))
+    and_then (not_there t k.name live) (λ u.
+    stored t current k 201 (updated_by intent no_state)))
+
+abbrev pub created_in : ServedShape → ℕ → Objects → Key → Intent → Judged Plan
+created_in t current objects k intent = created_as t current (fin.get objects k) k intent
 
 -- the body names the object
 abbrev pub create_judged : ServedShape → ℕ → Objects → ℕ → List ℕ → List ℕ → Data → Judged Plan
 create_judged t current objects kind namespace query body =
     and_then (intent_of (record { served = t; namespace = namespace; name = None; method = Post }) asked.Post query body) (λ intent.
     and_then (required_name (name_in body)) (λ name.
-    created_as t current objects (record { kind = kind; namespace = namespace; name = name }) intent))
+    created_in t current objects (record { kind = kind; namespace = namespace; name = name }) intent))
 
 -- object there or not, version, size
 abbrev pub updated_over : ServedShape → ℕ → Key → Option Object → Intent → Judged Plan
 updated_over t current k live intent =
     and_then (there t k.name live) (λ o.
     and_then (version_checked intent.version live) (λ u.
-    stored_over t current k live (updated_by intent o.state)))
+    stored_over t current k live (updated_by intent (state_said t.shape o.body))))
 
-abbrev pub update_judged : ServedShape → ℕ → Objects → Key → List ℕ → Data → Judged Plan
-update_judged t current objects k query body =
+abbrev pub update_judged : ServedShape → ℕ → Option Object → Key → List ℕ → Data → Judged Plan
+update_judged t current live k query body =
     and_then (intent_of (at_path t k Put) asked.Put query body) (λ intent.
     and_then (marks_judged intent.rest) (λ u.
-    updated_over t current k (fin.get objects k) intent))
+    updated_over t current k live intent))
 
 -- ---- deletion
 
 -- the object's last state, with the deletion's revision
 abbrev pub deleted : ServedShape → ℕ → Key → Object → Plan
 deleted t current k o = record {
-  answer = record { status = 200; body = printed t k (suc current) o.state };
-  change = Some (record { revision = suc current; key = k; object = None });
+  answer = record { status = 200; body = text_at t k (suc current) (state_said t.shape o.body) };
+  change = Some (record { revision = suc current; key = k; body = None });
 }
 
 -- object there or not, version; nothing is stored, so no size is judged
@@ -250,11 +251,11 @@ deleted_over t current k live version =
     Ok (deleted t current k o))))
 
 -- the body's options, parameters
-abbrev pub delete_judged : ServedShape → ℕ → Objects → Key → List ℕ → Option Data → Judged Plan
-delete_judged t current objects k query body =
+abbrev pub delete_judged : ServedShape → ℕ → Option Object → Key → List ℕ → Option Data → Judged Plan
+delete_judged t current live k query body =
     and_then (options_judged body) (λ version.
     and_then (parameters_judged asked.Delete query) (λ values.
-    deleted_over t current k (fin.get objects k) version))
+    deleted_over t current k live version))
 
 -- ---- calls
 
@@ -267,12 +268,12 @@ abbrev pub not_served : Judged Plan
 not_served = denied MethodNotAllowed (codes "method not served here")
 
 -- on an object, by the method
-abbrev pub object_judged_by : Method → ServedShape → ℕ → Objects → Key → List ℕ → Option Data → Judged Plan
-object_judged_by Get t current objects k query body = get_judged t current objects k query
-object_judged_by Post t current objects k query body = not_served
-object_judged_by Put t current objects k query body = and_then (body_of body) (update_judged t current objects k query)
-object_judged_by Patch t current objects k query body = and_then (body_of body) (apply_judged t current objects k query)
-object_judged_by Delete t current objects k query body = delete_judged t current objects k query body
+abbrev pub object_judged_by : Method → ServedShape → ℕ → Option Object → Key → List ℕ → Option Data → Judged Plan
+object_judged_by Get t current live k query body = get_judged t current live k query
+object_judged_by Post t current live k query body = not_served
+object_judged_by Put t current live k query body = and_then (body_of body) (update_judged t current live k query)
+object_judged_by Patch t current live k query body = and_then (body_of body) (apply_judged t current live k query)
+object_judged_by Delete t current live k query body = delete_judged t current live k query body
 
 -- on all objects of a namespace
 abbrev pub collection_judged_by : Method → ServedShape → ℕ → Objects → ℕ → List ℕ → List ℕ → Option Data → Judged Plan
@@ -285,13 +286,16 @@ collection_judged_by Delete t current objects kind namespace query body = not_se
 abbrev pub no_path : Judged Plan
 no_path = denied NotFound (codes "no such path")
 
+abbrev pub key_at : Call → List ℕ → List ℕ → Key
+key_at call namespace name = record { kind = call.target.kind; namespace = namespace; name = name }
+
 -- by namespace and name: an object's path has both, a collection's no name
 abbrev pub judged_in : ServedShape → ℕ → Objects → Call → Option (List ℕ) → Option (List ℕ) → Judged Plan
 judged_in t current objects call None name = no_path
 judged_in t current objects call (Some namespace) None =
     collection_judged_by call.target.method t current objects call.target.kind namespace call.query call.body
 judged_in t current objects call (Some namespace) (Some name) =
-    object_judged_by call.target.method t current objects (record { kind = call.target.kind; namespace = namespace; name = name }) call.query call.body
+    object_judged_by call.target.method t current (fin.get objects (key_at call namespace name)) (key_at call namespace name) call.query call.body
 
 abbrev pub judged_at : Option ServedShape → ℕ → Objects → Call → Judged Plan
 judged_at None current objects call = no_path
@@ -302,7 +306,7 @@ judged_over types current objects call = judged_at (slice_get types call.target.
 
 -- a refusal is answered by its Status, and changes nothing
 abbrev pub refused : Denial → Plan
-refused d = record { answer = record { status = code_of d.reason; body = denial_value d }; change = None }
+refused d = record { answer = record { status = code_of d.reason; body = compact_text (denial_value d) }; change = None }
 
 abbrev pub told : Judged Plan → Plan
 told (Ok p) = p
@@ -313,14 +317,18 @@ abbrev pub planned_over : List ServedShape → ℕ → Objects → Call → Plan
 planned_over types current objects call = told (judged_over types current objects call)
 
 -- the answer of a call, and the change that it makes
-abbrev pub planned : List ServedShape → Machine → Call → Plan
+abbrev pub planned : List ServedShape → History → Call → Plan
 planned types m call = planned_over types m.current (standing m) call
 
+-- the same, by what may be seen of the history
+abbrev pub planned_in : List ServedShape → View → Call → Plan
+planned_in types v call = planned_over types v.current (state_in v v.current) call
+
 -- the answer, and the machine after the call
-abbrev pub step : List ServedShape → Machine → Call → Answer × Machine
+abbrev pub step : List ServedShape → History → Call → Answer × History
 step types m call = ((planned types m call).answer, after m (planned types m call).change)
 
 -- calls in turn: their answers, and the machine after them
-abbrev pub steps : List ServedShape → Machine → List Call → List Answer × Machine
+abbrev pub steps : List ServedShape → History → List Call → List Answer × History
 steps types m [] = ([], m)
 steps types m (call ∷ calls) = ((step types m call).0 ∷ (steps types (step types m call).1 calls).0, (steps types (step types m call).1 calls).1)

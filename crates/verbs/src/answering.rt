@@ -1,22 +1,24 @@
 ghost use Rattle.std.specs.Prelude.{◌≡◌, IfOk, codes};
 ghost use Rattle.serde_json.specs.View.{view};
 ghost use Rattle.verbs.specs.declared.reason.Reason.TheVariants.{MethodNotAllowed, NotFound};
+ghost use Rattle.verbs.specs.Json.{IsJson};
 ghost use Rattle.verbs.specs.Seen.{Denies, Gives, call_of, denial_of, plan_of};
 ghost use Rattle.verbs.specs.Step.{body_of, refused};
 
 use crate::calls::{Answer, Call, Plan};
+use crate::denial::Denial;
 use crate::fault::Stop;
 use crate::reason::Reason;
-use crate::status::Denial;
 use serde_json::Value;
 use std::alloc::{AllocError, Global};
 
 /// The body of a write.
 pub fn body_of(alloc: Global, call: &Call) -> Result<&Value, Stop>
-    ensures { Gives (λ v. view v.now) result (body_of (call_of call.now).body) }
+    ensures judged { Gives (λ v. view v.now) result (body_of (call_of call.now).body) }
+    ensures json { IfOk result (λ v. IsJson (view v.now)) }
 {
     match &call.body {
-        Some(body) => Ok(body),
+        Some(body) => Ok(&body.value),
         None => Err(Stop::denied(alloc, Reason::BadRequest, "body is not JSON")),
     }
 }
@@ -38,7 +40,7 @@ pub fn refused(alloc: Global, denial: Denial) -> Result<Plan, AllocError>
     ensures { IfOk result (λ p. plan_of p ≡ refused (denial_of denial)) }
 {
     let status = denial.reason.code();
-    let body = denial.into_status(alloc)?;
+    let body = denial.into_text(alloc)?;
     Ok(Plan {
         answer: Answer { status, body },
         change: None,

@@ -1,5 +1,5 @@
 ghost use Rattle.std.specs.Prelude.{◌≤◌};
-ghost use Rattle.verbs.specs.Machine.{last_revision};
+ghost use Rattle.history.specs.History.{last_revision};
 
 use crate::admitting::{Refusal, admitted};
 use crate::answering::{body_of, no_path, not_served, refused};
@@ -10,14 +10,14 @@ use crate::deleting::judge_delete;
 use crate::fault::{Fault, Stop};
 use crate::getting::judge_get;
 use crate::method::Method;
-use crate::objects::{Key, Stored, put_or_remove, stored_at};
+use crate::objects::{Key, Stored, object_at, put_or_remove, stored_at};
 use crate::route::Routes;
 use crate::updating::{judge_create, judge_update};
 use schema::{Served, Types};
 use std::alloc::Global;
 use std::collections::BTreeMap;
 
-/// The API over its objects, kept in memory.
+/// The API over its objects, whose texts are kept in memory.
 #[derive(Drop)]
 pub struct Api {
     alloc: Global,
@@ -29,13 +29,16 @@ pub struct Api {
 }
 
 impl Api {
-    ghost use Rattle.std.specs.Prelude.{◌≡◌, suc, List, IfOk, IfSome, OnOk, OnErr, option_map};
+    ghost use Rattle.std.specs.FinMap as fin;
+    ghost use Rattle.std.specs.Prelude.{◌≡◌, List, Some, IfOk, IfSome, OnOk, OnErr, option_map};
     ghost use Rattle.schema.specs.Served as types;
     ghost use Rattle.schema.specs.Served.{types_view};
     ghost use Rattle.schema.specs.TypesFile.{ServedShape};
     ghost use Rattle.verbs.specs.Admit.{admitted};
-    ghost use Rattle.verbs.specs.Machine.{IsNext, Machine, fresh, with_change};
-    ghost use Rattle.verbs.specs.Seen.{Admits, Gives, Stands, call_of, change_of, key_of, objects_in, plan_of, types_of};
+    ghost use Rattle.history.specs.History.{History, fresh};
+    ghost use Rattle.schema.specs.ObjectShape.{IsObjectShape};
+    ghost use Rattle.verbs.specs.Machine.{IsNext, after};
+    ghost use Rattle.verbs.specs.Seen.{Admits, Gives, Stands, call_of, change_of, key_of, object_of, objects_in, plan_of, types_of};
     ghost use Rattle.verbs.specs.Step.{collection_judged_by, judged_in, judged_over, object_judged_by, planned};
 
     /// An API without objects, at revision 1.
@@ -51,6 +54,7 @@ impl Api {
         requires to { revision ≤ last_revision }
         ensures { IfOk result (λ api. Stands api (types_view types) (fresh revision)) }
     {
+        types.types_are_of_objects();
         Ok(Api {
             alloc,
             types,
@@ -70,36 +74,36 @@ impl Api {
     }
 
     fn judged_object(&self, served: &Served, key: Key, call: &Call) -> Result<Plan, Stop>
-        ensures judged { let c = call_of call.now in
-            Gives plan_of result (object_judged_by c.target.method (types.served served.now) self.now.current (objects_in self.now.objects) (key_of key) c.query c.body) }
-        ensures next { IfOk result (λ p. IfSome p.change (λ c. c.revision ≡ suc self.now.current)) }
+        requires { IsObjectShape (types.served served.now).shape }
+        ensures { let c = call_of call.now in let live = fin.get (objects_in self.now.objects) (key_of key) in
+            Gives plan_of result (object_judged_by c.target.method (types.served served.now) self.now.current live (key_of key) c.query c.body) }
     {
         let alloc = self.alloc;
         let current = self.current;
-        let objects = &self.objects;
+        let live = object_at(&self.objects, &key);
         let query = call.query.as_slice();
         match call.target.method {
-            Method::Get => judge_get(alloc, served, current, objects, &key, query),
+            Method::Get => judge_get(alloc, served, current, live, &key, query),
             Method::Put => {
                 let body = body_of(alloc, call)?;
-                judge_update(alloc, served, current, objects, key, query, body)
+                judge_update(alloc, served, current, live, key, query, body)
             }
             Method::Patch => {
                 let body = body_of(alloc, call)?;
-                judge_apply(alloc, served, current, objects, key, query, body)
+                judge_apply(alloc, served, current, live, key, query, body)
             }
             Method::Delete => {
                 let body = call.body.as_ref();
-                judge_delete(alloc, served, current, objects, key, query, body)
+                judge_delete(alloc, served, current, live, key, query, body)
             }
             Method::Post => Err(not_served(alloc)),
         }
     }
 
     fn judged_collection(&self, served: &Served, namespace: &str, call: &Call) -> Result<Plan, Stop>
-        ensures judged { let c = call_of call.now in
+        requires { IsObjectShape (types.served served.now).shape }
+        ensures { let c = call_of call.now in
             Gives plan_of result (collection_judged_by c.target.method (types.served served.now) self.now.current (objects_in self.now.objects) c.target.kind namespace.now c.query c.body) }
-        ensures next { IfOk result (λ p. IfSome p.change (λ c. c.revision ≡ suc self.now.current)) }
     {
         if call.target.method != Method::Post {
             return Err(not_served(self.alloc));
@@ -118,9 +122,9 @@ impl Api {
     }
 
     fn judged_in(&self, served: &Served, call: &Call) -> Result<Plan, Stop>
-        ensures judged { let c = call_of call.now in
+        requires { IsObjectShape (types.served served.now).shape }
+        ensures { let c = call_of call.now in
             Gives plan_of result (judged_in (types.served served.now) self.now.current (objects_in self.now.objects) c c.target.namespace c.target.name) }
-        ensures next { IfOk result (λ p. IfSome p.change (λ c. c.revision ≡ suc self.now.current)) }
     {
         let Some(namespace) = &call.target.namespace else {
             return Err(no_path(self.alloc));
@@ -137,8 +141,7 @@ impl Api {
     }
 
     fn judged(&self, call: &Call) -> Result<Plan, Stop>
-        ensures judged { Gives plan_of result (judged_over (types_of self.now) self.now.current (objects_in self.now.objects) (call_of call.now)) }
-        ensures next { IfOk result (λ p. IfSome p.change (λ c. c.revision ≡ suc self.now.current)) }
+        ensures { Gives plan_of result (judged_over (types_of self.now) self.now.current (objects_in self.now.objects) (call_of call.now)) }
     {
         let Some(served) = self.types.get(call.target.kind) else {
             return Err(no_path(self.alloc));
@@ -148,30 +151,31 @@ impl Api {
 
     /// What a call comes to: its answer, and the change that it makes, if any. It changes nothing.
     pub fn plan(&self, call: &Call) -> Result<Plan, Fault>
-        ensures planned { (types : List ServedShape) (m : Machine) → Stands self.now types m
+        ensures planned { (types : List ServedShape) (m : History) → Stands self.now types m
             → IfOk result (λ p. plan_of p ≡ planned types m (call_of call.now)) }
-        ensures next { (types : List ServedShape) (m : Machine) → Stands self.now types m
-            → IfOk result (λ p. IfSome p.change (λ c. IsNext m (change_of c))) }
+        ensures next { (types : List ServedShape) (m : History) → Stands self.now types m
+            → IfOk result (λ p. IfSome p.change (λ c. IsNext types m (change_of c))) }
     {
         match self.judged(call) {
             Ok(plan) => Ok(plan),
             Err(Stop::Denied(denial)) => Ok(refused(self.alloc, denial)?),
             Err(Stop::Memory) => Err(Fault::Memory),
+            Err(Stop::Store) => Err(Fault::Store),
         }
     }
 
     /// Makes the change of a plan. Refused, it changes nothing.
     pub fn commit(&mut self, change: Change) -> Result<(), Fault>
-        ensures ok { (types : List ServedShape) (m : Machine) → Stands self.old types m → IsNext m (change_of change)
-            → OnOk result (Stands self.new types (with_change m (change_of change))) }
-        ensures err { (types : List ServedShape) (m : Machine) → Stands self.old types m → OnErr result (Stands self.new types m) }
+        ensures ok { (types : List ServedShape) (m : History) → Stands self.old types m → IsNext types m (change_of change)
+            → OnOk result (Stands self.new types (after m (Some (change_of change)))) }
+        ensures err { (types : List ServedShape) (m : History) → Stands self.old types m → OnErr result (Stands self.new types m) }
     {
         let Change {
             revision,
             key,
-            object,
+            body,
         } = change;
-        let stored = stored_at(revision, object);
+        let stored = stored_at(revision, body);
         put_or_remove(&mut self.objects, key, stored)?;
         self.current = revision;
         Ok(())

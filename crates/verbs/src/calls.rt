@@ -1,6 +1,6 @@
+use crate::body::Body;
 use crate::change::Change;
 use crate::method::Method;
-use serde_json::Value;
 
 /// What a call is of (Kubernetes docs, "Kubernetes API Concepts", "Resource URIs").
 #[derive(Debug, Drop)]
@@ -20,14 +20,15 @@ pub struct Call {
     pub target: Target,
     /// The query as it stands in the request, without the `?`.
     pub query: Vec<u8>,
-    pub body: Option<Value>,
+    pub body: Option<Body>,
 }
 
 /// A reply: status and body.
 #[derive(Debug, Drop)]
 pub struct Answer {
     pub status: u16,
-    pub body: Value,
+    /// The text of an object or of a Status, as compact JSON.
+    pub body: String,
 }
 
 /// What a call comes to: the answer, and the change that it makes, if any.

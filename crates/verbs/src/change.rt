@@ -1,14 +1,14 @@
 ghost use Rattle.std.specs.Prelude.{◌≤◌};
-ghost use Rattle.verbs.specs.Machine.{last_revision};
+ghost use Rattle.history.specs.History.{last_revision};
 
 use crate::objects::Key;
-use ownership::Owned;
 
-/// One change of the objects; without an object it is a deletion.
+/// One change of the objects; without a body it is a deletion.
 #[derive(Drop)]
 pub struct Change {
     pub(crate) revision: u64,
     pub(crate) key: Key,
-    pub(crate) object: Option<Owned>,
+    /// The text of the object.
+    pub(crate) body: Option<String>,
     ghost numbered: { revision ≤ last_revision },
 }

@@ -1,6 +1,9 @@
 ghost use Rattle.std.specs.Prelude.{◌≡◌, IfOk, map, string_bytes};
 ghost use Rattle.serde_json.specs.View.{items_view, view};
 ghost use Rattle.schema.specs.Served as types;
+ghost use Rattle.schema.specs.Shape.{Shape};
+ghost use Rattle.typed.specs.Fitting.{IsContent};
+ghost use Rattle.ownership.specs.Keeping.{IsPlacedState};
 ghost use Rattle.ownership.specs.Owners.{apply_operation, manager_of};
 ghost use Rattle.ownership.specs.Managers.{manager_view};
 ghost use Rattle.ownership.specs.Results.{conflict_of, state_of};
@@ -8,10 +11,10 @@ ghost use Rattle.verbs.specs.Envelope.{api_version_of};
 ghost use Rattle.verbs.specs.Seen.{Gives, Refuses, denial_of};
 ghost use Rattle.verbs.specs.Step.{cause_of, causes_of, conflict_denial, conflict_message, count_message, ownership_judged};
 
+use crate::denial::Denial;
 use crate::envelope::api_version_of;
 use crate::fault::Stop;
 use crate::reason::Reason;
-use crate::status::Denial;
 use crate::texts::joined;
 use ownership::{ApplyFault, Conflict, Manager, Owned, apply};
 use schema::Served;
@@ -75,10 +78,12 @@ fn conflict_denial(
 ) -> Result<Denial, AllocError>
     ensures { IfOk result (λ d. denial_of d ≡ conflict_denial api_version.now (map conflict_of conflicts.now)) }
 {
+    let causes = causes_of(alloc, api_version, conflicts)?;
+    let message = count_message(alloc, conflicts.len())?;
     Ok(Denial {
         reason: Reason::Conflict,
-        message: count_message(alloc, conflicts.len())?,
-        causes: causes_of(alloc, api_version, conflicts)?,
+        message,
+        causes,
     })
 }
 
@@ -103,7 +108,8 @@ pub fn applied(
     manager: &str,
     force: bool,
 ) -> Result<Owned, Stop>
-    ensures { Gives state_of result (ownership_judged (api_version_of (types.served served.now)) (state_of live.now) config.now (manager_of manager.now apply_operation) force) }
+    ensures judged { Gives state_of result (ownership_judged (api_version_of (types.served served.now)) (state_of live.now) config.now (manager_of manager.now apply_operation) force) }
+    ensures placed { (s : Shape) → IsContent s config.now → IsPlacedState s (state_of live.now) → IfOk result (λ o. IsPlacedState s (state_of o)) }
 {
     match apply(alloc, live, manager, config, force) {
         Ok(owned) => Ok(owned),

@@ -1,25 +1,29 @@
 //! Deletions (Kubernetes docs, "Kubernetes API Concepts", "Resource deletion").
 
-ghost use Rattle.std.specs.Prelude.{◌≡◌, ◌<◌, ◌≤◌, suc, IfOk, IfSome, option_map};
-ghost use Rattle.serde_json.specs.View.{view};
+ghost use Rattle.std.specs.Prelude.{◌≡◌, ◌<◌, ◌≤◌, IfOk, option_map};
 ghost use Rattle.schema.specs.Served as types;
-ghost use Rattle.verbs.specs.Machine.{last_revision};
-ghost use Rattle.verbs.specs.Seen.{Gives, key_of, object_of, objects_in, plan_of};
+ghost use Rattle.typed.specs.Fitting.{IsContent};
+ghost use Rattle.history.specs.History.{last_revision};
+ghost use Rattle.schema.specs.ObjectShape.{IsObjectShape};
+ghost use Rattle.ownership.specs.Results.{state_of};
+ghost use Rattle.verbs.specs.Machine.{state_said};
+ghost use Rattle.verbs.specs.Seen.{Gives, body_seen, key_of, object_of, plan_of};
 ghost use Rattle.verbs.specs.Step.{delete_judged, deleted, deleted_over};
 
+use crate::body::Body;
 use crate::calls::{Answer, Plan};
 use crate::change::Change;
 use crate::fault::Stop;
-use crate::objects::{Key, Stored, object_at};
+use crate::live::read_stored;
+use crate::objects::{Key, Stored};
 use crate::options::judge_options;
 use crate::parameters::read_parameters;
 use crate::presence::there;
-use crate::storing::{check_revisions, check_version, printed};
+use crate::storing::{check_revisions, check_version, printed_text};
+use ownership::Owned;
 use params::Asked;
 use schema::Served;
-use serde_json::Value;
 use std::alloc::{AllocError, Global};
-use std::collections::BTreeMap;
 
 /// The object's last state, with the deletion's revision.
 fn deleted(
@@ -28,19 +32,22 @@ fn deleted(
     current: u64,
     key: Key,
     live: &Stored,
+    state: &Owned,
 ) -> Result<Plan, AllocError>
-    requires { current < last_revision }
-    ensures judged { IfOk result (λ p. plan_of p ≡ deleted (types.served served.now) current (key_of key) (object_of live.now)) }
-    ensures next { IfOk result (λ p. IfSome p.change (λ c. c.revision ≡ suc current)) }
+    requires numbered { current < last_revision }
+    requires shaped { IsObjectShape (types.served served.now).shape }
+    requires content { IsContent (types.served served.now).shape state.now.tree }
+    requires said { state_of state.now ≡ state_said (types.served served.now).shape (object_of live.now).body }
+    ensures { IfOk result (λ p. plan_of p ≡ deleted (types.served served.now) current (key_of key) (object_of live.now)) }
 {
     let revision = current + 1;
-    let body = printed(alloc, served, &key, revision, &live.owned)?;
+    let body = printed_text(alloc, served, &key, revision, state)?;
     Ok(Plan {
         answer: Answer { status: 200, body },
         change: Some(Change {
             revision,
             key,
-            object: None,
+            body: None,
         }),
     })
 }
@@ -54,14 +61,15 @@ fn deleted_over(
     live: Option<&Stored>,
     version: Option<u64>,
 ) -> Result<Plan, Stop>
-    requires { current ≤ last_revision }
-    ensures judged { Gives plan_of result (deleted_over (types.served served.now) current (key_of key) (option_map (λ o. object_of o.now) live.entry) version) }
-    ensures next { IfOk result (λ p. IfSome p.change (λ c. c.revision ≡ suc current)) }
+    requires numbered { current ≤ last_revision }
+    requires shaped { IsObjectShape (types.served served.now).shape }
+    ensures { Gives plan_of result (deleted_over (types.served served.now) current (key_of key) (option_map (λ o. object_of o.now) live.entry) version) }
 {
     let stored = there(alloc, served, key.name.as_str(), live)?;
     check_version(alloc, version, live)?;
     check_revisions(alloc, current)?;
-    Ok(deleted(alloc, served, current, key, stored)?)
+    let state = read_stored(alloc, served, &key, stored)?;
+    Ok(deleted(alloc, served, current, key, stored, &state)?)
 }
 
 /// The body's options, parameters.
@@ -69,17 +77,16 @@ pub(crate) fn judge_delete(
     alloc: Global,
     served: &Served,
     current: u64,
-    objects: &BTreeMap<Key, Stored>,
+    live: Option<&Stored>,
     key: Key,
     query: &[u8],
-    body: Option<&Value>,
+    body: Option<&Body>,
 ) -> Result<Plan, Stop>
-    requires { current ≤ last_revision }
-    ensures judged { Gives plan_of result (delete_judged (types.served served.now) current (objects_in objects.now) (key_of key) query.now (option_map (λ v. view v.now) body.entry)) }
-    ensures next { IfOk result (λ p. IfSome p.change (λ c. c.revision ≡ suc current)) }
+    requires numbered { current ≤ last_revision }
+    requires shaped { IsObjectShape (types.served served.now).shape }
+    ensures { Gives plan_of result (delete_judged (types.served served.now) current (option_map (λ o. object_of o.now) live.entry) (key_of key) query.now (option_map (λ b. body_seen b.now) body.entry)) }
 {
     let version = judge_options(alloc, body)?;
     read_parameters(alloc, Asked::Delete, query)?;
-    let live = object_at(objects, &key);
     deleted_over(alloc, served, current, key, live, version)
 }

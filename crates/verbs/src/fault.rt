@@ -1,7 +1,7 @@
 ghost use Rattle.verbs.specs.Seen.{Denies};
 
+use crate::denial::Denial;
 use crate::reason::Reason;
-use crate::status::Denial;
 use std::alloc::{AllocError, AllocFailed, Global};
 use thiserror::Error;
 
@@ -10,6 +10,8 @@ use thiserror::Error;
 pub enum Stop {
     Denied(Denial),
     Memory,
+    /// What is stored is no object's text.
+    Store,
 }
 
 impl Stop {
@@ -46,11 +48,14 @@ impl<T: Drop> From<AllocFailed<T>> for Stop {
     }
 }
 
-/// Want of memory: the call changed nothing.
+/// Why there is no answer: the call changed nothing.
 #[derive(Clone, Copy, Debug, PartialEq, Eq, Error)]
 pub enum Fault {
     #[error("out of memory")]
     Memory,
+    /// What is stored is no object's text, which it always is in an API that stands for a machine.
+    #[error("what is stored is no object's text")]
+    Store,
 }
 
 impl From<AllocError> for Fault {

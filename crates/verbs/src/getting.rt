@@ -1,13 +1,13 @@
 //! Gets (Kubernetes docs, "Kubernetes API Concepts", "Resource versions", "Get").
 
-ghost use Rattle.std.specs.Prelude.{◌≡◌, IfOk, string_bytes};
+ghost use Rattle.std.specs.Prelude.{◌≡◌, IfOk, option_map, string_bytes};
 ghost use Rattle.schema.specs.Served as types;
-ghost use Rattle.verbs.specs.Seen.{Gives, key_of, objects_in, plan_of};
+ghost use Rattle.verbs.specs.Seen.{Gives, key_of, object_of, plan_of};
 ghost use Rattle.verbs.specs.Step.{get_judged, too_large_message, version_come};
 
 use crate::calls::Plan;
 use crate::fault::Stop;
-use crate::objects::{Key, Stored, object_at};
+use crate::objects::{Key, Stored};
 use crate::parameters::read_parameters;
 use crate::presence::there;
 use crate::reason::Reason;
@@ -16,7 +16,6 @@ use crate::texts::joined;
 use params::Asked;
 use schema::Served;
 use std::alloc::{AllocError, Global};
-use std::collections::BTreeMap;
 
 fn too_large_message(alloc: Global, asked: u64, current: u64) -> Result<String, AllocError>
     ensures { IfOk result (λ s. string_bytes s ≡ too_large_message asked current) }
@@ -48,15 +47,14 @@ pub(crate) fn judge_get(
     alloc: Global,
     served: &Served,
     current: u64,
-    objects: &BTreeMap<Key, Stored>,
+    live: Option<&Stored>,
     key: &Key,
     query: &[u8],
 ) -> Result<Plan, Stop>
-    ensures { Gives plan_of result (get_judged (types.served served.now) current (objects_in objects.now) (key_of key.now) query.now) }
+    ensures { Gives plan_of result (get_judged (types.served served.now) current (option_map (λ o. object_of o.now) live.entry) (key_of key.now) query.now) }
 {
     let params = read_parameters(alloc, Asked::Get, query)?;
-    let live = object_at(objects, key);
     let stored = there(alloc, served, key.name.as_str(), live)?;
     check_come(alloc, params.version, current)?;
-    Ok(kept(alloc, served, key, stored)?)
+    Ok(kept(stored)?)
 }

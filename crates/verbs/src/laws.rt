@@ -1,6 +1,26 @@
 //! Laws of the step. Each function does nothing; what it promises is the law.
 
-ghost use Rattle.verbs.specs.Promise.{AppliesKeepOthers, UpdatesTakeChanges};
+ghost use Rattle.verbs.specs.Promise.{AppliesKeepOthers, CallsKeepMachines, CompactionsKeepMachines, MachinesBegin, PlansByViews, PlansComeNext, StepsKeepMachines, TextsSayStates, UpdatesTakeChanges};
+
+/// A machine begins without a change. What a call plans may come next; a machine stays one over each call, over calls
+/// one after the other, and over a compaction.
+pub fn machines_stay()
+    ensures begins { MachinesBegin }
+    ensures next { PlansComeNext }
+    ensures stays { StepsKeepMachines }
+    ensures calls { CallsKeepMachines }
+    ensures compacts { CompactionsKeepMachines }
+{}
+
+/// What a call comes to depends on the view of the history alone.
+pub fn plans_by_views()
+    ensures { PlansByViews }
+{}
+
+/// Each text that stands is that of one state: the one that is read of it.
+pub fn texts_say_states()
+    ensures { TextsSayStates }
+{}
 
 /// An apply without force changes no field that another manager owns.
 pub fn applies_keep_others()

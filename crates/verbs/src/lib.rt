@@ -1,24 +1,26 @@
 //! Calls on objects and their answers.
 //!
 //! Promises: what a call answers and changes is the step of the machine, with its checks in their order;
-//! a refused call changes nothing.
-//! Stands on `ownership` for apply, `typed` for reading, `schema` for types, `params` and `names` for parameters and names.
+//! a refused call changes nothing. The machine is a history whose bodies are texts of objects.
+//! Stands on `history` for changes, `ownership` for apply, `typed` for reading, `schema` for types, `params` and `names` for parameters and names.
 #![tactic(auto)]
 
 mod admitting;
 mod answering;
 mod api;
 mod applying;
-mod bytes;
+mod body;
 mod calls;
 mod change;
 mod conflicts;
 mod deleting;
+mod denial;
 mod envelope;
 mod fault;
 mod getting;
 mod intent;
 mod laws;
+mod live;
 mod media;
 mod method;
 mod naming;
@@ -39,11 +41,13 @@ mod updating;
 
 pub use admitting::{Denied, Refusal};
 pub use api::Api;
+pub use body::Body;
 pub use calls::{Answer, Call, Plan, Target};
 pub use change::Change;
 pub use fault::Fault;
-pub use laws::{applies_keep_others, updates_take_changes};
+pub use laws::{
+    applies_keep_others, machines_stay, plans_by_views, texts_say_states, updates_take_changes,
+};
 pub use method::Method;
-pub use objects::Key;
 pub use reason::Reason;
 pub use status::status_value;

@@ -1,10 +1,8 @@
-ghost use Rattle.std.specs.Prelude.{◌≡◌, OnOk, OnErr, option_map};
+ghost use Rattle.std.specs.Prelude.{◌≡◌, OnOk, OnErr, option_map, string_bytes};
 ghost use Rattle.std.specs.FinMap as fin;
-ghost use Rattle.ownership.specs.Results.{state_of};
-ghost use Rattle.verbs.specs.Machine.{put_or_remove};
+ghost use Rattle.history.specs.History.{object_by, put_or_remove};
 ghost use Rattle.verbs.specs.Seen.{key_of, object_of, objects_in};
 
-use ownership::Owned;
 use std::alloc::AllocError;
 use std::collections::BTreeMap;
 
@@ -17,11 +15,11 @@ pub struct Key {
     pub name: String,
 }
 
-/// An object and the revision of its last change.
+/// An object's text and the revision of its last change.
 #[derive(Drop)]
 pub(crate) struct Stored {
     pub(crate) revision: u64,
-    pub(crate) owned: Owned,
+    pub(crate) text: String,
 }
 
 /// The object at the key.
@@ -66,11 +64,11 @@ pub(crate) fn put_or_remove(
 }
 
 /// What stands after a change of this revision.
-pub(crate) fn stored_at(revision: u64, object: Option<Owned>) -> Option<Stored>
-    ensures { option_map object_of result ≡ option_map (λ s. record { revision = revision; state = s }) (option_map state_of object) }
+pub(crate) fn stored_at(revision: u64, body: Option<String>) -> Option<Stored>
+    ensures { option_map object_of result ≡ object_by revision (option_map string_bytes body) }
 {
-    match object {
-        Some(owned) => Some(Stored { revision, owned }),
+    match body {
+        Some(text) => Some(Stored { revision, text }),
         None => None,
     }
 }

@@ -4,8 +4,9 @@ ghost use Rattle.std.specs.Prelude.{◌≡◌, codes, option_map};
 ghost use Rattle.serde_json.specs.View.{items_view, members_view, view};
 ghost use Rattle.verbs.specs.declared.reason.Reason.TheVariants.{BadRequest};
 ghost use Rattle.verbs.specs.Options.{is_blank, is_blank_text, is_blank_value, is_no_list, options_in, options_judged, preconditions_in, preconditions_read, version_asked, version_by};
-ghost use Rattle.verbs.specs.Seen.{Denies, Gives};
+ghost use Rattle.verbs.specs.Seen.{Denies, Gives, body_seen};
 
+use crate::body::Body;
 use crate::envelope::member;
 use crate::fault::Stop;
 use crate::reason::Reason;
@@ -119,13 +120,13 @@ fn options_in(alloc: Global, members: &Map<String, Value>) -> Result<Option<u64>
 }
 
 /// The version that a deletion's body asks for, if any.
-pub fn judge_options(alloc: Global, body: Option<&Value>) -> Result<Option<u64>, Stop>
-    ensures { Gives (λ v. v) result (options_judged (option_map (λ v. view v.now) body.entry)) }
+pub fn judge_options(alloc: Global, body: Option<&Body>) -> Result<Option<u64>, Stop>
+    ensures { Gives (λ v. v) result (options_judged (option_map (λ b. body_seen b.now) body.entry)) }
 {
-    let Some(value) = body else {
+    let Some(body) = body else {
         return Ok(None);
     };
-    match value {
+    match &body.value {
         Value::Object(members) => options_in(alloc, members),
         _ => Err(bad_options(alloc)),
     }

@@ -1,14 +1,14 @@
-ghost use Rattle.std.specs.Prelude.{◌≡◌, IfOk, codes};
+ghost use Rattle.std.specs.Prelude.{◌≡◌, codes};
 ghost use Rattle.serde_json.specs.View.{view};
+ghost use Rattle.serde_json.specs.Written.{compact_text};
 ghost use Rattle.verbs.specs.Naming.{metadata_object};
 ghost use Rattle.verbs.specs.Seen.{Gives};
-ghost use Rattle.verbs.specs.Size.{count_if_there, is_over, size_judged};
+ghost use Rattle.verbs.specs.Size.{count_if_there, size_judged};
 
-use crate::bytes::text_len;
 use crate::fault::Stop;
 use crate::naming::{metadata_object, unless};
 use serde_json::Value;
-use std::alloc::{AllocError, Global};
+use std::alloc::Global;
 
 /// The most labels of an object.
 const MAX_LABELS: usize = 64;
@@ -25,14 +25,9 @@ fn label_count(object: &Value) -> usize
     }
 }
 
-fn is_over(alloc: Global, object: &Value) -> Result<bool, AllocError>
-    ensures { IfOk result (λ b. b ≡ is_over (view object.now)) }
-{
-    Ok(text_len(alloc, object)? > MAX_BYTES)
-}
-
-/// The limits of an object as it is printed.
-pub fn judge_size(alloc: Global, object: &Value) -> Result<(), Stop>
+/// The limits of an object of this value and text.
+pub fn judge_size(alloc: Global, object: &Value, text: &str) -> Result<(), Stop>
+    requires { text.now ≡ compact_text (view object.now) }
     ensures { Gives (λ u. u) result (size_judged (view object.now)) }
 {
     unless(
@@ -40,5 +35,5 @@ pub fn judge_size(alloc: Global, object: &Value) -> Result<(), Stop>
         label_count(object) <= MAX_LABELS,
         "metadata.labels: more than 64",
     )?;
-    unless(alloc, !is_over(alloc, object)?, "object over 262144 bytes")
+    unless(alloc, text.len() <= MAX_BYTES, "object over 262144 bytes")
 }

@@ -1,12 +1,16 @@
 //! What is stored: versions, limits, and the object as it is printed.
 
-ghost use Rattle.std.specs.Prelude.{◌≡◌, ◌≤◌, ◌<◌, suc, OnOk, IfOk, IfSome, codes, option_map, string_bytes};
+ghost use Rattle.std.specs.Prelude.{◌≡◌, ◌≤◌, ◌<◌, false, OnOk, IfOk, option_map, string_bytes};
 ghost use Rattle.serde_json.specs.View.{view};
+ghost use Rattle.serde_json.specs.Written.{has_float};
+ghost use Rattle.history.specs.History.{last_revision};
 ghost use Rattle.schema.specs.Served as types;
+ghost use Rattle.typed.specs.Fitting.{IsContent};
+ghost use Rattle.schema.specs.ObjectShape.{IsObjectShape};
 ghost use Rattle.ownership.specs.Results.{state_of};
-ghost use Rattle.verbs.specs.Machine.{last_revision};
+ghost use Rattle.verbs.specs.Machine.{state_of_live};
 ghost use Rattle.verbs.specs.Seen.{Gives, key_of, object_of, plan_of};
-ghost use Rattle.verbs.specs.Step.{kept, no_object_message, other_version_message, printed, revisions_left, stored, stored_as, stored_over, version_checked};
+ghost use Rattle.verbs.specs.Step.{kept, no_object_message, other_version_message, printed, revisions_left, stored, stored_as, stored_over, text_at, version_checked};
 
 use crate::calls::{Answer, Plan};
 use crate::change::Change;
@@ -42,6 +46,21 @@ pub fn printed(
         name: key.name.as_str(),
     };
     owned.to_value(alloc, &served.schema, identity, revision)
+}
+
+/// Its text, as compact JSON.
+pub fn printed_text(
+    alloc: Global,
+    served: &Served,
+    key: &Key,
+    revision: u64,
+    owned: &Owned,
+) -> Result<String, AllocError>
+    requires shaped { IsObjectShape (types.served served.now).shape }
+    requires content { IsContent (types.served served.now).shape owned.now.tree }
+    ensures { IfOk result (λ t. string_bytes t ≡ text_at (types.served served.now) (key_of key.now) revision (state_of owned.now)) }
+{
+    printed(alloc, served, key, revision, owned)?.to_string(alloc)
 }
 
 fn no_object_message(alloc: Global, given: u64) -> Result<String, AllocError>
@@ -92,27 +111,28 @@ pub fn check_revisions(alloc: Global, current: u64) -> Result<(), Stop>
     Err(Stop::denied(alloc, Reason::ServiceUnavailable, "revisions are used up"))
 }
 
-/// The object of this body, unless it is too large or revisions are used up.
+/// The object of this value, unless it is too large or revisions are used up.
 fn stored_as(
     alloc: Global,
-    body: Value,
+    value: &Value,
     current: u64,
     key: Key,
     status: u16,
-    owned: Owned,
 ) -> Result<Plan, Stop>
-    requires { current ≤ last_revision }
-    ensures judged { Gives plan_of result (stored_as (view body) current (key_of key) status (state_of owned)) }
-    ensures next { IfOk result (λ p. IfSome p.change (λ c. c.revision ≡ suc current)) }
+    requires numbered { current ≤ last_revision }
+    requires textual { has_float (view value.now) ≡ false }
+    ensures { Gives plan_of result (stored_as (view value.now) current (key_of key) status) }
 {
-    judge_size(alloc, &body)?;
+    let text = value.to_string(alloc)?;
+    judge_size(alloc, value, text.as_str())?;
     check_revisions(alloc, current)?;
+    let body = text.clone()?;
     Ok(Plan {
         answer: Answer { status, body },
         change: Some(Change {
             revision: current + 1,
             key,
-            object: Some(owned),
+            body: Some(text),
         }),
     })
 }
@@ -124,45 +144,49 @@ pub fn stored(
     current: u64,
     key: Key,
     status: u16,
-    owned: Owned,
+    owned: &Owned,
 ) -> Result<Plan, Stop>
-    requires { current ≤ last_revision }
-    ensures judged { Gives plan_of result (stored (types.served served.now) current (key_of key) status (state_of owned)) }
-    ensures next { IfOk result (λ p. IfSome p.change (λ c. c.revision ≡ suc current)) }
+    requires numbered { current ≤ last_revision }
+    requires shaped { IsObjectShape (types.served served.now).shape }
+    requires content { IsContent (types.served served.now).shape owned.now.tree }
+    ensures { Gives plan_of result (stored (types.served served.now) current (key_of key) status (state_of owned.now)) }
 {
-    let body = printed(alloc, served, &key, current + 1, &owned)?;
-    stored_as(alloc, body, current, key, status, owned)
+    let value = printed(alloc, served, &key, current + 1, owned)?;
+    stored_as(alloc, &value, current, key, status)
 }
 
 /// The object as it stands.
-pub fn kept(alloc: Global, served: &Served, key: &Key, live: &Stored) -> Result<Plan, AllocError>
-    ensures { IfOk result (λ p. plan_of p ≡ kept (types.served served.now) (key_of key.now) (object_of live.now)) }
+pub fn kept(live: &Stored) -> Result<Plan, AllocError>
+    ensures { IfOk result (λ p. plan_of p ≡ kept (object_of live.now)) }
 {
-    let body = printed(alloc, served, key, live.revision, &live.owned)?;
+    let body = live.text.clone()?;
     Ok(Plan {
         answer: Answer { status: 200, body },
         change: None,
     })
 }
 
-/// A creation, or a change of what stands, unless it changes nothing.
+/// A creation, or a change of what stands, unless it changes nothing of the state before.
 pub fn stored_over(
     alloc: Global,
     served: &Served,
     current: u64,
     key: Key,
     live: Option<&Stored>,
-    owned: Owned,
+    before: &Owned,
+    owned: &Owned,
 ) -> Result<Plan, Stop>
-    requires { current ≤ last_revision }
-    ensures judged { Gives plan_of result (stored_over (types.served served.now) current (key_of key) (option_map (λ o. object_of o.now) live.entry) (state_of owned)) }
-    ensures next { IfOk result (λ p. IfSome p.change (λ c. c.revision ≡ suc current)) }
+    requires numbered { current ≤ last_revision }
+    requires shaped { IsObjectShape (types.served served.now).shape }
+    requires content { IsContent (types.served served.now).shape owned.now.tree }
+    requires before { state_of before.now ≡ state_of_live (types.served served.now) (option_map (λ o. object_of o.now) live) }
+    ensures { Gives plan_of result (stored_over (types.served served.now) current (key_of key) (option_map (λ o. object_of o.now) live.entry) (state_of owned.now)) }
 {
-    let Some(before) = live else {
+    let Some(stored_before) = live else {
         return stored(alloc, served, current, key, 201, owned);
     };
-    if owned.is_same(alloc, &before.owned)? {
-        return Ok(kept(alloc, served, &key, before)?);
+    if owned.is_same(alloc, before)? {
+        return Ok(kept(stored_before)?);
     }
     stored(alloc, served, current, key, 200, owned)
 }

@@ -1,10 +1,13 @@
 //! Creations and updates (Kubernetes docs, "Server-Side Apply", "Comparison with Client-Side Apply").
 
-ghost use Rattle.std.specs.Prelude.{◌≡◌, ◌≤◌, suc, IfOk, IfSome, option_map};
+ghost use Rattle.std.specs.Prelude.{◌≡◌, ◌≤◌, IfOk, option_map};
 ghost use Rattle.serde_json.specs.View.{view};
 ghost use Rattle.schema.specs.Served as types;
+ghost use Rattle.typed.specs.Fitting.{IsContent};
+ghost use Rattle.history.specs.History.{last_revision};
+ghost use Rattle.schema.specs.ObjectShape.{IsObjectShape};
 ghost use Rattle.ownership.specs.Results.{state_of};
-ghost use Rattle.verbs.specs.Machine.{last_revision};
+ghost use Rattle.verbs.specs.Json.{IsJson};
 ghost use Rattle.verbs.specs.Seen.{Gives, intent_seen, key_of, object_of, objects_in, plan_of};
 ghost use Rattle.verbs.specs.Step.{create_judged, created_as, update_judged, updated_by, updated_over};
 
@@ -12,6 +15,7 @@ use crate::calls::Plan;
 use crate::envelope::{Expected, name_in};
 use crate::fault::Stop;
 use crate::intent::{Intent, at_path, intent_of};
+use crate::live::read_live;
 use crate::method::Method;
 use crate::naming::{judge_marks, judge_names, require_name};
 use crate::objects::{Key, Stored, object_at};
@@ -26,7 +30,8 @@ use std::collections::BTreeMap;
 
 /// What stands after the write, over what stood: its manager owns what it changed.
 fn updated_by(alloc: Global, intent: Intent, live: &Owned) -> Result<Owned, AllocError>
-    ensures { IfOk result (λ o. state_of o ≡ updated_by (intent_seen intent) (state_of live.now)) }
+    ensures state { IfOk result (λ o. state_of o ≡ updated_by (intent_seen intent) (state_of live.now)) }
+    ensures content { IfOk result (λ o. o.tree ≡ intent.content) }
 {
     let Intent {
         content,
@@ -40,13 +45,14 @@ fn created_as(
     alloc: Global,
     served: &Served,
     current: u64,
-    objects: &BTreeMap<Key, Stored>,
+    live: Option<&Stored>,
     key: Key,
     intent: Intent,
 ) -> Result<Plan, Stop>
-    requires { current ≤ last_revision }
-    ensures judged { Gives plan_of result (created_as (types.served served.now) current (objects_in objects.now) (key_of key) (intent_seen intent)) }
-    ensures next { IfOk result (λ p. IfSome p.change (λ c. c.revision ≡ suc current)) }
+    requires numbered { current ≤ last_revision }
+    requires shaped { IsObjectShape (types.served served.now).shape }
+    requires content { IsContent (types.served served.now).shape intent.content }
+    ensures { Gives plan_of result (created_as (types.served served.now) current (option_map (λ o. object_of o.now) live.entry) (key_of key) (intent_seen intent)) }
 {
     judge_names(
         alloc,
@@ -54,9 +60,9 @@ fn created_as(
         key.name.as_str(),
         &intent.rest,
     )?;
-    not_there(alloc, served, key.name.as_str(), object_at(objects, &key))?;
+    not_there(alloc, served, key.name.as_str(), live)?;
     let owned = updated_by(alloc, intent, &Owned::empty(alloc))?;
-    stored(alloc, served, current, key, 201, owned)
+    stored(alloc, served, current, key, 201, &owned)
 }
 
 /// The key of an object that its body names.
@@ -81,9 +87,10 @@ pub(crate) fn judge_create(
     query: &[u8],
     body: &Value,
 ) -> Result<Plan, Stop>
-    requires { current ≤ last_revision }
-    ensures judged { Gives plan_of result (create_judged (types.served served.now) current (objects_in objects.now) kind namespace.now query.now (view body.now)) }
-    ensures next { IfOk result (λ p. IfSome p.change (λ c. c.revision ≡ suc current)) }
+    requires numbered { current ≤ last_revision }
+    requires shaped { IsObjectShape (types.served served.now).shape }
+    requires json { IsJson (view body.now) }
+    ensures { Gives plan_of result (create_judged (types.served served.now) current (objects_in objects.now) kind namespace.now query.now (view body.now)) }
 {
     let expected = Expected {
         served,
@@ -94,7 +101,8 @@ pub(crate) fn judge_create(
     let intent = intent_of(alloc, expected, Asked::Post, query, body)?;
     let name = require_name(alloc, name_in(body))?;
     let key = key_in(kind, namespace, name, alloc)?;
-    created_as(alloc, served, current, objects, key, intent)
+    let live = object_at(objects, &key);
+    created_as(alloc, served, current, live, key, intent)
 }
 
 /// Object there or not, version, size.
@@ -106,14 +114,16 @@ fn updated_over(
     live: Option<&Stored>,
     intent: Intent,
 ) -> Result<Plan, Stop>
-    requires { current ≤ last_revision }
-    ensures judged { Gives plan_of result (updated_over (types.served served.now) current (key_of key) (option_map (λ o. object_of o.now) live.entry) (intent_seen intent)) }
-    ensures next { IfOk result (λ p. IfSome p.change (λ c. c.revision ≡ suc current)) }
+    requires numbered { current ≤ last_revision }
+    requires shaped { IsObjectShape (types.served served.now).shape }
+    requires content { IsContent (types.served served.now).shape intent.content }
+    ensures { Gives plan_of result (updated_over (types.served served.now) current (key_of key) (option_map (λ o. object_of o.now) live.entry) (intent_seen intent)) }
 {
-    let before = there(alloc, served, key.name.as_str(), live)?;
+    there(alloc, served, key.name.as_str(), live)?;
     check_version(alloc, intent.version, live)?;
-    let owned = updated_by(alloc, intent, &before.owned)?;
-    stored_over(alloc, served, current, key, live, owned)
+    let before = read_live(alloc, served, &key, live)?;
+    let owned = updated_by(alloc, intent, &before)?;
+    stored_over(alloc, served, current, key, live, &before, &owned)
 }
 
 /// An update of an object that is there.
@@ -121,18 +131,18 @@ pub(crate) fn judge_update(
     alloc: Global,
     served: &Served,
     current: u64,
-    objects: &BTreeMap<Key, Stored>,
+    live: Option<&Stored>,
     key: Key,
     query: &[u8],
     body: &Value,
 ) -> Result<Plan, Stop>
-    requires { current ≤ last_revision }
-    ensures judged { Gives plan_of result (update_judged (types.served served.now) current (objects_in objects.now) (key_of key) query.now (view body.now)) }
-    ensures next { IfOk result (λ p. IfSome p.change (λ c. c.revision ≡ suc current)) }
+    requires numbered { current ≤ last_revision }
+    requires shaped { IsObjectShape (types.served served.now).shape }
+    requires json { IsJson (view body.now) }
+    ensures { Gives plan_of result (update_judged (types.served served.now) current (option_map (λ o. object_of o.now) live.entry) (key_of key) query.now (view body.now)) }
 {
     let expected = at_path(served, &key, Method::Put);
     let intent = intent_of(alloc, expected, Asked::Put, query, body)?;
     judge_marks(alloc, &intent.rest)?;
-    let live = object_at(objects, &key);
     updated_over(alloc, served, current, key, live, intent)
 }

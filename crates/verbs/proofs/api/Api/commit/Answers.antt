@@ -1,5 +1,5 @@
 use Rattle.std.proofs.Common.{◌∙◌, ap, refl}
-use Rattle.verbs.specs.Machine.{put_or_remove}
+use Rattle.history.specs.History.{put_or_remove}
 use Rattle.verbs.specs.Seen.{change_of, key_of, objects_in}
 use Rattle.verbs.proofs.Planning.{stands_next}
 use Rattle.verbs.proofs.api.Api.commit.Goals as goal

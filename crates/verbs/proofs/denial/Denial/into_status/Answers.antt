@@ -4,7 +4,7 @@ use Rattle.serde_json.specs.Data.{object}
 use Rattle.serde_json.specs.View.{items_view, view}
 use Rattle.verbs.specs.Status.{status_members, with_causes}
 use Rattle.verbs.proofs.Statuses.{some_causes}
-use Rattle.verbs.proofs.status.Denial.into_status.Goals as goal
+use Rattle.verbs.proofs.denial.Denial.into_status.Goals as goal
 
 pub returns : goal.returns
 returns c =

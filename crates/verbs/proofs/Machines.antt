@@ -1,0 +1,30 @@
+-- A machine from its beginning on.
+use Rattle.std.proofs.Common.{◌≡◌, ℕ, ◌≤◌, List, [], ◌∷◌, sym, ap}
+use Rattle.std.specs.List.{AllByRecursion}
+use Rattle.schema.specs.TypesFile.{ServedShape}
+use Rattle.history.specs.History.{History}
+use Rattle.history.proofs.Views.{view_states}
+use Rattle.history.proofs.Wholes.{whole_compacts, whole_fresh}
+use Rattle.verbs.specs.Calls.{Call}
+use Rattle.verbs.specs.Json.{IsJsonBody}
+use Rattle.verbs.specs.Machine.{IsMachine}
+use Rattle.verbs.specs.Promise.{CallsKeepMachines, CompactionsKeepMachines, MachinesBegin, PlansByViews}
+use Rattle.verbs.specs.Step.{planned_over, step, steps}
+use Rattle.verbs.proofs.Changes.{is_history}
+use Rattle.verbs.proofs.Promise.{steps_keep_machines}
+
+pub machines_begin : MachinesBegin
+machines_begin types n shapes from to = record { first = n; whole = whole_fresh n from to; shapes = shapes; texts = tt }
+
+calls_keep : (types : List ServedShape) (calls : List Call) (m : History) → IsMachine types m → AllByRecursion (λ call. IsJsonBody call.body) calls → IsMachine types (steps types m calls).1
+calls_keep types [] m is json = is
+calls_keep types (call ∷ calls) m is json = calls_keep types calls (step types m call).1 (steps_keep_machines types m call is json.0) json.1
+
+pub calls_keep_machines : CallsKeepMachines
+calls_keep_machines types m calls is json = calls_keep types calls m is json
+
+pub compactions_keep_machines : CompactionsKeepMachines
+compactions_keep_machines types m c is low high = record { first = is.first; whole = whole_compacts is.first m c is.whole low high; shapes = is.shapes; texts = is.texts }
+
+pub plans_by_views : PlansByViews
+plans_by_views types m call is = sym (ap (λ s. planned_over types m.current s call) (view_states m m.current (is_history types m is) is.whole.low))

@@ -1,0 +1,71 @@
+-- Texts of objects: what they say, and what is printed.
+use Rattle.std.proofs.Common.{◌≡◌, ◌≤◌, ℕ, true, false, List, Option, Some, None, is_some, unwrap_or, refl, sym, ap, ◌∙◌, subst, true≢false}
+use Rattle.std.specs.Prelude.{option_and_then, slice_get}
+use Rattle.std.proofs.lemmas.Option.{get_or_from_slice_get, slice_get_within}
+use Rattle.std.specs.FinMap as fin
+use Rattle.std.specs.FinSet as set
+use Rattle.serde_json.specs.Written.{has_float}
+use Rattle.fieldpath.specs.Paths.{PathTexts, path_cmp}
+use Rattle.pathmap.specs.Contents.{Content, PathSet, nothing}
+use Rattle.schema.specs.Shape.{Shape}
+use Rattle.schema.specs.TypesFile.{ServedShape}
+use Rattle.typed.specs.Fitting.{IsContent}
+use Rattle.history.specs.History.{Key}
+use Rattle.ownership.specs.Apply.{State}
+use Rattle.ownership.specs.Keeping.{IsPlacedState}
+use Rattle.ownership.specs.ObjectText.{Identity, object_text}
+use Rattle.ownership.specs.Owners.{Manager, Owners, manager_cmp, owned_by}
+use Rattle.ownership.specs.Parts.{parts_in}
+use Rattle.schema.specs.ObjectShape.{IsObjectShape}
+use Rattle.ownership.specs.ReadBack.{IsObjectText, max_version}
+use Rattle.ownership.proofs.Back.{parts_back, text_read}
+use Rattle.ownership.proofs.Taken.{no_some}
+use Rattle.ownership.proofs.Textual.{value_textual}
+use Rattle.verbs.specs.Machine.{AreObjectTypes, identity_of, no_state, state_or_none, state_said}
+use Rattle.verbs.specs.Step.{printed, text_at}
+
+-- an object's text says the state that it was printed of
+pub said_back : (s : Shape) (of : Identity) (version : ℕ) (state : State) (text : List ℕ) → IsObjectShape s → IsObjectText s of version state text → state_said s text ≡ state
+unfolding state_said
+said_back s of version state text shaped said =
+    ap (λ o. state_or_none (option_and_then (parts_in s) o)) (text_read s of version state text shaped said)
+    ∙ ap state_or_none (parts_back s of version state shaped said.placed said.numbered)
+
+pub text_is : (t : ServedShape) (k : Key) (revision : ℕ) (state : State) → text_at t k revision state ≡ object_text t.shape (identity_of t k) revision state
+unfolding object_text
+text_is t k revision state = refl
+
+pub printed_is_text : (t : ServedShape) (k : Key) (revision : ℕ) (state : State) → IsPlacedState t.shape state → revision ≤ max_version
+    → IsObjectText t.shape (identity_of t k) revision state (text_at t k revision state)
+printed_is_text t k revision state placed low = record { placed = placed; numbered = low; is_text = text_is t k revision state }
+
+-- no number in it is a float
+pub printed_clean : (t : ServedShape) (k : Key) (revision : ℕ) (state : State) → IsObjectShape t.shape → IsContent t.shape state.content → has_float (printed t k revision state) ≡ false
+printed_clean t k revision state shaped content = (value_textual t.shape shaped.1 (identity_of t k) revision state content).1
+
+nobody_owns : (k : Manager) (p : PathTexts) → set.contains (owned_by fin.empty k) p ≡ false
+unfolding owned_by
+nobody_owns k p =
+    ap (λ (o : Option PathSet). set.contains (unwrap_or o set.empty) p) (fin.get-empty manager_cmp k) ∙ set.contains-empty path_cmp p
+
+-- nothing is a content of each type, owned by nobody
+pub nothing_placed : (s : Shape) → IsPlacedState s no_state
+nothing_placed s = (
+  (λ p v there. no_some v (sym there ∙ fin.get-empty path_cmp p), λ p q fits there. absurd (true≢false (sym there ∙ ap is_some (fin.get-empty path_cmp _)))),
+  (
+    λ m paths there. no_some paths (sym there ∙ fin.get-empty manager_cmp m),
+    λ k p owns. absurd (true≢false (sym owns ∙ nobody_owns k p)),
+  ),
+)
+
+-- each type has the shape of an object
+abbrev pub Shapes : List ServedShape → Type 0
+Shapes types = (n : ℕ) (t : ServedShape) → slice_get types n ≡ Some t → IsObjectShape t.shape
+
+pub shapes_of : (types : List ServedShape) → AreObjectTypes types → Shapes types
+shapes_of types all n t is = subst (λ u. IsObjectShape u.shape) (get_or_from_slice_get types n t t is) (all n t (slice_get_within types n t is))
+
+pub empty_placed : (s : Shape) (content : Content) (owners : Owners) → content ≡ nothing → owners ≡ fin.empty → IsPlacedState s (record { content = content; owners = owners })
+empty_placed s content owners bare free =
+    subst (λ (c : Content). IsPlacedState s (record { content = c; owners = owners })) (sym bare)
+    (subst (λ (w : Owners). IsPlacedState s (record { content = nothing; owners = w })) (sym free) (nothing_placed s))

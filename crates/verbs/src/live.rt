@@ -1,0 +1,62 @@
+//! What a call starts from: the state that the text of the object says.
+
+ghost use Rattle.std.specs.Prelude.{◌≡◌, IfErr, IfOk, option_map};
+ghost use Rattle.schema.specs.Served as types;
+ghost use Rattle.ownership.specs.Keeping.{IsPlacedState};
+ghost use Rattle.schema.specs.ObjectShape.{IsObjectShape};
+ghost use Rattle.ownership.specs.Results.{state_of};
+ghost use Rattle.verbs.specs.Calls.{Plan};
+ghost use Rattle.verbs.specs.Judged.{Judged};
+ghost use Rattle.verbs.specs.Machine.{state_of_live, state_said};
+ghost use Rattle.verbs.specs.Seen.{Fails, object_of};
+
+use crate::envelope::api_version_of;
+use crate::fault::Stop;
+use crate::objects::{Key, Stored};
+use ownership::{Identity, ObjectFault, Owned};
+use schema::Served;
+use std::alloc::Global;
+
+/// The state that an object's text says.
+pub(crate) fn read_stored(
+    alloc: Global,
+    served: &Served,
+    key: &Key,
+    stored: &Stored,
+) -> Result<Owned, Stop>
+    requires { IsObjectShape (types.served served.now).shape }
+    ensures state { IfOk result (λ o. state_of o ≡ state_said (types.served served.now).shape (object_of stored.now).body) }
+    ensures placed { IfOk result (λ o. IsPlacedState (types.served served.now).shape (state_of o)) }
+    ensures faults { (judged : Judged Plan) → IfErr result (λ e. Fails e judged) }
+{
+    let api_version = api_version_of(alloc, served)?;
+    let identity = Identity {
+        api_version: api_version.as_str(),
+        kind: served.kind.as_str(),
+        namespace: key.namespace.as_str(),
+        name: key.name.as_str(),
+    };
+    match Owned::from_object(alloc, &served.schema, identity, stored.text.as_str()) {
+        Ok(read) => Ok(read.0),
+        Err(ObjectFault::NotCanonical) => Err(Stop::Store),
+        Err(ObjectFault::Memory) => Err(Stop::Memory),
+    }
+}
+
+/// The state of the object that stands, or nothing.
+pub(crate) fn read_live(
+    alloc: Global,
+    served: &Served,
+    key: &Key,
+    live: Option<&Stored>,
+) -> Result<Owned, Stop>
+    requires { IsObjectShape (types.served served.now).shape }
+    ensures state { IfOk result (λ o. state_of o ≡ state_of_live (types.served served.now) (option_map (λ o. object_of o.now) live.entry)) }
+    ensures placed { IfOk result (λ o. IsPlacedState (types.served served.now).shape (state_of o)) }
+    ensures faults { (judged : Judged Plan) → IfErr result (λ e. Fails e judged) }
+{
+    match live {
+        Some(stored) => read_stored(alloc, served, key, stored),
+        None => Ok(Owned::empty(alloc)),
+    }
+}
