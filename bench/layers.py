@@ -3,8 +3,8 @@
 
 Usage: bench/layers.py [PROGRAM]   (default: crates/bench/out/bench; build it first by `rt run` in crates/bench)
 
-Runs each layer at 1,000, 10,000 and 100,000 (the reader at 1,000 and 10,000 lines, the hub over
-objects of 10, 100 and 1,000 fields) in a process of its own and prints
+Runs each layer at 1,000, 10,000 and 100,000 (the reader at 1,000 and 10,000 lines, the hub and
+objects' texts over objects of 10, 100 and 1,000 fields) in a process of its own and prints
 what the program says of the processor time (one core) and the peak memory of the process.
 """
 import os
@@ -12,7 +12,7 @@ import subprocess
 import sys
 
 RUNS = [("selectors", (1000, 10000, 100000)), ("indexer", (1000, 10000, 100000)), ("reader", (1000, 10000)),
-        ("tables", (1000, 10000, 100000)), ("hub", (10, 100, 1000))]
+        ("tables", (1000, 10000, 100000)), ("hub", (10, 100, 1000)), ("objects", (10, 100, 1000))]
 LIMIT = 120
 
 

@@ -1,8 +1,9 @@
-//! `bench WORD..` times the layers: a number sets the size, and `selectors`, `indexer`, `reader`, `tables`
-//! or `hub` runs that layer at it. What was done goes to standard output, the processor times to standard error.
+//! `bench WORD..` times the layers: a number sets the size, and `selectors`, `indexer`, `reader`, `tables`, `hub`
+//! or `objects` runs that layer at it. What was done goes to standard output, the processor times to standard error.
 #![tactic(auto)]
 
 mod indexing;
+mod objects;
 mod reading;
 mod selecting;
 mod serving;
@@ -27,6 +28,7 @@ fn run_layer(
         "reader" => reading::run(rt, alloc, count),
         "tables" => storing::run(rt, alloc, count),
         "hub" => serving::run(rt, alloc, count),
+        "objects" => objects::run(rt, alloc, count),
         _ => bail!("no such layer: {layer}"),
     }
 }
