@@ -4,7 +4,7 @@ use Rattle.std.proofs.lemmas.Slice.Eq.{bytes_eq-Decides}
 use Rattle.std.specs.Str.{bytes_eq}
 use Rattle.std.specs.Str.Pattern.{FindsTextPrefix, LacksTextAt, StripsPrefix}
 use Rattle.serde_json.specs.Read.{read}
-use Rattle.fieldpath.specs.Elements.{Element, field, name_text, value, NoElement, no_prefix, has_prefix, read_json, read_element, keys_of, scalar_of}
+use Rattle.fieldpath.specs.Elements.{Element, field, name_text, value, NoElement, no_prefix, has_prefix, text_after, read_json, read_element, keys_of, scalar_of}
 use Rattle.fieldpath.specs.Elems.{element, Gives}
 use Rattle.fieldpath.specs.declared.elem.Elem.{Elem}
 use Rattle.fieldpath.specs.declared.elem.ElemFault.{ElemFault}
@@ -36,9 +36,6 @@ pub prefixed_as : {E : Type 0} (r : Result (String Global) E) (s t : List ℕ) �
 prefixed_as r s t is h = subst (λ u. IfOk r (λ x. string_bytes x ≡ u)) is h
 
 -- ---- which prefix a text has
-
-abbrev pub text_after : ℕ → List ℕ → Option (List ℕ)
-text_after kind s = cond (has_prefix kind s) (Some (drop 2 s)) None
 
 abbrev pub by_prefix : List ℕ → Bool → Bool → Bool → Result Element NoElement
 by_prefix s f k v = cond f (Ok (field (drop 2 s))) (cond k (read_json s keys_of (read (drop 2 s))) (cond v (read_json s (λ d. option_map value (scalar_of d)) (read (drop 2 s))) (Err no_prefix)))

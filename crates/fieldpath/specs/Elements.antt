@@ -110,6 +110,22 @@ read_json s of (Some d) = if_canonical s (of d)
 abbrev pub has_prefix : ℕ → List ℕ → Bool
 has_prefix kind s = bytes_eq (take 2 s) (kind ∷ 58 ∷ [])
 
+-- what stands behind the prefix of a kind
+abbrev pub text_after : ℕ → List ℕ → Option (List ℕ)
+text_after kind s = if has_prefix kind s then Some (drop 2 s) else None
+
+-- of a field's element, the name
+abbrev pub field_name : List ℕ → Option (List ℕ)
+field_name = text_after 102
+
+-- of a map list item's element, the JSON of the key fields
+abbrev pub keys_json : List ℕ → Option (List ℕ)
+keys_json = text_after 107
+
+-- of a set item's element, the JSON of the scalar
+abbrev pub scalar_json : List ℕ → Option (List ℕ)
+scalar_json = text_after 118
+
 -- exactly the texts of elements are read
 unfoldable pub read_element : List ℕ → Result Element NoElement
 read_element s =

@@ -132,7 +132,7 @@ pub(crate) fn prefixed(alloc: Global, prefix: &str, text: &str) -> Result<String
     Ok(whole)
 }
 
-fn rest_after<'a>(prefix: &str, text: &'a str) -> Option<&'a str>
+pub(crate) fn rest_after<'a>(prefix: &str, text: &'a str) -> Option<&'a str>
     ensures { option_map (λ s. s.now) result
         ≡ (if bytes_eq (take (length prefix.now) text.now) prefix.now then Some (drop (length prefix.now) text.now) else None) }
 {

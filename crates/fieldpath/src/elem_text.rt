@@ -3,11 +3,11 @@ ghost use Rattle.std.specs.Cmp.{eq_by_cmp_equiv, partial_equiv_from_equiv, parti
 ghost use Rattle.std.specs.Ordering.{as_partial_cmp, eq_by_cmp};
 ghost use Rattle.serde_json.specs.View.{view};
 ghost use Rattle.serde_json.specs.Written.{compact_text};
-ghost use Rattle.fieldpath.specs.Elements.{keys_of, list_item_text, name_text, read_element, scalar_of, scalar_text, set_item_text};
+ghost use Rattle.fieldpath.specs.Elements.{field_name, keys_json, keys_of, list_item_text, name_text, read_element, scalar_json, scalar_of, scalar_text, set_item_text};
 ghost use Rattle.fieldpath.specs.Elems.{GivesText, element};
 ghost use Rattle.fieldpath.specs.Paths.{text_cmp, text_cmp_total};
 
-use crate::elem::{Elem, ElemFault, prefixed};
+use crate::elem::{Elem, ElemFault, prefixed, rest_after};
 use crate::keys::is_key_object;
 use crate::scalar::is_scalar;
 use serde_json::Value;
@@ -105,10 +105,38 @@ impl ElemText {
         }
     }
 
+    /// The name, if it is a field's element.
+    pub fn field_name(&self) -> Option<&str>
+        ensures { option_map (λ s. s.now) result ≡ field_name (string_bytes self.now) }
+    {
+        rest_after("f:", self.text.as_str())
+    }
+
+    /// The JSON object of the key fields, if it is a map list item's element.
+    pub fn keys_json(&self) -> Option<&str>
+        ensures { option_map (λ s. s.now) result ≡ keys_json (string_bytes self.now) }
+    {
+        rest_after("k:", self.text.as_str())
+    }
+
+    /// The JSON of the scalar, if it is a set item's element.
+    pub fn scalar_json(&self) -> Option<&str>
+        ensures { option_map (λ s. s.now) result ≡ scalar_json (string_bytes self.now) }
+    {
+        rest_after("v:", self.text.as_str())
+    }
+
     pub fn as_str(&self) -> &str
         ensures value { result.now ≡ string_bytes self.now }
     {
         self.text.as_str()
+    }
+
+    /// The text alone.
+    pub fn into_text(self) -> String
+        ensures { result ≡ self }
+    {
+        self.text
     }
 
     /// A copy with bytes of its own.

@@ -1,13 +1,13 @@
 -- What is written at a spot, level by level, under a lawful schema.
 use Rattle.std.proofs.Common.{◌≡◌, ℕ, Bool, true, false, cond, not, ◌&&◌, ◌||◌, List, [], ◌∷◌, Option, Some, None, is_some, option_map, Result, Ok, Err, refl, sym, ap, ap₂, ◌∙◌, true≢false, subst}
-use Rattle.std.specs.Prelude.{drop}
+use Rattle.std.specs.Prelude.{option_and_then}
 use Rattle.std.specs.FinMap as fin
 use Rattle.std.specs.List.{AllByRecursion, list_any, list_all}
 use Rattle.std.specs.Str.{bytes_eq}
 use Rattle.std.proofs.lemmas.Slice.Eq.{bytes_eq-Decides}
 use Rattle.serde_json.specs.Data.{object, Members, no_members, member}
 use Rattle.fieldpath.specs.Paths.{PathTexts}
-use Rattle.fieldpath.specs.Elements.{Element, KeyFields, NoElement, has_prefix, read_element}
+use Rattle.fieldpath.specs.Elements.{Element, KeyFields, NoElement, has_prefix, read_element, field_name}
 use Rattle.fieldpath.specs.Elements as element
 use Rattle.fieldpath.specs.Scalars.{ascend}
 use Rattle.pathmap.specs.Contents.{Content}
@@ -124,17 +124,9 @@ abbrev pub inner_at : Option Spot → Content → Members
 inner_at None c = no_members
 inner_at (Some p) c = members_at p c
 
-abbrev pub name_or : List ℕ → Option (List ℕ) → List ℕ
-name_or f None = f
-name_or f (Some g) = g
-
 -- the name in a field's text
-named : (e f : List ℕ) → read_element e ≡ Ok (element.field f) → drop 2 e ≡ f
-named e f is = by_prefix (has_prefix 102 e) (name-of e ∙ ap name_in is)
-  where
-    by_prefix : (b : Bool) → cond b (Some (drop 2 e)) None ≡ Some f → drop 2 e ≡ f
-    by_prefix true h = ap (name_or f) h
-    by_prefix false h = absurd (none_some f h)
+named : (e f : List ℕ) → read_element e ≡ Ok (element.field f) → field_name e ≡ Some f
+named e f is = name-of e ∙ ap name_in is
 
 module _ (c : Content) (p : Spot) where
   of_some : (o : Option Shape) → option_map value_of o ≡ Some p → members_some o c ≡ members_at p c
@@ -142,9 +134,9 @@ module _ (c : Content) (p : Spot) where
   of_some (Some s) h = ap (λ o. inner_at o c) h
 
   module _ (e : List ℕ) where
-    of_struct : (all : Fields) (r : Result Element NoElement) → read_element e ≡ r → step_read (value_of (struct_of all false)) r ≡ Some p → members_some (shape_at (drop 2 e) all) c ≡ members_at p c
+    of_struct : (all : Fields) (r : Result Element NoElement) → read_element e ≡ r → step_read (value_of (struct_of all false)) r ≡ Some p → members_some (option_and_then (λ f. shape_at f all) (field_name e)) c ≡ members_at p c
     of_struct all (Err n) is h = absurd (none_some p h)
-    of_struct all (Ok (element.field f)) is h = ap (λ g. members_some (shape_at g all) c) (named e f is) ∙ of_some (shape_at f all) h
+    of_struct all (Ok (element.field f)) is h = ap (λ o. members_some (option_and_then (λ g. shape_at g all) o) c) (named e f is) ∙ of_some (shape_at f all) h
     of_struct all (Ok (element.key ks)) is h = absurd (none_some p h)
     of_struct all (Ok (element.value v)) is h = absurd (none_some p h)
 
@@ -204,11 +196,11 @@ module _ (c : Content) (p : Spot) where
     of_value (list_of s set) good h = of_set s (read_element e) h
     of_value (list_of s (keyed names)) good h = of_list names s good (read_element e) h
 
-    of_item : (names : List (List ℕ)) (all : Fields) (r : Result Element NoElement) → read_element e ≡ r → step_read (map_item names all) r ≡ Some p → members_some (shape_at (drop 2 e) all) c ≡ members_at p c
+    of_item : (names : List (List ℕ)) (all : Fields) (r : Result Element NoElement) → read_element e ≡ r → step_read (map_item names all) r ≡ Some p → members_some (option_and_then (λ f. shape_at f all) (field_name e)) c ≡ members_at p c
     of_item names all (Err n) is h = absurd (none_some p h)
     of_item names all (Ok (element.key ks)) is h = absurd (none_some p h)
     of_item names all (Ok (element.value v)) is h = absurd (none_some p h)
-    of_item names all (Ok (element.field f)) is h = ap (λ g. members_some (shape_at g all) c) (named e f is) ∙ by_key (list_any (bytes_eq f) names) h
+    of_item names all (Ok (element.field f)) is h = ap (λ o. members_some (option_and_then (λ g. shape_at g all) o) c) (named e f is) ∙ by_key (list_any (bytes_eq f) names) h
       where
         by_key : (b : Bool) → cond b None (option_map value_of (shape_at f all)) ≡ Some p → members_some (shape_at f all) c ≡ members_at p c
         by_key true h = absurd (none_some p h)
@@ -277,5 +269,5 @@ base-each (value_of s) good c lead = by_leaf (is_leaf s) refl
         members-each s c h ∙ each_on (λ e. members_under s e (inside e c)) (inner_of (value_of s) c) (heads c) (same_inside (value_of s) c (λ e. members_under s e (inside e c)) (λ e p is. of_value (inside e c) p e s good is) (heads c) lead)
 base-each set_item good c lead = none_lead set_item c item_next_none (heads c) lead
 base-each (map_item names all) good c lead =
-    each_on (λ e. members_of_field all (drop 2 e) (inside e c)) (inner_of (map_item names all) c) (heads c)
-    (same_inside (map_item names all) c (λ e. members_of_field all (drop 2 e) (inside e c)) (λ e p is. field-some all (drop 2 e) (inside e c) ∙ of_item (inside e c) p e names all (read_element e) refl is) (heads c) lead)
+    each_on (λ e. members_of_field all (field_name e) (inside e c)) (inner_of (map_item names all) c) (heads c)
+    (same_inside (map_item names all) c (λ e. members_of_field all (field_name e) (inside e c)) (λ e p is. field-some all (field_name e) (inside e c) ∙ of_item (inside e c) p e names all (read_element e) refl is) (heads c) lead)

@@ -4,10 +4,10 @@ use Rattle.std.specs.Prelude.{option_and_then}
 use Rattle.std.specs.List.{list_any}
 use Rattle.std.specs.Str.{bytes_eq}
 use Rattle.fieldpath.specs.Paths.{PathTexts}
-use Rattle.fieldpath.specs.Elements.{Element, KeyFields, NoElement, Scalar, has_prefix, name_text, read_element}
+use Rattle.fieldpath.specs.Elements.{Element, KeyFields, NoElement, Scalar, has_prefix, name_text, read_element, field_name}
 use Rattle.fieldpath.specs.Elements as element
 use Rattle.schema.specs.Shape.{atomic, set, keyed, Shape, text, whole, truth, struct_of, map_of, list_of, Fields, no_fields, field, shape_at}
-use Rattle.schema.specs.Place.{at_end, by_field, field_name, fits, fit_keys, item_or, list_item, place_in_field, place_in_list, place_of}
+use Rattle.schema.specs.Place.{at_end, by_field, fits, fit_keys, item_or, list_item, place_in_field, place_in_list, place_of}
 use Rattle.schema.specs.Place as place
 use Rattle.schema.specs.Steps.{Spot, value_of, set_item, map_item, is_leaf, step, step_item, step_value}
 use Rattle.schema.specs.declared.place.Place.{Place}

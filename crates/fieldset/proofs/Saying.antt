@@ -12,9 +12,13 @@ use Rattle.schema.specs.Shape.{shape_at}
 use Rattle.schema.specs.Steps.{Spot, value_of, set_item, map_item, step}
 use Rattle.fieldset.specs.FieldsV1.{leaf}
 use Rattle.fieldset.specs.Reading.{Reading, and_then, bad_key, dot, element_in, is_key_field, may_have_dot, not_an_object, not_canonical, off_schema, read_below, read_mark, read_member, some_or}
-use Rattle.fieldset.proofs.Fronts.{name_or, none_some}
+use Rattle.fieldset.proofs.Fronts.{none_some}
 use Rattle.fieldset.proofs.Marks.{dot_next, not_ok, same_ok}
 use Rattle.fieldset.proofs.Places.{next, step_read}
+
+abbrev name_or : List ℕ → Option (List ℕ) → List ℕ
+name_or f None = f
+name_or f (Some g) = g
 
 pub named_text : (k f : List ℕ) → read_element k ≡ Ok (element.field f) → k ≡ name_text f
 unfolding name_text

@@ -1,5 +1,7 @@
 -- The members of a map's paths, put one after another.
-use Rattle.std.proofs.Common.{◌≡◌, ℕ, Bool, true, false, cond, is_eq, nat_cmp, string_cmp, List, [], ◌∷◌, drop, Some, String, Global, string_bytes, refl, sym, ap, ap₂, ◌∙◌, true≢false, Less, Greater}
+use Rattle.std.proofs.Common.{◌≡◌, ℕ, Bool, true, false, cond, is_eq, nat_cmp, string_cmp, List, [], ◌∷◌, Some, String, Global, string_bytes, refl, sym, ap, ap₂, ◌∙◌, true≢false, Less, Greater}
+use Rattle.std.specs.Prelude.{Option, None, option_and_then}
+use Rattle.fieldpath.specs.Elements.{field_name}
 use Rattle.std.specs.Cmp.{tied_itself}
 use Rattle.std.specs.Cmp.Lexicographic.{slice_cmp}
 use Rattle.std.specs.List.{AllByRecursion}
@@ -147,9 +149,11 @@ each-alike : (f g : List ℕ → Members) → ((e : List ℕ) → f e ≡ g e) �
 each-alike f g h [] = refl
 each-alike f g h (e ∷ hs) = ap₂ (λ m ms. member e (object m) ms) (h e) (each-alike f g h hs)
 
-pub field-some : (all : Fields) (f : List ℕ) (c : Content) → members_of_field all f c ≡ members_some (shape_at f all) c
-field-some no_fields f c = refl
-field-some (field known s more) f c = ap (λ ms. cond (bytes_eq known f) (members_of s c) ms) (field-some more f c) ∙ by_name (bytes_eq known f)
+pub field-some : (all : Fields) (o : Option (List ℕ)) (c : Content) → members_of_field all o c ≡ members_some (option_and_then (λ f. shape_at f all) o) c
+field-some no_fields None c = refl
+field-some no_fields (Some f) c = refl
+field-some (field known s more) None c = field-some more None c
+field-some (field known s more) (Some f) c = ap (λ ms. cond (bytes_eq known f) (members_of s c) ms) (field-some more (Some f) c) ∙ by_name (bytes_eq known f)
   where
     by_name : (b : Bool) → cond b (members_of s c) (members_some (shape_at f more) c) ≡ members_some (cond b (Some s) (shape_at f more)) c
     by_name true = refl
@@ -160,8 +164,8 @@ members-each text c h = absurd (true≢false h)
 members-each whole c h = absurd (true≢false h)
 members-each truth c h = absurd (true≢false h)
 members-each (struct_of all is_atomic) c h =
-    ap (λ b. cond b no_members (each (λ e. members_of_field all (drop 2 e) (inside e c)) (heads c))) h
-    ∙ each-alike (λ e. members_of_field all (drop 2 e) (inside e c)) (λ e. members_under (struct_of all is_atomic) e (inside e c)) (λ e. field-some all (drop 2 e) (inside e c)) (heads c)
+    ap (λ b. cond b no_members (each (λ e. members_of_field all (field_name e) (inside e c)) (heads c))) h
+    ∙ each-alike (λ e. members_of_field all (field_name e) (inside e c)) (λ e. members_under (struct_of all is_atomic) e (inside e c)) (λ e. field-some all (field_name e) (inside e c)) (heads c)
 members-each (map_of inner is_atomic) c h = ap (λ b. cond b no_members (each (λ e. members_of inner (inside e c)) (heads c))) h
 members-each (list_of inner atomic) c h = absurd (true≢false h)
 members-each (list_of inner set) c h = refl
@@ -171,7 +175,7 @@ pub members-leaf : (s : Shape) (c : Content) → is_leaf s ≡ true → members_
 members-leaf text c h = refl
 members-leaf whole c h = refl
 members-leaf truth c h = refl
-members-leaf (struct_of all is_atomic) c h = ap (λ b. cond b no_members (each (λ e. members_of_field all (drop 2 e) (inside e c)) (heads c))) h
+members-leaf (struct_of all is_atomic) c h = ap (λ b. cond b no_members (each (λ e. members_of_field all (field_name e) (inside e c)) (heads c))) h
 members-leaf (map_of inner is_atomic) c h = ap (λ b. cond b no_members (each (λ e. members_of inner (inside e c)) (heads c))) h
 members-leaf (list_of inner atomic) c h = refl
 members-leaf (list_of inner set) c h = absurd (true≢false (sym h))

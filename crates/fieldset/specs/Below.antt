@@ -1,7 +1,8 @@
 -- What a shape has below an element, and what the members at an element are.
-use Rattle.std.specs.Prelude.{ℕ, Bool, List, [], Option, Some, None, drop, is_some}
+use Rattle.std.specs.Prelude.{ℕ, Bool, List, [], Option, Some, None, option_and_then, is_some}
 use Rattle.std.specs.FinMap as fin
 use Rattle.serde_json.specs.Data.{Members, no_members}
+use Rattle.fieldpath.specs.Elements.{field_name}
 use Rattle.pathmap.specs.Contents.{Content}
 use Rattle.schema.specs.Shape.{atomic, set, keyed, Shape, text, whole, truth, struct_of, map_of, list_of, shape_at}
 use Rattle.fieldset.specs.FieldsV1.{members_of, with_item}
@@ -11,7 +12,7 @@ abbrev pub shape_below : Shape → List ℕ → Option Shape
 shape_below text e = None
 shape_below whole e = None
 shape_below truth e = None
-shape_below (struct_of all is_atomic) e = shape_at (drop 2 e) all
+shape_below (struct_of all is_atomic) e = option_and_then (λ f. shape_at f all) (field_name e)
 shape_below (map_of inner is_atomic) e = Some inner
 shape_below (list_of inner atomic) e = None
 shape_below (list_of inner set) e = None

@@ -1,8 +1,8 @@
-ghost use Rattle.std.specs.Prelude.{◌≡◌, List, ℕ, map, drop, codes, IfOk, OnOk, string_bytes};
+ghost use Rattle.std.specs.Prelude.{◌≡◌, List, ℕ, map, codes, IfOk, OnOk, option_and_then, string_bytes};
 ghost use Rattle.std.specs.Option.{option_map};
 ghost use Rattle.serde_json.specs.Data.{Members, no_members, put};
 ghost use Rattle.serde_json.specs.View.{members_view};
-ghost use Rattle.fieldpath.specs.Elements.{name_text};
+ghost use Rattle.fieldpath.specs.Elements.{field_name};
 ghost use Rattle.pathmap.specs.Contents.{dom, marked};
 ghost use Rattle.pathmap.specs.Maps.{content};
 ghost use Rattle.schema.specs.Shape.{shape, shape_at, fields_in};
@@ -15,30 +15,31 @@ use schema::{ListKind, Schema};
 use serde_json::{Map, Value};
 use std::alloc::{AllocError, Global};
 
-/// The text of an element less its prefix.
-fn after_prefix(element: &ElemText) -> &[u8]
-    ensures { result.now ≡ drop 2 (string_bytes element.now) }
-{
-    let bytes = element.as_str().as_bytes();
-    if bytes.len() < 2 { &[] } else { &bytes[2..] }
-}
-
-fn field_schema<'a>(fields: &'a [(String, Schema)], name: &[u8]) -> Option<&'a Schema>
+fn field_at<'a>(fields: &'a [(String, Schema)], name: &str) -> Option<&'a Schema>
     ensures { option_map (λ s. shape s.now) result ≡ shape_at name.now (fields_in fields.now) }
 {
     for (known, inner) in fields {
-        if known.as_bytes() == name {
+        if known.as_str() == name {
             return Some(inner);
         }
     }
     None
 }
 
+fn field_schema<'a>(fields: &'a [(String, Schema)], element: &ElemText) -> Option<&'a Schema>
+    ensures { option_map (λ s. shape s.now) result ≡ option_and_then (λ f. shape_at f (fields_in fields.now)) (field_name (string_bytes element.now)) }
+{
+    match element.field_name() {
+        Some(name) => field_at(fields, name),
+        None => None,
+    }
+}
+
 fn schema_below<'a>(schema: &'a Schema, element: &ElemText) -> Option<&'a Schema>
     ensures { option_map (λ s. shape s.now) result ≡ shape_below (shape schema.now) (string_bytes element.now) }
 {
     match schema {
-        Schema::Struct(fields, _) => field_schema(fields, after_prefix(element)),
+        Schema::Struct(fields, _) => field_schema(fields, element),
         Schema::MapOf(inner, _) | Schema::List(inner, ListKind::Keyed(_)) => Some(inner),
         _ => None,
     }
@@ -51,14 +52,6 @@ fn put_leaf(members: &mut Map<String, Value>, alloc: Global, text: String) -> Re
     Ok(())
 }
 
-fn name_element(alloc: Global, name: &String) -> Result<String, AllocError>
-    ensures { IfOk result (λ s. string_bytes s ≡ name_text (string_bytes name.now)) }
-{
-    let mut text = String::from_str(alloc, "f:")?;
-    text.push_str(name)?;
-    Ok(text)
-}
-
 fn put_names(
     members: &mut Map<String, Value>,
     alloc: Global,
@@ -67,7 +60,8 @@ fn put_names(
     ensures { OnOk result (members_view members.new.entries ≡ put_names (map string_bytes names.now) (members_view members.old.entries)) }
 {
     for name in names {
-        put_leaf(members, alloc, name_element(alloc, name)?)?;
+        let element = ElemText::of_field(alloc, name.as_str())?;
+        put_leaf(members, alloc, element.into_text())?;
     }
     Ok(())
 }

@@ -4,10 +4,10 @@ use Rattle.std.specs.Prelude.{option_and_then}
 use Rattle.std.specs.List.{list_any}
 use Rattle.std.specs.Str.{bytes_eq}
 use Rattle.std.specs.Cmp.Lexicographic.{bytes_decides}
-use Rattle.fieldpath.specs.Elements.{read_element}
+use Rattle.fieldpath.specs.Elements.{read_element, field_name}
 use Rattle.fieldpath.specs.Paths.{PathTexts}
 use Rattle.pathmap.specs.Beside.{is_front}
-use Rattle.schema.specs.Place.{at_end, fits, fit_keys, field_name, set_item, list_item, by_field, item_or, place_of, place_in_list, place_in_field}
+use Rattle.schema.specs.Place.{at_end, fits, fit_keys, set_item, list_item, by_field, item_or, place_of, place_in_list, place_in_field}
 use Rattle.schema.specs.Shape.{atomic, set, keyed, Shape, text, whole, truth, struct_of, map_of, list_of, Fields, no_fields, field}
 use Rattle.schema.specs.declared.place.Place.{Place}
 use Rattle.schema.specs.declared.place.Place.TheVariants.{Leaf, SetItem}

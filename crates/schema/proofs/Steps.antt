@@ -6,10 +6,10 @@ use Rattle.std.specs.Str.{bytes_eq}
 use Rattle.serde_json.specs.Data.{Data, null, boolean, number, string, array, object}
 use Rattle.serde_json.specs.Read.{read}
 use Rattle.fieldpath.specs.Paths.{PathTexts}
-use Rattle.fieldpath.specs.Elements.{Scalar, KeyFields, Element, NoElement, has_prefix, if_canonical, keys_of, keys_of_members, read_element, read_json, scalar_of, some_keys}
+use Rattle.fieldpath.specs.Elements.{Scalar, KeyFields, Element, NoElement, has_prefix, if_canonical, keys_of, keys_of_members, read_element, read_json, scalar_of, some_keys, field_name}
 use Rattle.fieldpath.specs.Elements as element
 use Rattle.schema.specs.Shape.{atomic, set, keyed, Shape, text, whole, truth, struct_of, map_of, list_of, Fields, no_fields, field, shape_at}
-use Rattle.schema.specs.Place.{at_end, by_field, field_name, fits, fit_keys, item_or, list_item, place_in_field, place_in_list, place_of}
+use Rattle.schema.specs.Place.{at_end, by_field, fits, fit_keys, item_or, list_item, place_in_field, place_in_list, place_of}
 use Rattle.schema.specs.Place as place
 use Rattle.schema.specs.Steps.{value_of, set_item, map_item, is_leaf, place_from, step_beside, step_item, step_value}
 use Rattle.schema.specs.declared.place.Place.{Place}

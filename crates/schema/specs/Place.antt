@@ -1,12 +1,12 @@
 -- The place that a shape gives a path, if any.
 -- Server-Side Apply, "Merge strategy": scalars and atomic values are leaves; sets and map lists have items; structs, granular maps and lists have no place of their own.
-use Rattle.std.specs.Prelude.{ℕ, Bool, true, false, ◌&&◌, List, [], ◌∷◌, Option, Some, None, if◌then◌else◌, drop, option_and_then}
+use Rattle.std.specs.Prelude.{ℕ, Bool, true, false, ◌&&◌, List, [], ◌∷◌, Option, Some, None, if◌then◌else◌, option_and_then}
 use Rattle.std.specs.declared.result.Result.{Result}
 use Rattle.std.specs.declared.result.Result.TheVariants.{Ok}
 use Rattle.std.specs.List.{list_any}
 use Rattle.std.specs.Str.{bytes_eq}
 use Rattle.fieldpath.specs.Paths.{PathTexts}
-use Rattle.fieldpath.specs.Elements.{Scalar, KeyFields, Element, NoElement, has_prefix, read_element}
+use Rattle.fieldpath.specs.Elements.{Scalar, KeyFields, Element, NoElement, field_name, read_element}
 use Rattle.fieldpath.specs.Elements as element
 use Rattle.schema.specs.Shape.{atomic, set, keyed, Shape, text, whole, truth, struct_of, map_of, list_of, Fields, no_fields, field, shape_at}
 use Rattle.schema.specs.declared.place.Place.{Place}
@@ -33,10 +33,6 @@ fit_keys [] all [] = true
 fit_keys [] all (k ∷ ks) = false
 fit_keys (n ∷ ns) all [] = false
 fit_keys (n ∷ ns) all (k ∷ ks) = bytes_eq n k.0 && fits_some (shape_at n all) k.1 && fit_keys ns all ks
-
--- the name of a field's element
-abbrev pub field_name : List ℕ → Option (List ℕ)
-field_name e = if has_prefix 102 e then Some (drop 2 e) else None
 
 abbrev pub set_item : Result Element NoElement → Option Scalar
 set_item (Ok (element.value v)) = Some v

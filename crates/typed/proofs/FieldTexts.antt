@@ -1,15 +1,14 @@
 -- The FieldsV1 value of a set of paths is one that its compact text spells.
-use Rattle.std.proofs.Common.{◌≡◌, ◌≤◌, ℕ, suc, max, Bool, true, false, cond, nat_cmp, List, [], ◌∷◌, Ordering, Less, Equal, Greater, is_some, drop, refl, ap, ◌∙◌, arith}
+use Rattle.std.proofs.Common.{◌≡◌, ◌≤◌, ℕ, suc, max, Bool, true, false, cond, nat_cmp, List, [], ◌∷◌, Option, Ordering, Less, Equal, Greater, is_some, refl, ap, ◌∙◌, arith}
 use Rattle.std.specs.Prelude.{codes}
 use Rattle.std.specs.Cmp.Derive.{both_true}
 use Rattle.std.specs.Cmp.Lexicographic.{slice_cmp}
 use Rattle.std.specs.FinMap as fin
 use Rattle.std.specs.List.{AllByRecursion}
 use Rattle.std.specs.Ordering.{is_lt, match_ordering}
-use Rattle.std.specs.Str.{bytes_eq}
 use Rattle.serde_json.specs.Data.{Data, Members, no_members, member, put, depth, members_depth}
 use Rattle.serde_json.specs.Written.{members_have_float}
-use Rattle.fieldpath.specs.Elements.{name_text}
+use Rattle.fieldpath.specs.Elements.{name_text, field_name}
 use Rattle.fieldpath.specs.Scalars.{ascend, ascend_from}
 use Rattle.fieldpath.specs.Spelled.{MembersAreSpelled, member_names}
 use Rattle.fieldpath.proofs.Spelled.{put_ascend, put_spelled}
@@ -129,7 +128,7 @@ mutual
   members_fine truth c = fine_none 1
   members_fine (struct_of all is_atomic) c =
       fine_if (suc (fields_depth all)) is_atomic no_members _ (fine_none (suc (fields_depth all)))
-      (fine_each (fields_depth all) (λ e. v1.members_of_field all (drop 2 e) (inside e c)) c (λ e. field_fine all (drop 2 e) (inside e c)))
+      (fine_each (fields_depth all) (λ e. v1.members_of_field all (field_name e) (inside e c)) c (λ e. field_fine all (field_name e) (inside e c)))
   members_fine (map_of s is_atomic) c =
       fine_if (suc (depth_of s)) is_atomic no_members _ (fine_none (suc (depth_of s))) (fine_each (depth_of s) (λ e. v1.members_of s (inside e c)) c (λ e. members_fine s (inside e c)))
   members_fine (list_of s atomic) c = fine_none (suc (depth_of s))
@@ -138,10 +137,10 @@ mutual
       fine_each (depth_of s) (λ e. v1.with_item (is_some (fin.get (inside e c) [])) names (v1.members_of s (inside e c))) c
       (λ e. fine_item (depth_of s) (is_some (fin.get (inside e c) [])) names (v1.members_of s (inside e c)) (some_depth s) (members_fine s (inside e c)))
 
-  field_fine : (fs : Fields) (f : List ℕ) (c : Content) → Fine (fields_depth fs) (v1.members_of_field fs f c)
+  field_fine : (fs : Fields) (f : Option (List ℕ)) (c : Content) → Fine (fields_depth fs) (v1.members_of_field fs f c)
   field_fine no_fields f c = fine_none 0
   field_fine (field known s more) f c =
-      fine_if (max (depth_of s) (fields_depth more)) (bytes_eq known f) (v1.members_of s c) (v1.members_of_field more f c)
+      fine_if (max (depth_of s) (fields_depth more)) (v1.is_name known f) (v1.members_of s c) (v1.members_of_field more f c)
       (fine_more (depth_of s) (max (depth_of s) (fields_depth more)) (v1.members_of s c) (first_of (depth_of s) (fields_depth more)) (members_fine s c))
       (fine_more (fields_depth more) (max (depth_of s) (fields_depth more)) (v1.members_of_field more f c) (second_of (depth_of s) (fields_depth more)) (field_fine more f c))
     where

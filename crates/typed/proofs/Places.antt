@@ -6,13 +6,13 @@ use Rattle.std.specs.List.{list_any}
 use Rattle.std.specs.Str.{bytes_eq}
 use Rattle.std.proofs.lemmas.Slice.Eq.{bytes_eq-Decides}
 use Rattle.serde_json.specs.Written.{compact_text}
-use Rattle.fieldpath.specs.Elements.{has_prefix, name_text}
+use Rattle.fieldpath.specs.Elements.{has_prefix, name_text, field_name}
 use Rattle.fieldpath.specs.Paths.{PathTexts}
 use Rattle.pathmap.specs.Contents.{Standing, Content, nothing, here}
 use Rattle.pathmap.specs.Contents as standing
 use Rattle.pathmap.specs.Insides.{inside}
 use Rattle.pathmap.proofs.Contents.{get-nothing, get-here-below}
-use Rattle.schema.specs.Place.{at_end, fits, fit_keys, field_name, set_item, list_item, by_field, item_or, place_of, place_in_list, place_in_field}
+use Rattle.schema.specs.Place.{at_end, fits, fit_keys, set_item, list_item, by_field, item_or, place_of, place_in_list, place_in_field}
 use Rattle.schema.specs.Shape.{atomic, set, keyed, Shape, text, whole, truth, struct_of, map_of, list_of, Fields, no_fields, field}
 use Rattle.schema.specs.declared.place.Place.{Place}
 use Rattle.schema.specs.declared.place.Place.TheVariants.{Leaf, SetItem}

@@ -1,10 +1,7 @@
 -- What is printed, one child or field after another.
-use Rattle.std.proofs.Common.{◌≡◌, ℕ, ◌+◌, ◌<◌, get_or, Bool, true, false, cond, List, [], ◌∷◌, ◌++◌, length, take, drop, take-append-drop, Option, Some, None, option_map, String, Global, Vec, Bor, string_bytes, string_cmp, refl, sym, ap, ap₂, ◌∙◌, true≢false, subst, rules}
-use Rattle.std.specs.Prelude.{◌==◌, MatchOption, option_and_then, option_to_list, codes}
+use Rattle.std.proofs.Common.{◌≡◌, ℕ, ◌+◌, ◌<◌, get_or, Bool, true, false, cond, List, [], ◌∷◌, ◌++◌, length, drop, Option, Some, None, option_map, String, Global, Vec, string_bytes, string_cmp, refl, sym, ap, ap₂, ◌∙◌, true≢false, subst, rules}
+use Rattle.std.specs.Prelude.{◌==◌, option_and_then, option_to_list}
 use Rattle.std.specs.BTreeMap.{IsOrdered}
-use Rattle.std.specs.Str.{bytes_eq}
-use Rattle.std.specs.Str.Pattern.{FindsTextPrefix, StripsPrefix}
-use Rattle.std.proofs.lemmas.Slice.Eq.{bytes_eq-Decides}
 use Rattle.serde_json.specs.Data.{Data, array, object, Items, no_items, item, Members, no_members}
 use Rattle.serde_json.specs.View.{view, items_view, members_view}
 use Rattle.serde_json.specs.declared.value.Value.{Value}
@@ -16,8 +13,8 @@ use Rattle.pathmap.proofs.Contents.{get-nothing}
 use Rattle.schema.specs.Shape.{atomic, set, keyed, Shape, text, whole, truth, struct_of, map_of, list_of, Fields, no_fields, field, shape, fields_in}
 use Rattle.schema.specs.declared.schema.Schema.{Schema, Struct, the_lemmas}
 use Rattle.std.proofs.lemmas.List.{drop_more}
-use Rattle.fieldpath.specs.Elements.{name_text}
-use Rattle.typed.specs.Printing.{value_at, value_of, object_or_none, array_or_none, with_member, with_named, with_item, after, each_member, each_item, scalar_in, keys_in, print, print_item, print_fields}
+use Rattle.fieldpath.specs.Elements.{field_name, name_text}
+use Rattle.typed.specs.Printing.{value_at, value_of, object_or_none, array_or_none, with_member, with_named, with_item, each_member, each_item, scalar_in, keys_in, print, print_item, print_fields}
 use Rattle.pathmap.proofs.Heads.{has_path, no_path, nothing_path, inside-nothing, heads-nothing}
 use Rattle.typed.proofs.Insides.{Children, living, heads-map, AreInside, children-inside}
 
@@ -55,14 +52,14 @@ with_named-None (Some k) ms = refl
 
 -- a child that is printed, or bare
 pub members_more : (inner : List ℕ → Option Data) (it left : Children) (e : String Global × PathMap) (o : Option Data) (ms new : Members) → it ≡ e ∷ left
-    → o ≡ inner (string_bytes e.0) → (content e.1 ≡ nothing → o ≡ None) → new ≡ with_named (after (codes "f:") (string_bytes e.0)) o ms
+    → o ≡ inner (string_bytes e.0) → (content e.1 ≡ nothing → o ≡ None) → new ≡ with_named (field_name (string_bytes e.0)) o ms
     → each_member inner (living left) new ≡ each_member inner (living it) ms
 members_more inner it left e o ms new steps is bare put =
     ap (each_member inner (living left)) put ∙ by_test (has_path (content e.1)) refl ∙ ap (λ l. each_member inner (living l) ms) (sym steps)
   where
-    by_test : (b : Bool) → has_path (content e.1) ≡ b → each_member inner (living left) (with_named (after (codes "f:") (string_bytes e.0)) o ms) ≡ each_member inner (cond b (string_bytes e.0 ∷ living left) (living left)) ms
-    by_test true b = ap (λ d. each_member inner (living left) (with_named (after (codes "f:") (string_bytes e.0)) d ms)) is
-    by_test false b = ap (each_member inner (living left)) (ap (λ d. with_named (after (codes "f:") (string_bytes e.0)) d ms) (bare (no_path (content e.1) b)) ∙ with_named-None (after (codes "f:") (string_bytes e.0)) ms)
+    by_test : (b : Bool) → has_path (content e.1) ≡ b → each_member inner (living left) (with_named (field_name (string_bytes e.0)) o ms) ≡ each_member inner (cond b (string_bytes e.0 ∷ living left) (living left)) ms
+    by_test true b = ap (λ d. each_member inner (living left) (with_named (field_name (string_bytes e.0)) d ms)) is
+    by_test false b = ap (each_member inner (living left)) (ap (λ d. with_named (field_name (string_bytes e.0)) d ms) (bare (no_path (content e.1) b)) ∙ with_named-None (field_name (string_bytes e.0)) ms)
 
 pub members_first : (inner : List ℕ → Option Data) (n : PathMap) (ms : Members) (it : Children) → IsOrdered string_cmp (out-PathMap n).below → it ≡ (out-PathMap n).below.entries
     → each_member inner (living it) ms ≡ each_member inner (heads (content n)) ms
@@ -137,24 +134,6 @@ fields_more all i f lt is c ms new put = ap (print_fields (fields_in (drop (i + 
 
 pub shape-fields : (fields : Vec (String Global × Schema) Global) (is_atomic : Bool) → shape (Struct fields is_atomic) ≡ struct_of (fields_in fields.items) is_atomic
 shape-fields fields is_atomic = search (rules, the_lemmas)
-
--- ---- prefixes
-
-front : (p rest : List ℕ) → take (length p) (p ++ rest) ≡ p
-front [] rest = refl
-front (x ∷ p) rest = ap (λ l. x ∷ l) (front p rest)
-
-begins : (p s : List ℕ) → bytes_eq (take (length p) s) p ≡ true → s ≡ p ++ drop (length p) s
-begins p s e = sym (take-append-drop (length p) s) ∙ ap (λ t. t ++ drop (length p) s) ((bytes_eq-Decides (take (length p) s) p).0 e)
-
--- the clause of `strip_prefix` at a text
-pub text-after : (p s : List ℕ) (r : Option (Bor (List ℕ))) → MatchOption r (FindsTextPrefix p s None) (λ x. StripsPrefix (FindsTextPrefix p) s x.now) → option_map (λ x. x.now) r ≡ after p s
-text-after p s None lacks = by_test (bytes_eq (take (length p) s) p) refl
-  where
-    by_test : (b : Bool) → bytes_eq (take (length p) s) p ≡ b → None ≡ cond b (Some (drop (length p) s)) None
-    by_test true e = absurd (lacks (drop (length p) s) (begins p s e))
-    by_test false e = refl
-text-after p s (Some x) h = ap Some (h.2 ∙ ap (λ n. drop n s) h.1.0) ∙ ap (λ b. cond b (Some (drop (length p) s)) None) (sym ((bytes_eq-Decides (take (length p) s) p).1 (ap (take (length p)) h.1.1 ∙ front p (drop h.0 s))))
 
 -- ---- arrays and objects of what is there
 

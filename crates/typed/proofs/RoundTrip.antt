@@ -1,6 +1,6 @@
 -- What is printed reads back.
 use Rattle.std.proofs.Common.{◌≡◌, ℕ, ℤ, suc, pos, negsuc, ◌^◌, ◌<◌, nat_lt, arith, Bool, true, false, cond, ◌&&◌, ◌||◌, is_eq, nat_cmp, List, [], ◌∷◌, ◌++◌, map, take, drop, take-append-drop, Option, Some, None, is_some, option_map, Ok, Err, is_ok, Result, inl, inr, ◌⊎◌, Less, refl, sym, ap, ap₂, ◌∙◌, true≢false, subst}
-use Rattle.std.specs.Prelude.{option_and_then, codes}
+use Rattle.std.specs.Prelude.{option_and_then}
 use Rattle.std.specs.Cmp.{first_so, second_so}
 use Rattle.std.specs.Cmp.Lexicographic.{slice_cmp}
 use Rattle.std.specs.FinMap as fin
@@ -13,7 +13,7 @@ use Rattle.std.proofs.lemmas.Slice.Eq.{bytes_eq-Decides}
 use Rattle.serde_json.specs.Data.{Data, null, boolean, number, string, array, object, Items, no_items, item, Members, no_members, member}
 use Rattle.serde_json.specs.Find.{of_integer, as_i64, get_member}
 use Rattle.serde_json.specs.Written.{compact_text}
-use Rattle.fieldpath.specs.Elements.{has_prefix, name_text, key_text, scalar_text, set_item_text, list_item_text}
+use Rattle.fieldpath.specs.Elements.{has_prefix, name_text, key_text, scalar_text, set_item_text, list_item_text, field_name}
 use Rattle.pathmap.specs.Contents.{Content, nothing, here, under, over}
 use Rattle.pathmap.specs.Contents as standing
 use Rattle.pathmap.specs.Insides.{inside, heads}
@@ -25,7 +25,7 @@ use Rattle.schema.specs.Shape.{atomic, set, keyed, Shape, text, whole, truth, st
 use Rattle.typed.specs.declared.fault.Cause.TheVariants.{WrongType, DuplicateItem, KeyFieldMissing}
 use Rattle.typed.specs.Faults.{Read, below, and_then, some_or, shown_place}
 use Rattle.typed.specs.Placed.{IsWithin, IsAtomic, IsBelow, is_field, IsSetItem, HasKeys, IsItem, ArePlaced, ReadsBack, RoundTrip}
-use Rattle.typed.specs.Printing.{value_at, value_of, object_or_none, array_or_none, with_member, with_named, with_item, after, each_member, each_item, scalar_in, print, print_item, print_fields}
+use Rattle.typed.specs.Printing.{value_at, value_of, object_or_none, array_or_none, with_member, with_named, with_item, each_member, each_item, scalar_in, print, print_item, print_fields}
 use Rattle.typed.specs.Printing as printing
 use Rattle.typed.specs.Reading.{is_null, plain_of, leaf, joined, members_at, marked, one_item, items_at, named_item, set_item, keyed_item, beside_keys, keys_in, content_of, content_of_item, content_of_field}
 use Rattle.typed.proofs.ElementTexts.{value_element, key_element, scalar_same, scalar_reads}
@@ -118,7 +118,7 @@ heads_rise c = are_rising (heads c) (rising c)
 
 -- the element is that of a name
 abbrev pub IsName : List ℕ → Type 0
-IsName e = (k : List ℕ) × (after (codes "f:") e ≡ Some k) × (e ≡ name_text k)
+IsName e = (k : List ℕ) × (field_name e ≡ Some k) × (e ≡ name_text k)
 
 pub prefix_name : (e : List ℕ) → has_prefix 102 e ≡ true → IsName e
 unfolding name_text

@@ -1,6 +1,6 @@
 -- What is printed of a content is a value that its compact text spells.
 use Rattle.std.proofs.Common.{◌≡◌, ◌≤◌, ◌<◌, ◌^◌, ℕ, ℤ, pos, negsuc, Bool, true, false, cond, nat_le, ◌⊎◌, inl, inr, List, [], ◌∷◌, Option, Some, None, is_some, option_map, refl, sym, ap, ◌∙◌, true≢false, subst, arith}
-use Rattle.std.specs.Prelude.{⊤, option_and_then, codes}
+use Rattle.std.specs.Prelude.{⊤, option_and_then}
 use Rattle.std.proofs.lemmas.Bool.{and_parts}
 use Rattle.std.proofs.lemmas.Bool.Decides.{nat_tests}
 use Rattle.std.specs.FinMap as fin
@@ -9,7 +9,7 @@ use Rattle.serde_json.specs.Data.{Data, null, boolean, number, string, array, ob
 use Rattle.serde_json.specs.Find.{as_object, of_integer}
 use Rattle.serde_json.specs.Read.{read, max_depth}
 use Rattle.serde_json.specs.Written.{compact_text, has_float}
-use Rattle.fieldpath.specs.Elements.{name_text}
+use Rattle.fieldpath.specs.Elements.{name_text, field_name, scalar_json, keys_json}
 use Rattle.fieldpath.specs.Scalars.{ascend}
 use Rattle.fieldpath.specs.Spelled.{IsSpelledNumber, IsSpelled, AreSpelled, MembersAreSpelled, member_names}
 use Rattle.fieldpath.proofs.Spelled.{put_ascend, put_spelled, spelled-read, compact-read}
@@ -21,7 +21,7 @@ use Rattle.schema.specs.Lawful.{depth_of, depth_limit, is_well_formed, is_lawful
 use Rattle.schema.specs.Shape.{atomic, set, keyed, Shape, text, whole, truth, struct_of, map_of, list_of, Fields, no_fields, field}
 use Rattle.typed.specs.Fitting.{IsWholeValue, AtEnd, FitsAt, FitsItem, FitsField, FitsAll, IsTextual, PrintedIsTextual}
 use Rattle.typed.specs.Placed.{When, IsWithin, ReadsBack}
-use Rattle.typed.specs.Printing.{value_of, value_at, object_or_none, array_or_none, with_member, with_named, with_item, after, each_member, each_item, scalar_in, keys_in, print, print_item, print_fields}
+use Rattle.typed.specs.Printing.{value_of, value_at, object_or_none, array_or_none, with_member, with_named, with_item, each_member, each_item, scalar_in, keys_in, print, print_item, print_fields}
 use Rattle.typed.specs.Reading.{leaf}
 use Rattle.typed.proofs.Depths.{content_deep}
 use Rattle.typed.proofs.Fitting.{here_same, content_placed}
@@ -156,7 +156,7 @@ named_in_order (Some k) o ms one all = with_in_order k o ms one all
 
 each_in_order : (inner : List ℕ → Option Data) → ((e : List ℕ) → Given (inner e)) → (es : List (List ℕ)) (ms : Members) → InOrder ms → InOrder (each_member inner es ms)
 each_in_order inner one [] ms all = all
-each_in_order inner one (e ∷ es) ms all = each_in_order inner one es (with_named (after (codes "f:") e) (inner e) ms) (named_in_order (after (codes "f:") e) (inner e) ms (one e) all)
+each_in_order inner one (e ∷ es) ms all = each_in_order inner one es (with_named (field_name e) (inner e) ms) (named_in_order (field_name e) (inner e) ms (one e) all)
 
 item_given : (o : Option Data) (ds : Items) → Given o → AreSpelled ds → AreSpelled (with_item o ds)
 item_given None ds one all = all
@@ -167,7 +167,7 @@ each_spelled inner one [] = tt
 each_spelled inner one (e ∷ es) = item_given (inner e) (each_item inner es) (one e) (each_spelled inner one es)
 
 scalar_given : (e : List ℕ) → Given (scalar_in e)
-scalar_given e = by_text (after (codes "v:") e)
+scalar_given e = by_text (scalar_json e)
   where
     by_text : (o : Option (List ℕ)) → Given (option_and_then read o)
     by_text None = tt
@@ -175,7 +175,7 @@ scalar_given e = by_text (after (codes "v:") e)
 
 -- members with more put among them, where there are some
 keyed_given : (f : Members → Members) → ((ms : Members) → InOrder ms → InOrder (f ms)) → (e : List ℕ) → Given (option_map (λ ms. object (f ms)) (keys_in e))
-keyed_given f kept e = by_text (after (codes "k:") e)
+keyed_given f kept e = by_text (keys_json e)
   where
     by_data : (d : Data) → IsSpelled d → Given (option_map (λ ms. object (f ms)) (as_object d))
     by_data null h = tt

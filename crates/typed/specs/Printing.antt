@@ -1,11 +1,10 @@
 -- The one value that a content is printed as, if anything stands in it: items in byte order of their elements' texts, key fields put back.
-use Rattle.std.specs.Prelude.{ℕ, List, [], ◌∷◌, Option, Some, None, option_map, option_and_then, if◌then◌else◌, length, take, drop, codes}
+use Rattle.std.specs.Prelude.{ℕ, List, [], ◌∷◌, Option, Some, None, option_map, option_and_then, if◌then◌else◌}
 use Rattle.std.specs.FinMap as fin
-use Rattle.std.specs.Str.{bytes_eq}
 use Rattle.serde_json.specs.Data.{Data, boolean, number, string, array, object, Items, no_items, item, Members, no_members, member, put}
 use Rattle.serde_json.specs.Find.{as_object, of_integer}
 use Rattle.serde_json.specs.Read.{read}
-use Rattle.fieldpath.specs.Elements.{name_text}
+use Rattle.fieldpath.specs.Elements.{field_name, keys_json, name_text, scalar_json}
 use Rattle.pathmap.specs.Contents.{Standing, Content}
 use Rattle.pathmap.specs.Contents as standing
 use Rattle.pathmap.specs.Insides.{inside, heads}
@@ -39,10 +38,6 @@ abbrev pub with_item : Option Data → Items → Items
 with_item None ds = ds
 with_item (Some d) ds = item d ds
 
--- an element's text less its prefix
-abbrev pub after : List ℕ → List ℕ → Option (List ℕ)
-after p e = if bytes_eq (take (length p) e) p then Some (drop (length p) e) else None
-
 -- a member by the element of its name
 abbrev pub with_named : Option (List ℕ) → Option Data → Members → Members
 with_named None d ms = ms
@@ -51,7 +46,7 @@ with_named (Some k) d ms = with_member k d ms
 -- these members and one for each element
 abbrev pub each_member : (List ℕ → Option Data) → List (List ℕ) → Members → Members
 each_member inner [] ms = ms
-each_member inner (e ∷ es) ms = each_member inner es (with_named (after (codes "f:") e) (inner e) ms)
+each_member inner (e ∷ es) ms = each_member inner es (with_named (field_name e) (inner e) ms)
 
 abbrev pub each_item : (List ℕ → Option Data) → List (List ℕ) → Items
 each_item inner [] = no_items
@@ -59,11 +54,11 @@ each_item inner (e ∷ es) = with_item (inner e) (each_item inner es)
 
 -- the scalar in a set item's element
 abbrev pub scalar_in : List ℕ → Option Data
-scalar_in e = option_and_then read (after (codes "v:") e)
+scalar_in e = option_and_then read (scalar_json e)
 
 -- the key fields in a map list item's element
 abbrev pub keys_in : List ℕ → Option Members
-keys_in e = option_and_then as_object (option_and_then read (after (codes "k:") e))
+keys_in e = option_and_then as_object (option_and_then read (keys_json e))
 
 -- nothing is printed where nothing stands
 abbrev mutual

@@ -1,14 +1,14 @@
-ghost use Rattle.std.specs.Prelude.{◌≡◌, IfOk, OnOk, option_map, codes};
+ghost use Rattle.std.specs.Prelude.{◌≡◌, IfOk, OnOk, option_map, string_bytes};
 ghost use Rattle.serde_json.specs.Data.{object};
 ghost use Rattle.serde_json.specs.View.{view, items_view, members_view};
-ghost use Rattle.fieldpath.specs.Elements.{name_text};
+ghost use Rattle.fieldpath.specs.Elements.{field_name, name_text};
 ghost use Rattle.pathmap.specs.Insides.{inside, heads};
 ghost use Rattle.pathmap.specs.Maps.{content, content_or_nothing};
 ghost use Rattle.schema.specs.Shape.{fields_in, kind_of, list_of, map_of, shape, struct_of};
-ghost use Rattle.typed.specs.Printing.{after, each_item, each_member, keys_in, print, print_fields, print_item, scalar_in, with_named};
+ghost use Rattle.typed.specs.Printing.{each_item, each_member, keys_in, print, print_fields, print_item, scalar_in, with_named};
 
 use crate::print_parts::{
-    array_of, keys_of, object_of, print_top, push_item, put_member, scalar_of, text_after,
+    array_of, keys_of, object_of, print_top, push_item, put_member, scalar_of,
 };
 use fieldpath::ElemText;
 use pathmap::PathMap;
@@ -19,12 +19,12 @@ use std::alloc::{AllocError, Global};
 fn put_named(
     members: &mut Map<String, Value>,
     alloc: Global,
-    element: &str,
+    element: &ElemText,
     value: Option<Value>,
 ) -> Result<(), AllocError>
-    ensures { OnOk result (members_view members.new.entries ≡ with_named (after (codes "f:") element.now) (option_map view value) (members_view members.old.entries)) }
+    ensures { OnOk result (members_view members.new.entries ≡ with_named (field_name (string_bytes element.now)) (option_map view value) (members_view members.old.entries)) }
 {
-    match text_after(element, "f:") {
+    match element.field_name() {
         Some(name) => put_member(members, alloc, name, value),
         None => Ok(()),
     }
@@ -76,7 +76,7 @@ fn put_each(
 {
     for (element, below) in map.below.iter() {
         let value = print_map(inner, alloc, below)?;
-        put_named(members, alloc, element.as_str(), value)?;
+        put_named(members, alloc, element, value)?;
     }
     Ok(())
 }
@@ -89,7 +89,7 @@ fn print_set(alloc: Global, map: &PathMap) -> Result<Vec<Value>, AllocError>
         if below.is_bare() {
             continue;
         }
-        let item = scalar_of(alloc, element.as_str())?;
+        let item = scalar_of(alloc, element)?;
         push_item(&mut items, item)?;
     }
     Ok(items)
@@ -115,10 +115,10 @@ fn put_item(
 fn print_keyed(
     inner: &Schema,
     alloc: Global,
-    element: &str,
+    element: &ElemText,
     map: &PathMap,
 ) -> Result<Option<Value>, AllocError>
-    ensures { IfOk result (λ o. option_map view o ≡ option_map (λ ms. object (print_item (shape inner.now) (content map.now) ms)) (keys_in element.now)) }
+    ensures { IfOk result (λ o. option_map view o ≡ option_map (λ ms. object (print_item (shape inner.now) (content map.now) ms)) (keys_in (string_bytes element.now))) }
 {
     let Some(mut members) = keys_of(alloc, element)? else {
         return Ok(None);
@@ -136,7 +136,7 @@ fn print_items(inner: &Schema, alloc: Global, map: &PathMap) -> Result<Vec<Value
         if below.is_bare() {
             continue;
         }
-        let item = print_keyed(inner, alloc, element.as_str(), below)?;
+        let item = print_keyed(inner, alloc, element, below)?;
         push_item(&mut items, item)?;
     }
     Ok(items)

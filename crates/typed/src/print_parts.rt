@@ -1,9 +1,10 @@
-ghost use Rattle.std.specs.Prelude.{◌≡◌, ◌++◌, IfOk, OnOk, option_map, option_to_list};
+ghost use Rattle.std.specs.Prelude.{◌≡◌, ◌++◌, IfOk, OnOk, option_map, option_to_list, string_bytes};
 ghost use Rattle.serde_json.specs.Read.{read};
 ghost use Rattle.serde_json.specs.View.{view, items_view, members_view};
 ghost use Rattle.pathmap.specs.Maps.{content, standing};
-ghost use Rattle.typed.specs.Printing.{after, array_or_none, keys_in, object_or_none, scalar_in, value_at, value_of, with_member};
+ghost use Rattle.typed.specs.Printing.{array_or_none, keys_in, object_or_none, scalar_in, value_at, value_of, with_member};
 
+use fieldpath::ElemText;
 use pathmap::{Held, PathMap};
 use serde_json::{Map, Value};
 use std::alloc::{AllocError, Global};
@@ -46,18 +47,11 @@ pub(crate) fn print_top(alloc: Global, map: &PathMap) -> Result<Option<Value>, A
     }
 }
 
-/// An element's text less its prefix.
-pub(crate) fn text_after<'a>(element: &'a str, prefix: &str) -> Option<&'a str>
-    ensures { option_map (λ s. s.now) result ≡ after prefix.now element.now }
-{
-    element.strip_prefix(prefix)
-}
-
 /// The scalar in a set item's element.
-pub(crate) fn scalar_of(alloc: Global, element: &str) -> Result<Option<Value>, AllocError>
-    ensures { IfOk result (λ o. option_map view o ≡ scalar_in element.now) }
+pub(crate) fn scalar_of(alloc: Global, element: &ElemText) -> Result<Option<Value>, AllocError>
+    ensures { IfOk result (λ o. option_map view o ≡ scalar_in (string_bytes element.now)) }
 {
-    match text_after(element, "v:") {
+    match element.scalar_json() {
         Some(text) => read_text(alloc, text),
         None => Ok(None),
     }
@@ -66,11 +60,11 @@ pub(crate) fn scalar_of(alloc: Global, element: &str) -> Result<Option<Value>, A
 /// The key fields in a map list item's element.
 pub(crate) fn keys_of(
     alloc: Global,
-    element: &str,
+    element: &ElemText,
 ) -> Result<Option<Map<String, Value>>, AllocError>
-    ensures { IfOk result (λ o. option_map (λ m. members_view m.entries) o ≡ keys_in element.now) }
+    ensures { IfOk result (λ o. option_map (λ m. members_view m.entries) o ≡ keys_in (string_bytes element.now)) }
 {
-    let Some(text) = text_after(element, "k:") else {
+    let Some(text) = element.keys_json() else {
         return Ok(None);
     };
     match read_text(alloc, text)? {

@@ -1,14 +1,13 @@
 use Rattle.std.proofs.Common.{◌≡◌, ℕ, List, ap, ap₂, sym, subst, ◌∙◌, true≢false, Some, option_map, IfOk, OnOk, String, Global, string_bytes}
 use Rattle.serde_json.specs.Data.{object, Members}
 use Rattle.serde_json.specs.View.{view, members_view}
-use Rattle.std.specs.Prelude.{codes}
 use Rattle.pathmap.specs.Contents.{Content}
 use Rattle.pathmap.specs.Maps.{content, content_or_nothing}
 use Rattle.pathmap.specs.Insides.{inside}
 use Rattle.pathmap.specs.declared.pathmap.PathMap.{PathMap}
 use Rattle.schema.specs.Shape.{struct_of, shape, fields_in}
 use Rattle.fieldpath.specs.Elements.{name_text}
-use Rattle.typed.specs.Printing.{after, each_member, keys_in, print, print_item, print_fields, with_member, with_named}
+use Rattle.typed.specs.Printing.{each_member, keys_in, print, print_item, print_fields, with_member}
 use Rattle.typed.proofs.Insides.{living}
 use Rattle.typed.proofs.Prints.{print-nothing, shape-fields, fields_more, items_first, items_bare, items_more, items_last, members_first, members_more, children_first, one_inside, rest_inside}
 use Rattle.typed.proofs.print.+print.Goals as goal
@@ -52,7 +51,7 @@ print_items-loop-element-preserved t c =
     let inner = λ (e : List ℕ). item_at (inside e whole) e in
     let e : String Global × PathMap = (c.in-Some.element.now, c.in-Some.below.now) in (
       items_more inner whole c.loop-element.element-iterator c.next.new.self e c.loop-element.items.items c.in-Some.ensures.steps c.loop-element.invariant.0 c.in_ok-item.item c.push_item.new.items.items
-          (c.in_ok-item.ensures ∙ ap (item_at (content e.1)) c.as_str.ensures.value ∙ ap (λ d. item_at d (string_bytes e.0)) (sym (one_inside whole c.loop-element.element-iterator c.next.new.self e c.in-Some.ensures.steps c.loop-element.invariant.1)))
+          (c.in_ok-item.ensures ∙ ap (λ d. item_at d (string_bytes e.0)) (sym (one_inside whole c.loop-element.element-iterator c.next.new.self e c.in-Some.ensures.steps c.loop-element.invariant.1)))
           (λ none. true≢false (sym (c.is_bare.ensures.1 none) ∙ c.if-is_bare.false)) c.in_ok-push_item.ensures,
       rest_inside whole c.loop-element.element-iterator c.next.new.self e c.in-Some.ensures.steps c.loop-element.invariant.1,
     )
@@ -79,7 +78,7 @@ put_each-loop-element-preserved t c =
       members_more inner c.loop-element.element-iterator c.next.new.self e (option_map view c.in_ok-value.value) (members_view c.loop-element.members.entries) (members_view c.put_named.new.members.entries) c.in-Some.ensures.steps
           (c.in_ok-value.ensures ∙ ap (print (shape c.args.inner.now)) (sym below))
           (λ bare. c.in_ok-value.ensures ∙ ap (print (shape c.args.inner.now)) bare ∙ print-nothing (shape c.args.inner.now))
-          (c.in_ok-put_named.ensures ∙ ap (λ s. with_named (after (codes "f:") s) (option_map view c.in_ok-value.value) (members_view c.loop-element.members.entries)) c.as_str.ensures.value)
+          c.in_ok-put_named.ensures
           ∙ c.loop-element.invariant.0,
       rest_inside whole c.loop-element.element-iterator c.next.new.self e c.in-Some.ensures.steps c.loop-element.invariant.1,
     )

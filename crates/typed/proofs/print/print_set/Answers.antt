@@ -1,4 +1,4 @@
-use Rattle.std.proofs.Common.{sym, ap, ◌∙◌, true≢false, String, Global}
+use Rattle.std.proofs.Common.{sym, ◌∙◌, true≢false, String, Global}
 use Rattle.pathmap.specs.Maps.{content}
 use Rattle.pathmap.specs.declared.pathmap.PathMap.{PathMap}
 use Rattle.typed.specs.Printing.{scalar_in}
@@ -19,7 +19,7 @@ pub loop-element-preserved : goal.loop-element-preserved
 loop-element-preserved c =
     let e : String Global × PathMap = (c.in-Some.element.now, c.in-Some.below.now) in
     items_more scalar_in (content c.args.map.now) c.loop-element.element-iterator c.next.new.self e c.loop-element.items.items c.in-Some.ensures.steps c.loop-element.invariant c.in_ok-item.item c.push_item.new.items.items
-    (c.in_ok-item.ensures ∙ ap scalar_in c.as_str.ensures.value) (λ none. true≢false (sym (c.is_bare.ensures.1 none) ∙ c.if-is_bare.false)) c.in_ok-push_item.ensures
+    c.in_ok-item.ensures (λ none. true≢false (sym (c.is_bare.ensures.1 none) ∙ c.if-is_bare.false)) c.in_ok-push_item.ensures
 
 pub returns : goal.returns
 returns c = items_last scalar_in (content c.args.map.now) c.loop-element.items.items c.loop-element.element-iterator c.in-None.ensures.steps.0 c.loop-element.invariant
