@@ -13,7 +13,6 @@ use Rattle.serde_json.specs.Find.{get_member}
 use Rattle.serde_json.proofs.Views.{get_member-put, get_member-put_other}
 use Rattle.fieldpath.specs.Paths.{PathTexts}
 use Rattle.fieldpath.specs.Elements.{name_text, read_element}
-use Rattle.fieldpath.specs.Spelled.{IsSpelled, MembersAreSpelled}
 use Rattle.pathmap.specs.Contents.{Standing, Content, dom, marked, nothing, over, under}
 use Rattle.pathmap.specs.Insides.{heads, inside}
 use Rattle.pathmap.proofs.Contents.{either, either-None, get-nothing, get-over, get-under, get-under-top, nothing-over, same}
@@ -25,7 +24,7 @@ use Rattle.pathmap.proofs.Trees.{ties}
 use Rattle.schema.specs.Keywords.{has}
 use Rattle.schema.specs.Shape.{Shape, Fields, shape_at}
 use Rattle.schema.specs.Steps.{Spot, value_of, set_item, map_item, is_leaf}
-use Rattle.fieldset.specs.BothWays.{ReadIsWritten}
+use Rattle.fieldset.specs.BothWays.{AreInOrder, IsInOrder, ReadIsWritten}
 use Rattle.fieldset.specs.FieldsV1.{each, fields_v1_of, leaf, members_of, put_names}
 use Rattle.fieldset.specs.Reading.{Reading, and_then, are_due, dot, has_keys, is_empty, is_marked, joined, not_an_object, not_canonical, read_at, read_member, read_members, top}
 use Rattle.fieldset.proofs.Fronts.{IsGood, IsPlacedAt, all_lead, base-each, base_at, dressed, first_of, good_next, inner_at, inner_of, members_at, none_some, second_of}
@@ -332,17 +331,17 @@ object_back ms backs rise spot good x h = by_due (are_due spot && is_empty ms) r
         (has_some ms backs rise spot good x placed parts.1 parts.3 whole is, ap object (members_same ms backs rise spot good x placed parts.1 parts.3 whole))
 
 mutual
-  at_back : (d : Data) → IsSpelled d → Backs d
-  at_back null spelled spot good x h = absurd (not_ok not_an_object x h)
-  at_back (boolean b) spelled spot good x h = absurd (not_ok not_an_object x h)
-  at_back (number n) spelled spot good x h = absurd (not_ok not_an_object x h)
-  at_back (string s) spelled spot good x h = absurd (not_ok not_an_object x h)
-  at_back (array ds) spelled spot good x h = absurd (not_ok not_an_object x h)
-  at_back (object ms) spelled spot good x h = object_back ms (members_back ms spelled.1) (rising_members ms spelled.0) spot good x h
+  at_back : (d : Data) → IsInOrder d → Backs d
+  at_back null ordered spot good x h = absurd (not_ok not_an_object x h)
+  at_back (boolean b) ordered spot good x h = absurd (not_ok not_an_object x h)
+  at_back (number n) ordered spot good x h = absurd (not_ok not_an_object x h)
+  at_back (string s) ordered spot good x h = absurd (not_ok not_an_object x h)
+  at_back (array ds) ordered spot good x h = absurd (not_ok not_an_object x h)
+  at_back (object ms) ordered spot good x h = object_back ms (members_back ms ordered.1) (rising_members ms ordered.0) spot good x h
 
-  members_back : (ms : Members) → MembersAreSpelled ms → AllBack ms
-  members_back no_members spelled = tt
-  members_back (member k d ms) spelled = ((λ spot good x h. at_back d spelled.0 spot good x h), members_back ms spelled.1)
+  members_back : (ms : Members) → AreInOrder ms → AllBack ms
+  members_back no_members ordered = tt
+  members_back (member k d ms) ordered = ((λ spot good x h. at_back d ordered.0 spot good x h), members_back ms ordered.1)
 
 -- ---- all that is read are marks
 
@@ -404,18 +403,18 @@ placed_root s c below [] is = absurd (true≢false (sym is ∙ ap is_some below.
 placed_root s c below (g ∷ t) is = below.1 g t is
 
 pub back_again : ReadIsWritten
-back_again s null paths shape spelled h = absurd (true≢false (sym (ap is_set h)))
-back_again s (boolean b) paths shape spelled h = absurd (true≢false (sym (ap is_set h)))
-back_again s (number n) paths shape spelled h = absurd (true≢false (sym (ap is_set h)))
-back_again s (string t) paths shape spelled h = absurd (true≢false (sym (ap is_set h)))
-back_again s (array ds) paths shape spelled h = absurd (true≢false (sym (ap is_set h)))
-back_again s (object ms) paths shape spelled h = by_read (read_members (value_of s) ms ms) refl h
+back_again s null paths shape ordered h = absurd (true≢false (sym (ap is_set h)))
+back_again s (boolean b) paths shape ordered h = absurd (true≢false (sym (ap is_set h)))
+back_again s (number n) paths shape ordered h = absurd (true≢false (sym (ap is_set h)))
+back_again s (string t) paths shape ordered h = absurd (true≢false (sym (ap is_set h)))
+back_again s (array ds) paths shape ordered h = absurd (true≢false (sym (ap is_set h)))
+back_again s (object ms) paths shape ordered h = by_read (read_members (value_of s) ms ms) refl h
   where
     root : (c : Content) → read_members (value_of s) ms ms ≡ Ok c → members_of s c ≡ ms
     root c is =
         let below = members_placed (value_of s) ms ms c is in
         let whole : over (top (is_leaf s)) c ≡ c = ap (λ b. over (top b) c) (type_not_leaf s shape) ∙ nothing-over c in
-        members_same ms (members_back ms spelled.1) (rising_members ms spelled.0) (value_of s) (type_good s shape) c (placed_root s c below) c is whole
+        members_same ms (members_back ms ordered.1) (rising_members ms ordered.0) (value_of s) (type_good s shape) c (placed_root s c below) c is whole
 
     by_read : (r : Reading) → read_members (value_of s) ms ms ≡ r → and_then r (λ c. Ok (dom c)) ≡ Ok paths → fields_v1_of s paths ≡ object ms
     by_read (Err e) is h = absurd (true≢false (sym (ap is_set h)))
