@@ -7,3 +7,4 @@ pub mod Keyed
 pub mod Queries
 pub mod Taken
 pub mod Replays
+pub mod Passing

@@ -8,3 +8,4 @@ pub mod Replays
 pub mod Seen
 pub mod Mirrors
 pub mod Standing
+pub mod Passes

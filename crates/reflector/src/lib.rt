@@ -17,6 +17,6 @@ mod requests;
 mod settings;
 mod taking;
 
-pub use laws::{follows_the_server, notices_tell, takes_whole_lists};
+pub use laws::{follows_the_server, mirrors_the_server, notices_tell, takes_whole_lists};
 pub use notice::Notice;
 pub use settings::Settings;
