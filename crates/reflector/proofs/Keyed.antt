@@ -88,3 +88,6 @@ module _ (ks : Keys) where
   keyed-empty =
       fin.same_map place_total place_antisymmetric fin.empty (keyed ks fin.empty) (λ q.
       fin.get-empty place_cmp q ∙ ap (option_map (beside ks)) (sym (fin.get-empty place_cmp q)) ∙ sym (keyed-get fin.empty q))
+
+  pub keyed-entries : (o : Objects) → fin.entries (keyed ks o) ≡ with_keys ks (fin.entries o)
+  keyed-entries o = fin.entries-from_sorted place_cmp (with_keys ks (fin.entries o)) (sorted o)

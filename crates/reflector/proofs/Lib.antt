@@ -8,3 +8,7 @@ pub mod Queries
 pub mod Taken
 pub mod Replays
 pub mod Passing
+pub mod Between
+pub mod Turns
+pub mod Ascending
+pub mod Relisted

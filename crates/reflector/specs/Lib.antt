@@ -5,7 +5,9 @@ pub mod Requests
 pub mod Follows
 pub mod Lists
 pub mod Replays
+pub mod Aside
 pub mod Seen
 pub mod Mirrors
 pub mod Standing
 pub mod Passes
+pub mod Between

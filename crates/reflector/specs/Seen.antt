@@ -4,6 +4,7 @@ use Rattle.std.specs.FinMap as fin
 use Rattle.indexer.specs.Kept.{Held}
 use Rattle.indexer.specs.Objects.{Place, Stored, stored_of}
 use Rattle.decoder.specs.Seen.{wanted_of}
+use Rattle.reflector.specs.Aside.{aside_of}
 use Rattle.reflector.specs.Client.{Asks, first, next, follow, Notice, added, updated, deleted}
 use Rattle.reflector.specs.Requests.{Settings, list_query, watch_query}
 use Rattle.reflector.specs.declared.settings.Settings as settings
@@ -17,7 +18,7 @@ settings_of s = record { wanted = wanted_of s.wanted; selector = string_bytes s.
 
 abbrev pub asks_of : asks.Asks → Asks
 asks_of ask.First = first
-asks_of (ask.Next revision token aside) = next revision (string_bytes token) (map stored_of aside.items)
+asks_of (ask.Next revision token aside) = next revision (string_bytes token) (aside_of aside)
 asks_of ask.Follow = follow
 
 abbrev pub notice_seen : notices.Notice → Notice

@@ -1,13 +1,13 @@
 //! What is asked for next, or now.
 
-use indexer::Object;
+use crate::aside::Aside;
 
 #[derive(Drop)]
 pub(crate) enum Asks {
     /// The first page of a list.
     First,
     /// The page of this list, of this revision, where the token goes on behind the objects that are set aside.
-    Next(u64, String, Vec<Object>),
+    Next(u64, String, Aside),
     /// A watch from the cache's revision.
     Follow,
 }

@@ -8,11 +8,14 @@
 //! objects.
 #![tactic(auto)]
 
+mod aside;
 mod asks;
 mod laws;
+mod merging;
 mod mirror;
 mod notice;
 mod noting;
+mod pages;
 mod requests;
 mod settings;
 mod taking;

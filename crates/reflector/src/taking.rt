@@ -1,7 +1,7 @@
 //! What a watch's line makes of what is kept.
 
 ghost use Rattle.std.specs.Prelude.{◌≡◌, ◌+◌, ◌&&◌, None, Some, IfOk, OnErr, cond, nat_le, nat_lt};
-ghost use Rattle.indexer.specs.Indexer.{held_of};
+ghost use Rattle.indexer.specs.Indexer.{held_of, indexes_of};
 ghost use Rattle.indexer.specs.Objects.{place_of_object, stored_of};
 ghost use Rattle.decoder.specs.Seen.{line_seen};
 ghost use Rattle.reflector.specs.Client.{Cache, Client, max_objects};
@@ -10,14 +10,12 @@ ghost use Rattle.reflector.specs.Run.{with_bookmark, with_deleted, with_line, wi
 ghost use Rattle.reflector.specs.Mirrors.{len_with};
 ghost use Rattle.reflector.specs.Standing.{Stands};
 
+use crate::aside::MAX_OBJECTS;
 use crate::mirror::Mirror;
 use crate::noting::{put_noted, remove_noted};
 use decoder::Line;
 use indexer::{IndexBy, Indexer, Object, ObjectKey};
 use std::alloc::AllocError;
-
-/// How many objects are kept at most.
-const MAX_OBJECTS: usize = 4_294_967_295;
 
 fn is_above(revision: u64, now: u64) -> bool
     ensures { result ≡ nat_lt now revision }
@@ -59,6 +57,7 @@ fn take_put<I: IndexBy>(
     ensures taken { (c : Client) (cache : Cache) → Stands (λ b s. I.keys b s) mirror.old c → c.cache ≡ Some cache → now ≡ cache.revision
         → IfOk result (λ fits. Stands (λ b s. I.keys b s) mirror.new (with_put c cache (stored_of object)) × (fits ≡ (with_put c cache (stored_of object)).is_asking)) }
     ensures refused { (c : Client) → Stands (λ b s. I.keys b s) mirror.old c → OnErr result (Stands (λ b s. I.keys b s) mirror.new c) }
+    ensures indexes { indexes_of mirror.new.indexer ≡ indexes_of mirror.old.indexer }
 {
     if !may_put(&mirror.indexer, now, &object)? {
         return Ok(false);
@@ -78,6 +77,7 @@ fn take_deleted<I: IndexBy>(
     ensures taken { (c : Client) (cache : Cache) → Stands (λ b s. I.keys b s) mirror.old c → c.cache ≡ Some cache → now ≡ cache.revision
         → IfOk result (λ fits. Stands (λ b s. I.keys b s) mirror.new (with_deleted c cache (stored_of object)) × (fits ≡ (with_deleted c cache (stored_of object)).is_asking)) }
     ensures refused { (c : Client) → Stands (λ b s. I.keys b s) mirror.old c → OnErr result (Stands (λ b s. I.keys b s) mirror.new c) }
+    ensures indexes { indexes_of mirror.new.indexer ≡ indexes_of mirror.old.indexer }
 {
     if !is_above(object.revision, now) {
         return Ok(false);
@@ -90,8 +90,9 @@ fn take_deleted<I: IndexBy>(
 
 /// Goes on to this revision, if it isn't below the other one.
 fn take_bookmark<I: IndexBy>(mirror: &mut Mirror<I>, now: u64, revision: u64) -> bool
-    ensures { (c : Client) (cache : Cache) → Stands (λ b s. I.keys b s) mirror.old c → c.cache ≡ Some cache → now ≡ cache.revision
+    ensures taken { (c : Client) (cache : Cache) → Stands (λ b s. I.keys b s) mirror.old c → c.cache ≡ Some cache → now ≡ cache.revision
         → Stands (λ b s. I.keys b s) mirror.new (with_bookmark c cache revision) × (result ≡ (with_bookmark c cache revision).is_asking) }
+    ensures indexes { indexes_of mirror.new.indexer ≡ indexes_of mirror.old.indexer }
 {
     if is_above(now, revision) {
         return false;
@@ -108,6 +109,7 @@ fn take_line_at<I: IndexBy>(
     ensures taken { (c : Client) (cache : Cache) → Stands (λ b s. I.keys b s) mirror.old c → c.cache ≡ Some cache → now ≡ cache.revision
         → IfOk result (λ fits. Stands (λ b s. I.keys b s) mirror.new (with_line c cache (line_seen line)) × (fits ≡ (with_line c cache (line_seen line)).is_asking)) }
     ensures refused { (c : Client) → Stands (λ b s. I.keys b s) mirror.old c → OnErr result (Stands (λ b s. I.keys b s) mirror.new c) }
+    ensures indexes { indexes_of mirror.new.indexer ≡ indexes_of mirror.old.indexer }
 {
     match line {
         Line::Put(object) => take_put(mirror, now, object),
@@ -122,6 +124,7 @@ pub(crate) fn take_line<I: IndexBy>(mirror: &mut Mirror<I>, line: Line) -> Resul
     ensures taken { (c : Client) → Stands (λ b s. I.keys b s) mirror.old c
         → IfOk result (λ fits. Stands (λ b s. I.keys b s) mirror.new (with_watch c c.cache (items.line (line_seen line))) × (fits ≡ (with_watch c c.cache (items.line (line_seen line))).is_asking)) }
     ensures refused { (c : Client) → Stands (λ b s. I.keys b s) mirror.old c → OnErr result (Stands (λ b s. I.keys b s) mirror.new c) }
+    ensures indexes { indexes_of mirror.new.indexer ≡ indexes_of mirror.old.indexer }
 {
     match mirror.revision {
         Some(now) => take_line_at(mirror, now, line),

@@ -4,14 +4,14 @@ use Rattle.reflector.specs.Seen.{notice_seen}
 use Rattle.reflector.proofs.Taken.{after_bookmark, not_bookmark}
 use Rattle.reflector.proofs.taking.take_bookmark.Goals as goal
 
-pub returns : goal.returns
-returns g c =
+pub returns-clause-taken : goal.returns-clause-taken
+returns-clause-taken g c =
     let old = c.args.mirror.now in
     after_bookmark (λ b s. g.I.IndexBy.keys b s) (indexes_of old.indexer) (indexes_of old.indexer) (held_of old.indexer) old.revision (map notice_seen old.notices.items) c.args.now
     _ c.args.revision c.is_above.result c.is_above.ensures c.if-is_above.false refl
 
-pub returns-then-is_above : goal.returns-then-is_above
-returns-then-is_above g c =
+pub returns-then-is_above-clause-taken : goal.returns-then-is_above-clause-taken
+returns-then-is_above-clause-taken g c =
     let old = c.args.mirror.now in
     not_bookmark (λ b s. g.I.IndexBy.keys b s) (indexes_of old.indexer) (indexes_of old.indexer) (held_of old.indexer) old.revision (map notice_seen old.notices.items) c.args.now
     c.args.revision c.is_above.result c.is_above.ensures c.if-is_above.true

@@ -1,0 +1,79 @@
+//! What a list's page makes of what is kept.
+
+ghost use Rattle.std.specs.Prelude.{◌≡◌, false, map, option_map, string_bytes, IfOk, OnErr, OnOk};
+ghost use Rattle.std.specs.FinMap as fin;
+ghost use Rattle.indexer.specs.Indexer.{indexes_of};
+ghost use Rattle.decoder.specs.Seen.{page_seen};
+ghost use Rattle.reflector.specs.Aside.{aside_of};
+ghost use Rattle.reflector.specs.Client.{by_place, Client};
+ghost use Rattle.reflector.specs.Run.{listed, set_aside, with_page};
+ghost use Rattle.reflector.specs.Standing.{Keeps, Stands};
+
+use crate::aside::Aside;
+use crate::asks::Asks;
+use crate::mirror::Mirror;
+use crate::noting::replace_noted;
+use decoder::Page;
+use indexer::IndexBy;
+use std::alloc::{AllocError, Global};
+
+/// Keeps the whole list. Refused, it changes nothing.
+fn keep_list<I: IndexBy>(
+    alloc: Global,
+    mirror: &mut Mirror<I>,
+    revision: u64,
+    all: Aside,
+) -> Result<(), AllocError>
+    ensures taken { (c : Client) → Stands (λ b s. I.keys b s) mirror.old c → OnOk result (Stands (λ b s. I.keys b s) mirror.new (listed c revision (fin.from_sorted (by_place (aside_of all))))) }
+    ensures refused { (c : Client) → Stands (λ b s. I.keys b s) mirror.old c → OnErr result (Stands (λ b s. I.keys b s) mirror.new c) }
+    ensures indexes { indexes_of mirror.new.indexer ≡ indexes_of mirror.old.indexer }
+{
+    replace_noted(alloc, &mut mirror.indexer, &mut mirror.notices, all)?;
+    mirror.revision = Some(revision);
+    Ok(())
+}
+
+/// Sets these objects aside, or keeps them, where the list ends with them. Refused, it changes nothing.
+fn set_aside<I: IndexBy>(
+    alloc: Global,
+    mirror: &mut Mirror<I>,
+    revision: u64,
+    all: Aside,
+    token: Option<String>,
+) -> Result<Asks, AllocError>
+    ensures taken { (c : Client) → Stands (λ b s. I.keys b s) mirror.old c
+        → IfOk result (λ a. Keeps (λ b s. I.keys b s) mirror.new a false (set_aside c revision (aside_of all) (option_map string_bytes token))) }
+    ensures refused { (c : Client) → Stands (λ b s. I.keys b s) mirror.old c → OnErr result (Stands (λ b s. I.keys b s) mirror.new c) }
+    ensures indexes { indexes_of mirror.new.indexer ≡ indexes_of mirror.old.indexer }
+{
+    match token {
+        Some(token) => Ok(Asks::Next(revision, token, all)),
+        None => {
+            keep_list(alloc, mirror, revision, all)?;
+            Ok(Asks::Follow)
+        }
+    }
+}
+
+/// Takes a list's page behind what is set aside; answers what is asked next. Refused, it changes nothing.
+pub(crate) fn take_page<I: IndexBy>(
+    alloc: Global,
+    mirror: &mut Mirror<I>,
+    aside: Aside,
+    page: Page,
+) -> Result<Asks, AllocError>
+    ensures taken { (c : Client) → Stands (λ b s. I.keys b s) mirror.old c
+        → IfOk result (λ a. Keeps (λ b s. I.keys b s) mirror.new a false (with_page c (aside_of aside) (page_seen page))) }
+    ensures refused { (c : Client) → Stands (λ b s. I.keys b s) mirror.old c → OnErr result (Stands (λ b s. I.keys b s) mirror.new c) }
+    ensures indexes { indexes_of mirror.new.indexer ≡ indexes_of mirror.old.indexer }
+{
+    let Page {
+        revision,
+        token,
+        objects,
+    } = page;
+    match aside.with(objects)? {
+        Some(all) => set_aside(alloc, mirror, revision, all, token),
+        None => Ok(Asks::First),
+    }
+}
