@@ -7,8 +7,10 @@ pub mod Keyed
 pub mod Queries
 pub mod Taken
 pub mod Replays
-pub mod Passing
 pub mod Between
 pub mod Turns
 pub mod Ascending
 pub mod Relisted
+pub mod HeardItems
+pub mod Informing
+pub mod Passing

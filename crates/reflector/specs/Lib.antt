@@ -9,5 +9,9 @@ pub mod Aside
 pub mod Seen
 pub mod Mirrors
 pub mod Standing
-pub mod Passes
 pub mod Between
+pub mod Heard
+pub mod Faults
+pub mod Reading
+pub mod Informer
+pub mod Passes

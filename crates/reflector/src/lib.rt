@@ -10,16 +10,21 @@
 
 mod aside;
 mod asks;
+mod hearing;
+mod informer;
 mod laws;
 mod merging;
 mod mirror;
+mod news;
 mod notice;
 mod noting;
 mod pages;
+mod replying;
 mod requests;
 mod settings;
 mod taking;
 
+pub use informer::Informer;
 pub use laws::{follows_the_server, mirrors_the_server, notices_tell, takes_whole_lists};
 pub use notice::Notice;
-pub use settings::Settings;
+pub use settings::{Settings, SettingsFault};

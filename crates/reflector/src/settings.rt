@@ -1,6 +1,12 @@
 //! What is mirrored, and how.
 
+ghost use Rattle.std.specs.Prelude.{◌≡◌, option_map, string_bytes};
+ghost use Rattle.names.specs.Names.{is_dns_label};
+ghost use Rattle.reflector.specs.Faults.{fault_in, is_page, is_place};
+ghost use Rattle.reflector.specs.Seen.{settings_of};
+
 use decoder::Wanted;
+use names::is_dns_label;
 
 /// The wanted objects that the selector's text selects, in pages of so many.
 #[derive(Debug, Drop)]
@@ -8,5 +14,42 @@ pub struct Settings {
     pub wanted: Wanted,
     /// A label selector; the empty text selects all.
     pub selector: String,
+    /// 1 to 500.
     pub page: u32,
+}
+
+/// Why nothing can be mirrored so: the first of these.
+#[derive(Clone, Copy, Debug, PartialEq, Eq)]
+pub enum SettingsFault {
+    /// A page has 1 to 500 objects.
+    Page,
+    /// The namespace is no DNS label (RFC 1123).
+    Namespace,
+}
+
+fn is_page(size: u32) -> bool
+    ensures { result ≡ is_page size }
+{
+    1 <= size && size <= 500
+}
+
+fn is_place(namespace: &Option<String>) -> bool
+    ensures { result ≡ is_place (option_map string_bytes namespace.now) }
+{
+    match namespace {
+        Some(namespace) => is_dns_label(namespace.as_str()),
+        None => true,
+    }
+}
+
+pub(crate) fn fault_in(settings: &Settings) -> Option<SettingsFault>
+    ensures { result ≡ fault_in (settings_of settings.now) }
+{
+    if !is_page(settings.page) {
+        return Some(SettingsFault::Page);
+    }
+    if !is_place(&settings.wanted.namespace) {
+        return Some(SettingsFault::Namespace);
+    }
+    None
 }

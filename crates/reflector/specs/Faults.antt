@@ -1,0 +1,18 @@
+-- What a client can't mirror.
+use Rattle.std.specs.Prelude.{ℕ, Bool, true, ◌&&◌, nat_le, if◌then◌else◌, List, Option, Some, None}
+use Rattle.names.specs.Names.{is_dns_label}
+use Rattle.reflector.specs.declared.settings.SettingsFault.{SettingsFault}
+use Rattle.reflector.specs.declared.settings.SettingsFault.TheVariants.{Page, Namespace}
+use Rattle.reflector.specs.Requests.{Settings}
+
+abbrev pub is_page : ℕ → Bool
+is_page size = nat_le 1 size && nat_le size 500
+
+-- a DNS label, or all namespaces
+abbrev pub is_place : Option (List ℕ) → Bool
+is_place None = true
+is_place (Some namespace) = is_dns_label namespace
+
+-- the first fault
+abbrev pub fault_in : Settings → Option SettingsFault
+fault_in s = if is_page s.page then (if is_place s.wanted.namespace then None else Some Namespace) else Some Page

@@ -1,0 +1,189 @@
+//! A client that mirrors a server's objects.
+
+ghost use Rattle.std.specs.Prelude.{◌≡◌};
+ghost use Rattle.indexer.specs.Indexer.{indexes_of};
+ghost use Rattle.reflector.specs.Client.{fresh};
+ghost use Rattle.reflector.specs.Standing.{Stands};
+
+use crate::asks::Asks;
+use crate::mirror::Mirror;
+use crate::notice::Notice;
+use crate::replying::{Open, hear_open};
+use crate::requests::request_of;
+use crate::settings::{Settings, SettingsFault, fault_in};
+use indexer::{IndexBy, Indexer};
+use std::alloc::{AllocError, Global};
+use std::mem;
+use wireclient::ReplyReader;
+
+/// A client that mirrors a server's objects: it lists them in pages, then follows a watch. It opens no connection:
+/// the caller sends its requests, hands it what comes, and says when the connection has ended.
+#[derive(Drop)]
+pub struct Informer<I: Drop> {
+    settings: Settings,
+    mirror: Mirror<I>,
+    asks: Asks,
+    reader: Option<ReplyReader>,
+    alloc: Global,
+}
+
+/// Keeps nothing, as at the start.
+fn forget<I: IndexBy>(alloc: Global, mirror: &mut Mirror<I>)
+    ensures fresh { Stands (λ b s. I.keys b s) mirror.new fresh }
+    ensures indexes { indexes_of mirror.new.indexer ≡ indexes_of mirror.old.indexer }
+{
+    mirror.indexer.clear();
+    mirror.revision = None;
+    mirror.notices = Vec::new(alloc);
+}
+
+/// The indexer's functions, and nothing kept.
+fn empty<I: IndexBy>(alloc: Global, indexer: Indexer<I>) -> Mirror<I>
+    ensures fresh { Stands (λ b s. I.keys b s) result fresh }
+    ensures indexes { indexes_of result.indexer ≡ indexes_of indexer }
+{
+    let mut indexer = indexer;
+    indexer.clear();
+    Mirror {
+        indexer,
+        revision: None,
+        notices: Vec::new(alloc),
+    }
+}
+
+impl<I: IndexBy> Informer<I> {
+    ghost use Rattle.std.specs.Prelude.{◌≡◌, ◌++◌, ℕ, List, [], Ok, true, false, map, option_map, string_bytes, IfErr, IfOk, OnErr, OnOk, None, Some};
+    ghost use Rattle.indexer.specs.Indexer.{held_of, indexes_of};
+    ghost use Rattle.wireclient.specs.Reads.{Items};
+    ghost use Rattle.wireclient.specs.Reply.{Told};
+    ghost use Rattle.reflector.specs.Client.{Client, fresh, kept};
+    ghost use Rattle.reflector.specs.Faults.{fault_in};
+    ghost use Rattle.reflector.specs.Informer.{Runs, due, indexes_in, settings_in};
+    ghost use Rattle.reflector.specs.Mirrors.{keyed};
+    ghost use Rattle.reflector.specs.Reading.{AreHeard};
+    ghost use Rattle.reflector.specs.Run.{again, asked, closed, hears_all, taken};
+    ghost use Rattle.reflector.specs.Seen.{notice_seen, settings_of};
+    ghost use Rattle.reflector.specs.Standing.{keys_in};
+
+    /// An informer that keeps nothing yet; the indexer's functions stay, its objects don't.
+    pub fn new(
+        alloc: Global,
+        settings: Settings,
+        indexer: Indexer<I>,
+    ) -> Result<Informer<I>, SettingsFault>
+        ensures fresh { IfOk result (λ i. Runs (λ b s. I.keys b s) i fresh [] []) }
+        ensures settings { IfOk result (λ i. settings_in i ≡ settings_of settings) }
+        ensures indexes { IfOk result (λ i. indexes_in i ≡ indexes_of indexer) }
+        ensures lawful { OnOk result (fault_in (settings_of settings) ≡ None) }
+        ensures fault { IfErr result (λ f. fault_in (settings_of settings) ≡ Some f) }
+    {
+        if let Some(fault) = fault_in(&settings) {
+            return Err(fault);
+        }
+        Ok(Informer {
+            settings,
+            mirror: empty(alloc, indexer),
+            asks: Asks::First,
+            reader: None,
+            alloc,
+        })
+    }
+
+    /// The request that is due, which is under way then; None while one is. Refused, it changes nothing.
+    pub fn next_request(&mut self) -> Result<Option<Vec<u8>>, AllocError>
+        ensures due { (c : Client) (bytes : List ℕ) (told : List Told) → Runs (λ b s. I.keys b s) self.old c bytes told → IfOk result (λ r. option_map (λ v. v.items) r ≡ due (settings_in self.old) c) }
+        ensures asked { (c : Client) (bytes : List ℕ) (told : List Told) → Runs (λ b s. I.keys b s) self.old c bytes told → c.is_asking ≡ false → OnOk result (Runs (λ b s. I.keys b s) self.new (asked c) [] []) }
+        ensures waits { (c : Client) (bytes : List ℕ) (told : List Told) → Runs (λ b s. I.keys b s) self.old c bytes told → c.is_asking ≡ true → self.new ≡ self.old }
+        ensures refused { OnErr result (self.new ≡ self.old) }
+        ensures settings { settings_in self.new ≡ settings_in self.old }
+        ensures indexes { indexes_in self.new ≡ indexes_in self.old }
+    {
+        if self.reader.is_some() {
+            return Ok(None);
+        }
+        let request = request_of(self.alloc, &self.settings, &self.asks, self.mirror.revision)?;
+        self.reader = Some(ReplyReader::new(self.alloc));
+        Ok(Some(request))
+    }
+
+    /// Takes the next piece of the reply, cut anywhere: each item that it completes whole or not at all. With no
+    /// request under way it changes nothing. Out of memory, the reply is given up and the next request is a first
+    /// page; what was taken of this piece before, with its notices, counts.
+    pub fn feed(&mut self, piece: &[u8]) -> Result<(), AllocError>
+        ensures heard { (c : Client) (bytes : List ℕ) (told : List Told) → Runs (λ b s. I.keys b s) self.old c bytes told → c.is_asking ≡ true
+            → OnOk result ((news : List Told) × Items (bytes ++ piece.now) (told ++ news) × Runs (λ b s. I.keys b s) self.new (hears_all (settings_in self.old).wanted c news) (bytes ++ piece.now) (told ++ news)) }
+        ensures idle { (c : Client) (bytes : List ℕ) (told : List Told) → Runs (λ b s. I.keys b s) self.old c bytes told → c.is_asking ≡ false → (result ≡ Ok tt) × (self.new ≡ self.old) }
+        ensures given_up { (c : Client) (bytes : List ℕ) (told : List Told) → Runs (λ b s. I.keys b s) self.old c bytes told
+            → OnErr result ((heard : List Told) × AreHeard bytes told piece.now heard × Runs (λ b s. I.keys b s) self.new (again (hears_all (settings_in self.old).wanted c heard)) [] []) }
+        ensures settings { settings_in self.new ≡ settings_in self.old }
+        ensures indexes { indexes_in self.new ≡ indexes_in self.old }
+    {
+        let Some(reader) = self.reader.take() else {
+            return Ok(());
+        };
+        let asks = mem::replace(&mut self.asks, Asks::First);
+        let open = hear_open(
+            self.alloc,
+            &self.settings.wanted,
+            &mut self.mirror,
+            asks,
+            reader,
+            piece,
+        )?;
+        let Open { asks, reader } = open;
+        self.asks = asks;
+        self.reader = reader;
+        Ok(())
+    }
+
+    /// The connection has ended or was cut. A list begins again at its first page, a watch goes on from the revision
+    /// that it reached. With no request under way it changes nothing.
+    pub fn closed(&mut self)
+        ensures closed { (c : Client) (bytes : List ℕ) (told : List Told) → Runs (λ b s. I.keys b s) self.old c bytes told → Runs (λ b s. I.keys b s) self.new (closed c) bytes told }
+        ensures settings { settings_in self.new ≡ settings_in self.old }
+        ensures indexes { indexes_in self.new ≡ indexes_in self.old }
+    {
+        if self.reader.is_some() {
+            self.reader = None;
+            if let Asks::Next(_, _, _) = &self.asks {
+                self.asks = Asks::First;
+            }
+        }
+    }
+
+    /// Forgets objects, revision and notices, and what is under way; the index functions stay.
+    pub fn restart(&mut self)
+        ensures restarted { Runs (λ b s. I.keys b s) self.new fresh [] [] }
+        ensures settings { settings_in self.new ≡ settings_in self.old }
+        ensures indexes { indexes_in self.new ≡ indexes_in self.old }
+    {
+        forget(self.alloc, &mut self.mirror);
+        self.asks = Asks::First;
+        self.reader = None;
+    }
+
+    /// The revision of the server whose objects these are; None before the first whole list.
+    pub fn revision(&self) -> Option<u64>
+        ensures { (c : Client) (bytes : List ℕ) (told : List Told) → Runs (λ b s. I.keys b s) self.now c bytes told → result ≡ option_map (λ now. now.revision) c.cache }
+    {
+        self.mirror.revision
+    }
+
+    /// The notices that wait, which then wait no more.
+    pub fn take_notices(&mut self) -> Vec<Notice>
+        ensures notices { (c : Client) (bytes : List ℕ) (told : List Told) → Runs (λ b s. I.keys b s) self.old c bytes told → map notice_seen result.items ≡ c.notices }
+        ensures taken { (c : Client) (bytes : List ℕ) (told : List Told) → Runs (λ b s. I.keys b s) self.old c bytes told → Runs (λ b s. I.keys b s) self.new (taken c) bytes told }
+        ensures settings { settings_in self.new ≡ settings_in self.old }
+        ensures indexes { indexes_in self.new ≡ indexes_in self.old }
+    {
+        mem::replace(&mut self.mirror.notices, Vec::new(self.alloc))
+    }
+
+    /// The objects, and their indexes.
+    pub fn indexer(&self) -> &Indexer<I>
+        ensures objects { (c : Client) (bytes : List ℕ) (told : List Told) → Runs (λ b s. I.keys b s) self.now c bytes told → held_of result.now ≡ keyed (keys_in (λ b s. I.keys b s) (indexes_of result.now)) (kept c.cache) }
+        ensures indexes { indexes_of result.now ≡ indexes_in self.now }
+    {
+        &self.mirror.indexer
+    }
+}

@@ -1,0 +1,79 @@
+//! What an item of a reply says to a client that asks a list or a watch.
+
+ghost use Rattle.std.specs.Prelude.{◌≡◌, IfOk};
+ghost use Rattle.wireclient.specs.Views.{told_of};
+ghost use Rattle.decoder.specs.Lines.{line_in};
+ghost use Rattle.decoder.specs.Pages.{page_in};
+ghost use Rattle.decoder.specs.Seen.{wanted_of};
+ghost use Rattle.reflector.specs.Heard.{head_said, news_of};
+ghost use Rattle.reflector.specs.Items.{line_or_unfit, page_or_unfit, said_of_list, said_of_watch};
+
+use decoder::{DecodeFault, Line, Page, Wanted, read_line, read_page};
+use std::alloc::{AllocError, Global};
+use wireclient::Item;
+
+#[derive(Drop)]
+pub(crate) enum News {
+    /// The reply is an answer (200).
+    Begun,
+    Page(Page),
+    Line(Line),
+    /// The watch has ended.
+    Over,
+    /// It doesn't fit the question, or breaks a rule.
+    Unfit,
+}
+
+fn page_news(alloc: Global, wanted: &Wanted, bytes: &[u8]) -> Result<News, AllocError>
+    ensures { IfOk result (λ n. news_of n ≡ page_or_unfit (page_in (wanted_of wanted.now) bytes.now)) }
+{
+    match read_page(alloc, wanted, bytes) {
+        Ok(page) => Ok(News::Page(page)),
+        Err(DecodeFault::Malformed(_)) => Ok(News::Unfit),
+        Err(DecodeFault::Memory) => Err(AllocError),
+    }
+}
+
+fn line_news(alloc: Global, wanted: &Wanted, bytes: &[u8]) -> Result<News, AllocError>
+    ensures { IfOk result (λ n. news_of n ≡ line_or_unfit (line_in (wanted_of wanted.now) bytes.now)) }
+{
+    match read_line(alloc, wanted, bytes) {
+        Ok(line) => Ok(News::Line(line)),
+        Err(DecodeFault::Malformed(_)) => Ok(News::Unfit),
+        Err(DecodeFault::Memory) => Err(AllocError),
+    }
+}
+
+fn head_news(status: u16) -> News
+    ensures { news_of result ≡ head_said status }
+{
+    if status == 200 {
+        News::Begun
+    } else {
+        News::Unfit
+    }
+}
+
+pub(crate) fn list_news(alloc: Global, wanted: &Wanted, item: &Item) -> Result<News, AllocError>
+    ensures { IfOk result (λ n. news_of n ≡ said_of_list (wanted_of wanted.now) (told_of item.now)) }
+{
+    match item {
+        Item::Head(status) => Ok(head_news(*status)),
+        Item::Body(bytes) => page_news(alloc, wanted, bytes),
+        Item::Line(_) => Ok(News::Unfit),
+        Item::End => Ok(News::Unfit),
+        Item::Malformed => Ok(News::Unfit),
+    }
+}
+
+pub(crate) fn watch_news(alloc: Global, wanted: &Wanted, item: &Item) -> Result<News, AllocError>
+    ensures { IfOk result (λ n. news_of n ≡ said_of_watch (wanted_of wanted.now) (told_of item.now)) }
+{
+    match item {
+        Item::Head(status) => Ok(head_news(*status)),
+        Item::Body(_) => Ok(News::Unfit),
+        Item::Line(bytes) => line_news(alloc, wanted, bytes),
+        Item::End => Ok(News::Over),
+        Item::Malformed => Ok(News::Unfit),
+    }
+}
