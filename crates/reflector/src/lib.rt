@@ -1,11 +1,12 @@
-//! The client run: what the items of a reply make of the client's cache, and that it follows the server
-//! (Kubernetes API Concepts, "Efficient detection of changes").
+//! A client that mirrors a server's objects, and that it follows the server (Kubernetes API Concepts, "Efficient
+//! detection of changes").
 //!
-//! Lists in pages, then watches from the list's revision. All that doesn't fit the question, or breaks a rule, ends
-//! the request and makes the next one a first page; the cache stays meanwhile.
+//! It lists in pages, then watches from the list's revision. All that doesn't fit the question, or breaks a rule,
+//! ends the request and makes the next one a first page; what is kept stays meanwhile. For bytes in any pieces an
+//! informer is the client run of the definitions, and that run has the server's objects at each revision it reports.
 //!
 //! Stands on `decoder` for what a reply says, `wireclient` for its items and a request's bytes, `indexer` for
-//! objects.
+//! objects, `names` for namespaces.
 #![tactic(auto)]
 
 mod aside;
