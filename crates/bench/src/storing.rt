@@ -76,9 +76,16 @@ fn changes_after(store: &mut Store, revision: u64) -> Result<usize, ChangesFault
     Ok(store.changes(1, None, revision, PAGE)?.len())
 }
 
-fn compact(store: &mut Store) -> Result<(), CompactFault> {
-    let revision = store.current();
+fn compact(store: &mut Store, revision: u64) -> Result<(), CompactFault> {
     store.compact(revision)
+}
+
+/// So many compactions, each by one revision.
+fn compact_each(store: &mut Store, from: u64, count: u64) -> Result<(), CompactFault> {
+    for i in 0..count {
+        compact(store, from.saturating_add(i))?;
+    }
+    Ok(())
 }
 
 fn pages(
@@ -153,9 +160,23 @@ fn time_changes(
     Ok(())
 }
 
-fn time_compaction(rt: &(impl Print + Eprint + CpuClock), store: &mut Store) -> anyhow::Result<()> {
+/// The first writes supersede nothing, each of the second writes supersedes one of them.
+fn time_compactions(
+    rt: &(impl Print + Eprint + CpuClock),
+    store: &mut Store,
+    size: u64,
+) -> anyhow::Result<()> {
+    let first = size.saturating_add(1);
+    let singles = size.min(100);
+    let current = store.current();
     let start = spent(rt)?;
-    compact(store)?;
+    compact(store, first)?;
+    tell(rt, "compaction that removes nothing", size, start)?;
+    let start = spent(rt)?;
+    compact_each(store, first.saturating_add(1), singles)?;
+    tell(rt, "compaction by one revision", singles, start)?;
+    let start = spent(rt)?;
+    compact(store, current)?;
     tell(rt, "compaction of half of the changes", 1, start)?;
     Ok(())
 }
@@ -170,5 +191,5 @@ pub(crate) fn run(
     run_writes(rt, alloc, &mut store, size)?;
     pages(rt, alloc, &mut store, size)?;
     time_changes(rt, &mut store, size)?;
-    time_compaction(rt, &mut store)
+    time_compactions(rt, &mut store, size)
 }
