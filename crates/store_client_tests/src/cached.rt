@@ -1,51 +1,34 @@
 //! Puts, changes and removals under two indexes, and each refusal.
 
 use crate::marking::mark;
-use crate::rows::{Answers, expect_answers, expect_true};
+use crate::rows::{Answers, done, expect_answers, expect_true, first_word, number, told};
 use indexer::{IndexBy, Indexer, NewError, Object, ObjectKey};
 use std::alloc::{AllocError, Global};
 use std::collections::BTreeMap;
 use std::test::Fail;
 
-type Boxed = Indexer<Box<dyn IndexBy>>;
-
-/// By the object's namespace.
+/// By the object's text, told twice, or by its namespace.
 #[derive(Drop)]
-struct Namespace;
-
-impl IndexBy for Namespace {
-    ghost use Rattle.std.specs.Prelude.{codes, [], ◌∷◌};
-
-    ghost title = { λ _. codes "namespace" };
-
-    ghost keys = { λ _ o. o.namespace ∷ [] };
-
-    fn name(&self) -> &str {
-        "namespace"
-    }
-
-    fn keys_of(&self, alloc: Global, object: &Object) -> Result<Vec<String>, AllocError> {
-        Ok(vec![in alloc; object.namespace.clone()?]?)
-    }
+struct By {
+    is_text: bool,
 }
 
-/// By the first byte of the object's text, told twice.
-#[derive(Drop)]
-struct Text;
+impl IndexBy for By {
+    ghost use Rattle.std.specs.Prelude.{codes, [], ◌∷◌, if◌then◌else◌};
 
-impl IndexBy for Text {
-    ghost use Rattle.std.specs.Prelude.{codes, [], ◌∷◌};
+    ghost title = { λ b. if b.is_text then codes "text" else codes "namespace" };
 
-    ghost title = { λ _. codes "text" };
-
-    ghost keys = { λ _ o. o.text ∷ o.text ∷ [] };
+    ghost keys = { λ b o. if b.is_text then o.text ∷ o.text ∷ [] else o.namespace ∷ [] };
 
     fn name(&self) -> &str {
-        "text"
+        if self.is_text { "text" } else { "namespace" }
     }
 
     fn keys_of(&self, alloc: Global, object: &Object) -> Result<Vec<String>, AllocError> {
-        Ok(vec![in alloc; object.text.clone()?, object.text.clone()?]?)
+        if self.is_text {
+            return Ok(vec![in alloc; object.text.clone()?, object.text.clone()?]?);
+        }
+        Ok(vec![in alloc; object.namespace.clone()?]?)
     }
 }
 
@@ -66,189 +49,112 @@ fn key(alloc: Global, name: &str) -> Result<ObjectKey, AllocError> {
     })
 }
 
-fn two_indexes(alloc: Global) -> Result<Vec<Box<dyn IndexBy>>, AllocError> {
-    let mut indexes: Vec<Box<dyn IndexBy>> = Vec::new(alloc);
-    indexes.push(Box::new(alloc, Namespace)?)?;
-    indexes.push(Box::new(alloc, Text)?)?;
-    Ok(indexes)
-}
-
-fn empty(alloc: Global) -> Result<Boxed, Fail> {
-    Ok(Indexer::new(alloc, two_indexes(alloc)?)?)
-}
-
-fn revision_or_zero(object: Option<Object>) -> u64 {
-    object.map_or(0, |object| object.revision)
+/// An indexer without objects, by namespace and by text.
+fn empty(alloc: Global) -> Result<Indexer<By>, Fail> {
+    let mut indexes = Vec::new(alloc);
+    indexes.push(By { is_text: false })?;
+    indexes.push(By { is_text: true })?;
+    Ok(Indexer::new(alloc, indexes)?)
 }
 
 /// Puts an object; the revision of the one that it replaced, or 0.
-fn put(
-    alloc: Global,
-    indexer: &mut Boxed,
-    name: &str,
-    revision: u64,
-    text: &str,
-) -> Result<u64, AllocError> {
-    let was = indexer.put(object(alloc, name, revision, text)?)?;
-    Ok(revision_or_zero(was))
+fn put(indexer: &mut Indexer<By>, object: Object) -> Result<u64, AllocError> {
+    Ok(indexer.put(object)?.map_or(0, |was| was.revision))
 }
 
 /// Removes an object; its revision, or 0.
-fn remove(alloc: Global, indexer: &mut Boxed, name: &str) -> Result<u64, AllocError> {
-    let was = indexer.remove(&key(alloc, name)?);
-    Ok(revision_or_zero(was))
+fn remove(indexer: &mut Indexer<By>, key: &ObjectKey) -> u64 {
+    indexer.remove(key).map_or(0, |was| was.revision)
 }
 
-fn two_objects(
-    alloc: Global,
-    (name, text): (&str, &str),
-    (other, other_text): (&str, &str),
-) -> Result<Vec<Object>, AllocError> {
-    let mut objects = Vec::new(alloc);
-    objects.push(object(alloc, name, 5, text)?)?;
-    objects.push(object(alloc, other, 5, other_text)?)?;
-    Ok(objects)
-}
-
-fn replace(indexer: &mut Boxed, objects: Vec<Object>) -> Result<(), AllocError> {
-    indexer.replace(objects)
-}
-
-fn revision_at(indexer: &Boxed, key: &ObjectKey) -> u64 {
+/// The revision of the object under a key, or 0.
+fn revision(indexer: &Indexer<By>, key: &ObjectKey) -> u64 {
     indexer.get(key).map_or(0, |now| now.revision)
 }
 
-fn revision_of(alloc: Global, indexer: &Boxed, name: &str) -> Result<u64, AllocError> {
-    Ok(revision_at(indexer, &key(alloc, name)?))
+/// How many objects stand under a key of an index, if it has the key.
+fn count(indexer: &Indexer<By>, name: &str, key: &str) -> Option<usize> {
+    Some(indexer.by_index(name, key)?.len())
 }
 
-fn count(indexer: &Boxed, name: &str, key: &str) -> usize {
-    indexer.by_index(name, key).map_or(0, |keys| keys.len())
+fn two_objects(alloc: Global, text: &str, other: &str) -> Result<Vec<Object>, AllocError> {
+    let mut objects = Vec::new(alloc);
+    objects.push(object(alloc, "c", 5, text)?)?;
+    objects.push(object(alloc, "d", 5, other)?)?;
+    Ok(objects)
 }
 
-/// How many objects have the namespace, and stand under each key of the second index.
-fn counts(indexer: &Boxed) -> (usize, usize, usize) {
-    (
-        count(indexer, "namespace", "default"),
-        count(indexer, "text", "x"),
-        count(indexer, "text", "y"),
-    )
+/// Keeps just two objects, of texts `y` and `z`.
+fn replace(alloc: Global, indexer: &mut Indexer<By>) -> Result<String, Fail> {
+    indexer.replace(two_objects(alloc, "y", "z")?)?;
+    done(alloc)
 }
 
-fn is_indexed(indexer: &Boxed, name: &str, key: &str) -> bool {
-    indexer.by_index(name, key).is_some()
-}
-
-fn keys(indexer: &Boxed, name: &str) -> Result<usize, AllocError> {
-    Ok(indexer.keys(name)?.len())
-}
-
-/// An indexer under both indexes.
-#[derive(Drop)]
-struct Cache {
-    indexer: Boxed,
-}
-
-impl Answers for Cache {
+impl Answers for Indexer<By> {
     fn answer(&mut self, alloc: Global, question: &str) -> Result<String, Fail> {
         let (call, words) = first_word(question);
         let (one, other) = first_word(words);
         match call {
-            "put" | "anew" => answer_of_put(alloc, &mut self.indexer, call, one, other),
-            "indexed" | "keys" => answer_of_index(alloc, &self.indexer, call, one, other),
-            _ => answer_of_object(alloc, &mut self.indexer, call, one),
+            "put" | "anew" => answer_of_put(alloc, self, call, one, other),
+            "under" => told(alloc, count(self, one, other)),
+            "keys" => told(alloc, self.keys(one)?.len()),
+            _ => answer_of_object(alloc, self, call, &key(alloc, one)?),
         }
     }
-}
-
-/// A text up to its first blank, and what is behind it.
-fn first_word(text: &str) -> (&str, &str) {
-    text.split_once(' ').unwrap_or((text, ""))
 }
 
 /// Puts an object at a revision with a text.
 fn answer_of_put(
     alloc: Global,
-    indexer: &mut Boxed,
+    indexer: &mut Indexer<By>,
     call: &str,
     name: &str,
     words: &str,
 ) -> Result<String, Fail> {
     let (revision, text) = first_word(words);
-    let revision = revision.parse::<u64>().ok().ok_or("no revision")?;
+    let object = object(alloc, name, number(revision)?, text)?;
     match call {
-        "put" => number(alloc, put(alloc, indexer, name, revision, text)?),
-        _ => truth(alloc, put_anew(alloc, indexer, name, revision, text)?),
-    }
-}
-
-fn answer_of_index(
-    alloc: Global,
-    indexer: &Boxed,
-    call: &str,
-    name: &str,
-    key: &str,
-) -> Result<String, Fail> {
-    match call {
-        "keys" => size(alloc, keys(indexer, name)?),
-        _ => truth(alloc, is_indexed(indexer, name, key)),
+        "put" => told(alloc, put(indexer, object)?),
+        _ => told(alloc, put_anew(alloc, indexer, object)?),
     }
 }
 
 fn answer_of_object(
     alloc: Global,
-    indexer: &mut Boxed,
+    indexer: &mut Indexer<By>,
     call: &str,
-    name: &str,
+    key: &ObjectKey,
 ) -> Result<String, Fail> {
     match call {
-        "remove" => number(alloc, remove(alloc, indexer, name)?),
-        "revision" => number(alloc, revision_of(alloc, indexer, name)?),
-        "counts" => told_counts(alloc, indexer),
-        "replace" => {
-            replace(indexer, two_objects(alloc, ("c", "y"), ("d", "z"))?)?;
-            Ok(String::from_str(alloc, "done")?)
-        }
+        "remove" => told(alloc, remove(indexer, key)),
+        "revision" => told(alloc, revision(indexer, key)),
+        "replace" => replace(alloc, indexer),
+        "replaced" => told(alloc, is_replaced_or_as_before(alloc, indexer, key)?),
         _ => Err("no such call".into()),
     }
 }
 
-fn number(alloc: Global, number: u64) -> Result<String, Fail> {
-    Ok(format!(in alloc; "{number}")?)
-}
-
-fn size(alloc: Global, size: usize) -> Result<String, Fail> {
-    Ok(format!(in alloc; "{size}")?)
-}
-
-fn truth(alloc: Global, truth: bool) -> Result<String, Fail> {
-    Ok(format!(in alloc; "{truth}")?)
-}
-
-fn told_counts(alloc: Global, indexer: &Boxed) -> Result<String, Fail> {
-    let (all, x, y) = counts(indexer);
-    Ok(format!(in alloc; "{all} {x} {y}")?)
-}
-
 /// The test fails where rows that an empty indexer answers are answered otherwise.
 fn expect_played(alloc: Global, rows: &str) -> Result<(), Fail> {
-    let mut cache = Cache {
-        indexer: empty(alloc)?,
-    };
-    expect_answers(alloc, &mut cache, rows)
+    expect_answers(alloc, &mut empty(alloc)?, rows)
 }
 
 const CHANGE: &str = "put a 2 x => 0
 revision a => 2
-counts => 1 1 0
+under namespace default => Some(1)
+under text x => Some(1)
+under text y => None
 put b 3 x => 0
 revision b => 3
-counts => 2 2 0
+under namespace default => Some(2)
+under text x => Some(2)
+under text y => None
 put a 4 y => 2
 revision a => 4
-counts => 2 1 1
-indexed text x => true
-indexed none y => false
+under namespace default => Some(2)
+under text x => Some(1)
+under text y => Some(1)
+under none y => None
 ";
 
 #[test]
@@ -260,10 +166,12 @@ const REMOVALS: &str = "put a 4 y => 0
 put b 3 x => 0
 remove b => 3
 remove b => 0
+under text x => None
 replace => done
-indexed text x => false
 revision a => 0
-counts => 2 0 1
+under namespace default => Some(2)
+under text x => None
+under text y => Some(1)
 keys text => 2
 keys none => 0
 ";
@@ -271,6 +179,14 @@ keys none => 0
 #[test]
 fn an_index_follows_removals(rt: HostRuntime) -> Result<(), Fail> {
     expect_played(rt.alloc(), REMOVALS)
+}
+
+/// Two boxed indexes by text.
+fn two_of_one_name(alloc: Global) -> Result<Vec<Box<dyn IndexBy>>, AllocError> {
+    let mut indexes: Vec<Box<dyn IndexBy>> = Vec::new(alloc);
+    indexes.push(Box::new(alloc, By { is_text: true })?)?;
+    indexes.push(Box::new(alloc, By { is_text: true })?)?;
+    Ok(indexes)
 }
 
 /// Whether an indexer of these indexes is refused since two have one name.
@@ -282,64 +198,66 @@ fn has_one_name_twice(alloc: Global, indexes: Vec<Box<dyn IndexBy>>) -> Result<b
     }
 }
 
-fn three_indexes(alloc: Global) -> Result<Vec<Box<dyn IndexBy>>, AllocError> {
-    let mut indexes = two_indexes(alloc)?;
-    indexes.push(Box::new(alloc, Text)?)?;
-    Ok(indexes)
-}
-
 #[test]
 fn two_indexes_with_one_name(rt: HostRuntime) -> Result<(), Fail> {
     let alloc = rt.alloc();
-    let is_refused = has_one_name_twice(alloc, three_indexes(alloc)?)?;
+    let is_refused = has_one_name_twice(alloc, two_of_one_name(alloc)?)?;
     expect_true(is_refused, "two indexes with one name")
 }
 
-fn try_put(indexer: &mut Boxed, object: Object) -> Result<u64, AllocError> {
-    Ok(revision_or_zero(indexer.put(object)?))
+/// The revision under a key, and how many objects have the namespace and stand under each key of the other index.
+fn seen(
+    indexer: &Indexer<By>,
+    key: &ObjectKey,
+) -> (u64, Option<usize>, Option<usize>, Option<usize>) {
+    (
+        revision(indexer, key),
+        count(indexer, "namespace", "default"),
+        count(indexer, "text", "x"),
+        count(indexer, "text", "y"),
+    )
 }
 
 /// A put between marks; whether memory was refused.
-fn is_put_refused(alloc: Global, indexer: &mut Boxed, object: Object) -> Result<bool, AllocError> {
+fn is_put_refused(
+    alloc: Global,
+    indexer: &mut Indexer<By>,
+    object: Object,
+) -> Result<bool, AllocError> {
     mark(alloc)?;
-    let is_refused = try_put(indexer, object).is_err();
+    let is_refused = put(indexer, object).is_err();
     mark(alloc)?;
     Ok(is_refused)
 }
 
-/// The revision under a key, and the counts of the indexes.
-fn seen(indexer: &Boxed, place: &ObjectKey) -> (u64, (usize, usize, usize)) {
-    (revision_at(indexer, place), counts(indexer))
-}
-
 /// A put; refused memory, the objects and both indexes are as before, and it is done when called again.
-fn put_anew(
-    alloc: Global,
-    indexer: &mut Boxed,
-    name: &str,
-    revision: u64,
-    text: &str,
-) -> Result<bool, AllocError> {
-    let place = key(alloc, name)?;
+fn put_anew(alloc: Global, indexer: &mut Indexer<By>, object: Object) -> Result<bool, AllocError> {
+    let place = ObjectKey::of(&object)?;
+    let again = object.try_copy()?;
     let before = seen(indexer, &place);
-    let first = object(alloc, name, revision, text)?;
-    if !is_put_refused(alloc, indexer, first)? {
+    if !is_put_refused(alloc, indexer, object)? {
         return Ok(true);
     }
     let is_as_before = before == seen(indexer, &place);
-    put(alloc, indexer, name, revision, text)?;
+    put(indexer, again)?;
     Ok(is_as_before)
 }
 
 const PUT_ANEW: &str = "anew a 2 x => true
 revision a => 2
-counts => 1 1 0
+under namespace default => Some(1)
+under text x => Some(1)
+under text y => None
 anew a 4 y => true
 revision a => 4
-counts => 1 0 1
+under namespace default => Some(1)
+under text x => None
+under text y => Some(1)
 anew b 5 x => true
 revision b => 5
-counts => 2 1 1
+under namespace default => Some(2)
+under text x => Some(1)
+under text y => Some(1)
 ";
 
 /// Whichever allocation of a put is refused, the objects and both indexes are as they were, and the put is done when
@@ -349,35 +267,34 @@ fn a_refused_put_changes_nothing(rt: HostRuntime) -> Result<(), Fail> {
     expect_played(rt.alloc(), PUT_ANEW)
 }
 
-/// A replace between marks; whether memory was refused.
-fn is_replace_refused(
-    alloc: Global,
-    indexer: &mut Boxed,
-    objects: Vec<Object>,
-) -> Result<bool, AllocError> {
+/// A replace between marks, by two objects of text `x`; whether memory was refused.
+fn is_replace_refused(alloc: Global, indexer: &mut Indexer<By>) -> Result<bool, AllocError> {
+    let objects = two_objects(alloc, "x", "x")?;
     mark(alloc)?;
-    let is_refused = replace(indexer, objects).is_err();
+    let is_refused = indexer.replace(objects).is_err();
     mark(alloc)?;
     Ok(is_refused)
 }
 
-/// Whether a replace between marks, of `a` alone by two others, is done whole or changes nothing.
-fn is_replaced_or_as_before(alloc: Global, indexer: &mut Boxed) -> Result<bool, AllocError> {
-    let was = put(alloc, indexer, "a", 4, "y")?;
-    let others = two_objects(alloc, ("b", "x"), ("c", "x"))?;
-    let place = key(alloc, "a")?;
-    let wanted = match is_replace_refused(alloc, indexer, others)? {
-        true => (4, (1, 0, 1)),
-        false => (0, (2, 2, 0)),
+/// Whether a replace of one object at revision 4, with text `y`, is done whole or changes nothing.
+fn is_replaced_or_as_before(
+    alloc: Global,
+    indexer: &mut Indexer<By>,
+    key: &ObjectKey,
+) -> Result<bool, AllocError> {
+    let wanted = match is_replace_refused(alloc, indexer)? {
+        true => (4, Some(1), None, Some(1)),
+        false => (0, Some(2), Some(2), None),
     };
-    Ok(was == 0 && seen(indexer, &place) == wanted)
+    Ok(seen(indexer, key) == wanted)
 }
+
+const REPLACED: &str = "put a 4 y => 0
+replaced a => true
+";
 
 /// Whichever allocation of a replace is refused, the objects and both indexes are as they were.
 #[test]
 fn a_refused_replace_changes_nothing(rt: HostRuntime) -> Result<(), Fail> {
-    let alloc = rt.alloc();
-    let mut indexer = empty(alloc)?;
-    let is_as_wanted = is_replaced_or_as_before(alloc, &mut indexer)?;
-    expect_true(is_as_wanted, "a replace is done whole or not at all")
+    expect_played(rt.alloc(), REPLACED)
 }

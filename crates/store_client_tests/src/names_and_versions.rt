@@ -1,6 +1,6 @@
 //! Names of the Kubernetes documentation, versions, and texts that are none.
 
-use crate::rows::{Answers, expect_answers, expect_true, repeated};
+use crate::rows::{Answers, expect_answers, expect_true, repeated, told};
 use names::{
     decimal_up_to, is_dns_label, is_dns_subdomain, is_label_key, is_label_value, version_of,
 };
@@ -13,7 +13,7 @@ struct ObjectNames;
 
 impl Answers for ObjectNames {
     fn answer(&mut self, alloc: Global, question: &str) -> Result<String, Fail> {
-        both(alloc, is_dns_label(question), is_dns_subdomain(question))
+        told(alloc, (is_dns_label(question), is_dns_subdomain(question)))
     }
 }
 
@@ -23,7 +23,7 @@ struct Labels;
 
 impl Answers for Labels {
     fn answer(&mut self, alloc: Global, question: &str) -> Result<String, Fail> {
-        both(alloc, is_label_key(question), is_label_value(question))
+        told(alloc, (is_label_key(question), is_label_value(question)))
     }
 }
 
@@ -33,30 +33,25 @@ struct Versions;
 
 impl Answers for Versions {
     fn answer(&mut self, alloc: Global, question: &str) -> Result<String, Fail> {
-        let version = version_of(question);
-        Ok(format!(in alloc; "{version:?}")?)
+        told(alloc, version_of(question))
     }
 }
 
-fn both(alloc: Global, one: bool, other: bool) -> Result<String, Fail> {
-    Ok(format!(in alloc; "{one} {other}")?)
-}
-
-const OBJECT_NAMES: &str = "default => true true
-kube-node-lease => true true
-0 => true true
-demo.example => false true
-a.b-c.0 => false true
- => false false
--a => false false
-a- => false false
-Web => false false
-a_b => false false
-a..b => false false
-.a => false false
-a. => false false
-a-.b => false false
-é => false false
+const OBJECT_NAMES: &str = "default => (true, true)
+kube-node-lease => (true, true)
+0 => (true, true)
+demo.example => (false, true)
+a.b-c.0 => (false, true)
+ => (false, false)
+-a => (false, false)
+a- => (false, false)
+Web => (false, false)
+a_b => (false, false)
+a..b => (false, false)
+.a => (false, false)
+a. => (false, false)
+a-.b => (false, false)
+é => (false, false)
 ";
 
 #[test]
@@ -64,20 +59,20 @@ fn names_of_namespaces_and_objects(rt: HostRuntime) -> Result<(), Fail> {
     expect_answers(rt.alloc(), &mut ObjectNames, OBJECT_NAMES)
 }
 
-const LABELS: &str = "app.kubernetes.io/name => true false
-kubectl.kubernetes.io/last-applied-configuration => true false
-environment => true true
-MyName => true true
-my.name => true true
-123-abc_X => true true
- => false true
--a => false false
-a. => false false
-/name => false false
-prefix/ => false false
-A.b/c => false false
-a/b/c => false false
-a b => false false
+const LABELS: &str = "app.kubernetes.io/name => (true, false)
+kubectl.kubernetes.io/last-applied-configuration => (true, false)
+environment => (true, true)
+MyName => (true, true)
+my.name => (true, true)
+123-abc_X => (true, true)
+ => (false, true)
+-a => (false, false)
+a. => (false, false)
+/name => (false, false)
+prefix/ => (false, false)
+A.b/c => (false, false)
+a/b/c => (false, false)
+a b => (false, false)
 ";
 
 #[test]

@@ -1,6 +1,6 @@
 //! Every parameter, what goes together, and which fault comes first.
 
-use crate::rows::{Answers, expect_answers, expect_text, expect_true};
+use crate::rows::{Answers, expect_answers, expect_text, expect_true, told};
 use params::{Asked, Parameter, Params, ParamsFault, Token, Watch};
 use std::alloc::{AllocError, Global};
 use std::collections::BTreeMap;
@@ -222,14 +222,19 @@ struct Tiers;
 impl Answers for Tiers {
     fn answer(&mut self, alloc: Global, question: &str) -> Result<String, Fail> {
         let params = read(alloc, question)?;
-        let web = selects(alloc, &params, "web")?;
-        let db = selects(alloc, &params, "db")?;
-        Ok(format!(in alloc; "{web} {db}")?)
+        told(alloc, selects_tiers(alloc, &params)?)
     }
 }
 
-const TIERS: &str = "labelSelector=tier%3Dweb&limit=1 => true false
-labelSelector=tier!%3Dweb => false true
+fn selects_tiers(alloc: Global, params: &Params) -> Result<(bool, bool), AllocError> {
+    Ok((
+        selects(alloc, params, "web")?,
+        selects(alloc, params, "db")?,
+    ))
+}
+
+const TIERS: &str = "labelSelector=tier%3Dweb&limit=1 => (true, false)
+labelSelector=tier!%3Dweb => (false, true)
 ";
 
 #[test]
@@ -241,27 +246,29 @@ fn selectors_of_lists(rt: HostRuntime) -> Result<(), Fail> {
 fn token_of(alloc: Global, query: &str) -> Result<String, Fail> {
     let params = read(alloc, query)?;
     match &params.token {
-        Some(token) => told(alloc, token),
+        Some(token) => token_told(alloc, token),
         None => Ok(String::new(alloc)),
     }
 }
 
-fn told(alloc: Global, token: &Token) -> Result<String, Fail> {
-    let text = token.text(alloc)?;
-    let revision = token.revision;
-    let namespace = &token.namespace;
-    let mut told = format!(in alloc; "{text} {revision} {namespace} ")?;
-    told.push_str(token.name.as_str())?;
+/// The text of a token, and its parts.
+fn token_told(alloc: Global, token: &Token) -> Result<String, Fail> {
+    let mut told = token.text(alloc)?;
+    push_parts(alloc, &mut told, token)?;
     Ok(told)
 }
 
-/// The limit of a list's query, how its version is matched, and its answer.
+fn push_parts(alloc: Global, text: &mut String, token: &Token) -> Result<(), AllocError> {
+    let revision = token.revision;
+    let namespace = &token.namespace;
+    let name = &token.name;
+    text.push_str(format!(in alloc; " {revision} {namespace} {name}")?.as_str())
+}
+
+/// The limit of a list's query, its version and how that is matched.
 fn values(alloc: Global, query: &str) -> Result<String, Fail> {
     let params = read(alloc, query)?;
-    let limit = params.limit;
-    let version_match = params.version_match;
-    let answer = shown(alloc, &params)?;
-    Ok(format!(in alloc; "{limit} {version_match:?} {answer}")?)
+    told(alloc, (params.limit, params.version, params.version_match))
 }
 
 #[test]
@@ -269,7 +276,7 @@ fn values_of_lists(rt: HostRuntime) -> Result<(), Fail> {
     let alloc = rt.alloc();
     let query =
         "labelSelector=tier%3Dweb&limit=1&resourceVersion=3&resourceVersionMatch=NotOlderThan&watch=0";
-    expect_text(values(alloc, query)?, "1 Some(NotOlderThan) read at 3")?;
+    expect_text(values(alloc, query)?, "(1, Some(3), Some(NotOlderThan))")?;
     expect_text(token_of(alloc, query)?, "")?;
     expect_text(
         token_of(alloc, "limit=2&continue=4.default.w1.old")?,

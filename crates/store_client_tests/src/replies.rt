@@ -24,18 +24,17 @@ fn push_bytes(text: &mut String, bytes: &[u8]) -> Result<(), AllocError> {
     Ok(())
 }
 
+fn push_named(text: &mut String, name: &str, bytes: &[u8]) -> Result<(), AllocError> {
+    text.push_str(name)?;
+    push_bytes(text, bytes)
+}
+
 /// An item as a text: a status, the bytes of a body and of each line, the end or a bad byte.
 fn show(alloc: Global, item: &Item, text: &mut String) -> Result<(), AllocError> {
     match item {
-        Item::Head(status) => text.push_str(&format!(in alloc; "{status}")?),
-        Item::Body(bytes) => {
-            text.push_str(" body ")?;
-            push_bytes(text, bytes)
-        }
-        Item::Line(bytes) => {
-            text.push_str(" line ")?;
-            push_bytes(text, bytes)
-        }
+        Item::Head(status) => text.push_str(status.to_string(alloc)?.as_str()),
+        Item::Body(bytes) => push_named(text, " body ", bytes),
+        Item::Line(bytes) => push_named(text, " line ", bytes),
         Item::End => text.push_str(" end"),
         Item::Malformed => text.push_str(" malformed"),
     }

@@ -1,6 +1,6 @@
 //! Examples of the documentation "Labels and Selectors", and texts that are no selector.
 
-use crate::rows::{Answers, expect_answers, repeated};
+use crate::rows::{Answers, expect_answers, repeated, told};
 use selector::{Fault, ReadError, Selector};
 use std::alloc::{AllocError, Global};
 use std::collections::BTreeMap;
@@ -67,14 +67,11 @@ fn inside(question: &str) -> Result<&str, Fail> {
 }
 
 fn selected(alloc: Global, text: &str) -> Result<String, Fail> {
-    let front = front(alloc)?;
-    let other = other(alloc)?;
-    let (selects_front, selects_other) = selects_both(
-        &Selector::read(alloc, text)?,
-        &front,
-        &other,
-    );
-    Ok(format!(in alloc; "{selects_front} {selects_other}")?)
+    let selector = Selector::read(alloc, text)?;
+    told(
+        alloc,
+        selects_both(&selector, &front(alloc)?, &other(alloc)?),
+    )
 }
 
 fn fault(alloc: Global, text: &str) -> Result<String, Fail> {
@@ -85,20 +82,20 @@ fn fault(alloc: Global, text: &str) -> Result<String, Fail> {
     }
 }
 
-const SELECTED: &str = "{} => true true
-{environment = production} => true false
-{environment==production,tier!=frontend} => false false
-{tier != frontend} => false true
-{tier!=backend} => true true
-{environment in (production, qa)} => true false
-{environment in( qa,dev )} => false false
-{tier notin (frontend, backend)} => false true
-{partition} => false true
-{!partition} => true false
-{ ! partition , tier } => true false
-{partition in ()} => false true
-{partition=} => false true
-{partition,environment notin (qa)} => false true
+const SELECTED: &str = "{} => (true, true)
+{environment = production} => (true, false)
+{environment==production,tier!=frontend} => (false, false)
+{tier != frontend} => (false, true)
+{tier!=backend} => (true, true)
+{environment in (production, qa)} => (true, false)
+{environment in( qa,dev )} => (false, false)
+{tier notin (frontend, backend)} => (false, true)
+{partition} => (false, true)
+{!partition} => (true, false)
+{ ! partition , tier } => (true, false)
+{partition in ()} => (false, true)
+{partition=} => (false, true)
+{partition,environment notin (qa)} => (false, true)
 ";
 
 #[test]

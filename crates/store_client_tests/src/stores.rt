@@ -1,19 +1,13 @@
 //! A store over a table: that the calls succeed where memory is ample, and what refused memory leaves.
 
 use crate::marking::mark;
-use crate::rows::{Answers, expect_answers, expect_text};
-use crate::tables::{
-    LAST_REVISION, done, key, number, pair, push_changes, push_page, table_at, two_namespaces,
-};
+use crate::rows::{Answers, done, expect_answers, first_word, number, told};
+use crate::tables::{LAST_REVISION, key, push_changes, push_page, table_at};
 use history::Key;
 use revstore::{ChangesFault, CompactFault, ListFault, Store, WriteFault};
 use revtable::{Entry, Fault, Object};
 use std::alloc::{AllocError, Global};
 use std::test::Fail;
-
-fn store_at(alloc: Global, revision: u64) -> Result<Store, Fault> {
-    Ok(Store::new(table_at(alloc, revision)?))
-}
 
 fn write(store: &mut Store, key: &Key, body: &str) -> Result<u64, WriteFault> {
     store.write(key, Some(body))
@@ -43,8 +37,13 @@ fn list_at(store: &mut Store, revision: u64) -> Result<Vec<Entry>, ListFault> {
     store.list_at(7, None, revision, None, 10)
 }
 
-fn changes(store: &mut Store, after: u64) -> Result<usize, ChangesFault> {
-    Ok(store.changes(7, Some("default"), after, 10)?.len())
+fn count_at(store: &mut Store, revision: u64) -> Result<usize, ListFault> {
+    Ok(list_at(store, revision)?.len())
+}
+
+/// How many changes came in `default` after a revision.
+fn count_after(store: &mut Store, revision: u64) -> Result<usize, ChangesFault> {
+    Ok(store.changes(7, Some("default"), revision, 10)?.len())
 }
 
 fn compact(store: &mut Store, revision: u64) -> Result<(), CompactFault> {
@@ -55,109 +54,62 @@ fn numbers(store: &Store) -> (u64, u64) {
     (store.current(), store.compacted())
 }
 
-fn told_write(alloc: Global, store: &mut Store, key: &Key, body: &str) -> Result<String, Fail> {
-    match write(store, key, body) {
-        Ok(revision) => Ok(format!(in alloc; "{revision}")?),
-        Err(WriteFault::Exhausted) => Ok(String::from_str(alloc, "exhausted")?),
-        Err(fault) => Err(fault.into()),
-    }
-}
-
-fn told_list(alloc: Global, store: &mut Store, revision: u64) -> Result<String, Fail> {
-    match list_at(store, revision) {
-        Ok(page) => count(alloc, page.len()),
-        Err(ListFault::Expired) => Ok(String::from_str(alloc, "expired")?),
-        Err(ListFault::TooLarge) => Ok(String::from_str(alloc, "too large")?),
-        Err(fault) => Err(fault.into()),
-    }
-}
-
-fn told_changes(alloc: Global, store: &mut Store, after: u64) -> Result<String, Fail> {
-    match changes(store, after) {
-        Ok(changes) => count(alloc, changes),
-        Err(ChangesFault::Expired) => Ok(String::from_str(alloc, "expired")?),
-        Err(fault) => Err(fault.into()),
-    }
-}
-
-fn told_compact(alloc: Global, store: &mut Store, revision: u64) -> Result<String, Fail> {
-    match compact(store, revision) {
-        Ok(()) => done(alloc),
-        Err(CompactFault::Expired) => Ok(String::from_str(alloc, "expired")?),
-        Err(CompactFault::TooLarge) => Ok(String::from_str(alloc, "too large")?),
-        Err(fault) => Err(fault.into()),
-    }
-}
-
-fn count(alloc: Global, count: usize) -> Result<String, Fail> {
-    Ok(format!(in alloc; "{count}")?)
-}
-
-fn told_numbers(alloc: Global, store: &Store) -> Result<String, Fail> {
-    let (current, compacted) = numbers(store);
-    pair(alloc, current, compacted)
-}
-
-fn body_of(alloc: Global, object: Option<Object>) -> Result<String, Fail> {
-    match object {
-        Some(object) => Ok(object.body),
-        None => Ok(String::from_str(alloc, "none")?),
-    }
-}
-
-/// A store whose calls speak of one object.
-#[derive(Drop)]
-struct Play {
-    store: Store,
-    only: Key,
-}
-
-impl Answers for Play {
+impl Answers for Store {
     fn answer(&mut self, alloc: Global, question: &str) -> Result<String, Fail> {
-        let (call, word) = question.split_once(' ').unwrap_or((question, ""));
-        answer_to(alloc, &mut self.store, &self.only, call, word)
+        let (call, words) = first_word(question);
+        let (one, other) = first_word(words);
+        match call {
+            "numbers" => told(alloc, numbers(self)),
+            "seen" => seen_of_store(self, alloc),
+            "list" | "changes" | "compact" | "compact-anew" => {
+                answer_at(alloc, self, call, number(one)?)
+            }
+            _ => answer_of_key(alloc, self, call, &key(alloc, one)?, other),
+        }
     }
 }
 
-fn answer_to(
+fn answer_of_key(
     alloc: Global,
     store: &mut Store,
-    only: &Key,
     call: &str,
+    key: &Key,
     word: &str,
 ) -> Result<String, Fail> {
     match call {
-        "write" => told_write(alloc, store, only, word),
+        "write" => told(alloc, write(store, key, word)),
+        "write-anew" => told(alloc, write_anew(store, alloc, key, word)?),
         "erase" => {
-            erase(store, only)?;
+            erase(store, key)?;
             done(alloc)
         }
-        "get" => body_of(alloc, get(store, only)?),
-        "before" => body_of(alloc, before(store, only, number(word)?)?),
-        "list" => told_list(alloc, store, number(word)?),
-        "changes" => told_changes(alloc, store, number(word)?),
-        "compact" => told_compact(alloc, store, number(word)?),
-        "numbers" => told_numbers(alloc, store),
+        "get" => told(alloc, get(store, key)?),
+        "before" => told(alloc, before(store, key, number(word)?)?),
         _ => Err("no such call".into()),
+    }
+}
+
+fn answer_at(alloc: Global, store: &mut Store, call: &str, revision: u64) -> Result<String, Fail> {
+    match call {
+        "list" => told(alloc, count_at(store, revision)),
+        "changes" => told(alloc, count_after(store, revision)),
+        "compact" => told(alloc, compact(store, revision)),
+        _ => told(alloc, compact_anew(store, alloc, revision)?),
     }
 }
 
 /// The test fails where rows that a store which begins at this revision answers are answered otherwise.
 fn expect_played(alloc: Global, revision: u64, rows: &str) -> Result<(), Fail> {
-    let mut play = Play {
-        store: store_at(alloc, revision)?,
-        only: key(alloc, "default", "w1")?,
-    };
-    expect_answers(alloc, &mut play, rows)
+    expect_answers(alloc, &mut Store::new(table_at(alloc, revision)?), rows)
 }
 
-const FRESH: &str = "numbers => 1 1
-list 1 => 0
-list 2 => too large
-list 0 => expired
-compact 0 => expired
-compact 2 => too large
-compact 1 => done
+const FRESH: &str = "numbers => (1, 1)
+list 1 => Ok(0)
+list 2 => Err(TooLarge)
+list 0 => Err(Expired)
+compact 0 => Err(Expired)
+compact 2 => Err(TooLarge)
+compact 1 => Ok(())
 ";
 
 #[test]
@@ -165,16 +117,16 @@ fn a_fresh_store(rt: HostRuntime) -> Result<(), Fail> {
     expect_played(rt.alloc(), 1, FRESH)
 }
 
-const DELETED: &str = "write a => 2
-write b => 3
-erase => done
-get => none
-changes 1 => 3
-before 4 => b
-compact 4 => done
-numbers => 4 4
-changes 3 => expired
-changes 4 => 0
+const DELETED: &str = "write w1 a => Ok(2)
+write w1 b => Ok(3)
+erase w1 => done
+get w1 => None
+changes 1 => Ok(3)
+before w1 4 => Some(Object { revision: 3, body: \"b\" })
+compact 4 => Ok(())
+numbers => (4, 4)
+changes 3 => Err(Expired)
+changes 4 => Ok(0)
 ";
 
 #[test]
@@ -182,8 +134,8 @@ fn a_deleted_object_until_it_is_compacted(rt: HostRuntime) -> Result<(), Fail> {
     expect_played(rt.alloc(), 1, DELETED)
 }
 
-const USED_UP: &str = "write a => exhausted
-get => none
+const USED_UP: &str = "write w1 a => Err(Exhausted)
+get w1 => None
 ";
 
 #[test]
@@ -191,6 +143,8 @@ fn revisions_are_used_up(rt: HostRuntime) -> Result<(), Fail> {
     expect_played(rt.alloc(), LAST_REVISION, USED_UP)
 }
 
+/// All that there is to be seen: the numbers, what stood at the first and at the last of the two, and the changes
+/// between them.
 fn seen_of_store(store: &mut Store, alloc: Global) -> Result<String, Fail> {
     let (current, compacted) = numbers(store);
     let mut text = format!(in alloc; "{compacted} to {current}")?;
@@ -201,77 +155,75 @@ fn seen_of_store(store: &mut Store, alloc: Global) -> Result<String, Fail> {
     Ok(text)
 }
 
-fn is_seen(store: &mut Store, alloc: Global, text: &str) -> Result<bool, Fail> {
-    Ok(seen_of_store(store, alloc)?.as_str() == text)
-}
-
-fn is_write_refused(store: &mut Store, alloc: Global, key: &Key) -> Result<bool, AllocError> {
+fn is_write_refused(
+    store: &mut Store,
+    alloc: Global,
+    key: &Key,
+    body: &str,
+) -> Result<bool, AllocError> {
     mark(alloc)?;
-    let is_refused = write(store, key, "b7").is_err();
+    let is_refused = write(store, key, body).is_err();
     mark(alloc)?;
     Ok(is_refused)
 }
 
 /// A write; refused memory, the store shows what it did, and the write is done when it is called again.
-fn write_anew(store: &mut Store, alloc: Global, key: &Key, old: &str) -> Result<bool, Fail> {
-    if !is_write_refused(store, alloc, key)? {
+fn write_anew(store: &mut Store, alloc: Global, key: &Key, body: &str) -> Result<bool, Fail> {
+    let before = seen_of_store(store, alloc)?;
+    if !is_write_refused(store, alloc, key, body)? {
         return Ok(true);
     }
-    let is_as_before = is_seen(store, alloc, old)?;
-    write(store, key, "b7")?;
-    Ok(is_as_before)
+    let after = seen_of_store(store, alloc)?;
+    write(store, key, body)?;
+    Ok(before.as_str() == after.as_str())
 }
 
-/// What is seen after the write.
-fn seen_after_write(store: &mut Store, alloc: Global) -> Result<String, Fail> {
-    let only = key(alloc, "default", "b")?;
-    let old = seen_of_store(store, alloc)?;
-    match write_anew(store, alloc, &only, old.as_str())? {
-        true => seen_of_store(store, alloc),
-        false => Err("a refused write changed the store".into()),
-    }
-}
+const WRITTEN_ANEW: &str = "write b b2 => Ok(2)
+write a a3 => Ok(3)
+write other/a o4 => Ok(4)
+erase b => done
+write a a6 => Ok(6)
+write-anew b b7 => true
+seen => 1 to 7;; default/a a6 6 default/b b7 7 other/a o4 4; default/b b2 2 default/a a3 3 other/a o4 4 default/b gone 5 default/a a6 6 default/b b7 7
+";
 
 #[test]
 fn a_write_that_is_refused_memory(rt: HostRuntime) -> Result<(), Fail> {
-    let mut store = Store::new(two_namespaces(rt.alloc())?);
-    expect_text(
-        seen_after_write(&mut store, rt.alloc())?,
-        "1 to 7;; default/a a6 6 default/b b7 7 other/a o4 4; default/b b2 2 default/a a3 3 other/a o4 4 default/b gone 5 default/a a6 6 default/b b7 7",
-    )
+    expect_played(rt.alloc(), 1, WRITTEN_ANEW)
 }
 
-fn is_compaction_refused(store: &mut Store, alloc: Global) -> Result<bool, AllocError> {
+fn is_compaction_refused(
+    store: &mut Store,
+    alloc: Global,
+    revision: u64,
+) -> Result<bool, AllocError> {
     mark(alloc)?;
-    let is_refused = compact(store, 5).is_err();
+    let is_refused = compact(store, revision).is_err();
     mark(alloc)?;
     Ok(is_refused)
 }
 
 /// A compaction; refused memory, the store shows what it did, and it is done when it is called again.
-fn compact_anew(store: &mut Store, alloc: Global, old: &str) -> Result<bool, Fail> {
-    if !is_compaction_refused(store, alloc)? {
+fn compact_anew(store: &mut Store, alloc: Global, revision: u64) -> Result<bool, Fail> {
+    let before = seen_of_store(store, alloc)?;
+    if !is_compaction_refused(store, alloc, revision)? {
         return Ok(true);
     }
-    let is_as_before = is_seen(store, alloc, old)?;
-    compact(store, 5)?;
-    Ok(is_as_before)
+    let after = seen_of_store(store, alloc)?;
+    compact(store, revision)?;
+    Ok(before.as_str() == after.as_str())
 }
 
-/// What is seen after the compaction.
-fn seen_after_compaction(store: &mut Store, alloc: Global) -> Result<String, Fail> {
-    let old = seen_of_store(store, alloc)?;
-    match compact_anew(store, alloc, old.as_str())? {
-        true => seen_of_store(store, alloc),
-        false => Err("a refused compaction changed the store".into()),
-    }
-}
+const COMPACTED_ANEW: &str = "write b b2 => Ok(2)
+write a a3 => Ok(3)
+write other/a o4 => Ok(4)
+erase b => done
+write a a6 => Ok(6)
+compact-anew 5 => true
+seen => 5 to 6; default/a a3 3 other/a o4 4; default/a a6 6 other/a o4 4; default/a a6 6
+";
 
 #[test]
 fn a_compaction_that_is_refused_memory(rt: HostRuntime) -> Result<(), Fail> {
-    let mut store = Store::new(two_namespaces(rt.alloc())?);
-    expect_text(
-        seen_after_compaction(&mut store, rt.alloc())?,
-        "5 to 6; default/a a3 3 other/a o4 4; default/a a6 6 other/a o4 4; default/a a6 6",
-    )
+    expect_played(rt.alloc(), 1, COMPACTED_ANEW)
 }

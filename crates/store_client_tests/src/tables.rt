@@ -1,7 +1,7 @@
 //! Histories of objects in a table: that the calls succeed where memory is ample, and what refused memory leaves.
 
 use crate::marking::mark;
-use crate::rows::{Answers, expect_answers, expect_text};
+use crate::rows::{Answers, done, expect_answers, first_word, number, told};
 use history::Key;
 use revtable::{Change, Entry, Fault, Marks, Object, Table};
 use std::alloc::{AllocError, Global};
@@ -9,7 +9,9 @@ use std::test::Fail;
 
 pub const LAST_REVISION: u64 = i64::MAX as u64;
 
-pub fn key(alloc: Global, namespace: &str, name: &str) -> Result<Key, Fault> {
+/// The key of `NAMESPACE/NAME`, or of a name in the namespace `default`.
+pub fn key(alloc: Global, words: &str) -> Result<Key, AllocError> {
+    let (namespace, name) = words.split_once('/').unwrap_or(("default", words));
     Ok(Key {
         kind: 7,
         namespace: String::from_str(alloc, namespace)?,
@@ -47,10 +49,6 @@ fn marks(table: &Table) -> (u64, u64) {
     (current, compacted)
 }
 
-fn rows(table: &mut Table) -> Result<u64, Fault> {
-    table.rows()
-}
-
 fn prune(table: &mut Table, revision: u64) -> Result<(), Fault> {
     table.prune(revision)
 }
@@ -79,36 +77,17 @@ fn span(
     table.span(7, namespace, from, to, max)
 }
 
-pub fn done(alloc: Global) -> Result<String, Fail> {
-    Ok(String::from_str(alloc, "done")?)
-}
-
-pub fn number(text: &str) -> Result<u64, Fail> {
-    Ok(text.parse::<u64>().ok().ok_or("no number")?)
-}
-
-pub fn pair(alloc: Global, one: u64, other: u64) -> Result<String, Fail> {
-    Ok(format!(in alloc; "{one} {other}")?)
-}
-
-/// A text up to its first blank, and what is behind it.
-fn first_word(text: &str) -> (&str, &str) {
-    text.split_once(' ').unwrap_or((text, ""))
-}
-
-/// A table whose calls name objects of the namespace `default`.
-#[derive(Drop)]
-struct Play {
-    table: Table,
-}
-
-impl Answers for Play {
+impl Answers for Table {
     fn answer(&mut self, alloc: Global, question: &str) -> Result<String, Fail> {
         let (call, words) = first_word(question);
         let (one, other) = first_word(words);
         match call {
-            "add" | "remove" | "stood" => answer_of_key(alloc, &mut self.table, call, one, other),
-            _ => answer_of_table(alloc, &mut self.table, call, one, other),
+            "add" | "add-anew" | "remove" | "stood" => {
+                answer_of_key(alloc, self, call, &key(alloc, one)?, other)
+            }
+            "page" | "page-after" => answer_of_page(alloc, self, call, one, other),
+            "changes" => answer_of_changes(alloc, self, one, other),
+            _ => answer_of_table(alloc, self, call, one),
         }
     }
 }
@@ -117,55 +96,68 @@ fn answer_of_key(
     alloc: Global,
     table: &mut Table,
     call: &str,
-    name: &str,
+    key: &Key,
     word: &str,
 ) -> Result<String, Fail> {
-    let key = key(alloc, "default", name)?;
     match call {
-        "add" => add(table, &key, word)?,
-        "remove" => remove(table, &key)?,
-        _ => return told_stood(alloc, stood(table, &key, number(word)?)?),
+        "add" => add(table, key, word)?,
+        "remove" => remove(table, key)?,
+        "stood" => return told(alloc, stood(table, key, number(word)?)?),
+        _ => return told(alloc, put_anew(table, alloc, key, word)?),
     }
     done(alloc)
 }
 
-fn told_stood(alloc: Global, object: Option<Object>) -> Result<String, Fail> {
-    match object {
-        Some(object) => Ok(told_object(alloc, &object)?),
-        None => Err("nothing stood".into()),
-    }
+/// The namespace that a word names; `-` is all.
+fn namespace_of(word: &str) -> Option<&str> {
+    if word == "-" { None } else { Some(word) }
 }
 
-fn told_object(alloc: Global, object: &Object) -> Result<String, AllocError> {
-    let body = &object.body;
-    let revision = object.revision;
-    format!(in alloc; "{body} {revision}")
+/// A page at `REVISION MAX`, of a namespace, or of all after a key.
+fn answer_of_page(
+    alloc: Global,
+    table: &mut Table,
+    call: &str,
+    place: &str,
+    words: &str,
+) -> Result<String, Fail> {
+    let (revision, max) = first_word(words);
+    let (revision, max) = (number(revision)?, number(max)?);
+    let page = match call {
+        "page" => page(table, namespace_of(place), revision, None, max)?,
+        _ => page(table, None, revision, place.split_once('/'), max)?,
+    };
+    told_page(alloc, &page)
+}
+
+/// The changes of a namespace `FROM TO MAX`.
+fn answer_of_changes(
+    alloc: Global,
+    table: &mut Table,
+    namespace: &str,
+    words: &str,
+) -> Result<String, Fail> {
+    let (from, words) = first_word(words);
+    let (to, max) = first_word(words);
+    let (from, to, max) = (number(from)?, number(to)?, number(max)?);
+    told_changes(alloc, &span(table, namespace_of(namespace), from, to, max)?)
 }
 
 fn answer_of_table(
     alloc: Global,
     table: &mut Table,
     call: &str,
-    one: &str,
-    other: &str,
+    word: &str,
 ) -> Result<String, Fail> {
     match call {
-        "marks" => {
-            let (current, compacted) = marks(table);
-            pair(alloc, current, compacted)
-        }
-        "rows" => {
-            let rows = rows(table)?;
-            Ok(format!(in alloc; "{rows}")?)
-        }
+        "marks" => told(alloc, marks(table)),
+        "rows" => told(alloc, table.rows()?),
+        "seen" => Ok(seen_of_table(table, alloc)?),
         "prune" => {
-            prune(table, number(one)?)?;
+            prune(table, number(word)?)?;
             done(alloc)
         }
-        "page" => {
-            let page = page(table, None, number(one)?, None, number(other)?)?;
-            told_page(alloc, &page)
-        }
+        "prune-anew" => told(alloc, prune_anew(table, alloc, number(word)?)?),
         _ => Err("no such call".into()),
     }
 }
@@ -176,12 +168,15 @@ fn told_page(alloc: Global, page: &[Entry]) -> Result<String, Fail> {
     Ok(text)
 }
 
+fn told_changes(alloc: Global, changes: &[Change]) -> Result<String, Fail> {
+    let mut text = String::new(alloc);
+    push_changes(&mut text, alloc, changes)?;
+    Ok(text)
+}
+
 /// The test fails where rows that a table which begins at this revision answers are answered otherwise.
 fn expect_played(alloc: Global, revision: u64, rows: &str) -> Result<(), Fail> {
-    let mut play = Play {
-        table: table_at(alloc, revision)?,
-    };
-    expect_answers(alloc, &mut play, rows)
+    expect_answers(alloc, &mut table_at(alloc, revision)?, rows)
 }
 
 /// One key has five writes, another is made and deleted: a prune leaves what still stands or came later.
@@ -192,13 +187,13 @@ add w1 d => done
 add w1 e => done
 add w2 f => done
 remove w2 => done
-marks => 8 1
+marks => (8, 1)
 rows => 6
 prune 5 => done
 rows => 3
 prune 8 => done
 rows => 1
-marks => 8 8
+marks => (8, 8)
 ";
 
 #[test]
@@ -207,9 +202,9 @@ fn rows_after_a_prune(rt: HostRuntime) -> Result<(), Fail> {
 }
 
 const HIGHEST: &str = "add w1 a => done
-marks => 9223372036854775807 9223372036854775806
-stood w1 18446744073709551615 => a 9223372036854775807
-page 18446744073709551615 18446744073709551615 => ; default/w1 a 9223372036854775807
+marks => (9223372036854775807, 9223372036854775806)
+stood w1 18446744073709551615 => Some(Object { revision: 9223372036854775807, body: \"a\" })
+page - 18446744073709551615 18446744073709551615 => ; default/w1 a 9223372036854775807
 prune 18446744073709551615 => done
 rows => 1
 ";
@@ -219,62 +214,36 @@ fn the_highest_revision(rt: HostRuntime) -> Result<(), Fail> {
     expect_played(rt.alloc(), LAST_REVISION - 1, HIGHEST)
 }
 
-pub fn two_namespaces(alloc: Global) -> Result<Table, Fault> {
-    let mut table = table_at(alloc, 1)?;
-    let b = key(alloc, "default", "b")?;
-    let a = key(alloc, "default", "a")?;
-    let other = key(alloc, "other", "a")?;
-    add(&mut table, &b, "b2")?;
-    add(&mut table, &a, "a3")?;
-    add(&mut table, &other, "o4")?;
-    remove(&mut table, &b)?;
-    add(&mut table, &a, "a6")?;
-    Ok(table)
-}
-
-/// A page of all at revision 4, one of `default` at 6, and two at 4 after `default/a`, of ten and of one.
-fn told_pages(table: &mut Table, alloc: Global) -> Result<String, Fault> {
-    let mut text = String::new(alloc);
-    push_page(&mut text, alloc, &page(table, None, 4, None, 10)?)?;
-    push_page(
-        &mut text,
-        alloc,
-        &page(table, Some("default"), 6, None, 10)?,
-    )?;
-    for max in [10, 1] {
-        push_page(&mut text, alloc, &page_after(table, max)?)?;
-    }
-    Ok(text)
-}
-
-fn page_after(table: &mut Table, max: u64) -> Result<Vec<Entry>, Fault> {
-    page(table, None, 4, Some(("default", "a")), max)
-}
+/// Pages of all and of one namespace, whole and after a key, of ten and of one.
+const PAGES: &str = "add b b2 => done
+add a a3 => done
+add other/a o4 => done
+remove b => done
+add a a6 => done
+page - 4 10 => ; default/a a3 3 default/b b2 2 other/a o4 4
+page default 6 10 => ; default/a a6 6
+page-after default/a 4 10 => ; default/b b2 2 other/a o4 4
+page-after default/a 4 1 => ; default/b b2 2
+";
 
 #[test]
 fn pages_are_in_the_order_of_keys(rt: HostRuntime) -> Result<(), Fail> {
-    let mut table = two_namespaces(rt.alloc())?;
-    expect_text(
-        told_pages(&mut table, rt.alloc())?,
-        "; default/a a3 3 default/b b2 2 other/a o4 4; default/a a6 6; default/b b2 2 other/a o4 4; default/b b2 2",
-    )
+    expect_played(rt.alloc(), 1, PAGES)
 }
 
 /// The changes of `default` after revision 2 up to 6, and the first two of all after 1.
-fn told_spans(table: &mut Table, alloc: Global) -> Result<String, Fault> {
-    let mut text = String::new(alloc);
-    push_changes(&mut text, alloc, &span(table, Some("default"), 2, 6, 10)?)?;
-    push_changes(&mut text, alloc, &span(table, None, 1, 6, 2)?)?;
-    Ok(text)
-}
+const CHANGES: &str = "add b b2 => done
+add a a3 => done
+add other/a o4 => done
+remove b => done
+add a a6 => done
+changes default 2 6 10 => ; default/a a3 3 default/b gone 5 default/a a6 6
+changes - 1 6 2 => ; default/b b2 2 default/a a3 3
+";
 
 #[test]
 fn changes_are_in_the_order_of_revisions(rt: HostRuntime) -> Result<(), Fail> {
-    let mut table = two_namespaces(rt.alloc())?;
-    expect_text(
-        told_spans(&mut table, rt.alloc())?,
-        "; default/a a3 3 default/b gone 5 default/a a6 6; default/b b2 2 default/a a3 3",
-    )
+    expect_played(rt.alloc(), 1, CHANGES)
 }
 
 fn push_line(
@@ -292,13 +261,8 @@ fn push_line(
 pub fn push_page(text: &mut String, alloc: Global, page: &[Entry]) -> Result<(), AllocError> {
     text.push_str(";")?;
     for entry in page {
-        push_line(
-            text,
-            alloc,
-            &entry.key,
-            &entry.object.body,
-            entry.object.revision,
-        )?;
+        let object = &entry.object;
+        push_line(text, alloc, &entry.key, &object.body, object.revision)?;
     }
     Ok(())
 }
@@ -336,77 +300,71 @@ fn seen_of_table(table: &mut Table, alloc: Global) -> Result<String, Fault> {
     Ok(text)
 }
 
-fn is_seen(table: &mut Table, alloc: Global, text: &str) -> Result<bool, Fault> {
-    Ok(seen_of_table(table, alloc)?.as_str() == text)
-}
-
-fn is_put_refused(table: &mut Table, alloc: Global, key: &Key) -> Result<bool, AllocError> {
+fn is_put_refused(
+    table: &mut Table,
+    alloc: Global,
+    key: &Key,
+    body: &str,
+) -> Result<bool, AllocError> {
     mark(alloc)?;
-    let is_refused = add(table, key, "b7").is_err();
+    let is_refused = add(table, key, body).is_err();
     mark(alloc)?;
     Ok(is_refused)
 }
 
 /// A put; refused memory, the table shows what it did, and the put is done when it is called again.
-fn put_anew(table: &mut Table, alloc: Global, key: &Key, old: &str) -> Result<bool, Fault> {
-    if !is_put_refused(table, alloc, key)? {
+fn put_anew(table: &mut Table, alloc: Global, key: &Key, body: &str) -> Result<bool, Fault> {
+    let before = seen_of_table(table, alloc)?;
+    if !is_put_refused(table, alloc, key, body)? {
         return Ok(true);
     }
-    let is_as_before = is_seen(table, alloc, old)?;
-    add(table, key, "b7")?;
-    Ok(is_as_before)
+    let after = seen_of_table(table, alloc)?;
+    add(table, key, body)?;
+    Ok(before.as_str() == after.as_str())
 }
 
-/// What is seen after the put.
-fn seen_after_put(table: &mut Table, alloc: Global) -> Result<String, Fail> {
-    let only = key(alloc, "default", "b")?;
-    let old = seen_of_table(table, alloc)?;
-    match put_anew(table, alloc, &only, old.as_str())? {
-        true => Ok(seen_of_table(table, alloc)?),
-        false => Err("a refused put changed the table".into()),
-    }
-}
+const PUT_ANEW: &str = "add b b2 => done
+add a a3 => done
+add other/a o4 => done
+remove b => done
+add a a6 => done
+add-anew b b7 => true
+seen => 1 to 7 in 5;; default/a a6 6 default/b b7 7 other/a o4 4; default/b b2 2 default/a a3 3 other/a o4 4 default/b gone 5 default/a a6 6 default/b b7 7
+";
 
 #[test]
 fn a_put_that_is_refused_memory(rt: HostRuntime) -> Result<(), Fail> {
-    let mut table = two_namespaces(rt.alloc())?;
-    expect_text(
-        seen_after_put(&mut table, rt.alloc())?,
-        "1 to 7 in 5;; default/a a6 6 default/b b7 7 other/a o4 4; default/b b2 2 default/a a3 3 other/a o4 4 default/b gone 5 default/a a6 6 default/b b7 7",
-    )
+    expect_played(rt.alloc(), 1, PUT_ANEW)
 }
 
-fn is_prune_refused(table: &mut Table, alloc: Global) -> Result<bool, AllocError> {
+fn is_prune_refused(table: &mut Table, alloc: Global, revision: u64) -> Result<bool, AllocError> {
     mark(alloc)?;
-    let is_refused = prune(table, 5).is_err();
+    let is_refused = prune(table, revision).is_err();
     mark(alloc)?;
     Ok(is_refused)
 }
 
 /// A prune; refused memory, the table shows what it did, and the prune is done when it is called again.
-fn prune_anew(table: &mut Table, alloc: Global, old: &str) -> Result<bool, Fault> {
-    if !is_prune_refused(table, alloc)? {
+fn prune_anew(table: &mut Table, alloc: Global, revision: u64) -> Result<bool, Fault> {
+    let before = seen_of_table(table, alloc)?;
+    if !is_prune_refused(table, alloc, revision)? {
         return Ok(true);
     }
-    let is_as_before = is_seen(table, alloc, old)?;
-    prune(table, 5)?;
-    Ok(is_as_before)
+    let after = seen_of_table(table, alloc)?;
+    prune(table, revision)?;
+    Ok(before.as_str() == after.as_str())
 }
 
-/// What is seen after the prune.
-fn seen_after_prune(table: &mut Table, alloc: Global) -> Result<String, Fail> {
-    let old = seen_of_table(table, alloc)?;
-    match prune_anew(table, alloc, old.as_str())? {
-        true => Ok(seen_of_table(table, alloc)?),
-        false => Err("a refused prune changed the table".into()),
-    }
-}
+const PRUNED_ANEW: &str = "add b b2 => done
+add a a3 => done
+add other/a o4 => done
+remove b => done
+add a a6 => done
+prune-anew 5 => true
+seen => 5 to 6 in 3; default/a a3 3 other/a o4 4; default/a a6 6 other/a o4 4; default/a a6 6
+";
 
 #[test]
 fn a_prune_that_is_refused_memory(rt: HostRuntime) -> Result<(), Fail> {
-    let mut table = two_namespaces(rt.alloc())?;
-    expect_text(
-        seen_after_prune(&mut table, rt.alloc())?,
-        "5 to 6 in 3; default/a a3 3 other/a o4 4; default/a a6 6 other/a o4 4; default/a a6 6",
-    )
+    expect_played(rt.alloc(), 1, PRUNED_ANEW)
 }
