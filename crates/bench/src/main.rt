@@ -2,6 +2,7 @@
 //! or `objects` runs that layer at it. What was done goes to standard output, the processor times to standard error.
 #![tactic(auto)]
 
+mod connecting;
 mod indexing;
 mod objects;
 mod reading;
@@ -27,7 +28,10 @@ fn run_layer(
         "indexer" => indexing::run(rt, alloc, count),
         "reader" => reading::run(rt, alloc, count),
         "tables" => storing::run(rt, alloc, count),
-        "hub" => serving::run(rt, alloc, count),
+        "hub" => {
+            serving::run(rt, alloc, count)?;
+            connecting::run(rt, alloc)
+        }
         "objects" => objects::run(rt, alloc, count),
         _ => bail!("no such layer: {layer}"),
     }

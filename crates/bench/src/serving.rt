@@ -12,7 +12,7 @@ use verbs::{Api, Call, Fault, Plan};
 const TYPES: &str =
     r#"{"types":[{"group":"demo.example","version":"v1","kind":"Widget","plural":"widgets","schema":{"type":"object","properties":{"spec":{"type":"object","properties":{"config":{"type":"object","additionalProperties":{"type":"string"}}}}}}}]}"#;
 
-const PATH: &str = "/apis/demo.example/v1/namespaces/default/widgets/w1";
+pub(crate) const PATH: &str = "/apis/demo.example/v1/namespaces/default/widgets/w1";
 
 const MEDIA: &str = "application/apply-patch+yaml";
 
@@ -21,7 +21,7 @@ const QUERY: &str = "fieldManager=alice";
 /// How many requests are served.
 const REQUESTS: u64 = 200;
 
-fn api_of_widgets(alloc: Global) -> anyhow::Result<Api> {
+pub(crate) fn api_of_widgets(alloc: Global) -> anyhow::Result<Api> {
     let value = Value::from_str(alloc, TYPES)?;
     let types = Types::read(alloc, &value)?;
     match Api::new(alloc, types) {
@@ -80,11 +80,11 @@ fn values(alloc: Global, bodies: &[String]) -> anyhow::Result<Vec<Value>> {
     Ok(all)
 }
 
-fn on(hub: &mut Hub, event: &Event) -> Result<(), HubFault> {
+pub(crate) fn on(hub: &mut Hub, event: &Event) -> Result<(), HubFault> {
     hub.on(event)
 }
 
-fn is_served(hub: &Hub, id: u64) -> bool {
+pub(crate) fn is_served(hub: &Hub, id: u64) -> bool {
     hub.out(id).starts_with(b"HTTP/1.1 20")
 }
 
