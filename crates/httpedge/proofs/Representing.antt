@@ -11,7 +11,7 @@ use Rattle.std.specs.FinMap as fin
 use Rattle.std.specs.Ordering.{nat_cmp, eq_by_cmp}
 use Rattle.schema.specs.TypesFile.{ServedShape}
 use Rattle.verbs.specs.declared.api.Api.{Api}
-use Rattle.verbs.specs.Machine.{Machine}
+use Rattle.history.specs.History.{History}
 use Rattle.verbs.specs.Seen.{Stands}
 use Rattle.httpedge.specs.declared.connection.Connection as conns
 use Rattle.httpedge.specs.declared.connection.Connection.TheVariants as conn
@@ -126,7 +126,7 @@ no_entries = no_entry (fin.entries (fin.empty {X = Connection} {R = nat_cmp})) (
 nothing_in : (q : ℕ) (held : Held) → held.entries ≡ [] → get nat_cmp held q ≡ None
 nothing_in q held none = ap (lookup (is_at (nat_cmp q))) none
 
-pub start_in : (types : List ServedShape) (m : Machine) (api : Api) (held : Held) → Stands api types m → held.entries ≡ [] → Represents api held 0 None (start types m)
+pub start_in : (types : List ServedShape) (m : History) (api : Api) (held : Held) → Stands api types m → held.entries ≡ [] → Represents api held 0 None (start types m)
 start_in types m api held stands none = record {
   machine = stands;
   connections = λ q. subst (λ (o : Option conns.Connection). HoldsAt types o (fin.get (fin.empty {X = Connection} {R = nat_cmp}) q)) (sym (nothing_in q held none))
@@ -185,7 +185,7 @@ opens_well s id count' api old new count highest d held above holds put is =
     let same : one_if (is_open_in d) ≡ one_if (is_open c.standing) = ap one_if (same_open s.types d c holds) in
     let was = held.count_is in (
       t,
-      (undecided, [], refl, refl, sym (ap (λ (b : Bool). unless_refused (cond b None (Some 1)) s t) isnew)),
+      (undecided, refl, sym (ap (λ (b : Bool). unless_refused (cond b None (Some 1)) s t) isnew)),
       record {
         machine = held.machine;
         connections = held_put s.types old new s.connections id d c held.connections put holds;
@@ -196,11 +196,11 @@ opens_well s id count' api old new count highest d held above holds put is =
 
 -- ---- bytes that come
 
-later : (types : List ServedShape) (m : Machine) (front bytes text : List ℕ) (asked : Asked)
-    → connection_after types m opened bytes asked text ≡ connection_after types m (waiting_for front) bytes asked text
-later types m front bytes text undecided = refl
-later types m front bytes text (refused d) = refl
-later types m front bytes text (accepted call) = refl
+later : (types : List ServedShape) (m : History) (front bytes : List ℕ) (asked : Asked)
+    → connection_after types m opened bytes asked ≡ connection_after types m (waiting_for front) bytes asked
+later types m front bytes undecided = refl
+later types m front bytes (refused d) = refl
+later types m front bytes (accepted call) = refl
 
 counted_by : (b : Bool) (count now was : ℕ) → now + 1 ≡ was + one_if b → count ≡ was → count_after count true (Some b) ≡ now
 counted_by true count now was sum is = omega (arith, sum, is)
@@ -231,15 +231,15 @@ steps_on s t id bytes c st got stands came =
 comes_by : (s : State) (id : ℕ) (bytes : List ℕ) (api api' : Api) (old new : Held) (count count' : ℕ) (highest : Option ℕ) (c : Connection) (d e : conns.Connection) (st : Standing)
     → Represents api old count highest s → fin.get s.connections id ≡ Some c → Holds s.types d c → c.standing ≡ st → ReceivedBy s.types s.machine c st bytes e api' → PutAt id e old new
     → count' ≡ count_after count (is_open_in d) (option_map is_open_in (get nat_cmp new id)) → Comes s id bytes api' new count' highest
-comes_by s id bytes api api' old new count count' highest c d e (waiting front) held got holds stands (is, (asked, text, asks, told, then, serves)) put counts =
-    let c' = connection_after s.types s.machine c (front ++ bytes) asked text in
+comes_by s id bytes api api' old new count count' highest c d e (waiting front) held got holds stands (is, (asked, asks, then, serves)) put counts =
+    let c' = connection_after s.types s.machine c (front ++ bytes) asked in
     let holds' : Holds s.types e c' =
     subst (λ (x : Connection). Holds s.types e x)
-    (later s.types s.machine front (front ++ bytes) text asked ∙ sym (ap (λ (x : Connection). connection_after s.types s.machine x (front ++ bytes) asked text) is)) then in
-    let t = received s id c (front ++ bytes) asked text in
+    (later s.types s.machine front (front ++ bytes) asked ∙ sym (ap (λ (x : Connection). connection_after s.types s.machine x (front ++ bytes) asked) is)) then in
+    let t = received s id c (front ++ bytes) asked in
     let was_open = ap is_open stands in (
       t,
-      steps_on s t id bytes c (waiting front) got stands (asked, text, asks, told, refl),
+      steps_on s t id bytes c (waiting front) got stands (asked, asks, refl),
       record {
         machine = serves;
         connections = held_put s.types old new s.connections id e c' held.connections put holds';
@@ -251,7 +251,7 @@ comes_by s id bytes api api' old new count count' highest c d e (watching w) hel
     absurd (false_true (sym (ap is_plain stands) ∙ plain s.types d c holds))
 comes_by s id bytes api api' old new count count' highest c d e ended held got holds stands (then, serves) put counts = (
   s,
-  steps_on s s id bytes c ended got stands (undecided, [], refl, refl, refl),
+  steps_on s s id bytes c ended got stands (undecided, refl, refl),
   record {
     machine = serves;
     connections = subst (λ (all : Connections). (q : ℕ) → HoldsAt s.types (get nat_cmp new q) (fin.get all q)) (put_same s.connections id c got)
@@ -296,16 +296,16 @@ dies_well s id bytes api api' old new count count' highest c d held serves got h
 -- ---- events in turn
 
 pub comes_refused : (s : State) (id : ℕ) (bytes : List ℕ) (o : Option Connection) (n : ℕ) → fin.get s.connections id ≡ o → cond (is_some o) None (Some 2) ≡ Some n → Steps s (comes id bytes) s
-comes_refused s id bytes None n got is = subst (λ (o : Option Connection). ComesBy s id o bytes s) (sym got) (undecided, [], refl, refl, refl)
+comes_refused s id bytes None n got is = subst (λ (o : Option Connection). ComesBy s id o bytes s) (sym got) (undecided, refl, refl)
 comes_refused s id bytes (Some c) n got is = absurd cc
 
 pub refused_stays : (s : State) (e : Event) (n : ℕ) → refusal s e ≡ Some n → Steps s e s
-refused_stays s (opens id) n is = (undecided, [], refl, refl, sym (ap (λ (o : Option ℕ). unless_refused o s (carried_out s (opens id) undecided [])) is))
+refused_stays s (opens id) n is = (undecided, refl, sym (ap (λ (o : Option ℕ). unless_refused o s (carried_out s (opens id) undecided)) is))
 refused_stays s (comes id bytes) n is = comes_refused s id bytes (fin.get s.connections id) n refl is
-refused_stays s (goes id) n is = (undecided, [], refl, refl, sym (ap (λ (o : Option ℕ). unless_refused o s (carried_out s (goes id) undecided [])) is))
-refused_stays s (pumps id max) n is = (undecided, [], refl, refl, sym (ap (λ (o : Option ℕ). unless_refused o s (carried_out s (pumps id max) undecided [])) is))
-refused_stays s (ticks ms) n is = (undecided, [], refl, refl, sym (ap (λ (o : Option ℕ). unless_refused o s (carried_out s (ticks ms) undecided [])) is))
-refused_stays s (compacts c) n is = (undecided, [], refl, refl, sym (ap (λ (o : Option ℕ). unless_refused o s (carried_out s (compacts c) undecided [])) is))
+refused_stays s (goes id) n is = (undecided, refl, sym (ap (λ (o : Option ℕ). unless_refused o s (carried_out s (goes id) undecided)) is))
+refused_stays s (pumps id max) n is = (undecided, refl, sym (ap (λ (o : Option ℕ). unless_refused o s (carried_out s (pumps id max) undecided)) is))
+refused_stays s (ticks ms) n is = (undecided, refl, sym (ap (λ (o : Option ℕ). unless_refused o s (carried_out s (ticks ms) undecided)) is))
+refused_stays s (compacts c) n is = (undecided, refl, sym (ap (λ (o : Option ℕ). unless_refused o s (carried_out s (compacts c) undecided)) is))
 
 pub runs_on : (r s t : State) (before : List Happening) (h : Happening) → Runs r before s → Follows s h t → Runs r (before ++ h ∷ []) t
 runs_on r s t [] h start follows = (t, subst (λ (x : State). Follows x h t) start follows, refl)

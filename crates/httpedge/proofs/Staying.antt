@@ -28,21 +28,21 @@ by_elsewhere : (s : State) (q : ℕ) (o : Option Connection) (f : Connection →
 by_elsewhere s q None f stays = refl
 by_elsewhere s q (Some c) f stays = stays c
 
-received_elsewhere : (s : State) (id q : ℕ) (c : Connection) (st : Standing) (bytes text : List ℕ) (asked : Asked) → q ≢ id
-    → fin.get (received_by s id c st bytes asked text).connections q ≡ fin.get s.connections q
-received_elsewhere s id q c (waiting front) bytes text asked isnt = put_elsewhere s.connections id q _ isnt
-received_elsewhere s id q c (watching w) bytes text asked isnt = refl
-received_elsewhere s id q c ended bytes text asked isnt = refl
-received_elsewhere s id q c (gone had_ended) bytes text asked isnt = refl
+received_elsewhere : (s : State) (id q : ℕ) (c : Connection) (st : Standing) (bytes : List ℕ) (asked : Asked) → q ≢ id
+    → fin.get (received_by s id c st bytes asked).connections q ≡ fin.get s.connections q
+received_elsewhere s id q c (waiting front) bytes asked isnt = put_elsewhere s.connections id q _ isnt
+received_elsewhere s id q c (watching w) bytes asked isnt = refl
+received_elsewhere s id q c ended bytes asked isnt = refl
+received_elsewhere s id q c (gone had_ended) bytes asked isnt = refl
 
-carried_elsewhere : (s : State) (e : Event) (asked : Asked) (text : List ℕ) (q : ℕ) → IsElsewhere e q → fin.get (carried_out s e asked text).connections q ≡ fin.get s.connections q
-carried_elsewhere s (opens id) asked text q isnt = put_elsewhere s.connections id q (opening s.connections) isnt
-carried_elsewhere s (comes id bytes) asked text q isnt =
-    by_elsewhere s q (fin.get s.connections id) _ (λ c. received_elsewhere s id q c c.standing bytes text asked isnt)
-carried_elsewhere s (goes id) asked text q isnt = by_elsewhere s q (fin.get s.connections id) _ (λ c. put_elsewhere s.connections id q _ isnt)
-carried_elsewhere s (pumps id max) asked text q isnt = by_elsewhere s q (fin.get s.connections id) _ (λ c. put_elsewhere s.connections id q _ isnt)
-carried_elsewhere s (ticks ms) asked text q isnt = absurd isnt
-carried_elsewhere s (compacts c) asked text q isnt = refl
+carried_elsewhere : (s : State) (e : Event) (asked : Asked) (q : ℕ) → IsElsewhere e q → fin.get (carried_out s e asked).connections q ≡ fin.get s.connections q
+carried_elsewhere s (opens id) asked q isnt = put_elsewhere s.connections id q (opening s.connections) isnt
+carried_elsewhere s (comes id bytes) asked q isnt =
+    by_elsewhere s q (fin.get s.connections id) _ (λ c. received_elsewhere s id q c c.standing bytes asked isnt)
+carried_elsewhere s (goes id) asked q isnt = by_elsewhere s q (fin.get s.connections id) _ (λ c. put_elsewhere s.connections id q _ isnt)
+carried_elsewhere s (pumps id max) asked q isnt = by_elsewhere s q (fin.get s.connections id) _ (λ c. put_elsewhere s.connections id q _ isnt)
+carried_elsewhere s (ticks ms) asked q isnt = absurd isnt
+carried_elsewhere s (compacts c) asked q isnt = refl
 
 unless_elsewhere : (s t : State) (o : Option ℕ) (q : ℕ) → fin.get t.connections q ≡ fin.get s.connections q → fin.get (unless_refused o s t).connections q ≡ fin.get s.connections q
 unless_elsewhere s t None q same = same
@@ -57,8 +57,8 @@ starved_elsewhere s (ticks ms) which q isnt = absurd isnt
 starved_elsewhere s (compacts c) which q isnt = refl
 
 pub others : (s t : State) (h : Happening) (q : ℕ) → HappensElsewhere h q → Follows s h t → fin.get t.connections q ≡ fin.get s.connections q
-others s t (happens e) q elsewhere (asked, text, asks, told, is) =
-    ap (λ (x : State). fin.get x.connections q) is ∙ unless_elsewhere s (carried_out s e asked text) (refusal s e) q (carried_elsewhere s e asked text q elsewhere)
+others s t (happens e) q elsewhere (asked, asks, is) =
+    ap (λ (x : State). fin.get x.connections q) is ∙ unless_elsewhere s (carried_out s e asked) (refusal s e) q (carried_elsewhere s e asked q elsewhere)
 others s t (starves e which) q elsewhere (unrefused, memory, is) = ap (λ (x : State). fin.get x.connections q) is ∙ starved_elsewhere s e which q elsewhere
 others s t (takes id n) q elsewhere is =
     ap (λ (x : State). fin.get x.connections q) is ∙ by_elsewhere s q (fin.get s.connections id) _ (λ c. put_elsewhere s.connections id q _ elsewhere)
@@ -81,9 +81,9 @@ each_idle f id None stays is = refl
 each_idle f id (Some c) stays is = ap (λ (d : Connection). Some d) (stays c is)
 
 pub ticked_idle : (s t : State) (ms id : ℕ) → watching_on s.connections id ≡ false → Steps s (ticks ms) t → fin.get t.connections id ≡ fin.get s.connections id
-ticked_idle s t ms id is (asked, text, asks, told, then) =
+ticked_idle s t ms id is (asked, asks, then) =
     ap (λ (x : State). fin.get x.connections id) then
-    ∙ unless_elsewhere s (carried_out s (ticks ms) asked text) (refusal s (ticks ms)) id
+    ∙ unless_elsewhere s (carried_out s (ticks ms) asked) (refusal s (ticks ms)) id
     (got_each (λ q c. with_turn (ticked ms) c) s.connections id
     ∙ each_idle (λ q c. with_turn (ticked ms) c) id (fin.get s.connections id) (λ c idle. turn_idle (ticked ms) c c.standing idle) is)
 
@@ -113,13 +113,13 @@ by_ended : (s : State) (id q : ℕ) (o : Option Connection) (f : Connection → 
 by_ended s id q None f at stays is = is
 by_ended s id q (Some c) f at stays is = stays c at
 
-received_ended : (s : State) (id q : ℕ) (c : Connection) (st : Standing) (bytes text : List ℕ) (asked : Asked) → fin.get s.connections id ≡ Some c → c.standing ≡ st
-    → ended_on s.connections q ≡ true → ended_on (received_by s id c st bytes asked text).connections q ≡ true
-received_ended s id q c (waiting front) bytes text asked at stands is =
+received_ended : (s : State) (id q : ℕ) (c : Connection) (st : Standing) (bytes : List ℕ) (asked : Asked) → fin.get s.connections id ≡ Some c → c.standing ≡ st
+    → ended_on s.connections q ≡ true → ended_on (received_by s id c st bytes asked).connections q ≡ true
+received_ended s id q c (waiting front) bytes asked at stands is =
     put_ended s.connections id q _ (λ e. absurd (wrong (sym (ap ended_in at ∙ ap has_ended stands) ∙ e))) is
-received_ended s id q c (watching w) bytes text asked at stands is = is
-received_ended s id q c ended bytes text asked at stands is = is
-received_ended s id q c (gone had_ended) bytes text asked at stands is = is
+received_ended s id q c (watching w) bytes asked at stands is = is
+received_ended s id q c ended bytes asked at stands is = is
+received_ended s id q c (gone had_ended) bytes asked at stands is = is
 
 turn_ended : (turn : Watch → Turn) (c : Connection) (st : Standing) → c.standing ≡ st → has_ended c.standing ≡ true → has_ended (after_turn turn c st).standing ≡ true
 turn_ended turn c (waiting front) stands is = is
@@ -161,23 +161,23 @@ unless_ended : (s t : State) (o : Option ℕ) (q : ℕ) → ended_on t.connectio
 unless_ended s t None q then is = then
 unless_ended s t (Some n) q then is = is
 
-stepped_ended : (s : State) (e : Event) (asked : Asked) (text : List ℕ) (q : ℕ) → ended_on s.connections q ≡ true → ended_on (unless_refused (refusal s e) s (carried_out s e asked text)).connections q ≡ true
-stepped_ended s (opens id) asked text q is = opened_ended s id q (is_new s.connections id) refl is
-stepped_ended s (comes id bytes) asked text q is =
-    unless_ended s (carried_out s (comes id bytes) asked text) (refusal s (comes id bytes)) q
-    (by_ended s id q (fin.get s.connections id) _ refl (λ c at. received_ended s id q c c.standing bytes text asked at refl is) is) is
-stepped_ended s (goes id) asked text q is =
-    unless_ended s (carried_out s (goes id) asked text) (refusal s (goes id)) q
+stepped_ended : (s : State) (e : Event) (asked : Asked) (q : ℕ) → ended_on s.connections q ≡ true → ended_on (unless_refused (refusal s e) s (carried_out s e asked)).connections q ≡ true
+stepped_ended s (opens id) asked q is = opened_ended s id q (is_new s.connections id) refl is
+stepped_ended s (comes id bytes) asked q is =
+    unless_ended s (carried_out s (comes id bytes) asked) (refusal s (comes id bytes)) q
+    (by_ended s id q (fin.get s.connections id) _ refl (λ c at. received_ended s id q c c.standing bytes asked at refl is) is) is
+stepped_ended s (goes id) asked q is =
+    unless_ended s (carried_out s (goes id) asked) (refusal s (goes id)) q
     (by_ended s id q (fin.get s.connections id) _ refl (λ c at. put_ended s.connections id q (with_standing c (gone (has_ended c.standing))) (of_ended s.connections id c at) is) is) is
-stepped_ended s (pumps id max) asked text q is =
+stepped_ended s (pumps id max) asked q is =
     let turn = pumped s.types s.machine max in
-    unless_ended s (carried_out s (pumps id max) asked text) (refusal s (pumps id max)) q
+    unless_ended s (carried_out s (pumps id max) asked) (refusal s (pumps id max)) q
     (by_ended s id q (fin.get s.connections id) _ refl
     (λ c at. put_ended s.connections id q (with_turn turn c) (λ e. turn_ended turn c c.standing refl (of_ended s.connections id c at e)) is) is) is
-stepped_ended s (ticks ms) asked text q is =
-    unless_ended s (carried_out s (ticks ms) asked text) (refusal s (ticks ms)) q
+stepped_ended s (ticks ms) asked q is =
+    unless_ended s (carried_out s (ticks ms) asked) (refusal s (ticks ms)) q
     (in_each (λ id c. with_turn (ticked ms) c) s.connections q (λ c e. turn_ended (ticked ms) c c.standing refl e) is) is
-stepped_ended s (compacts c) asked text q is = unless_ended s (carried_out s (compacts c) asked text) (refusal s (compacts c)) q is is
+stepped_ended s (compacts c) asked q is = unless_ended s (carried_out s (compacts c) asked) (refusal s (compacts c)) q is is
 
 starved_ended : (s : State) (e : Event) (which : ℕ → Bool) (q : ℕ) → ended_on s.connections q ≡ true → ended_on (starved s e which).connections q ≡ true
 starved_ended s (opens id) which q is = is
@@ -191,7 +191,7 @@ starved_ended s (ticks ms) which q is =
 starved_ended s (compacts c) which q is = is
 
 pub ends : (s t : State) (h : Happening) (q : ℕ) → Follows s h t → ended_on s.connections q ≡ true → ended_on t.connections q ≡ true
-ends s t (happens e) q (asked, text, asks, told, then) is = ap (λ (x : State). ended_on x.connections q) then ∙ stepped_ended s e asked text q is
+ends s t (happens e) q (asked, asks, then) is = ap (λ (x : State). ended_on x.connections q) then ∙ stepped_ended s e asked q is
 ends s t (starves e which) q (unrefused, memory, then) is = ap (λ (x : State). ended_on x.connections q) then ∙ starved_ended s e which q is
 ends s t (takes id n) q then is =
     ap (λ (x : State). ended_on x.connections q) then

@@ -5,7 +5,7 @@ use Rattle.std.specs.Cmp.{nat_cmp_total}
 use Rattle.std.specs.FinMap as fin
 use Rattle.std.specs.Ordering.{nat_cmp, eq_by_cmp}
 use Rattle.schema.specs.TypesFile.{ServedShape}
-use Rattle.verbs.specs.Machine.{Machine}
+use Rattle.history.specs.History.{History}
 use Rattle.httpedge.specs.Asks.{Asked}
 use Rattle.httpedge.specs.Connections.{AllIsOut, Connection, Connections, IsUntaken, Standing, waiting, watching, ended, gone, each, has_gone, left_out, opened, out_of, out_on, with_written, written_on}
 use Rattle.httpedge.specs.Decision.{undecided, refused, accepted}
@@ -34,10 +34,10 @@ opened_untaken : (full : Bool) (bytes : List ℕ) → IsUntaken (Some (cond full
 opened_untaken true bytes = (refl, refl)
 opened_untaken false bytes = (refl, refl)
 
-after_untaken : (types : List ServedShape) (m : Machine) (c : Connection) (bytes text : List ℕ) (asked : Asked) → IsUntaken (Some c) → IsUntaken (Some (connection_after types m c bytes asked text))
-after_untaken types m c bytes text undecided is = (is.0, refl)
-after_untaken types m c bytes text (refused d) is = (is.0, refl)
-after_untaken types m c bytes text (accepted call) is = (is.0, refl)
+after_untaken : (types : List ServedShape) (m : History) (c : Connection) (bytes : List ℕ) (asked : Asked) → IsUntaken (Some c) → IsUntaken (Some (connection_after types m c bytes asked))
+after_untaken types m c bytes undecided is = (is.0, refl)
+after_untaken types m c bytes (refused d) is = (is.0, refl)
+after_untaken types m c bytes (accepted call) is = (is.0, refl)
 
 stays_here : (o : Option Watch) → has_gone (standing_after o) ≡ false
 stays_here None = refl
@@ -70,31 +70,31 @@ each_by f id (Some c) stays is = stays c is
 each_untaken : (f : ℕ → Connection → Connection) (all : Connections) → ((id : ℕ) (c : Connection) → IsUntaken (Some c) → IsUntaken (Some (f id c))) → AllIsOut all → AllIsOut (each f all)
 each_untaken f all stays out = λ q. subst IsUntaken (sym (got_each f all q)) (each_by f q (fin.get all q) (stays q) (out q))
 
-received_untaken : (s : State) (id : ℕ) (c : Connection) (st : Standing) (bytes text : List ℕ) (asked : Asked) → AllIsOut s.connections → IsUntaken (Some c)
-    → AllIsOut (received_by s id c st bytes asked text).connections
-received_untaken s id c (waiting front) bytes text asked out is = put_untaken s.connections id _ out (after_untaken s.types s.machine c _ text asked is)
-received_untaken s id c (watching w) bytes text asked out is = out
-received_untaken s id c ended bytes text asked out is = out
-received_untaken s id c (gone had_ended) bytes text asked out is = out
+received_untaken : (s : State) (id : ℕ) (c : Connection) (st : Standing) (bytes : List ℕ) (asked : Asked) → AllIsOut s.connections → IsUntaken (Some c)
+    → AllIsOut (received_by s id c st bytes asked).connections
+received_untaken s id c (waiting front) bytes asked out is = put_untaken s.connections id _ out (after_untaken s.types s.machine c _ asked is)
+received_untaken s id c (watching w) bytes asked out is = out
+received_untaken s id c ended bytes asked out is = out
+received_untaken s id c (gone had_ended) bytes asked out is = out
 
-carried_untaken : (s : State) (e : Event) (asked : Asked) (text : List ℕ) → peer_goes e ≡ false → AllIsOut s.connections → AllIsOut (carried_out s e asked text).connections
-carried_untaken s (opens id) asked text stays out = put_untaken s.connections id (opening s.connections) out (opened_untaken _ (refusal_reply (as_denied too_many_connections)))
-carried_untaken s (comes id bytes) asked text stays out =
-    by_untaken s (fin.get s.connections id) _ out (out id) (λ c is. received_untaken s id c c.standing bytes text asked out is)
-carried_untaken s (goes id) asked text stays out = absurd cc
-carried_untaken s (pumps id max) asked text stays out =
+carried_untaken : (s : State) (e : Event) (asked : Asked) → peer_goes e ≡ false → AllIsOut s.connections → AllIsOut (carried_out s e asked).connections
+carried_untaken s (opens id) asked stays out = put_untaken s.connections id (opening s.connections) out (opened_untaken _ (refusal_reply (as_denied too_many_connections)))
+carried_untaken s (comes id bytes) asked stays out =
+    by_untaken s (fin.get s.connections id) _ out (out id) (λ c is. received_untaken s id c c.standing bytes asked out is)
+carried_untaken s (goes id) asked stays out = absurd cc
+carried_untaken s (pumps id max) asked stays out =
     let turn = pumped s.types s.machine max in
     by_untaken s (fin.get s.connections id) _ out (out id) (λ c is. put_untaken s.connections id (with_turn turn c) out (turn_untaken turn c c.standing is))
-carried_untaken s (ticks ms) asked text stays out = each_untaken (λ id c. with_turn (ticked ms) c) s.connections (λ id c is. turn_untaken (ticked ms) c c.standing is) out
-carried_untaken s (compacts c) asked text stays out = out
+carried_untaken s (ticks ms) asked stays out = each_untaken (λ id c. with_turn (ticked ms) c) s.connections (λ id c is. turn_untaken (ticked ms) c c.standing is) out
+carried_untaken s (compacts c) asked stays out = out
 
 unless_untaken : (s t : State) (o : Option ℕ) → AllIsOut t.connections → AllIsOut s.connections → AllIsOut (unless_refused o s t).connections
 unless_untaken s t None then out = then
 unless_untaken s t (Some n) then out = out
 
 pub all_out : (s t : State) (e : Event) → peer_goes e ≡ false → AllIsOut s.connections → Steps s e t → AllIsOut t.connections
-all_out s t e stays out (asked, text, asks, told, is) =
-    subst (λ (x : State). AllIsOut x.connections) (sym is) (unless_untaken s (carried_out s e asked text) (refusal s e) (carried_untaken s e asked text stays out) out)
+all_out s t e stays out (asked, asks, is) =
+    subst (λ (x : State). AllIsOut x.connections) (sym is) (unless_untaken s (carried_out s e asked) (refusal s e) (carried_untaken s e asked stays out) out)
 
-pub none_out : (types : List ServedShape) (m : Machine) → AllIsOut (start types m).connections
+pub none_out : (types : List ServedShape) (m : History) → AllIsOut (start types m).connections
 none_out types m = λ q. subst IsUntaken (sym (fin.get-empty nat_cmp q)) (tt {0})

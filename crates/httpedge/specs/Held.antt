@@ -5,8 +5,9 @@ use Rattle.std.specs.BTreeMap.{BTreeMap, get}
 use Rattle.std.specs.FinMap as fin
 use Rattle.schema.specs.TypesFile.{ServedShape}
 use Rattle.verbs.specs.declared.api.Api.{Api}
-use Rattle.verbs.specs.Calls.{Answer, Call}
-use Rattle.verbs.specs.Machine.{Machine, after}
+use Rattle.history.specs.History.{History}
+use Rattle.verbs.specs.Calls.{Call}
+use Rattle.verbs.specs.Machine.{after}
 use Rattle.verbs.specs.Seen.{Stands}
 use Rattle.verbs.specs.Step.{planned}
 use Rattle.httpedge.specs.declared.connection.Connection as conns
@@ -15,9 +16,7 @@ use Rattle.httpedge.specs.declared.out.Out as outs
 use Rattle.httpedge.specs.Asks.{Asked, Asks}
 use Rattle.httpedge.specs.Connections.{Connection, Standing, waiting, watching, ended, gone, opened, with_standing, with_taken, open_count, is_new}
 use Rattle.httpedge.specs.Pendings.{Awaits}
-use Rattle.httpedge.specs.ReplyBytes.{reply}
-use Rattle.httpedge.specs.Runs.{IsTextOf, IsAnswerText}
-use Rattle.httpedge.specs.Steps.{State, connection_after, machine_after}
+use Rattle.httpedge.specs.Steps.{State, answer_reply, connection_after, machine_after}
 
 -- ---- one connection
 
@@ -46,27 +45,23 @@ Holds types (conn.Ended out) c = (c.standing ≡ ended) × (drop c.taken c.writt
 
 -- ---- what bytes make of it
 
-abbrev pub IsAnswerBytes : Answer → List ℕ → Type 0
-IsAnswerBytes answer bytes = (text : List ℕ) × IsTextOf answer.body text × (bytes ≡ reply answer.status None text)
-
 -- these bytes answer the call, and the API then stands for the machine after it
-abbrev pub Serves : List ServedShape → Machine → Call → List ℕ → Api → Type 0
-Serves types m call bytes api = IsAnswerBytes (planned types m call).answer bytes × Stands api types (after m (planned types m call).change)
+abbrev pub Serves : List ServedShape → History → Call → List ℕ → Api → Type 0
+Serves types m call bytes api = (bytes ≡ answer_reply (planned types m call).answer) × Stands api types (after m (planned types m call).change)
 
 -- by all these bytes a connection that waited becomes this one, and the API then stands for the machine that they lead to
-abbrev pub Becomes : List ServedShape → Machine → List ℕ → conns.Connection → Api → Type 0
+abbrev pub Becomes : List ServedShape → History → List ℕ → conns.Connection → Api → Type 0
 Becomes types m bytes c api =
-    (asked : Asked) × (text : List ℕ) × Asks types bytes asked × IsAnswerText types m asked text
-    × Holds types c (connection_after types m opened bytes asked text) × Stands api types (machine_after types m asked)
+    (asked : Asked) × Asks types bytes asked × Holds types c (connection_after types m opened bytes asked) × Stands api types (machine_after types m asked)
 
 -- by how it stood
-abbrev pub ReceivedBy : List ServedShape → Machine → Connection → Standing → List ℕ → conns.Connection → Api → Type 0
+abbrev pub ReceivedBy : List ServedShape → History → Connection → Standing → List ℕ → conns.Connection → Api → Type 0
 ReceivedBy types m c (waiting front) bytes d api = (c ≡ waiting_for front) × Becomes types m (front ++ bytes) d api
 ReceivedBy types m c (watching w) bytes d api = Holds types d c × Stands api types m
 ReceivedBy types m c ended bytes d api = Holds types d c × Stands api types m
 ReceivedBy types m c (gone had_ended) bytes d api = Holds types d c × Stands api types m
 
-abbrev pub Received : List ServedShape → Machine → Connection → List ℕ → conns.Connection → Api → Type 0
+abbrev pub Received : List ServedShape → History → Connection → List ℕ → conns.Connection → Api → Type 0
 Received types m c bytes d api = ReceivedBy types m c c.standing bytes d api
 
 -- ---- all connections
@@ -86,7 +81,7 @@ is_above (Some highest) id = nat_lt highest id
 abbrev pub PutAt : ℕ → conns.Connection → BTreeMap ℕ conns.Connection → BTreeMap ℕ conns.Connection → Type 0
 PutAt id d old new = (q : ℕ) → get nat_cmp new q ≡ cond (eq_by_cmp nat_cmp id q) (Some d) (get nat_cmp old q)
 
-abbrev pub ReceivedAt : List ServedShape → Machine → Connection → ℕ → List ℕ → BTreeMap ℕ conns.Connection → BTreeMap ℕ conns.Connection → Api → Type 0
+abbrev pub ReceivedAt : List ServedShape → History → Connection → ℕ → List ℕ → BTreeMap ℕ conns.Connection → BTreeMap ℕ conns.Connection → Api → Type 0
 ReceivedAt types m c id bytes old new api = (d : conns.Connection) × Received types m c bytes d api × PutAt id d old new
 
 -- one that was open is dead

@@ -1,17 +1,10 @@
 -- Events in turn: what the bytes of each ask, and the state after all of them.
-use Rattle.std.specs.Prelude.{◌≡◌, ◌≢◌, ◌≤◌, ℕ, Bool, true, false, ◌&&◌, List, [], ◌∷◌, ◌++◌, take, Option, Some, None, option_and_then, ⊤}
+use Rattle.std.specs.Prelude.{◌≡◌, ◌≢◌, ℕ, Bool, true, false, ◌&&◌, List, [], ◌∷◌, ◌++◌, Option, Some, None, option_and_then, ⊤}
 use Rattle.std.specs.List.{list_any}
 use Rattle.std.specs.FinMap as fin
-use Rattle.serde_json.specs.Data.{Data, depth}
-use Rattle.serde_json.specs.Read.{max_depth, read}
-use Rattle.serde_json.specs.Written.{compact_text, has_float}
-use Rattle.schema.specs.TypesFile.{ServedShape}
-use Rattle.verbs.specs.Calls.{Call}
-use Rattle.verbs.specs.Machine.{Machine}
-use Rattle.verbs.specs.Step.{planned}
 use Rattle.httpedge.specs.Asks.{Asked, Asks}
 use Rattle.httpedge.specs.Connections.{Standing, waiting, watching, ended, gone, is_watching, waiting_on, watching_on}
-use Rattle.httpedge.specs.Decision.{undecided, refused, accepted}
+use Rattle.httpedge.specs.Decision.{undecided}
 use Rattle.httpedge.specs.Steps.{State, Event, opens, comes, goes, pumps, ticks, compacts, refusal, stepped, starved, with_bytes_taken}
 
 -- ---- what an event asks
@@ -37,24 +30,11 @@ abbrev pub AsksIf : State → Option (List ℕ) → Asked → Type 0
 AsksIf s None asked = asked ≡ undecided
 AsksIf s (Some bytes) asked = Asks s.types bytes asked
 
--- ---- how an answer is written
-
--- the text is the value's compact JSON, and reads back as the value
-pub record IsTextOf (d : Data) (text : List ℕ) : Type 0 where
-  pub compact : has_float d ≡ false → text ≡ compact_text d
-  pub reads_back : depth d ≤ max_depth → read text ≡ Some d
-
--- the text of the answer to what is asked; where no call is made there is none
-abbrev pub IsAnswerText : List ServedShape → Machine → Asked → List ℕ → Type 0
-IsAnswerText types m undecided text = text ≡ []
-IsAnswerText types m (refused d) text = text ≡ []
-IsAnswerText types m (accepted call) text = IsTextOf (planned types m call).answer.body text
-
 -- ---- one event
 
 -- the event leads to this state
 abbrev pub Steps : State → Event → State → Type 0
-Steps s e t = (asked : Asked) × (text : List ℕ) × AsksIf s (bytes_at s e) asked × IsAnswerText s.types s.machine asked text × (t ≡ stepped s e asked text)
+Steps s e t = (asked : Asked) × AsksIf s (bytes_at s e) asked × (t ≡ stepped s e asked)
 
 -- which events take memory: bytes only where the connection waits for them, a pump only where it watches, a tick where some watch found none
 abbrev pub takes_memory : State → Event → (ℕ → Bool) → Bool
@@ -109,13 +89,3 @@ peer_goes (goes id) = true
 peer_goes (pumps id max) = false
 peer_goes (ticks ms) = false
 peer_goes (compacts c) = false
-
--- ---- when there is one outcome
-
--- no answer at this state has a number with a point or an exponent, of which more than one text reads back
-abbrev pub AnswersHaveNoFloat : State → Type 0
-AnswersHaveNoFloat s = (call : Call) → has_float (planned s.types s.machine call).answer.body ≡ false
-
--- neither here nor after any of these happenings
-abbrev pub NoFloatOnTheWay : State → List Happening → Type 0
-NoFloatOnTheWay s hs = (n : ℕ) (mid : State) → Runs s (take n hs) mid → AnswersHaveNoFloat mid

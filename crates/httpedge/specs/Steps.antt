@@ -3,8 +3,9 @@ use Rattle.std.specs.Prelude.{ℕ, Bool, ◌&&◌, ◌==◌, nat_lt, nat_le, if�
 use Rattle.std.specs.FinMap as fin
 use Rattle.serde_json.specs.Written.{compact_text}
 use Rattle.schema.specs.TypesFile.{ServedShape}
-use Rattle.verbs.specs.Calls.{Denied}
-use Rattle.verbs.specs.Machine.{Machine, after}
+use Rattle.history.specs.History.{History}
+use Rattle.verbs.specs.Calls.{Answer, Denied}
+use Rattle.verbs.specs.Machine.{after}
 use Rattle.verbs.specs.Reasons.{code_of}
 use Rattle.verbs.specs.Status.{status_value}
 use Rattle.verbs.specs.Step.{planned}
@@ -17,12 +18,12 @@ use Rattle.httpedge.specs.Watches.{Watch, Turn, pumped, ticked}
 
 pub record State : Type 0 where
   pub types : List ServedShape
-  pub machine : Machine
+  pub machine : History
   -- the time of the last tick, in milliseconds after the start
   pub last_tick : ℕ
   pub connections : Connections
 
-abbrev pub start : List ServedShape → Machine → State
+abbrev pub start : List ServedShape → History → State
 start types m = record { types = types; machine = m; last_tick = 0; connections = fin.empty }
 
 -- a connection opens; bytes come on it; its peer goes; a watch may write so many lines; so many milliseconds have passed since the start;
@@ -52,7 +53,7 @@ refusal s (compacts c) = if nat_le s.machine.compacted c && nat_le c s.machine.c
 
 -- ---- parts of a state
 
-abbrev pub with_machine : State → Machine → State
+abbrev pub with_machine : State → History → State
 with_machine s m = record { types = s.types; machine = m; last_tick = s.last_tick; connections = s.connections }
 
 abbrev pub with_connections : State → Connections → State
@@ -70,7 +71,7 @@ abbrev pub on_connection : State → ℕ → (Connection → State) → State
 on_connection s id f = by_connection s (fin.get s.connections id) f
 
 -- a compaction changes the compacted number alone: no change is lost
-abbrev pub compacted_to : ℕ → Machine → Machine
+abbrev pub compacted_to : ℕ → History → History
 compacted_to c m = record { changes = m.changes; current = m.current; compacted = c }
 
 -- ---- an opening
@@ -85,28 +86,32 @@ opening all = if nat_le max_open (open_count all) then with_written opened (refu
 
 -- ---- bytes that come
 
--- by what all the bytes of a connection ask it waits for more, or gets its reply and has ended; the answer of a call is written as this text
-abbrev pub connection_after : List ServedShape → Machine → Connection → List ℕ → Asked → List ℕ → Connection
-connection_after types m c bytes undecided text = with_standing c (waiting bytes)
-connection_after types m c bytes (refused d) text = with_written c (refusal_reply d) ended
-connection_after types m c bytes (accepted call) text = with_written c (reply (planned types m call).answer.status None text) ended
+-- the reply of a call's answer, whose body is a text
+abbrev pub answer_reply : Answer → List ℕ
+answer_reply a = reply a.status None a.body
+
+-- by what all the bytes of a connection ask it waits for more, or gets its reply and has ended
+abbrev pub connection_after : List ServedShape → History → Connection → List ℕ → Asked → Connection
+connection_after types m c bytes undecided = with_standing c (waiting bytes)
+connection_after types m c bytes (refused d) = with_written c (refusal_reply d) ended
+connection_after types m c bytes (accepted call) = with_written c (answer_reply (planned types m call).answer) ended
 
 -- a call makes its change
-abbrev pub machine_after : List ServedShape → Machine → Asked → Machine
+abbrev pub machine_after : List ServedShape → History → Asked → History
 machine_after types m undecided = m
 machine_after types m (refused d) = m
 machine_after types m (accepted call) = after m (planned types m call).change
 
-abbrev pub received : State → ℕ → Connection → List ℕ → Asked → List ℕ → State
-received s id c bytes asked text =
-    with_connection (with_machine s (machine_after s.types s.machine asked)) id (connection_after s.types s.machine c bytes asked text)
+abbrev pub received : State → ℕ → Connection → List ℕ → Asked → State
+received s id c bytes asked =
+    with_connection (with_machine s (machine_after s.types s.machine asked)) id (connection_after s.types s.machine c bytes asked)
 
 -- only a connection that waits receives bytes
-abbrev pub received_by : State → ℕ → Connection → Standing → List ℕ → Asked → List ℕ → State
-received_by s id c (waiting front) bytes asked text = received s id c (front ++ bytes) asked text
-received_by s id c (watching w) bytes asked text = s
-received_by s id c ended bytes asked text = s
-received_by s id c (gone had_ended) bytes asked text = s
+abbrev pub received_by : State → ℕ → Connection → Standing → List ℕ → Asked → State
+received_by s id c (waiting front) bytes asked = received s id c (front ++ bytes) asked
+received_by s id c (watching w) bytes asked = s
+received_by s id c ended bytes asked = s
+received_by s id c (gone had_ended) bytes asked = s
 
 -- ---- watches
 
@@ -129,22 +134,22 @@ with_turn turn c = after_turn turn c c.standing
 abbrev pub with_tick : State → ℕ → Connections → State
 with_tick s ms all = record { types = s.types; machine = s.machine; last_tick = ms; connections = all }
 
--- the state after an event that is not refused: asked is what the bytes of its connection ask, and text is the text of the answer to a call
-abbrev pub carried_out : State → Event → Asked → List ℕ → State
-carried_out s (opens id) asked text = with_connection s id (opening s.connections)
-carried_out s (comes id bytes) asked text = on_connection s id (λ c. received_by s id c c.standing bytes asked text)
-carried_out s (goes id) asked text = on_connection s id (λ c. with_connection s id (with_standing c (gone (has_ended c.standing))))
-carried_out s (pumps id max) asked text = on_connection s id (λ c. with_connection s id (with_turn (pumped s.types s.machine max) c))
-carried_out s (ticks ms) asked text = with_tick s ms (each (λ id c. with_turn (ticked ms) c) s.connections)
-carried_out s (compacts c) asked text = with_machine s (compacted_to c s.machine)
+-- the state after an event that is not refused: asked is what the bytes of its connection ask
+abbrev pub carried_out : State → Event → Asked → State
+carried_out s (opens id) asked = with_connection s id (opening s.connections)
+carried_out s (comes id bytes) asked = on_connection s id (λ c. received_by s id c c.standing bytes asked)
+carried_out s (goes id) asked = on_connection s id (λ c. with_connection s id (with_standing c (gone (has_ended c.standing))))
+carried_out s (pumps id max) asked = on_connection s id (λ c. with_connection s id (with_turn (pumped s.types s.machine max) c))
+carried_out s (ticks ms) asked = with_tick s ms (each (λ id c. with_turn (ticked ms) c) s.connections)
+carried_out s (compacts c) asked = with_machine s (compacted_to c s.machine)
 
 abbrev pub unless_refused : Option ℕ → State → State → State
 unless_refused None s t = t
 unless_refused (Some n) s t = s
 
 -- a refused event changes nothing
-abbrev pub stepped : State → Event → Asked → List ℕ → State
-stepped s e asked text = unless_refused (refusal s e) s (carried_out s e asked text)
+abbrev pub stepped : State → Event → Asked → State
+stepped s e asked = unless_refused (refusal s e) s (carried_out s e asked)
 
 -- ---- out of memory
 

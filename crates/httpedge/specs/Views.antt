@@ -6,14 +6,13 @@ use Rattle.httparse.specs.Grammar.{RequestHead, ReadsRequest}
 use Rattle.httparse.specs.declared.spans.HeaderSpan.{HeaderSpan}
 use Rattle.httparse.specs.declared.spans.RequestSpans.{RequestSpans}
 use Rattle.httparse.specs.Spans.{IsRequestAt}
-use Rattle.serde_json.specs.declared.value.Value.{Value}
-use Rattle.serde_json.specs.View.{view}
 use Rattle.serde_json.specs.Data.{Data}
 use Rattle.std.specs.declared.result.Result.{Result}
 use Rattle.std.specs.declared.result.Result.TheVariants.{Ok, Err}
 use Rattle.verbs.specs.declared.admitting.Denied.{Denied as TheDenied}
+use Rattle.verbs.specs.declared.body.Body.{Body}
 use Rattle.verbs.specs.Calls.{Denied}
-use Rattle.verbs.specs.Seen.{denied_of}
+use Rattle.verbs.specs.Seen.{body_seen, denied_of}
 use Rattle.httpedge.specs.declared.refusal.Refusal as refusals
 use Rattle.httpedge.specs.declared.refusal.Refusal.TheVariants as refusal
 use Rattle.httpedge.specs.declared.decision.Decision as decisions
@@ -83,8 +82,8 @@ IsWholeAt bytes headers parts = (h : RequestHead) × ReadsRequest bytes h [] × 
 abbrev pub head_of : heads.Head → Request × List ℕ
 head_of h = (request_in h, h.rest.now)
 
-abbrev pub data_of : Option Value → Option Data
-data_of o = option_map view o
+abbrev pub data_of : Option Body → Option Data
+data_of o = option_map body_seen o
 
 -- what a head declares of its body
 abbrev pub declared_of : Result (Option ℕ) TheDenied → Result (Option ℕ) Denied

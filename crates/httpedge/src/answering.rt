@@ -2,10 +2,11 @@
 
 ghost use Rattle.std.specs.Prelude.{◌≡◌, List, IfOk, IfSome, OnOk, OnErr, option_map};
 ghost use Rattle.schema.specs.TypesFile.{ServedShape};
-ghost use Rattle.verbs.specs.Machine.{IsNext, Machine, after};
+ghost use Rattle.history.specs.History.{History};
+ghost use Rattle.verbs.specs.Machine.{IsNext, after};
 ghost use Rattle.verbs.specs.Seen.{Stands, answer_of, call_of, change_of, denied_of};
-ghost use Rattle.httpedge.specs.Held.{IsAnswerBytes, Serves};
-ghost use Rattle.httpedge.specs.Steps.{refusal_reply};
+ghost use Rattle.httpedge.specs.Held.{Serves};
+ghost use Rattle.httpedge.specs.Steps.{answer_reply, refusal_reply};
 
 use crate::reply::reply_bytes;
 use std::alloc::{AllocError, Global};
@@ -20,16 +21,16 @@ pub(crate) fn refusal_reply(alloc: Global, denied: Denied) -> Result<Vec<u8>, Al
     reply_bytes(alloc, denied.reason.code(), denied.allow, text.as_str())
 }
 
-fn answer_bytes(alloc: Global, answer: &Answer) -> Result<Vec<u8>, AllocError>
-    ensures { IfOk result (λ v. IsAnswerBytes (answer_of answer.now) v.items) }
+/// The reply of an answer.
+fn answer_reply(alloc: Global, answer: &Answer) -> Result<Vec<u8>, AllocError>
+    ensures { IfOk result (λ v. v.items ≡ answer_reply (answer_of answer.now)) }
 {
-    let text = answer.body.to_string(alloc)?;
-    reply_bytes(alloc, answer.status, None, text.as_str())
+    reply_bytes(alloc, answer.status, None, answer.body.as_str())
 }
 
 fn make(api: &mut Api, change: Option<Change>) -> Result<(), Fault>
-    ensures ok { (types : List ServedShape) (m : Machine) → Stands api.old types m → IfSome change (λ c. IsNext m (change_of c)) → OnOk result (Stands api.new types (after m (option_map change_of change))) }
-    ensures err { (types : List ServedShape) (m : Machine) → Stands api.old types m → OnErr result (Stands api.new types m) }
+    ensures ok { (types : List ServedShape) (m : History) → Stands api.old types m → IfSome change (λ c. IsNext types m (change_of c)) → OnOk result (Stands api.new types (after m (option_map change_of change))) }
+    ensures err { (types : List ServedShape) (m : History) → Stands api.old types m → OnErr result (Stands api.new types m) }
 {
     match change {
         Some(change) => api.commit(change),
@@ -39,11 +40,11 @@ fn make(api: &mut Api, change: Option<Change>) -> Result<(), Fault>
 
 /// Makes a call: its reply is there before its change is made.
 pub(crate) fn serve(alloc: Global, api: &mut Api, call: &Call) -> Result<Vec<u8>, Fault>
-    ensures ok { (types : List ServedShape) (m : Machine) → Stands api.old types m → IfOk result (λ v. Serves types m (call_of call.now) v.items api.new) }
-    ensures err { (types : List ServedShape) (m : Machine) → Stands api.old types m → OnErr result (Stands api.new types m) }
+    ensures ok { (types : List ServedShape) (m : History) → Stands api.old types m → IfOk result (λ v. Serves types m (call_of call.now) v.items api.new) }
+    ensures err { (types : List ServedShape) (m : History) → Stands api.old types m → OnErr result (Stands api.new types m) }
 {
     let plan = api.plan(call)?;
-    let reply = answer_bytes(alloc, &plan.answer)?;
+    let reply = answer_reply(alloc, &plan.answer)?;
     make(api, plan.change)?;
     Ok(reply)
 }

@@ -9,9 +9,8 @@ ghost use Rattle.httpedge.specs.Views.{data_of, decision_of, declared_of, length
 use crate::decision::Decision;
 use crate::head::{Head, Length};
 use crate::refusal::Refusal;
-use serde_json::Value;
 use std::alloc::{AllocError, Global};
-use verbs::Denied;
+use verbs::{Body, Denied};
 
 const MAX_BODY: usize = 65_536;
 
@@ -41,11 +40,11 @@ pub(crate) fn decimal_value(digits: &[u8]) -> Option<usize>
     Some(number)
 }
 
-fn json_in(alloc: Global, bytes: &[u8]) -> Result<Decision<Option<Value>>, AllocError>
+fn json_in(alloc: Global, bytes: &[u8]) -> Result<Decision<Option<Body>>, AllocError>
     ensures { IfOk result (λ f. decision_of data_of f ≡ some_json (json_in bytes.now)) }
 {
-    match Value::from_slice(alloc, bytes) {
-        Ok(value) => Ok(Decision::Accepted(Some(value))),
+    match Body::read(alloc, bytes) {
+        Ok(body) => Ok(Decision::Accepted(Some(body))),
         Err(error) if error.is_memory() => Err(AllocError),
         Err(_) => Ok(Decision::Refused(Refusal::NotJson.denied())),
     }
@@ -108,7 +107,7 @@ pub(crate) fn body_of(
     alloc: Global,
     length: usize,
     rest: &[u8],
-) -> Result<Decision<Option<Value>>, AllocError>
+) -> Result<Decision<Option<Body>>, AllocError>
     ensures { IfOk result (λ f. decision_of data_of f ≡ body_of length rest.now) }
 {
     if rest.len() < length {
@@ -121,7 +120,7 @@ fn declared_body(
     alloc: Global,
     length: Option<usize>,
     rest: &[u8],
-) -> Result<Decision<Option<Value>>, AllocError>
+) -> Result<Decision<Option<Body>>, AllocError>
     ensures { IfOk result (λ f. decision_of data_of f ≡ declared_body length rest.now) }
 {
     match length {
@@ -130,7 +129,7 @@ fn declared_body(
     }
 }
 
-fn body_in(alloc: Global, head: &Head<'_>) -> Result<Decision<Option<Value>>, AllocError>
+fn body_in(alloc: Global, head: &Head<'_>) -> Result<Decision<Option<Body>>, AllocError>
     ensures { IfOk result (λ f. decision_of data_of f ≡ body_in (request_in head.now) head.now.rest.now) }
 {
     match declared_length(head) {
@@ -140,7 +139,7 @@ fn body_in(alloc: Global, head: &Head<'_>) -> Result<Decision<Option<Value>>, Al
 }
 
 /// The body of a request, by its head and the bytes that came after it, however they were cut.
-pub fn read_body(alloc: Global, head: &Head<'_>) -> Result<Decision<Option<Value>>, AllocError>
+pub fn read_body(alloc: Global, head: &Head<'_>) -> Result<Decision<Option<Body>>, AllocError>
     ensures says { IfOk result (λ f. decision_of data_of f ≡ body_in (request_in head.now) head.now.rest.now) }
     ensures stays { (more : List ℕ) → IfOk result (λ f. decision_of data_of f ≢ undecided → body_in (request_in head.now) (head.now.rest.now ++ more) ≡ decision_of data_of f) }
 {

@@ -2,7 +2,7 @@
 
 ghost use Rattle.std.specs.Prelude.{◌≡◌, ◌++◌, ◌+◌, ◌&&◌, ℕ, List, true, cond, nat_lt, IfOk, OnOk, OnErr};
 ghost use Rattle.schema.specs.TypesFile.{ServedShape};
-ghost use Rattle.verbs.specs.Machine.{Machine};
+ghost use Rattle.history.specs.History.{History};
 ghost use Rattle.verbs.specs.Seen.{Stands};
 ghost use Rattle.httpedge.specs.Connections as model;
 ghost use Rattle.httpedge.specs.Connections.{Connections, ended, open_count, with_standing, with_taken};
@@ -85,8 +85,8 @@ pub(crate) fn take_from(alloc: Global, connection: &mut Connection, n: usize)
 
 /// What becomes of a connection by what its bytes ask.
 fn decided(alloc: Global, api: &mut Api, asked: Asked) -> Result<Connection, Fault>
-    ensures ok { (types : List ServedShape) (m : Machine) (bytes : List ℕ) → Stands api.old types m → Finds types bytes asked → IfOk result (λ c. Becomes types m bytes c api.new) }
-    ensures err { (types : List ServedShape) (m : Machine) → Stands api.old types m → OnErr result (Stands api.new types m) }
+    ensures ok { (types : List ServedShape) (m : History) (bytes : List ℕ) → Stands api.old types m → Finds types bytes asked → IfOk result (λ c. Becomes types m bytes c api.new) }
+    ensures err { (types : List ServedShape) (m : History) → Stands api.old types m → OnErr result (Stands api.new types m) }
 {
     match asked {
         Asked::Pending(pending) => Ok(Connection::Body(pending)),
@@ -107,8 +107,8 @@ fn receive_head(
     front: Front,
     bytes: &[u8],
 ) -> Result<Connection, Fault>
-    ensures ok { (types : List ServedShape) (m : Machine) → Stands api.old types m → IfOk result (λ c. Becomes types m (front.bytes.items ++ bytes.now) c api.new) }
-    ensures err { (types : List ServedShape) (m : Machine) → Stands api.old types m → OnErr result (Stands api.new types m) }
+    ensures ok { (types : List ServedShape) (m : History) → Stands api.old types m → IfOk result (λ c. Becomes types m (front.bytes.items ++ bytes.now) c api.new) }
+    ensures err { (types : List ServedShape) (m : History) → Stands api.old types m → OnErr result (Stands api.new types m) }
 {
     let mut front = front.with(bytes)?;
     let end = front.find_end();
@@ -124,8 +124,8 @@ fn receive_body(
     pending: Pending,
     bytes: &[u8],
 ) -> Result<Connection, Fault>
-    ensures ok { (types : List ServedShape) (m : Machine) (front : List ℕ) → Stands api.old types m → Awaits types front pending → IfOk result (λ c. Becomes types m (front ++ bytes.now) c api.new) }
-    ensures err { (types : List ServedShape) (m : Machine) → Stands api.old types m → OnErr result (Stands api.new types m) }
+    ensures ok { (types : List ServedShape) (m : History) (front : List ℕ) → Stands api.old types m → Awaits types front pending → IfOk result (λ c. Becomes types m (front ++ bytes.now) c api.new) }
+    ensures err { (types : List ServedShape) (m : History) → Stands api.old types m → OnErr result (Stands api.new types m) }
 {
     let asked = ask_on(alloc, pending, bytes)?;
     decided(alloc, api, asked)
@@ -137,8 +137,8 @@ fn receive(
     connection: Connection,
     bytes: &[u8],
 ) -> Result<Connection, Fault>
-    ensures ok { (types : List ServedShape) (m : Machine) (c : model.Connection) → Stands api.old types m → Holds types connection c → IfOk result (λ d. Received types m c bytes.now d api.new) }
-    ensures err { (types : List ServedShape) (m : Machine) → Stands api.old types m → OnErr result (Stands api.new types m) }
+    ensures ok { (types : List ServedShape) (m : History) (c : model.Connection) → Stands api.old types m → Holds types connection c → IfOk result (λ d. Received types m c bytes.now d api.new) }
+    ensures err { (types : List ServedShape) (m : History) → Stands api.old types m → OnErr result (Stands api.new types m) }
     ensures waited { OnErr result (is_open_in connection ≡ true) }
 {
     match connection {
@@ -155,8 +155,8 @@ pub(crate) fn receive_on(
     connection: &mut Connection,
     bytes: &[u8],
 ) -> Result<(), Fault>
-    ensures ok { (types : List ServedShape) (m : Machine) (c : model.Connection) → Stands api.old types m → Holds types connection.old c → OnOk result (Received types m c bytes.now connection.new api.new) }
-    ensures err { (types : List ServedShape) (m : Machine) → Stands api.old types m → OnErr result (Stands api.new types m) }
+    ensures ok { (types : List ServedShape) (m : History) (c : model.Connection) → Stands api.old types m → Holds types connection.old c → OnOk result (Received types m c bytes.now connection.new api.new) }
+    ensures err { (types : List ServedShape) (m : History) → Stands api.old types m → OnErr result (Stands api.new types m) }
     ensures waited { OnErr result (is_open_in connection.old ≡ true) }
     ensures dead { (types : List ServedShape) (c : model.Connection) → Holds types connection.old c → OnErr result (Holds types connection.new (with_standing c ended)) }
 {

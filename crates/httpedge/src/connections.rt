@@ -4,7 +4,7 @@ ghost use Rattle.std.specs.Prelude.{◌≡◌, [], ℕ, List, Some, None, unwrap
 ghost use Rattle.std.specs.BTreeMap.{get};
 ghost use Rattle.std.specs.Ordering.{nat_cmp};
 ghost use Rattle.schema.specs.TypesFile.{ServedShape};
-ghost use Rattle.verbs.specs.Machine.{Machine};
+ghost use Rattle.history.specs.History.{History};
 ghost use Rattle.verbs.specs.Seen.{Stands};
 ghost use Rattle.httpedge.specs.Connections.{Connection as TheConnection};
 ghost use Rattle.httpedge.specs.Held.{DiesAt, Holds, PutAt, ReceivedAt, TakesAt, count_after, is_open_in, out_in};
@@ -80,8 +80,8 @@ pub(crate) fn receive_at(
     id: u64,
     bytes: &[u8],
 ) -> Result<(), Fault>
-    ensures ok { (types : List ServedShape) (m : Machine) (d : held.Connection) (c : TheConnection) → Stands api.old types m → get nat_cmp all.old id ≡ Some d → Holds types d c → OnOk result (ReceivedAt types m c id bytes.now all.old all.new api.new) }
-    ensures err { (types : List ServedShape) (m : Machine) → Stands api.old types m → OnErr result (Stands api.new types m) }
+    ensures ok { (types : List ServedShape) (m : History) (d : held.Connection) (c : TheConnection) → Stands api.old types m → get nat_cmp all.old id ≡ Some d → Holds types d c → OnOk result (ReceivedAt types m c id bytes.now all.old all.new api.new) }
+    ensures err { (types : List ServedShape) (m : History) → Stands api.old types m → OnErr result (Stands api.new types m) }
     ensures dead { (types : List ServedShape) (d : held.Connection) (c : TheConnection) → get nat_cmp all.old id ≡ Some d → Holds types d c → OnErr result (DiesAt types d c id all.old all.new) }
 {
     match all.get_mut(&id) {

@@ -2,7 +2,7 @@
 
 ghost use Rattle.std.specs.Prelude.{◌≡◌, ◌≢◌, ◌++◌, ◌∷◌, [], List, None, true, false, OnOk};
 ghost use Rattle.schema.specs.TypesFile.{ServedShape};
-ghost use Rattle.verbs.specs.Machine.{Machine};
+ghost use Rattle.history.specs.History.{History};
 ghost use Rattle.verbs.specs.Seen.{Stands};
 ghost use Rattle.httpedge.specs.Connections.{ended_on, out_on, waiting_on};
 ghost use Rattle.httpedge.specs.Held.{is_above};
@@ -42,7 +42,7 @@ fn is_above(highest: Option<u64>, id: u64) -> bool
 impl Hub {
     /// A hub without connections.
     pub fn new(alloc: Global, api: Api) -> Hub
-        ensures { (types : List ServedShape) (m : Machine) → Stands api types m → IsIn result (start types m) }
+        ensures { (types : List ServedShape) (m : History) → Stands api types m → IsIn result (start types m) }
     {
         Hub {
             alloc,

@@ -1,14 +1,16 @@
-//! Laws of what a hub does, which crates above build on. Each function does nothing; what it promises is the law.
+//! Laws of what a hub does, which crates above build on. Each function does nothing of use; what it promises is the law.
 
-ghost use Rattle.std.specs.Prelude.{◌≡◌, ◌≢◌, ◌++◌, ℕ, Bool, true, false, List, drop, option_map};
+ghost use Rattle.std.specs.Prelude.{◌≡◌, ◌≢◌, ◌++◌, ℕ, Bool, true, false, List, Some, None, drop, option_map};
 ghost use Rattle.std.specs.FinMap as fin;
 ghost use Rattle.schema.specs.TypesFile.{ServedShape};
-ghost use Rattle.verbs.specs.Machine.{Machine};
+ghost use Rattle.history.specs.History.{History};
 ghost use Rattle.httpedge.specs.Asks.{Asked, Asks};
 ghost use Rattle.httpedge.specs.Connections.{AllIsOut, Connection, Connections, each, ended_on, out_on, watching_on, written_on};
 ghost use Rattle.httpedge.specs.Decision.{undecided};
-ghost use Rattle.httpedge.specs.Runs.{Follows, Happening, HappensElsewhere, NoFloatOnTheWay, Runs, Starves, Steps, peer_goes};
+ghost use Rattle.httpedge.specs.Runs.{Follows, Happening, HappensElsewhere, Runs, Starves, Steps, bytes_at, peer_goes};
 ghost use Rattle.httpedge.specs.Steps.{Event, State, comes, start, ticks, with_bytes_taken};
+
+use crate::head::read_head;
 
 /// Bytes ask one thing; and what they ask stays asked, whatever bytes follow, once it is decided.
 pub fn one_asked()
@@ -24,8 +26,16 @@ pub fn pieces()
 
 /// Events in turn, and those that found no memory among them, lead to one state.
 pub fn one_outcome()
-    ensures { (s t u : State) (hs : List Happening) → NoFloatOnTheWay s hs → Runs s hs t → Runs s hs u → t ≡ u }
+    ensures { (s t u : State) (hs : List Happening) → Runs s hs t → Runs s hs u → t ≡ u }
 {}
+
+/// Each event has a step, also one that brings bytes: all those of its connection, as they lie in memory.
+pub fn each_steps(bytes: &[u8])
+    ensures without_bytes { (s : State) (e : Event) → bytes_at s e ≡ None → (t : State) × Steps s e t }
+    ensures with_bytes { (s : State) (e : Event) → bytes_at s e ≡ Some bytes.now → (t : State) × Steps s e t }
+{
+    let _ = read_head(bytes);
+}
 
 /// A change of each connection is seen under each id.
 pub fn each_changes()
@@ -55,7 +65,7 @@ pub fn ticks_are_for_watches()
 
 /// While nothing is taken and no peer goes, what is out on a connection is all that was written on it.
 pub fn all_is_out()
-    ensures start { (types : List ServedShape) (m : Machine) → AllIsOut (start types m).connections }
+    ensures start { (types : List ServedShape) (m : History) → AllIsOut (start types m).connections }
     ensures stays { (s t : State) (e : Event) → peer_goes e ≡ false → AllIsOut s.connections → Steps s e t → AllIsOut t.connections }
     ensures written { (all : Connections) (id : ℕ) → AllIsOut all → out_on all id ≡ written_on all id }
 {}

@@ -1,14 +1,14 @@
-use Rattle.std.proofs.Common.{subst}
+use Rattle.std.proofs.Common.{◌≡◌, subst}
 use Rattle.verbs.specs.Calls.{Plan}
 use Rattle.verbs.specs.Machine.{after}
 use Rattle.verbs.specs.Seen.{Stands}
-use Rattle.httpedge.specs.Held.{IsAnswerBytes}
+use Rattle.httpedge.specs.Steps.{answer_reply}
 use Rattle.httpedge.proofs.Saying.{on_err}
 use Rattle.httpedge.proofs.answering.serve.Goals as goal
 
 pub returns-clause-ok : goal.returns-clause-ok
 returns-clause-ok c = λ types m stands.
-    subst (λ (p : Plan). IsAnswerBytes p.answer c.in_ok-reply.reply.items × Stands c.make.new.api types (after m p.change))
+    subst (λ (p : Plan). (c.in_ok-reply.reply.items ≡ answer_reply p.answer) × Stands c.make.new.api types (after m p.change))
     (c.in_ok-plan.ensures.planned types m stands)
     (c.in_ok-reply.ensures, c.in_ok-make.ensures.ok types m stands (c.in_ok-plan.ensures.next types m stands))
 

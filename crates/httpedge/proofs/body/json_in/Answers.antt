@@ -1,12 +1,12 @@
 use Rattle.std.proofs.Common.{ap, sym, ◌∙◌}
-use Rattle.serde_json.specs.View.{view}
+use Rattle.verbs.specs.Seen.{body_seen}
 use Rattle.httpedge.specs.Bodies.{some_json}
 use Rattle.httpedge.specs.Decision.{refused}
 use Rattle.httpedge.proofs.Numbers.{value_read, value_unread, isnt}
 use Rattle.httpedge.proofs.body.json_in.Goals as goal
 
 pub returns-in-Ok : goal.returns-in-Ok
-returns-in-Ok c = ap some_json (sym (value_read c.args.bytes.now (view c.in-Ok.value) c.in-Ok.ensures.ok.0 c.in-Ok.ensures.ok.1))
+returns-in-Ok c = ap some_json (sym (value_read c.args.bytes.now (body_seen c.in-Ok.body) c.in-Ok.ensures.ok.0 c.in-Ok.ensures.ok.1))
 
 pub returns-in-Err-2 : goal.returns-in-Err-2
 returns-in-Err-2 c =

@@ -1,4 +1,4 @@
-use Rattle.std.proofs.Common.{[], refl, sym, subst, ◌∙◌}
+use Rattle.std.proofs.Common.{refl, sym, subst, ◌∙◌}
 use Rattle.verbs.specs.Seen.{call_of, denied_of}
 use Rattle.httpedge.specs.Decision.{refused, accepted}
 use Rattle.httpedge.specs.Pendings.{Finds}
@@ -6,9 +6,9 @@ use Rattle.httpedge.proofs.connection.decided.Goals as goal
 
 pub returns-in_ok-reply-in-Refused-clause-ok : goal.returns-in_ok-reply-in-Refused-clause-ok
 returns-in_ok-reply-in-Refused-clause-ok c = λ types m bytes stands finds.
-    (refused (denied_of c.in-Refused.denied), [], subst (Finds types bytes) c.in-Refused.is finds, refl, (refl, sym (c.of.ensures ∙ c.in_ok-reply-in-Refused.ensures)), stands)
+    (refused (denied_of c.in-Refused.denied), subst (Finds types bytes) c.in-Refused.is finds, (refl, sym (c.of.ensures ∙ c.in_ok-reply-in-Refused.ensures)), stands)
 
 pub returns-in_ok-reply-in-Call-clause-ok : goal.returns-in_ok-reply-in-Call-clause-ok
 returns-in_ok-reply-in-Call-clause-ok c = λ types m bytes stands finds.
     let served = c.in_ok-reply-in-Call.ensures.ok types m stands in
-    (accepted (call_of c.in-Call.call), served.0.0, subst (Finds types bytes) c.in-Call.is finds, served.0.1, (refl, sym (c.of-in-Call.ensures ∙ served.0.2)), served.1)
+    (accepted (call_of c.in-Call.call), subst (Finds types bytes) c.in-Call.is finds, (refl, sym (c.of-in-Call.ensures ∙ served.0)), served.1)

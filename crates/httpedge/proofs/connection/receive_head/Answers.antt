@@ -1,4 +1,4 @@
-use Rattle.std.proofs.Common.{[], ℕ, List, ◌++◌, refl, sym, ap, subst, ◌∙◌}
+use Rattle.std.proofs.Common.{ℕ, List, ◌++◌, sym, ap, subst, ◌∙◌}
 use Rattle.schema.specs.TypesFile.{ServedShape}
 use Rattle.verbs.specs.Seen.{types_of}
 use Rattle.httpedge.specs.Asks.{Asks}
@@ -13,10 +13,8 @@ returns-in-None-clause-ok c = λ types m stands.
     let came = ap (λ v. v.items) c.find_end-end.ensures.bytes ∙ c.in_ok-front.ensures in
     let found = subst (FindsAll (types_of c.args.api.now) c.bytes.result.now) c.in-None.is c.in_ok-ask.ensures in (
       undecided,
-      [],
       subst (λ (ts : List ServedShape). Asks ts whole undecided) stands.serves
           (subst (λ (bs : List ℕ). Asks (types_of c.args.api.now) bs undecided) (c.bytes.ensures ∙ came) found),
-      refl,
       ap waiting_for (sym came),
       stands,
     )
