@@ -25,7 +25,8 @@ use Rattle.params.specs.declared.params.Asked.TheVariants as asked
 use Rattle.verbs.specs.Envelope.{api_version_of, name_in}
 use Rattle.verbs.specs.Judged as judged
 use Rattle.verbs.specs.Judged.{Judged}
-use Rattle.verbs.specs.Machine.{Key, Machine, Object, Objects, standing}
+use Rattle.history.specs.History.{History, Key, Object, Objects, standing}
+use Rattle.verbs.specs.Machine.{no_state, state_of_live, state_said}
 use Rattle.verbs.specs.Naming.{marks_judged, names_judged, required_name}
 use Rattle.verbs.specs.Options.{options_judged}
 use Rattle.verbs.specs.Parameters.{parameters_judged}
@@ -256,72 +257,72 @@ if_fine : (b : Bool) (x y : Judged Plan) → IsFine x → IsFine y → IsFine (i
 if_fine true x y is other = is
 if_fine false x y is other = other
 
-stored_fine : (body : Data) (current : ℕ) (k : Key) (status : ℕ) (s : State) → IsStatusCode status → IsFine (step.stored_as body current k status s)
-stored_fine body current k status s is =
+stored_fine : (body : Data) (current : ℕ) (k : Key) (status : ℕ) → IsStatusCode status → IsFine (step.stored_as body current k status)
+stored_fine body current k status is =
     let plan : Plan = record {
-      answer = record { status = status; body = body };
-      change = Some (record { revision = suc current; key = k; object = Some s });
+      answer = record { status = status; body = compact_text body };
+      change = Some (record { revision = suc current; key = k; body = Some (compact_text body) });
     } in
     let left : Unit {0} → Judged Plan = λ u. judged.and_then (step.revisions_left current) (λ v. Ok plan) in
     checked (size_judged body) left (λ u. checked (step.revisions_left current) (λ v. Ok plan) (λ v. record { is = is }))
 
 over_fine : (t : ServedShape) (current : ℕ) (k : Key) (o : Option Object) (s : State) → IsFine (step.stored_over t current k o s)
-over_fine t current k None s = stored_fine (step.printed t k (suc current) s) current k 201 s (omega arith, omega arith)
+over_fine t current k None s = stored_fine (step.printed t k (suc current) s) current k 201 (omega arith, omega arith)
 over_fine t current k (Some o) s =
-    if_fine (same_state s o.state) (Ok (step.kept t k o)) (step.stored t current k 200 s) (record { is = (omega arith, omega arith) })
-    (stored_fine (step.printed t k (suc current) s) current k 200 s (omega arith, omega arith))
+    if_fine (same_state s (state_said t.shape o.body)) (Ok (step.kept o)) (step.stored t current k 200 s) (record { is = (omega arith, omega arith) })
+    (stored_fine (step.printed t k (suc current) s) current k 200 (omega arith, omega arith))
 
 applied_fine : (t : ServedShape) (current : ℕ) (k : Key) (live : Option Object) (intent : step.Intent) → IsFine (step.applied_over t current k live intent)
 applied_fine t current k live intent =
-    let owned = step.ownership_judged (api_version_of t) (step.state_or_nothing live) intent.content (manager_of intent.manager apply_operation) intent.is_forced in
+    let owned = step.ownership_judged (api_version_of t) (state_of_live t live) intent.content (manager_of intent.manager apply_operation) intent.is_forced in
     checked (step.version_checked intent.version live) (λ u. judged.and_then owned (step.stored_over t current k live))
     (λ u. checked owned (step.stored_over t current k live) (λ s. over_fine t current k live s))
 
 fine : (p : Plan) → IsStatusCode p.answer.status → IsFine (Ok p)
 fine p is = record { is = is }
 
-apply_fine : (t : ServedShape) (current : ℕ) (objects : Objects) (k : Key) (query : List ℕ) (body : Data) → IsFine (step.apply_judged t current objects k query body)
-apply_fine t current objects k query body =
+apply_fine : (t : ServedShape) (current : ℕ) (live : Option Object) (k : Key) (query : List ℕ) (body : Data) → IsFine (step.apply_judged t current live k query body)
+apply_fine t current live k query body =
     checked (step.intent_of (step.at_path t k method.Patch) asked.Apply query body)
-    (λ intent. judged.and_then (names_judged k.namespace k.name intent.rest) (λ u. step.applied_over t current k (fin.get objects k) intent))
-    (λ intent. checked (names_judged k.namespace k.name intent.rest) (λ u. step.applied_over t current k (fin.get objects k) intent)
-    (λ u. applied_fine t current k (fin.get objects k) intent))
+    (λ intent. judged.and_then (names_judged k.namespace k.name intent.rest) (λ u. step.applied_over t current k live intent))
+    (λ intent. checked (names_judged k.namespace k.name intent.rest) (λ u. step.applied_over t current k live intent)
+    (λ u. applied_fine t current k live intent))
 
-get_fine : (t : ServedShape) (current : ℕ) (objects : Objects) (k : Key) (query : List ℕ) → IsFine (step.get_judged t current objects k query)
-get_fine t current objects k query =
+get_fine : (t : ServedShape) (current : ℕ) (live : Option Object) (k : Key) (query : List ℕ) → IsFine (step.get_judged t current live k query)
+get_fine t current live k query =
     checked (parameters_judged asked.Get query)
-    (λ values. judged.and_then (step.there t k.name (fin.get objects k)) (λ o. judged.and_then (step.version_come values.version current) (λ u. Ok (step.kept t k o))))
-    (λ values. checked (step.there t k.name (fin.get objects k)) (λ o. judged.and_then (step.version_come values.version current) (λ u. Ok (step.kept t k o)))
-    (λ o. checked (step.version_come values.version current) (λ u. Ok (step.kept t k o)) (λ u. fine (step.kept t k o) (omega arith, omega arith))))
+    (λ values. judged.and_then (step.there t k.name live) (λ o. judged.and_then (step.version_come values.version current) (λ u. Ok (step.kept o))))
+    (λ values. checked (step.there t k.name live) (λ o. judged.and_then (step.version_come values.version current) (λ u. Ok (step.kept o)))
+    (λ o. checked (step.version_come values.version current) (λ u. Ok (step.kept o)) (λ u. fine (step.kept o) (omega arith, omega arith))))
 
-created_fine : (t : ServedShape) (current : ℕ) (objects : Objects) (k : Key) (intent : step.Intent) → IsFine (step.created_as t current objects k intent)
-created_fine t current objects k intent =
-    let new = step.updated_by intent (step.state_or_nothing None) in
+created_fine : (t : ServedShape) (current : ℕ) (live : Option Object) (k : Key) (intent : step.Intent) → IsFine (step.created_as t current live k intent)
+created_fine t current live k intent =
+    let new = step.updated_by intent no_state in
     checked (names_judged k.namespace k.name intent.rest)
-    (λ u. judged.and_then (step.not_there t k.name (fin.get objects k)) (λ v. step.stored t current k 201 new))
-    (λ u. checked (step.not_there t k.name (fin.get objects k)) (λ v. step.stored t current k 201 new)
-    (λ v. stored_fine (step.printed t k (suc current) new) current k 201 new (omega arith, omega arith)))
+    (λ u. judged.and_then (step.not_there t k.name live) (λ v. step.stored t current k 201 new))
+    (λ u. checked (step.not_there t k.name live) (λ v. step.stored t current k 201 new)
+    (λ v. stored_fine (step.printed t k (suc current) new) current k 201 (omega arith, omega arith)))
 
 create_fine : (t : ServedShape) (current : ℕ) (objects : Objects) (kind : ℕ) (namespace query : List ℕ) (body : Data) → IsFine (step.create_judged t current objects kind namespace query body)
 create_fine t current objects kind namespace query body =
     checked (step.intent_of (record { served = t; namespace = namespace; name = None; method = method.Post }) asked.Post query body)
-    (λ intent. judged.and_then (required_name (name_in body)) (λ name. step.created_as t current objects (record { kind = kind; namespace = namespace; name = name }) intent))
-    (λ intent. checked (required_name (name_in body)) (λ name. step.created_as t current objects (record { kind = kind; namespace = namespace; name = name }) intent)
-    (λ name. created_fine t current objects (record { kind = kind; namespace = namespace; name = name }) intent))
+    (λ intent. judged.and_then (required_name (name_in body)) (λ name. step.created_in t current objects (record { kind = kind; namespace = namespace; name = name }) intent))
+    (λ intent. checked (required_name (name_in body)) (λ name. step.created_in t current objects (record { kind = kind; namespace = namespace; name = name }) intent)
+    (λ name. created_fine t current (fin.get objects (record { kind = kind; namespace = namespace; name = name })) (record { kind = kind; namespace = namespace; name = name }) intent))
 
 updated_fine : (t : ServedShape) (current : ℕ) (k : Key) (live : Option Object) (intent : step.Intent) → IsFine (step.updated_over t current k live intent)
 updated_fine t current k live intent =
     checked (step.there t k.name live)
-    (λ o. judged.and_then (step.version_checked intent.version live) (λ u. step.stored_over t current k live (step.updated_by intent o.state)))
-    (λ o. checked (step.version_checked intent.version live) (λ u. step.stored_over t current k live (step.updated_by intent o.state))
-    (λ u. over_fine t current k live (step.updated_by intent o.state)))
+    (λ o. judged.and_then (step.version_checked intent.version live) (λ u. step.stored_over t current k live (step.updated_by intent (state_said t.shape o.body))))
+    (λ o. checked (step.version_checked intent.version live) (λ u. step.stored_over t current k live (step.updated_by intent (state_said t.shape o.body)))
+    (λ u. over_fine t current k live (step.updated_by intent (state_said t.shape o.body))))
 
-update_fine : (t : ServedShape) (current : ℕ) (objects : Objects) (k : Key) (query : List ℕ) (body : Data) → IsFine (step.update_judged t current objects k query body)
-update_fine t current objects k query body =
+update_fine : (t : ServedShape) (current : ℕ) (live : Option Object) (k : Key) (query : List ℕ) (body : Data) → IsFine (step.update_judged t current live k query body)
+update_fine t current live k query body =
     checked (step.intent_of (step.at_path t k method.Put) asked.Put query body)
-    (λ intent. judged.and_then (marks_judged intent.rest) (λ u. step.updated_over t current k (fin.get objects k) intent))
-    (λ intent. checked (marks_judged intent.rest) (λ u. step.updated_over t current k (fin.get objects k) intent)
-    (λ u. updated_fine t current k (fin.get objects k) intent))
+    (λ intent. judged.and_then (marks_judged intent.rest) (λ u. step.updated_over t current k live intent))
+    (λ intent. checked (marks_judged intent.rest) (λ u. step.updated_over t current k live intent)
+    (λ u. updated_fine t current k live intent))
 
 deleted_fine : (t : ServedShape) (current : ℕ) (k : Key) (live : Option Object) (version : Option ℕ) → IsFine (step.deleted_over t current k live version)
 deleted_fine t current k live version =
@@ -330,21 +331,21 @@ deleted_fine t current k live version =
     (λ o. checked (step.version_checked version live) (λ u. judged.and_then (step.revisions_left current) (λ v. Ok (step.deleted t current k o)))
     (λ u. checked (step.revisions_left current) (λ v. Ok (step.deleted t current k o)) (λ v. fine (step.deleted t current k o) (omega arith, omega arith))))
 
-delete_fine : (t : ServedShape) (current : ℕ) (objects : Objects) (k : Key) (query : List ℕ) (body : Option Data) → IsFine (step.delete_judged t current objects k query body)
-delete_fine t current objects k query body =
-    checked (options_judged body) (λ version. judged.and_then (parameters_judged asked.Delete query) (λ values. step.deleted_over t current k (fin.get objects k) version))
-    (λ version. checked (parameters_judged asked.Delete query) (λ values. step.deleted_over t current k (fin.get objects k) version)
-    (λ values. deleted_fine t current k (fin.get objects k) version))
+delete_fine : (t : ServedShape) (current : ℕ) (live : Option Object) (k : Key) (query : List ℕ) (body : Option Data) → IsFine (step.delete_judged t current live k query body)
+delete_fine t current live k query body =
+    checked (options_judged body) (λ version. judged.and_then (parameters_judged asked.Delete query) (λ values. step.deleted_over t current k live version))
+    (λ version. checked (parameters_judged asked.Delete query) (λ values. step.deleted_over t current k live version)
+    (λ values. deleted_fine t current k live version))
 
 with_body : (o : Option Data) (judge : Data → Judged Plan) → ((body : Data) → IsFine (judge body)) → IsFine (judged.and_then (step.body_of o) judge)
 with_body o judge is = checked (step.body_of o) judge is
 
-object_fine : (m : Method) (t : ServedShape) (current : ℕ) (objects : Objects) (k : Key) (query : List ℕ) (o : Option Data) → IsFine (step.object_judged_by m t current objects k query o)
-object_fine method.Get t current objects k query o = get_fine t current objects k query
-object_fine method.Post t current objects k query o = denied _
-object_fine method.Put t current objects k query o = with_body o (step.update_judged t current objects k query) (update_fine t current objects k query)
-object_fine method.Patch t current objects k query o = with_body o (step.apply_judged t current objects k query) (apply_fine t current objects k query)
-object_fine method.Delete t current objects k query o = delete_fine t current objects k query o
+object_fine : (m : Method) (t : ServedShape) (current : ℕ) (live : Option Object) (k : Key) (query : List ℕ) (o : Option Data) → IsFine (step.object_judged_by m t current live k query o)
+object_fine method.Get t current live k query o = get_fine t current live k query
+object_fine method.Post t current live k query o = denied _
+object_fine method.Put t current live k query o = with_body o (step.update_judged t current live k query) (update_fine t current live k query)
+object_fine method.Patch t current live k query o = with_body o (step.apply_judged t current live k query) (apply_fine t current live k query)
+object_fine method.Delete t current live k query o = delete_fine t current live k query o
 
 collection_fine : (m : Method) (t : ServedShape) (current : ℕ) (objects : Objects) (kind : ℕ) (namespace query : List ℕ) (o : Option Data)
     → IsFine (step.collection_judged_by m t current objects kind namespace query o)
@@ -358,7 +359,7 @@ in_fine : (t : ServedShape) (current : ℕ) (objects : Objects) (call : Call) (n
 in_fine t current objects call None name = denied _
 in_fine t current objects call (Some namespace) None = collection_fine call.target.method t current objects call.target.kind namespace call.query call.body
 in_fine t current objects call (Some namespace) (Some name) =
-    object_fine call.target.method t current objects (record { kind = call.target.kind; namespace = namespace; name = name }) call.query call.body
+    object_fine call.target.method t current (fin.get objects (step.key_at call namespace name)) (step.key_at call namespace name) call.query call.body
 
 at_fine : (o : Option ServedShape) (current : ℕ) (objects : Objects) (call : Call) → IsFine (step.judged_at o current objects call)
 at_fine None current objects call = denied _
@@ -368,6 +369,6 @@ told_fine : (j : Judged Plan) → IsFine j → IsStatusCode (step.told j).answer
 told_fine (Ok p) is = is.is
 told_fine (Err d) is = code_is d.reason
 
-pub status_is : (types : List ServedShape) (m : Machine) (call : Call) → IsStatusCode (step.planned types m call).answer.status
+pub status_is : (types : List ServedShape) (m : History) (call : Call) → IsStatusCode (step.planned types m call).answer.status
 status_is types m call =
     told_fine (step.judged_over types m.current (standing m) call) (at_fine (slice_get types call.target.kind) m.current (standing m) call)

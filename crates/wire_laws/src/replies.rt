@@ -5,7 +5,7 @@ ghost use Rattle.http.specs.StatusCode.{IsStatusCode};
 ghost use Rattle.serde_json.specs.Written.{compact_text};
 ghost use Rattle.schema.specs.TypesFile.{ServedShape};
 ghost use Rattle.verbs.specs.Calls.{Call, Denied};
-ghost use Rattle.verbs.specs.Machine.{Machine};
+ghost use Rattle.history.specs.History.{History};
 ghost use Rattle.verbs.specs.Reasons.{code_of};
 ghost use Rattle.verbs.specs.Status.{status_value};
 ghost use Rattle.verbs.specs.Step.{planned};
@@ -13,7 +13,7 @@ ghost use Rattle.httpedge.specs.Asks.{Asks};
 ghost use Rattle.httpedge.specs.Decision.{refused};
 ghost use Rattle.httpedge.specs.Refusals.{as_denied, too_many_connections};
 ghost use Rattle.httpedge.specs.ReplyBytes.{reply};
-ghost use Rattle.httpedge.specs.Steps.{refusal_reply};
+ghost use Rattle.httpedge.specs.Steps.{answer_reply, refusal_reply};
 ghost use Rattle.wireclient.specs.Reads.{Items, max_body};
 ghost use Rattle.wireclient.specs.Reply.{end, head, whole};
 ghost use Rattle.wire_laws.specs.Printed.{IsAllowed};
@@ -38,11 +38,11 @@ pub fn refusals_are_read()
     replies_are_read();
 }
 
-/// The answer of a call, written with this text of its value, is read by the client as its status, this text and the
-/// end, where the text is not too long for a client.
+/// The answer of a call is read by the client as its status, its body and the end, where the body is not too long for
+/// a client.
 pub fn answers_are_read()
-    ensures { (types : List ServedShape) (m : Machine) (call : Call) (text : List ℕ) → length text ≤ max_body
-        → Items (reply (planned types m call).answer.status None text) (head (planned types m call).answer.status ∷ whole text ∷ end ∷ []) }
+    ensures { (types : List ServedShape) (m : History) (call : Call) → length (planned types m call).answer.body ≤ max_body
+        → Items (answer_reply (planned types m call).answer) (head (planned types m call).answer.status ∷ whole (planned types m call).answer.body ∷ end ∷ []) }
 {
     replies_are_read();
 }

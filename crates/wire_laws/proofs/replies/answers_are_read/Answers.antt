@@ -1,8 +1,10 @@
 use Rattle.std.proofs.Common.{None}
+use Rattle.verbs.specs.Calls.{Answer}
 use Rattle.verbs.specs.Step.{planned}
 use Rattle.wire_laws.proofs.Written.{status_is}
 use Rattle.wire_laws.proofs.replies.answers_are_read.Goals as goal
 
 pub returns : goal.returns
-returns c = λ types m call text short.
-    c.replies_are_read.ensures (planned types m call).answer.status None text (status_is types m call) (tt {0}) short
+returns c = λ types m call short.
+    let answer : Answer = (planned types m call).answer in
+    c.replies_are_read.ensures answer.status None answer.body (status_is types m call) (tt {0}) short
