@@ -2,7 +2,7 @@
 
 ghost use Rattle.std.specs.Prelude.{◌≡◌, option_map};
 ghost use Rattle.std.specs.List.{list_all};
-ghost use Rattle.params.specs.Texts.{is_manager, is_printable, match_of, token_of, truth_of};
+ghost use Rattle.params.specs.Texts.{cut_at_dot, is_manager, is_printable, match_of, token_of, token_with, truth_of};
 ghost use Rattle.params.specs.Views.{place_of};
 
 use crate::params::VersionMatch;
@@ -46,14 +46,32 @@ pub(crate) fn is_manager(text: &str) -> bool
     !text.is_empty() && text.len() <= MAX_MANAGER && is_printable(text)
 }
 
+/// The two texts that the first dot parts.
+fn cut_at_dot(text: &str) -> Option<(&str, &str)>
+    ensures { option_map (λ cut. (cut.0.now, cut.1.now)) result ≡ cut_at_dot text.now }
+{
+    text.split_once('.')
+}
+
+/// A revision and two texts, unless one of the three is missing.
+fn token_with<'a>(
+    revision: Option<u64>,
+    namespace: &'a str,
+    name: &'a str,
+) -> Option<(u64, &'a str, &'a str)>
+    ensures { option_map (λ t. place_of t.0 t.1.now t.2.now) result ≡ token_with revision namespace.now name.now }
+{
+    if namespace.is_empty() || name.is_empty() {
+        return None;
+    }
+    Some((revision?, namespace, name))
+}
+
 /// Revision, namespace and name of `<revision>.<namespace>.<name>`.
 pub(crate) fn token_of(text: &str) -> Option<(u64, &str, &str)>
     ensures { option_map (λ t. place_of t.0 t.1.now t.2.now) result ≡ token_of text.now }
 {
-    let (revision, place) = text.split_once('.')?;
-    let (namespace, name) = place.split_once('.')?;
-    if namespace.is_empty() || name.is_empty() {
-        return None;
-    }
-    Some((version_of(revision)?, namespace, name))
+    let (revision, place) = cut_at_dot(text)?;
+    let (namespace, name) = cut_at_dot(place)?;
+    token_with(version_of(revision), namespace, name)
 }
