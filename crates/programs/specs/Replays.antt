@@ -3,7 +3,7 @@ use Rattle.std.specs.Prelude.{◌≡◌, ℕ, ◌+◌, nat_lt, if◌then◌else�
 use Rattle.std.specs.List.{flat_map}
 use Rattle.std.specs.Fmt.{decimal}
 use Rattle.schema.specs.TypesFile.{ServedShape}
-use Rattle.verbs.specs.Machine.{fresh}
+use Rattle.history.specs.History.{fresh}
 use Rattle.httpedge.specs.Connections.{written_on}
 use Rattle.httpedge.specs.Runs as runs
 use Rattle.httpedge.specs.Steps as edge

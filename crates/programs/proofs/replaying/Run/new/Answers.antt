@@ -1,6 +1,6 @@
 use Rattle.std.proofs.Common.{refl}
 use Rattle.schema.specs.Served.{types_view}
-use Rattle.verbs.specs.Machine.{fresh}
+use Rattle.history.specs.History.{fresh}
 use Rattle.programs.proofs.replaying.Run.new.Goals as goal
 
 pub returns : goal.returns
