@@ -7,7 +7,7 @@ use schema::Types;
 use serde_json::Value;
 use std::alloc::{AllocError, Global};
 use std::time::CpuClock;
-use verbs::{Api, Call, Fault, Plan};
+use verbs::{Api, Body, Call, Fault, Plan};
 
 const TYPES: &str =
     r#"{"types":[{"group":"demo.example","version":"v1","kind":"Widget","plural":"widgets","schema":{"type":"object","properties":{"spec":{"type":"object","properties":{"config":{"type":"object","additionalProperties":{"type":"string"}}}}}}}]}"#;
@@ -72,10 +72,10 @@ fn requests(alloc: Global, bodies: &[String]) -> Result<Vec<Vec<u8>>, AllocError
     Ok(all)
 }
 
-fn values(alloc: Global, bodies: &[String]) -> anyhow::Result<Vec<Value>> {
+fn read(alloc: Global, bodies: &[String]) -> anyhow::Result<Vec<Body>> {
     let mut all = Vec::new(alloc);
     for body in bodies {
-        all.push(Value::from_str(alloc, body)?)?;
+        all.push(Body::read(alloc, body.as_bytes())?)?;
     }
     Ok(all)
 }
@@ -123,7 +123,7 @@ fn answer(api: &mut Api, call: &Call) -> Result<bool, Fault> {
 }
 
 /// Applies a body; whether it is served.
-fn apply(alloc: Global, api: &mut Api, body: Value) -> Result<bool, Fault> {
+fn apply(alloc: Global, api: &mut Api, body: Body) -> Result<bool, Fault> {
     let Ok(target) = api.admit("PATCH", PATH, Some(MEDIA.as_bytes())) else {
         return Ok(false);
     };
@@ -136,7 +136,7 @@ fn apply(alloc: Global, api: &mut Api, body: Value) -> Result<bool, Fault> {
 }
 
 /// Applies each body, and counts those that are served.
-fn apply_all(alloc: Global, api: &mut Api, bodies: Vec<Value>) -> Result<u64, Fault> {
+fn apply_all(alloc: Global, api: &mut Api, bodies: Vec<Body>) -> Result<u64, Fault> {
     let mut served: u64 = 0;
     for body in bodies {
         if apply(alloc, api, body)? {
@@ -162,10 +162,10 @@ fn time_applies(
     rt: &(impl Print + Eprint + CpuClock),
     alloc: Global,
     api: &mut Api,
-    values: Vec<Value>,
+    bodies: Vec<Body>,
 ) -> anyhow::Result<()> {
     let start = spent(rt)?;
-    let served = apply_all(alloc, api, values).unwrap_or(0);
+    let served = apply_all(alloc, api, bodies).unwrap_or(0);
     tell(rt, "apply of a parsed body", REQUESTS, start)?;
     println!(rt; "hub: {served} of {REQUESTS} applied without it")?;
     Ok(())
@@ -186,7 +186,7 @@ fn run_applies(
     bodies: &[String],
 ) -> anyhow::Result<()> {
     let mut api = api_of_widgets(alloc)?;
-    time_applies(rt, alloc, &mut api, values(alloc, bodies)?)
+    time_applies(rt, alloc, &mut api, read(alloc, bodies)?)
 }
 
 /// Serves the requests over objects of so many fields, and makes the same applies from parsed bodies.

@@ -4,7 +4,7 @@ use crate::given::{api_with_one_left, fresh_api};
 use serde_json::Value;
 use std::alloc::Global;
 use std::test::Fail;
-use verbs::{Answer, Api, Call, Denied, Plan, Reason, Refusal, Target, status_value};
+use verbs::{Answer, Api, Body, Call, Denied, Plan, Reason, Refusal, Target, status_value};
 
 const MEDIA: &[u8] = b"Application/Apply-Patch+YAML ; charset=utf-8";
 
@@ -14,11 +14,11 @@ fn admitted(alloc: Global, api: &Api, name: &str) -> Result<Target, Fail> {
 }
 
 /// The body of an apply; `rest` stands behind its envelope.
-fn body(alloc: Global, rest: &str) -> Result<Value, Fail> {
+fn body(alloc: Global, rest: &str) -> Result<Body, Fail> {
     let text = format!(in alloc;
         "{{\"apiVersion\":\"demo.example/v1\",\"kind\":\"Widget\"{rest}}}"
     )?;
-    Ok(Value::from_str(alloc, text.as_str())?)
+    Ok(Body::read(alloc, text.as_bytes())?)
 }
 
 /// An apply of this name and query.
@@ -51,7 +51,8 @@ fn words_of(body: &Value) -> &str {
 
 fn told(alloc: Global, answer: &Answer) -> Result<String, Fail> {
     let status = answer.status;
-    let words = words_of(&answer.body);
+    let body = Value::from_str(alloc, &answer.body)?;
+    let words = words_of(&body);
     Ok(format!(in alloc; "{status} {words}\n")?)
 }
 

@@ -4,7 +4,7 @@ use crate::given::{api_with_one_left, api_with_ports, fresh_api};
 use serde_json::Value;
 use std::alloc::Global;
 use std::test::Fail;
-use verbs::{Answer, Api, Call, Plan, Target};
+use verbs::{Answer, Api, Body, Call, Plan, Target};
 
 fn media_of(method: &str) -> &'static str {
     if method == "PATCH" {
@@ -25,20 +25,20 @@ fn admitted(alloc: Global, api: &Api, method: &str, name: &str) -> Result<Target
 }
 
 /// The body of a write; `rest` stands behind its envelope.
-fn enveloped(alloc: Global, rest: &str) -> Result<Value, Fail> {
+fn enveloped(alloc: Global, rest: &str) -> Result<Body, Fail> {
     let text = format!(in alloc;
         "{{\"apiVersion\":\"demo.example/v1\",\"kind\":\"Widget\"{rest}}}"
     )?;
-    Ok(Value::from_str(alloc, text.as_str())?)
+    Ok(Body::read(alloc, text.as_bytes())?)
 }
 
 /// A deletion's body stands as it is; without one it is absent.
-fn body_of(alloc: Global, method: &str, rest: &str) -> Result<Option<Value>, Fail> {
+fn body_of(alloc: Global, method: &str, rest: &str) -> Result<Option<Body>, Fail> {
     if method == "GET" || (method == "DELETE" && rest.is_empty()) {
         return Ok(None);
     }
     if method == "DELETE" {
-        return Ok(Some(Value::from_str(alloc, rest)?));
+        return Ok(Some(Body::read(alloc, rest.as_bytes())?));
     }
     Ok(Some(enveloped(alloc, rest)?))
 }
@@ -68,13 +68,10 @@ fn answered(api: &mut Api, call: &Call) -> Result<Answer, Fail> {
 /// The message of a refusal, or else the object.
 fn told(alloc: Global, answer: &Answer) -> Result<String, Fail> {
     let status = answer.status;
-    match answer.body.get("message").and_then(|text| text.as_str()) {
-        Some(message) => Ok(format!(in alloc; "{status} {message}\n")?),
-        None => {
-            let object = answer.body.to_string(alloc)?;
-            Ok(format!(in alloc; "{status} {object}\n")?)
-        }
-    }
+    let body = Value::from_str(alloc, &answer.body)?;
+    let message = body.get("message").and_then(|text| text.as_str());
+    let words = message.unwrap_or(&answer.body);
+    Ok(format!(in alloc; "{status} {words}\n")?)
 }
 
 fn push_answer(alloc: Global, all: &mut String, api: &mut Api, line: &str) -> Result<(), Fail> {
