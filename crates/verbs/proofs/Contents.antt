@@ -1,16 +1,15 @@
 -- What is left of a body that a JSON text spells is such a value, so what is read of it is a content of the type.
-use Rattle.std.proofs.Common.{◌≡◌, ◌≤◌, ℕ, suc, max, Bool, true, false, cond, List, Option, Some, None, Ok, Err, refl, sym, ap, ◌∙◌, subst, arith}
+use Rattle.std.proofs.Common.{◌≡◌, ◌≤◌, ℕ, suc, max, Bool, true, false, cond, List, Option, Some, None, Ok, Err, refl, ap, subst, arith}
 use Rattle.std.specs.Prelude.{codes}
 use Rattle.std.proofs.lemmas.Bool.{and_parts}
 use Rattle.serde_json.specs.Data.{Data, null, boolean, number, string, array, object, Members, no_members, member, put, depth, members_depth}
-use Rattle.serde_json.specs.Find.{get_member, as_object}
+use Rattle.serde_json.specs.Find.{get_member}
 use Rattle.fieldpath.specs.Spelled.{IsSpelled, MembersAreSpelled}
 use Rattle.fieldpath.proofs.Spelled.{put_ascend, put_spelled}
 use Rattle.params.specs.declared.params.Asked.{Asked}
 use Rattle.pathmap.specs.Contents.{Content}
 use Rattle.schema.specs.Keywords.{is_in}
 use Rattle.schema.specs.Lawful.{is_well_formed}
-use Rattle.schema.specs.Shape.{Shape}
 use Rattle.typed.specs.Faults.{Read}
 use Rattle.typed.specs.Fitting.{IsContent}
 use Rattle.typed.specs.Reading.{content_of}
@@ -19,7 +18,7 @@ use Rattle.typed.proofs.Keeping.{reading_content}
 use Rattle.schema.specs.ObjectShape.{IsObjectShape}
 use Rattle.ownership.proofs.Taken.{Kept, found_spelled, found_depth}
 use Rattle.verbs.specs.Json.{IsJson}
-use Rattle.verbs.specs.Envelope.{Envelope, Expected, envelope_of, given_judged, kind_judged, managers_by, member_of, members_but, metadata_in, metadata_judged, metadata_names, object_judged, put_metadata, rest_of, top_names, version_allowed, version_judged, with_others}
+use Rattle.verbs.specs.Envelope.{Envelope, Expected, envelope_of, given_judged, kind_judged, managers_by, member_of, members_but, metadata_in, metadata_judged, metadata_names, put_metadata, rest_of, top_names, version_allowed, version_judged, with_others}
 use Rattle.verbs.specs.Judged.{Judged}
 use Rattle.verbs.specs.Parameters.{parameters_judged}
 use Rattle.verbs.specs.Step.{Intent, intent_of, shape_judged}

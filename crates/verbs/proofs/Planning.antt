@@ -2,7 +2,7 @@
 use Rattle.std.proofs.Common.{◌≡◌, Ok, Err, Option, Some, None, sym, ap, subst, ◌∙◌, List, ℕ}
 use Rattle.std.specs.Prelude.{IfSome, option_map}
 use Rattle.schema.specs.TypesFile.{ServedShape}
-use Rattle.history.specs.History.{Change, History, Objects, object_by, put_or_remove, standing}
+use Rattle.history.specs.History.{Change, History, object_by, put_or_remove, standing}
 use Rattle.verbs.specs.declared.api.Api.{Api}
 use Rattle.verbs.specs.declared.body.Body.{Body}
 use Rattle.verbs.specs.declared.calls.Call.{Call as TheCall}

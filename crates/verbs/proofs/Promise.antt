@@ -14,7 +14,7 @@ use Rattle.pathmap.proofs.Contents.{path_cmp_total}
 use Rattle.pathmap.proofs.Sets.{contains-changed, contains-dom}
 use Rattle.typed.specs.Fitting.{IsContent}
 use Rattle.typed.specs.Reading.{content_of}
-use Rattle.history.specs.History.{Key, Change, Object, Objects, History, is_same_key, last_revision, object_by, put_or_remove, standing, written}
+use Rattle.history.specs.History.{Key, Change, Object, Objects, History, is_same_key, last_revision, object_by, put_or_remove, standing}
 use Rattle.history.proofs.Keys.{get-put_or_remove, tied}
 use Rattle.ownership.specs.Owners.{Manager, is_same, manager_of, apply_operation, owned_by, update_operation}
 use Rattle.ownership.specs.Update.{removed, updated}
@@ -33,15 +33,14 @@ use Rattle.verbs.specs.declared.method.Method.TheVariants.{Get, Post, Put, Patch
 use Rattle.verbs.specs.Calls.{Call, Plan}
 use Rattle.verbs.specs.Json.{IsJson, IsJsonBody}
 use Rattle.verbs.specs.Envelope.{Expected, api_version_of, envelope_of, name_in}
-use Rattle.verbs.specs.Judged.{Judged, and_then, unless}
+use Rattle.verbs.specs.Judged.{Judged, and_then}
 use Rattle.verbs.specs.Machine.{IsBodyAt, IsMachine, IsNext, after, identity_of, no_state, state_by, state_of_live, state_said, state_under}
 use Rattle.verbs.specs.Naming.{marks_judged, names_judged, required_name}
 use Rattle.verbs.specs.Options.{options_judged}
 use Rattle.verbs.specs.Parameters.{parameters_judged}
 use Rattle.verbs.specs.Promise.{AppliesKeepOthers, OthersKeepUnchanged, PlansComeNext, StepsKeepMachines, TextsSayStates, UpdatesTakeChanges}
 use Rattle.verbs.specs.Size.{size_judged}
-use Rattle.verbs.specs.Status.{Denial}
-use Rattle.verbs.specs.Step.{Intent, applied_over, apply_judged, at_path, body_of, collection_judged_by, conflict_denial, create_judged, created_in, delete_judged, deleted, deleted_over, get_judged, intent_of, judged_at, judged_in, judged_over, kept, key_at, not_there, object_judged_by, ownership_judged, planned, printed, revisions_left, shape_judged, stored, stored_over, text_at, there, told, update_judged, updated_by, updated_over, version_checked, version_come}
+use Rattle.verbs.specs.Step.{Intent, applied_over, apply_judged, at_path, body_of, collection_judged_by, conflict_denial, create_judged, delete_judged, deleted_over, get_judged, intent_of, judged_at, judged_in, judged_over, kept, key_at, not_there, object_judged_by, ownership_judged, planned, printed, revisions_left, shape_judged, stored, stored_over, text_at, there, told, update_judged, updated_by, updated_over, version_checked, version_come}
 use Rattle.verbs.proofs.Changes.{AreTexts, machine_next, standing_next, standing_texts}
 use Rattle.verbs.proofs.Checks.{held, no_err, ok_is, passed}
 use Rattle.verbs.proofs.Contents.{intended_content}

@@ -2,7 +2,7 @@
 use mathlib.Core.Bool.{Bool-set}
 use mathlib.Core.HLevel.{×_prop, Unit-prop}
 use denote.Struct.Props as logic
-use Rattle.std.specs.Prelude.{◌≡◌, ◌≤◌, pos, negsuc, Option, Some, None}
+use Rattle.std.specs.Prelude.{◌≤◌, pos, negsuc, Option, Some, None}
 use Rattle.serde_json.specs.Data.{unsigned, negative, float, Num, Data, null, boolean, number, string, array, object, Items, no_items, item, Members, no_members, member, depth}
 use Rattle.serde_json.specs.Read.{max_depth}
 use Rattle.fieldpath.specs.Spelled.{IsSpelled, AreSpelled, MembersAreSpelled, IsSpelledNumber}

@@ -13,11 +13,10 @@ use Rattle.history.specs.View.{view}
 use Rattle.ownership.specs.Owners.{Manager, manager_of, apply_operation, update_operation}
 use Rattle.ownership.specs.Apply.{State}
 use Rattle.ownership.specs.Keeping.{OthersKeep, Owns}
-use Rattle.ownership.specs.ReadBack.{IsObjectText}
 use Rattle.verbs.specs.declared.method.Method.TheVariants.{Patch, Put}
 use Rattle.verbs.specs.Calls.{Call}
 use Rattle.verbs.specs.Json.{IsJsonBody}
-use Rattle.verbs.specs.Machine.{AreObjectTypes, IsMachine, IsNext, IsTextAt, identity_of, state_under}
+use Rattle.verbs.specs.Machine.{AreObjectTypes, IsMachine, IsNext, IsTextAt, state_under}
 use Rattle.verbs.specs.Parameters.{parameters_judged}
 use Rattle.verbs.specs.Step.{planned, planned_in, step, steps}
 

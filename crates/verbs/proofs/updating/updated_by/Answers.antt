@@ -1,4 +1,4 @@
-use Rattle.std.proofs.Common.{◌∙◌, ap}
+use Rattle.std.proofs.Common.{ap}
 use Rattle.ownership.specs.Update.{updated}
 use Rattle.ownership.proofs.Answered.{ok_map}
 use Rattle.verbs.proofs.updating.updated_by.Goals as goal
