@@ -1,11 +1,11 @@
 //! Worked rows as far as owners go, each public call with ample memory, and applies that find none.
 
 use crate::given::{WIDGET_TYPES, first_schema, printed, push_paths, tree, types_of};
-use crate::rows::{expect_text, expect_true};
+use crate::rows::{Answers, expect_answers, expect_true};
 use ownership::{
     ApplyFault, Conflict, Identity, Manager, Managers, Operation, Owned, apply, update,
 };
-use schema::Schema;
+use schema::{Schema, Types};
 use std::alloc::{AllocError, Global};
 use std::test::Fail;
 use typed::Tree;
@@ -125,35 +125,6 @@ fn step(alloc: Global, schema: &Schema, live: &mut Owned, line: &str) -> Result<
     Ok(text)
 }
 
-/// Does a line, and puts its answer behind those so far.
-fn push_answer(
-    alloc: Global,
-    all: &mut String,
-    schema: &Schema,
-    live: &mut Owned,
-    line: &str,
-) -> Result<(), Fail> {
-    let text = step(alloc, schema, live, line)?;
-    all.push_str(text.as_str())?;
-    all.push_str("\n")?;
-    Ok(())
-}
-
-/// Does lines from nothing, and tells each one's answer in a line.
-fn run(alloc: Global, schema: &Schema, live: &mut Owned, lines: &str) -> Result<String, Fail> {
-    let mut all = String::new(alloc);
-    for line in lines.split('\n') {
-        push_answer(alloc, &mut all, schema, live, line)?;
-    }
-    Ok(all)
-}
-
-fn answers(alloc: Global, lines: &str) -> Result<String, Fail> {
-    let types = types_of(alloc, WIDGET_TYPES)?;
-    let mut live = Owned::empty(alloc);
-    run(alloc, first_schema(&types)?, &mut live, lines)
-}
-
 /// The text of the object `w1` at version 4.
 fn object_of(alloc: Global, schema: &Schema, owned: &Owned) -> Result<String, Fail> {
     let of = Identity {
@@ -165,81 +136,88 @@ fn object_of(alloc: Global, schema: &Schema, owned: &Owned) -> Result<String, Fa
     Ok(owned.to_object(alloc, schema, of, 4)?)
 }
 
-fn object_after(alloc: Global, lines: &str) -> Result<String, Fail> {
-    let types = types_of(alloc, WIDGET_TYPES)?;
-    let schema = first_schema(&types)?;
-    let mut live = Owned::empty(alloc);
-    drop(run(alloc, schema, &mut live, lines)?);
-    object_of(alloc, schema, &live)
+/// An object of the first type, as it stands with its owners.
+#[derive(Drop)]
+struct Live {
+    types: Types,
+    owned: Owned,
 }
+
+impl Answers for Live {
+    fn answer(&mut self, alloc: Global, question: &str) -> Result<String, Fail> {
+        let schema = first_schema(&self.types)?;
+        match question.strip_prefix("anew ") {
+            Some(line) => answer_anew(alloc, schema, &self.owned, line),
+            None if question == "object" => object_of(alloc, schema, &self.owned),
+            None => step(alloc, schema, &mut self.owned, question),
+        }
+    }
+}
+
+/// The test fails where rows are answered otherwise from nothing.
+fn expect_played(alloc: Global, rows: &str) -> Result<(), Fail> {
+    let mut live = Live {
+        types: types_of(alloc, WIDGET_TYPES)?,
+        owned: Owned::empty(alloc),
+    };
+    expect_answers(alloc, &mut live, rows)
+}
+
+const ITEMS: &str =
+    r#"alice {"ports":[{"name":"web","port":80}]} => {"spec":{"ports":[{"name":"web","port":80}]}} alice/Apply .spec.ports[name="web"] .spec.ports[name="web"].port
+carol= {"ports":[{"name":"web","note":"x","port":80}]} => {"spec":{"ports":[{"name":"web","note":"x","port":80}]}} alice/Apply .spec.ports[name="web"] .spec.ports[name="web"].port carol/Update .spec.ports[name="web"].note
+alice {} => {"spec":{"ports":[{"name":"web","note":"x"}]}} carol/Update .spec.ports[name="web"].note
+object => {"apiVersion":"demo.example/v1","kind":"Widget","metadata":{"managedFields":[{"apiVersion":"demo.example/v1","fieldsType":"FieldsV1","fieldsV1":{"f:spec":{"f:ports":{"k:{\"name\":\"web\"}":{"f:note":{}}}}},"manager":"carol","operation":"Update"}],"name":"w1","namespace":"default","resourceVersion":"4"},"spec":{"ports":[{"name":"web","note":"x"}]}}
+"#;
 
 #[test]
 fn item_kept_for_other_owner(rt: HostRuntime) -> Result<(), Fail> {
-    let lines = r#"alice {"ports":[{"name":"web","port":80}]}
-carol= {"ports":[{"name":"web","note":"x","port":80}]}
-alice {}"#;
-    expect_text(
-        object_after(rt.alloc(), lines)?,
-        r#"{"apiVersion":"demo.example/v1","kind":"Widget","metadata":{"managedFields":[{"apiVersion":"demo.example/v1","fieldsType":"FieldsV1","fieldsV1":{"f:spec":{"f:ports":{"k:{\"name\":\"web\"}":{"f:note":{}}}}},"manager":"carol","operation":"Update"}],"name":"w1","namespace":"default","resourceVersion":"4"},"spec":{"ports":[{"name":"web","note":"x"}]}}"#,
-    )
+    expect_played(rt.alloc(), ITEMS)
 }
+
+const SETS: &str =
+    r#"alice {"tags":["b","a"]} => {"spec":{"tags":["a","b"]}} alice/Apply .spec.tags[="a"] .spec.tags[="b"]
+bob {"tags":["b","c"]} => {"spec":{"tags":["a","b","c"]}} alice/Apply .spec.tags[="a"] .spec.tags[="b"] bob/Apply .spec.tags[="b"] .spec.tags[="c"]
+alice {} => {"spec":{"tags":["b","c"]}} bob/Apply .spec.tags[="b"] .spec.tags[="c"]
+"#;
 
 #[test]
 fn set_items(rt: HostRuntime) -> Result<(), Fail> {
-    let lines = r#"alice {"tags":["b","a"]}
-bob {"tags":["b","c"]}
-alice {}"#;
-    expect_text(
-        answers(rt.alloc(), lines)?,
-        r#"{"spec":{"tags":["a","b"]}} alice/Apply .spec.tags[="a"] .spec.tags[="b"]
-{"spec":{"tags":["a","b","c"]}} alice/Apply .spec.tags[="a"] .spec.tags[="b"] bob/Apply .spec.tags[="b"] .spec.tags[="c"]
-{"spec":{"tags":["b","c"]}} bob/Apply .spec.tags[="b"] .spec.tags[="c"]
-"#,
-    )
+    expect_played(rt.alloc(), SETS)
 }
+
+const ATOMIC: &str =
+    r#"alice {"args":["x","y"]} => {"spec":{"args":["x","y"]}} alice/Apply .spec.args
+bob {"args":["x"]} => conflicts: .spec.args alice/Apply
+alice {"args":["x","y"],"tags":[]} => {"spec":{"args":["x","y"]}} alice/Apply .spec.args as before
+"#;
 
 #[test]
 fn atomic_list(rt: HostRuntime) -> Result<(), Fail> {
-    let lines = r#"alice {"args":["x","y"]}
-bob {"args":["x"]}
-alice {"args":["x","y"],"tags":[]}"#;
-    expect_text(
-        answers(rt.alloc(), lines)?,
-        r#"{"spec":{"args":["x","y"]}} alice/Apply .spec.args
-conflicts: .spec.args alice/Apply
-{"spec":{"args":["x","y"]}} alice/Apply .spec.args as before
-"#,
-    )
+    expect_played(rt.alloc(), ATOMIC)
 }
+
+const CONFLICTS: &str =
+    r#"alice {"replicas":3} => {"spec":{"replicas":3}} alice/Apply .spec.replicas
+bob {"replicas":3} => {"spec":{"replicas":3}} alice/Apply .spec.replicas bob/Apply .spec.replicas
+carol {"replicas":4} => conflicts: .spec.replicas alice/Apply .spec.replicas bob/Apply
+carol! {"replicas":4} => {"spec":{"replicas":4}} carol/Apply .spec.replicas
+"#;
 
 #[test]
 fn all_conflicts_listed(rt: HostRuntime) -> Result<(), Fail> {
-    let lines = r#"alice {"replicas":3}
-bob {"replicas":3}
-carol {"replicas":4}
-carol! {"replicas":4}"#;
-    expect_text(
-        answers(rt.alloc(), lines)?,
-        r#"{"spec":{"replicas":3}} alice/Apply .spec.replicas
-{"spec":{"replicas":3}} alice/Apply .spec.replicas bob/Apply .spec.replicas
-conflicts: .spec.replicas alice/Apply .spec.replicas bob/Apply
-{"spec":{"replicas":4}} carol/Apply .spec.replicas
-"#,
-    )
+    expect_played(rt.alloc(), CONFLICTS)
 }
+
+const UPDATES: &str =
+    r#"bob {"image":"a","replicas":5} => {"spec":{"image":"a","replicas":5}} bob/Apply .spec.image .spec.replicas
+dave= {"image":"a","replicas":5} => {"spec":{"image":"a","replicas":5}} bob/Apply .spec.image .spec.replicas as before
+dave= {"image":"b"} => {"spec":{"image":"b"}} dave/Update .spec.image
+"#;
 
 #[test]
 fn update_and_version(rt: HostRuntime) -> Result<(), Fail> {
-    let lines = r#"bob {"image":"a","replicas":5}
-dave= {"image":"a","replicas":5}
-dave= {"image":"b"}"#;
-    expect_text(
-        answers(rt.alloc(), lines)?,
-        r#"{"spec":{"image":"a","replicas":5}} bob/Apply .spec.image .spec.replicas
-{"spec":{"image":"a","replicas":5}} bob/Apply .spec.image .spec.replicas as before
-{"spec":{"image":"b"}} dave/Update .spec.image
-"#,
-    )
+    expect_played(rt.alloc(), UPDATES)
 }
 
 fn manager(alloc: Global, name: &str, operation: Operation) -> Result<Manager, AllocError> {
@@ -285,16 +263,6 @@ fn seen(alloc: Global, schema: &Schema, live: &Owned, config: &Tree) -> Result<S
     Ok(text)
 }
 
-fn is_seen(
-    alloc: Global,
-    schema: &Schema,
-    live: &Owned,
-    config: &Tree,
-    before: &str,
-) -> Result<bool, Fail> {
-    Ok(seen(alloc, schema, live, config)?.as_str() == before)
-}
-
 /// Alice's apply between marks.
 fn marked_apply(
     alloc: Global,
@@ -309,85 +277,49 @@ fn marked_apply(
 }
 
 /// What the apply answers, or the same apply again where it was refused memory.
-fn told_anew(
+fn answer_or_again(
     alloc: Global,
-    schema: &Schema,
     live: &Owned,
     config: &Tree,
     force: bool,
-) -> Result<String, Fail> {
+) -> Result<Result<Owned, ApplyFault>, AllocError> {
     match marked_apply(alloc, live, config, force)? {
-        Err(ApplyFault::Memory) => told(
-            alloc,
-            schema,
-            &try_apply(alloc, live, "alice", config, force),
-        ),
-        answer => told(alloc, schema, &answer),
+        Err(ApplyFault::Memory) => Ok(try_apply(alloc, live, "alice", config, force)),
+        answer => Ok(answer),
     }
 }
 
-/// What alice's apply answers; refused memory, it leaves what it was given as it was, and answers anew.
-fn answer_anew(
-    alloc: Global,
-    schema: &Schema,
-    live: &Owned,
-    spec: &str,
-    force: bool,
-) -> Result<String, Fail> {
+/// What alice's apply answers, by force with `!` before its spec; refused memory, it leaves what it was given as it was,
+/// and answers anew. Nothing of it becomes what stands.
+fn answer_anew(alloc: Global, schema: &Schema, live: &Owned, line: &str) -> Result<String, Fail> {
+    let spec = line.strip_prefix("! ").unwrap_or(line);
     let config = body(alloc, schema, spec)?;
     let before = seen(alloc, schema, live, &config)?;
-    let told = told_anew(alloc, schema, live, &config, force)?;
-    match is_seen(alloc, schema, live, &config, before.as_str())? {
-        true => Ok(told),
-        false => Err("what was given was changed".into()),
+    let answer = answer_or_again(alloc, live, &config, spec != line)?;
+    let after = seen(alloc, schema, live, &config)?;
+    if before.as_str() != after.as_str() {
+        return Err("what was given was changed".into());
     }
+    told(alloc, schema, &answer)
 }
 
-/// What alice's apply answers after some lines.
-fn anew_after(alloc: Global, lines: &str, spec: &str, force: bool) -> Result<String, Fail> {
-    let types = types_of(alloc, WIDGET_TYPES)?;
-    let schema = first_schema(&types)?;
-    let mut live = Owned::empty(alloc);
-    drop(run(alloc, schema, &mut live, lines)?);
-    answer_anew(alloc, schema, &live, spec, force)
-}
+/// An apply with conflicts, one by force, one that drops.
+const ANEW: &str =
+    r#"alice {"image":"a","ports":[{"name":"web","port":80}]} => {"spec":{"image":"a","ports":[{"name":"web","port":80}]}} alice/Apply .spec.image .spec.ports[name="web"] .spec.ports[name="web"].port
+bob {"image":"a","tags":["x"]} => {"spec":{"image":"a","ports":[{"name":"web","port":80}],"tags":["x"]}} alice/Apply .spec.image .spec.ports[name="web"] .spec.ports[name="web"].port bob/Apply .spec.image .spec.tags[="x"]
+anew {"image":"b","tags":["y"]} => conflicts: .spec.image bob/Apply
+anew ! {"image":"b","tags":["y"]} => {"spec":{"image":"b","tags":["x","y"]}} alice/Apply .spec.image .spec.tags[="y"] bob/Apply .spec.tags[="x"]
+anew {} => {"spec":{"image":"a","tags":["x"]}} bob/Apply .spec.image .spec.tags[="x"]
+"#;
 
-/// Puts what alice's apply answers after some lines.
-fn push_anew(
-    alloc: Global,
-    all: &mut String,
-    lines: &str,
-    spec: &str,
-    force: bool,
-) -> Result<(), Fail> {
-    let text = anew_after(alloc, lines, spec, force)?;
-    all.push_str(text.as_str())?;
-    all.push_str("\n")?;
-    Ok(())
-}
+/// One that creates.
+const CREATED_ANEW: &str = r#"carol= {} =>  as before
+anew {"image":"a"} => {"spec":{"image":"a"}} alice/Apply .spec.image
+"#;
 
-/// What alice's applies answer after some lines: of another content, of that by force, and of nothing; and what one
-/// answers that creates.
-fn anew_in_turn(alloc: Global, lines: &str, other: &str) -> Result<String, Fail> {
-    let mut all = String::new(alloc);
-    push_anew(alloc, &mut all, lines, other, false)?;
-    push_anew(alloc, &mut all, lines, other, true)?;
-    push_anew(alloc, &mut all, lines, "{}", false)?;
-    push_anew(alloc, &mut all, "carol= {}", r#"{"image":"a"}"#, false)?;
-    Ok(all)
-}
-
-/// Run with each allocation refused in turn: an apply with conflicts, one by force, one that drops, one that creates.
+/// Run with each allocation refused in turn.
 #[test]
 fn memory_refused_in_apply(rt: HostRuntime) -> Result<(), Fail> {
-    let lines = r#"alice {"image":"a","ports":[{"name":"web","port":80}]}
-bob {"image":"a","tags":["x"]}"#;
-    expect_text(
-        anew_in_turn(rt.alloc(), lines, r#"{"image":"b","tags":["y"]}"#)?,
-        r#"conflicts: .spec.image bob/Apply
-{"spec":{"image":"b","tags":["x","y"]}} alice/Apply .spec.image .spec.tags[="y"] bob/Apply .spec.tags[="x"]
-{"spec":{"image":"a","tags":["x"]}} bob/Apply .spec.image .spec.tags[="x"]
-{"spec":{"image":"a"}} alice/Apply .spec.image
-"#,
-    )
+    expect_played(rt.alloc(), ANEW)?;
+    expect_played(rt.alloc(), CREATED_ANEW)
 }
