@@ -226,11 +226,11 @@ one_shown r n top cs rows row k next rising left is first key =
 -- ---- on from one revision to another
 
 -- what is forgotten up to r is forgotten up to the next, and once for all
-pub goes_on : (r top : ℕ) (cs now next : List Change) → IsRising 0 cs top → now ≡ kept r cs → next ≡ kept (suc r) now → next ≡ kept (suc r) cs
-goes_on r top cs now next rising so_far is = is ∙ ap (kept (suc r)) so_far ∙ kept_kept r (suc r) top cs (omega arith) rising
+pub goes_on : (r top : ℕ) (cs : List Change) → IsRising 0 cs top → kept (suc r) (kept r cs) ≡ kept (suc r) cs
+goes_on r top cs rising = kept_kept r (suc r) top cs (omega arith) rising
 
-pub still_left : (r top : ℕ) (cs now : List Change) → IsRising 0 cs top → now ≡ kept r cs → kept r now ≡ now
-still_left r top cs now rising so_far = ap (kept r) so_far ∙ kept_kept r r top cs (omega arith) rising ∙ sym so_far
+pub still_left : (r top : ℕ) (cs : List Change) → IsRising 0 cs top → kept r (kept r cs) ≡ kept r cs
+still_left r top cs rising = kept_kept r r top cs (omega arith) rising
 
-pub still_rising : (r top : ℕ) (cs now : List Change) → IsRising 0 cs top → now ≡ kept r cs → IsRising 0 now top
-still_rising r top cs now rising so_far = subst (λ l. IsRising 0 l top) (sym so_far) (rising-filter _ 0 top cs rising)
+pub still_rising : (r top : ℕ) (cs : List Change) → IsRising 0 cs top → IsRising 0 (kept r cs) top
+still_rising r top cs rising = rising-filter _ 0 top cs rising

@@ -17,20 +17,20 @@ use Rattle.sqlite.specs.Rowids.TheVariants.{Given}
 use Rattle.sqlite.specs.Rows.{Written}
 use Rattle.sqlite.specs.Does.{Tally, Does}
 use Rattle.sqlite.specs.Effect.{Database}
-use Rattle.sqlite.specs.State.{State, mode_of, Executes}
+use Rattle.sqlite.specs.State.{State, mode_of, Executes, ExecutesInside}
 use Rattle.sqlite.specs.Listing.{understood}
 use Rattle.sqlite.proofs.Callers.{statement_of, runs_as, one_step}
 use Rattle.sqlite_rules.specs.Calls.{ids_of}
 use Rattle.sqlite_sql.specs.Term.{Env}
 use Rattle.sqlite_value.proofs.OrderLemmas.{value_cmp-Int}
-use Rattle.sqlite_keyed.proofs.ListLemmas.{map-map, map_back, filter-map, filter_same, filter_all, all_of, all_both, all_weaker}
+use Rattle.sqlite_keyed.proofs.ListLemmas.{map-map, filter-map, filter_same, filter_all, all_of, all_both, all_weaker}
 use Rattle.history.specs.History.{Key, Change}
 use Rattle.history.proofs.Lists.{filter_both}
 use Rattle.history.proofs.Standing.{filter_same_on}
 use Rattle.revtable.specs.Asked.{is_superseded, without}
-use Rattle.revtable.specs.Rows.{change_table, change_schema, row_of, change_in, changes_in, IsKept, IsOrdered, Keeps}
+use Rattle.revtable.specs.Rows.{change_table, change_schema, row_of, Amid, HasRows, IsOrdered}
 use Rattle.revtable.proofs.Last.{kept_if}
-use Rattle.revtable.proofs.Outcomes.{went, same_value, open_if_ran, back}
+use Rattle.revtable.proofs.Outcomes.{went, same_value}
 use Rattle.revtable.proofs.Where.{bound_key, delete_tests}
 use Rattle.revtable.proofs.Texts.{delete_text, delete_query, delete_is, delete_plain}
 
@@ -129,9 +129,8 @@ module _ (k : Key) (r : ℕ) where
       let same : IsPermutation (map (λ (o : Output). o.1) (map shows old)) (map (λ (o : Output). o.1) a.ordered) = IsPermutation-map (λ (o : Output). o.1) _ _ (subst (λ l. IsPermutation l a.ordered) kept a.same) in
       subst (IsPermutation (map id_row old)) (sym a.shown) (subst (λ l. IsPermutation l (map (λ (o : Output). o.1) a.ordered)) (map-map (λ (o : Output). o.1) shows old) same)
 
-  deletes : (old new : State) (count : ℕ) → IsKept old → IsOrdered (changes_in old) → Executes delete_text (bound_key k r) old new (Ok count)
-      → (new.now.schema ≡ change_schema) × (new.now.trees 0 ≡ map row_of (without k r (changes_in old)))
-  deletes old new count was rising h =
+  deletes : (old new : State) (count : ℕ) (cs : List Change) → HasRows cs old.now → IsOrdered cs → Executes delete_text (bound_key k r) old new (Ok count) → HasRows (without k r cs) new.now
+  deletes old new count cs was rising h =
       let params = bound_key k r in
       let db = old.now.trees in
       let command = Delete 0 (record { lets = []; body = delete_query }) in
@@ -143,27 +142,10 @@ module _ (k : Key) (r : ℕ) where
       let written = went given.2 in
       let trees : done.0.trees ≡ written.0 = ap (λ (it : Written). it.trees) (same_value written.2) in
       let rows = (one_step change_schema _ db written.0 (edit_of db change_table (ids_of given.0) Given 0 []) refl written.1).rows in
-      let left = ap (λ l. without_all l (ids_of given.0)) was.rows ∙ without_picked (is_superseded k r) (changes_in old) given.0 rising (found db (changes_in old) given.0 was.rows (given.1.answer Null)) in
-      (ap (λ (d : Database). d.schema) now, ap (λ (d : Database). d.trees 0) now ∙ ap (λ (t : Trees). t 0) trees ∙ rows ∙ left)
+      let left = ap (λ l. without_all l (ids_of given.0)) was.rows ∙ without_picked (is_superseded k r) cs given.0 rising (found db cs given.0 was.rows (given.1.answer Null)) in
+      record { schema = ap (λ (d : Database). d.schema) now; rows = ap (λ (d : Database). d.trees 0) now ∙ ap (λ (t : Trees). t 0) trees ∙ rows ∙ left }
 
-  deleted : (old new : State) (count : ℕ) → IsKept old → IsOrdered (changes_in old) → Executes delete_text (bound_key k r) old new (Ok count) → IsKept new × (changes_in new ≡ without k r (changes_in old))
-  deleted old new count was rising h =
-      let w = runs_as delete_text (bound_key k r) old new change_schema was.schema (Delete 0 (record { lets = []; body = delete_query })) delete_is delete_plain count h in
-      let did = deletes old new count was rising h in
-      let rows : changes_in new ≡ without k r (changes_in old) = ap (map change_in) did.1 ∙ map_back row_of change_in back (without k r (changes_in old)) in (
-        record {
-          schema = did.0;
-          rows = did.1 ∙ ap (map row_of) (sym rows);
-          settled = w.shown.committed_is ∙ rw was.autocommit refl;
-          autocommit = w.shown.mode ∙ was.autocommit;
-          is_open = w.shown.is_open;
-        },
-        rows,
-      )
-
-  pub takes_out : (old new : State) (count : ℕ) (cs : List Change) → Keeps cs old → IsOrdered cs → Executes delete_text (bound_key k r) old new (Ok count)
-      → Keeps (changes_in new) new × (changes_in new ≡ without k r cs)
-  takes_out old new count cs keeps rising h =
-      let was = keeps.rows (open_if_ran old new delete_text (bound_key k r) count keeps.autocommit h) in
-      let all = deleted old new count was.0 (subst IsOrdered (sym was.1) rising) h in
-      (record { autocommit = all.0.autocommit; rows = λ _. (all.0, refl) }, all.1 ∙ ap (without k r) was.1)
+  pub takes_out : (old new : State) (count : ℕ) (start cs : List Change) → Amid start cs old → IsOrdered cs → ExecutesInside 0 delete_text (bound_key k r) old new (Ok count) → Amid start (without k r cs) new
+  takes_out old new count start cs amid rising h =
+      let was = amid.rows h.1.was_open in
+      record { inside = h.1.mode; rows = λ live. (subst (HasRows start) (sym h.1.committed_is) was.0, deletes old new count cs was.1 rising h.0) }

@@ -15,3 +15,4 @@ pub mod Revision
 pub mod Span
 pub mod Where
 pub mod Texts
+pub mod Within

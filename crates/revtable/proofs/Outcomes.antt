@@ -69,7 +69,7 @@ module _ (old new : State) where
   open_as_shown sql c params rows (Some what) h = (h.1.shown.was_open, record { autocommit = λ auto. h.1.shown.mode ∙ auto; was_open = λ _. h.1.shown.was_open })
 
   -- what answers was open
-  open_if_shown : (sql : List ℕ) (params : Row) (rows : List Row) → Shown sql params old new rows → IsTrue old.is_open × Goes old new
+  pub open_if_shown : (sql : List ℕ) (params : Row) (rows : List Row) → Shown sql params old new rows → IsTrue old.is_open × Goes old new
   unfolding Shown
   open_if_shown sql params rows h = open_as_shown sql h.0 _ rows h.0.returning h.2
 
@@ -200,7 +200,7 @@ asked_keeps sql plain old new params cs r keeps ok err =
           (all.0, all.1 ∙ was.1);
     }
 
-same_command : (r : Result Compiled CompileError) → command_of r ≡ command_in r
+pub same_command : (r : Result Compiled CompileError) → command_of r ≡ command_in r
 same_command (Ok c) = refl
 same_command (Err e) = refl
 

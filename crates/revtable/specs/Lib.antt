@@ -1,6 +1,5 @@
 pub mod Asked
 pub mod Decoded
-pub mod Deleted
 pub mod Faults
 pub mod Read
 pub mod Rows

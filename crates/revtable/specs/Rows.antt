@@ -102,6 +102,20 @@ pub record Keeps (changes : List Change) (s : State) : Type 0 where
   pub autocommit : s.in_transaction ≡ false
   pub rows : IsTrue s.is_open → IsKept s × (changes_in s ≡ changes)
 
+-- what a database holds whose rows keep these changes
+pub record HasRows (changes : List Change) (db : Database) : Type 0 where
+  pub schema : db.schema ≡ change_schema
+  pub rows : db.trees 0 ≡ map row_of changes
+
+-- A transaction that began where the rows kept `start` and has made these of them, as long as its connection is open.
+pub record Amid (start changes : List Change) (s : State) : Type 0 where
+  pub inside : IsTrue s.in_transaction
+  pub rows : IsTrue s.is_open → HasRows start s.committed × HasRows changes s.now
+
+-- what a transaction that failed began from
+abbrev pub Undone : List Change → State → Type 0
+Undone start s = IsTrue s.is_open → HasRows start s.committed
+
 -- the command that a text is
 abbrev pub command_in : Result Compiled CompileError → Command
 command_in (Ok c) = c.command

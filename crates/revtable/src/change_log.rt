@@ -1,15 +1,18 @@
 //! The changes, kept in the rows of a database over two files in memory.
 
-ghost use Rattle.std.specs.Prelude.{◌≡◌, [], ◌∷◌, ◌++◌, ◌^◌, ◌<◌, IfOk, OnOk, OnErr, option_map, false};
+ghost use Rattle.std.specs.Prelude.{◌≡◌, [], ◌∷◌, ◌++◌, ℕ, ◌^◌, ◌<◌, ◌≤◌, IfOk, OnOk, OnErr, option_map, false};
+ghost use Rattle.history.specs.History.{IsRising};
+ghost use Rattle.history.specs.Kept.{kept};
 ghost use Rattle.history.specs.Read.{key_of};
-ghost use Rattle.revtable.specs.Asked.{without};
-ghost use Rattle.revtable.specs.Rows.{change_schema, AreBelow, IsAnswer, IsOrdered};
+ghost use Rattle.revtable.specs.Rows.{change_schema, AreBelow, IsAnswer};
 ghost use Rattle.sqlite.specs.Files.{file_state};
 ghost use Rattle.sqlite.specs.Given.{IsPlain};
 ghost use Rattle.sqlite.specs.Listing.{reads_listing, understood};
 ghost use Rattle.sqlite.specs.Steps.{IsEmpty};
 ghost use Rattle.sqlite.specs.Values.{bound};
 
+use crate::compaction;
+use crate::fault::Fault;
 use crate::file::MemoryFile;
 use history::Key;
 use sqlite::types::ValueRef;
@@ -87,17 +90,16 @@ impl Log {
         Ok(())
     }
 
-    /// Takes out what a change superseded: the older change of its key, and itself if it is a deletion.
-    pub(crate) fn delete_superseded(&mut self, key: &Key, revision: u64) -> Result<(), Error>
-        requires fits { revision < 2 ^ 63 }
-        requires ordered { IsOrdered self.old }
-        ensures ok { OnOk result (self.new ≡ without (key_of key.now) revision self.old) }
+    /// Deletes what the changes after one revision up to another superseded: all of it, or nothing.
+    pub(crate) fn compact(&mut self, from: u64, to: u64) -> Result<(), Fault>
+        requires fits { to < 2 ^ 63 }
+        requires low { from ≤ to }
+        requires rising { (top : ℕ) × IsRising 0 self.old top }
+        requires left { kept from self.old ≡ self.old }
+        ensures ok { OnOk result (self.new ≡ kept to self.old) }
         ensures err { OnErr result (self.new ≡ self.old) }
     {
-        self.base.execute(
-            "DELETE FROM change WHERE kind = ?1 AND namespace = ?2 AND name = ?3 AND revision <= ?4 AND (revision < ?4 OR body IS NULL)",
-            params![key.kind, &key.namespace, &key.name, revision as i64],
-        )?;
+        compaction::delete_between(&mut self.base, from, to)?;
         self.kept = Snapshot::of(&self.base);
         Ok(())
     }

@@ -1,61 +1,113 @@
-//! Compaction, revision by revision: what each change superseded is deleted, so it costs what it removes.
+//! Compaction, revision by revision: what each change superseded is deleted, so it costs what it removes. All of it is
+//! one transaction, so that a deletion that fails leaves the rows as they were.
 
-ghost use Rattle.std.specs.Prelude.{◌≡◌, suc, ℕ, ◌^◌, ◌<◌, ◌≤◌, map, IfOk, OnOk, OnErr};
-ghost use Rattle.history.specs.History.{IsRising};
+ghost use Rattle.std.specs.Prelude.{◌≡◌, suc, ℕ, ◌^◌, ◌<◌, ◌≤◌, List, map, false, IfOk, OnOk, OnErr};
+ghost use Rattle.history.specs.History.{Change, IsRising};
 ghost use Rattle.history.specs.Kept.{kept};
-ghost use Rattle.revtable.specs.Asked.{made_at};
-ghost use Rattle.revtable.specs.Rows.{shown, IsOrdered};
+ghost use Rattle.history.specs.Read.{key_of};
+ghost use Rattle.revtable.specs.Asked.{made_at, without};
+ghost use Rattle.revtable.specs.Rows.{changes_in, shown, Amid, IsOrdered, Keeps, Undone};
+ghost use Rattle.sqlite.specs.Files.{file_state};
 
-use crate::change_log::Log;
 use crate::fault::Fault;
+use crate::file::MemoryFile;
 use crate::reading::read_key;
-use sqlite::{Error, Row, params};
+use history::Key;
+use sqlite::{Connection, Error, FileStore, Row, Transaction, params};
 
 /// The change of a revision, if its row is still there.
-fn changed_at(log: &mut Log, revision: u64) -> Result<Vec<Row>, Error>
+fn changed_at(
+    deleting: &mut Transaction<'_, FileStore<MemoryFile>>,
+    revision: u64,
+) -> Result<Vec<Row>, Error>
     requires fits { revision < 2 ^ 63 }
-    requires ordered { IsOrdered log.old }
-    ensures ok { IfOk result (λ rows. rows.items ≡ map shown (made_at revision log.old)) }
-    ensures same { log.new ≡ log.old }
+    ensures same_reference { deleting.new.conn.ghost_name ≡ deleting.old.conn.ghost_name }
+    ensures ok { (start cs : List Change) → IsOrdered cs → Amid start cs (file_state deleting.old.conn.now)
+        → IfOk result (λ rows. (rows.items ≡ map shown (made_at revision cs)) × Amid start cs (file_state deleting.new.conn.now)) }
+    ensures err { (start cs : List Change) → Amid start cs (file_state deleting.old.conn.now) → OnErr result (Undone start (file_state deleting.new.conn.now)) }
 {
-    log.ask(
+    deleting.query_all(
         "SELECT revision, kind, namespace, name, body FROM change WHERE revision = ?1 ORDER BY revision",
         params![revision as i64],
     )
 }
 
+/// Takes out what a change superseded: the older change of its key, and itself if it is a deletion.
+fn delete_superseded(
+    deleting: &mut Transaction<'_, FileStore<MemoryFile>>,
+    key: &Key,
+    revision: u64,
+) -> Result<(), Error>
+    requires fits { revision < 2 ^ 63 }
+    ensures same_reference { deleting.new.conn.ghost_name ≡ deleting.old.conn.ghost_name }
+    ensures ok { (start cs : List Change) → IsOrdered cs → Amid start cs (file_state deleting.old.conn.now)
+        → OnOk result (Amid start (without (key_of key.now) revision cs) (file_state deleting.new.conn.now)) }
+    ensures err { (start cs : List Change) → Amid start cs (file_state deleting.old.conn.now) → OnErr result (Undone start (file_state deleting.new.conn.now)) }
+{
+    deleting.execute(
+        "DELETE FROM change WHERE kind = ?1 AND namespace = ?2 AND name = ?3 AND revision <= ?4 AND (revision < ?4 OR body IS NULL)",
+        params![key.kind, &key.namespace, &key.name, revision as i64],
+    )?;
+    Ok(())
+}
+
 /// Deletes what the change of the next revision superseded.
-fn delete_next(log: &mut Log, done: u64) -> Result<(), Fault>
+fn delete_next(
+    deleting: &mut Transaction<'_, FileStore<MemoryFile>>,
+    done: u64,
+) -> Result<(), Fault>
     requires fits { suc done < 2 ^ 63 }
-    requires rising { (top : ℕ) × IsRising 0 log.old top }
-    requires left { kept done log.old ≡ log.old }
-    ensures ok { OnOk result (log.new ≡ kept (suc done) log.old) }
-    ensures err { OnErr result (log.new ≡ log.old) }
+    ensures same_reference { deleting.new.conn.ghost_name ≡ deleting.old.conn.ghost_name }
+    ensures ok { (start cs : List Change) → (top : ℕ) → IsRising 0 cs top → kept done cs ≡ cs → Amid start cs (file_state deleting.old.conn.now)
+        → OnOk result (Amid start (kept (suc done) cs) (file_state deleting.new.conn.now)) }
+    ensures err { (start cs : List Change) → (top : ℕ) → IsRising 0 cs top → Amid start cs (file_state deleting.old.conn.now) → OnErr result (Undone start (file_state deleting.new.conn.now)) }
 {
     let revision = done + 1;
-    let rows = changed_at(log, revision)?;
+    let rows = changed_at(deleting, revision)?;
     let Some(row) = rows.first() else {
         return Ok(());
     };
     let key = read_key(row)?;
-    log.delete_superseded(&key, revision)?;
+    delete_superseded(deleting, &key, revision)?;
     Ok(())
 }
 
-/// Deletes what the changes up to a revision superseded, on from where it is done. Where a deletion fails it ends
-/// there, so that the next call goes on from it.
-pub(crate) fn delete_to(log: &mut Log, done: &mut u64, to: u64) -> Result<(), Fault>
+/// Deletes what the changes after one revision up to another superseded.
+fn delete_all(
+    deleting: &mut Transaction<'_, FileStore<MemoryFile>>,
+    from: u64,
+    to: u64,
+) -> Result<(), Fault>
     requires fits { to < 2 ^ 63 }
-    requires low { done.old ≤ to }
-    requires rising { (top : ℕ) × IsRising 0 log.old top }
-    requires left { kept done.old log.old ≡ log.old }
-    ensures left { log.new ≡ kept done.new log.old }
-    ensures low { done.new ≤ to }
-    ensures ok { OnOk result (done.new ≡ to) }
+    requires low { from ≤ to }
+    ensures same_reference { deleting.new.conn.ghost_name ≡ deleting.old.conn.ghost_name }
+    ensures ok { (start cs : List Change) → (top : ℕ) → IsRising 0 cs top → kept from cs ≡ cs → Amid start cs (file_state deleting.old.conn.now)
+        → OnOk result (Amid start (kept to cs) (file_state deleting.new.conn.now)) }
+    ensures err { (start cs : List Change) → (top : ℕ) → IsRising 0 cs top → kept from cs ≡ cs → Amid start cs (file_state deleting.old.conn.now) → OnErr result (Undone start (file_state deleting.new.conn.now)) }
 {
-    while *done < to {
-        delete_next(log, *done)?;
-        *done += 1;
+    let mut done = from;
+    while done < to {
+        delete_next(deleting, done)?;
+        done += 1;
     }
+    Ok(())
+}
+
+/// The same as one transaction: if a deletion fails, its end undoes those before.
+pub(crate) fn delete_between(
+    base: &mut Connection<FileStore<MemoryFile>>,
+    from: u64,
+    to: u64,
+) -> Result<(), Fault>
+    requires fits { to < 2 ^ 63 }
+    requires low { from ≤ to }
+    requires settled { base.old.in_transaction ≡ false }
+    ensures ok { (cs : List Change) → (top : ℕ) → IsRising 0 cs top → kept from cs ≡ cs → Keeps cs (file_state base.old)
+        → OnOk result (Keeps (kept to cs) (file_state base.new) × (changes_in (file_state base.new) ≡ kept to cs)) }
+    ensures err { (cs : List Change) → (top : ℕ) → IsRising 0 cs top → kept from cs ≡ cs → Keeps cs (file_state base.old) → OnErr result (Keeps cs (file_state base.new)) }
+{
+    let mut deleting = base.transaction();
+    delete_all(&mut deleting, from, to)?;
+    deleting.commit()?;
     Ok(())
 }

@@ -12,9 +12,9 @@ ghost use Rattle.sqlite.specs.Values.{bound};
 
 use crate::change_log::Log;
 use crate::fault::Fault;
+use crate::paging;
 use crate::reading::{read_changes, read_entries, read_left};
 use crate::row::{Change, Entry, Marks, Object};
-use crate::{compaction, paging};
 use history::Key;
 use sqlite::Row;
 use sqlite::types::ValueRef;
@@ -31,20 +31,17 @@ pub struct Table {
     log: Log,
     current: u64,
     compacted: u64,
-    /// Up to which revision the rows that a compaction forgets are deleted: what is not yet is forgotten all the same.
-    deleted_to: u64,
 }
 
 impl Model for Table {
     ghost use Rattle.history.specs.History.{History};
-    ghost use Rattle.history.specs.Kept.{pruned};
-    ghost use Rattle.revtable.specs.Deleted.{IsDeletedTo};
+    ghost use Rattle.history.specs.Kept.{IsPruned};
 
     ghost Value = { History };
 
-    ghost view = { λ t. pruned t.compacted (record { changes = t.log; current = t.current; compacted = t.compacted }) };
+    ghost view = { λ t. record { changes = t.log; current = t.current; compacted = t.compacted } };
 
-    ghost invariant = { λ t. IsDeletedTo t.deleted_to (record { changes = t.log; current = t.current; compacted = t.compacted }) };
+    ghost invariant = { λ t. IsPruned (record { changes = t.log; current = t.current; compacted = t.compacted }) };
 }
 
 impl Table {
@@ -66,7 +63,6 @@ impl Table {
             log: Log::open(alloc)?,
             current: revision,
             compacted: revision,
-            deleted_to: revision,
         })
     }
 
@@ -177,13 +173,13 @@ impl Table {
         ensures ok { OnOk result (self.new ≡ pruned (between_marks self.old revision) self.old) }
         ensures err { OnErr result (self.new ≡ self.old) }
     {
-        self.compacted = revision.min(self.current).max(self.compacted);
-        // What a deletion that fails leaves is forgotten all the same, and the next question goes on from there.
-        let _ = compaction::delete_to(&mut self.log, &mut self.deleted_to, self.compacted);
+        let to = revision.min(self.current).max(self.compacted);
+        self.log.compact(self.compacted, to)?;
+        self.compacted = to;
         Ok(())
     }
 
-    /// What a SELECT over the kept changes shows, once the rows of all others are deleted.
+    /// What a SELECT over the kept changes shows.
     pub(crate) fn ask(&mut self, sql: &str, params: &[ValueRef<'_>]) -> Result<Vec<Row>, Fault>
         requires plain { IsPlain (understood change_schema sql.now) }
         requires unlisted { reads_listing change_schema sql.now ≡ false }
@@ -191,7 +187,6 @@ impl Table {
         ensures same { self.new ≡ self.old }
         ensures sound { IsPruned self.old }
     {
-        compaction::delete_to(&mut self.log, &mut self.deleted_to, self.compacted)?;
         Ok(self.log.ask(sql, params)?)
     }
 }

@@ -1,24 +1,35 @@
-use Rattle.std.proofs.Common.{◌∙◌, sym, ap, subst, slice_get, arith, ◌+◌}
+use Rattle.std.proofs.Common.{◌∙◌, ap, subst, slice_get, arith, ◌+◌}
 use Rattle.history.specs.Read.{key_of}
-use Rattle.revtable.specs.Asked.{without}
-use Rattle.revtable.specs.Rows.{IsOrdered}
+use Rattle.sqlite.specs.Files.{file_state}
+use Rattle.revtable.specs.Rows.{Amid}
 use Rattle.revtable.proofs.Compacting.{none_shown, one_shown}
 use Rattle.revtable.proofs.Numbers.{ascending}
+use Rattle.revtable.proofs.Within.{on_err, undone}
 use Rattle.revtable.proofs.compaction.delete_next.Goals as goal
 
-pub changed_at-requires-clause-ordered : goal.changed_at-requires-clause-ordered
-changed_at-requires-clause-ordered c = ascending 0 c.requires.rising.0 c.args.log.now c.requires.rising.1
-
 pub returns-in_default-clause-ok : goal.returns-in_default-clause-ok
-returns-in_default-clause-ok c =
-    c.in_ok-rows.ensures.same
-    ∙ none_shown c.args.done (c.args.done + 1) c.args.log.now c.in_ok-rows.rows.items (omega arith) c.requires.left c.in_ok-rows.ensures.ok (c.in_default.ensures.value ∙ ap (λ l. slice_get l 0) c.deref.ensures.value)
-
-pub delete_superseded-requires-clause-ordered : goal.delete_superseded-requires-clause-ordered
-delete_superseded-requires-clause-ordered c = subst IsOrdered (sym c.in_ok-rows.ensures.same) (ascending 0 c.requires.rising.0 c.args.log.now c.requires.rising.1)
+returns-in_default-clause-ok c start cs top rising left amid =
+    let found = c.in_ok-rows.ensures.ok start cs (ascending 0 top cs rising) amid in
+    subst (λ l. Amid start l (file_state c.changed_at.new.deleting.conn.now))
+    (none_shown c.args.done (c.args.done + 1) cs c.in_ok-rows.rows.items (omega arith) left found.0 (c.in_default.ensures.value ∙ ap (λ l. slice_get l 0) c.deref.ensures.value))
+    found.1
 
 pub returns-clause-ok : goal.returns-clause-ok
-returns-clause-ok c =
-    c.in_ok-delete_superseded.ensures.ok ∙ ap (without (key_of c.in_ok-key.key) (c.args.done + 1)) c.in_ok-rows.ensures.same
-    ∙ one_shown c.args.done (c.args.done + 1) c.requires.rising.0 c.args.log.now c.in_ok-rows.rows.items c.in-Some.row.now (key_of c.in_ok-key.key) (omega arith) c.requires.rising.1 c.requires.left c.in_ok-rows.ensures.ok
-    (c.in-Some.ensures.value ∙ ap (λ l. slice_get l 0) c.deref.ensures.value) c.in_ok-key.ensures
+returns-clause-ok c start cs top rising left amid =
+    let up = ascending 0 top cs rising in
+    let found = c.in_ok-rows.ensures.ok start cs up amid in
+    subst (λ l. Amid start l (file_state c.delete_superseded.new.deleting.conn.now))
+    (one_shown c.args.done (c.args.done + 1) top cs c.in_ok-rows.rows.items c.in-Some.row.now (key_of c.in_ok-key.key) (omega arith) rising left found.0
+    (c.in-Some.ensures.value ∙ ap (λ l. slice_get l 0) c.deref.ensures.value) c.in_ok-key.ensures)
+    (c.in_ok-delete_superseded.ensures.ok start cs up found.1)
+
+pub returns-in_err-rows-clause-err : goal.returns-in_err-rows-clause-err
+returns-in_err-rows-clause-err c start cs top rising amid = on_err c.from_residual.result _ (c.in_err-rows.ensures.err start cs amid)
+
+pub returns-in_err-key-clause-err : goal.returns-in_err-key-clause-err
+returns-in_err-key-clause-err c start cs top rising amid =
+    on_err c.from_residual-in_err-key.result _ (undone start cs _ (c.in_ok-rows.ensures.ok start cs (ascending 0 top cs rising) amid).1)
+
+pub returns-in_err-delete_superseded-clause-err : goal.returns-in_err-delete_superseded-clause-err
+returns-in_err-delete_superseded-clause-err c start cs top rising amid =
+    on_err c.from_residual-in_err-delete_superseded.result _ (c.in_err-delete_superseded.ensures.err start cs (c.in_ok-rows.ensures.ok start cs (ascending 0 top cs rising) amid).1)

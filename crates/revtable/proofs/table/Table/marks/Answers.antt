@@ -1,7 +1,6 @@
 use Rattle.std.proofs.Common.{subst}
 use Rattle.history.specs.Kept.{IsPruned}
-use Rattle.revtable.proofs.Fields.{sound}
 use Rattle.revtable.proofs.table.Table.marks.Goals as goal
 
 pub returns-clause-sound : goal.returns-clause-sound
-returns-clause-sound c = subst IsPruned c.self.view_is (sound _ _ c.self.invariant)
+returns-clause-sound c = subst IsPruned c.self.view_is c.self.invariant
