@@ -4,6 +4,7 @@ pub mod Befores
 pub mod Following
 pub mod Kept
 pub mod Keys
+pub mod Leading
 pub mod Lists
 pub mod Paging
 pub mod Revisions

@@ -14,7 +14,7 @@ use Rattle.history.proofs.Keys.{key_cmp_total}
 use Rattle.history.proofs.Lists.{filter_both, filter_like, filter_turned}
 use Rattle.history.proofs.Selecting.{Entries, fst, snd, entries-selected}
 
-less_is : (r : Ordering) → T (is_lt r) → r ≡ Less
+pub less_is : (r : Ordering) → T (is_lt r) → r ≡ Less
 less_is Less h = refl
 less_is Equal h = absurd h
 less_is Greater h = absurd h
@@ -36,7 +36,7 @@ drops k e es is = ap (λ r. cond (is_lt r) (e ∷ past k es) (past k es)) is
 drops_above : (k : Key) (e : Key × Object) (es : Entries) → T (is_lt (key_cmp e.0 k)) → past k (e ∷ es) ≡ past k es
 drops_above k e es h = ap (λ r. cond (is_lt r) (e ∷ past k es) (past k es)) (key_cmp_total.antisymm k e.0 ∙ ap ordering_reverse (less_is (key_cmp e.0 k) h))
 
-past-front : (k : Key) (front rest : Entries) → T (is_sorted key_cmp (front ++ rest)) → last_key front ≡ Some k → past k (front ++ rest) ≡ rest
+pub past-front : (k : Key) (front rest : Entries) → T (is_sorted key_cmp (front ++ rest)) → last_key front ≡ Some k → past k (front ++ rest) ≡ rest
 past-front k [] rest sorted is = absurd cc
 past-front k (e ∷ []) rest sorted is =
     let same : e.0 ≡ k = cc in
@@ -106,7 +106,7 @@ reversed Less = refl
 reversed Equal = refl
 reversed Greater = refl
 
-past_of_kind : (k q : Key) → q.kind ≡ k.kind → is_past (Some (k.namespace, k.name)) q ≡ is_lt (key_cmp k q)
+pub past_of_kind : (k q : Key) → q.kind ≡ k.kind → is_past (Some (k.namespace, k.name)) q ≡ is_lt (key_cmp k q)
 past_of_kind k q same =
     sym (ap is_lt (key_cmp_total.antisymm k q) ∙ reversed (key_cmp q k)
     ∙ ap (λ r. is_gt (ordering_then r (ordering_then (text_cmp q.namespace k.namespace) (text_cmp q.name k.name)))) (ap (nat_cmp q.kind) (sym same) ∙ tied_itself nat_cmp_total q.kind))

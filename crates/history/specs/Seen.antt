@@ -1,8 +1,9 @@
 -- What a list and a watch see of a history: the objects of a selection at a revision, and the changes after it
 -- (Kubernetes "API Concepts", "Efficient detection of changes").
-use Rattle.std.specs.Prelude.{◌≡◌, ℕ, ◌<◌, ◌≤◌, Bool, List, [], ◌∷◌, ◌++◌, filter, map, Option, Some, None, option_map, if◌then◌else◌}
+use Rattle.std.specs.Prelude.{◌≡◌, ℕ, ◌<◌, ◌≤◌, Bool, List, [], ◌∷◌, ◌++◌, filter, map, take, Option, Some, None, option_map, if◌then◌else◌}
 use Rattle.std.specs.FinMap as fin
 use Rattle.history.specs.History.{Key, Object, Objects, Change, left_by, put_or_remove, up_to, later, state_at}
+use Rattle.history.specs.Page.{next_of, past}
 use Rattle.history.specs.View.{View, state_in}
 
 -- which objects are asked for: type and namespace by the key, what a selector says by the body
@@ -15,6 +16,32 @@ selected wanted s = fin.from_sorted (filter (λ e. wanted e.0 e.1.body) (fin.ent
 
 abbrev pub seen_at : Selection → List Change → ℕ → Objects
 seen_at wanted cs r = selected wanted (state_at cs r)
+
+-- ---- a list, page by page
+
+-- a page of a list: its objects, and the key after which the next page begins, where the list has more
+pub record SeenPage : Type 0 where
+  pub found : List (Key × Object)
+  pub next : Option Key
+
+-- what a list has after a key, if one is given
+abbrev pub left_after : Option Key → List (Key × Object) → List (Key × Object)
+left_after None es = es
+left_after (Some k) es = past k es
+
+-- the first of these, as many as the limit says, or all where there is none
+abbrev pub limited : Option ℕ → List (Key × Object) → SeenPage
+limited None es = record { found = es; next = None }
+limited (Some limit) es = record { found = take limit es; next = next_of limit es }
+
+-- the objects of the selection, from after a key on, up to a limit
+abbrev pub seen_page : Selection → Option Key → Option ℕ → Objects → SeenPage
+seen_page wanted after limit s = limited limit (left_after after (fin.entries (selected wanted s)))
+
+-- a page has room for an object
+abbrev pub IsLimit : Option ℕ → Type 0
+IsLimit None = Unit {0}
+IsLimit (Some limit) = 0 < limit
 
 -- ---- the changes that are seen
 

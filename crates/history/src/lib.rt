@@ -15,5 +15,5 @@ mod seen_laws;
 
 pub use key::Key;
 pub use laws::{histories_stay_whole, kept_is_enough, view_of_calls, view_of_kept};
-pub use page_laws::pages_make_the_list;
+pub use page_laws::{lists_come_in_pages, pages_make_the_list, rows_lead_on};
 pub use seen_laws::{seen_changes_lead_on, seen_changes_one_by_one, seen_stays, types_stand_apart};

@@ -1,10 +1,11 @@
-//! Laws of pages. The function does nothing; what it promises is the law.
+//! Laws of pages. Each function does nothing; what it promises is the law.
 
-ghost use Rattle.std.specs.Prelude.{◌≡◌, ◌++◌, ◌&&◌, ℕ, ◌<◌, List, None, Option, Some, filter, take};
+ghost use Rattle.std.specs.Prelude.{◌≡◌, ◌++◌, ◌&&◌, ℕ, ◌<◌, List, None, Option, Some, T, filter, length, take};
 ghost use Rattle.std.specs.FinMap as fin;
-ghost use Rattle.history.specs.History.{Key, Object, Objects};
-ghost use Rattle.history.specs.Page.{IsFront, is_within, listed, next_of, past};
-ghost use Rattle.history.specs.Seen.{Selection, selected};
+ghost use Rattle.std.specs.FinMap.{is_sorted};
+ghost use Rattle.history.specs.History.{Key, Object, Objects, key_cmp};
+ghost use Rattle.history.specs.Page.{IsFront, is_within, last_key, listed, next_of, page, past};
+ghost use Rattle.history.specs.Seen.{IsLimit, Selection, seen_page, selected};
 
 /// Pages of any sizes above 0, each begun after the last key of the one before, are fronts of the list, and where
 /// no next page is named they are the list. The rows of a type and namespace after a place are such entries, and those of
@@ -20,4 +21,24 @@ pub fn pages_make_the_list()
         → filter (λ e. wanted e.0 e.1.body) (listed kind namespace None s) ≡ fin.entries (selected (λ k body. is_within kind namespace k && wanted k body) s) }
     ensures wanted_past { (namespace : Option (List ℕ)) (k : Key) (wanted : Selection) (s : Objects)
         → filter (λ e. wanted e.0 e.1.body) (listed k.kind namespace (Some (k.namespace, k.name)) s) ≡ past k (fin.entries (selected (λ q body. is_within k.kind namespace q && wanted q body) s)) }
+{}
+
+/// A list comes in pages: the first page is a front of it, a page that begins after the key which the pages before
+/// name continues that front, and where no key is named the pages are the list. The keys of a front rise, so nothing
+/// comes twice.
+pub fn lists_come_in_pages()
+    ensures first { (wanted : Selection) (limit : Option ℕ) (s : Objects) → IsLimit limit → IsFront (fin.entries (selected wanted s)) (seen_page wanted None limit s).found (seen_page wanted None limit s).next }
+    ensures next { (wanted : Selection) (limit : Option ℕ) (s : Objects) (front : List (Key × Object)) (k : Key) → IsLimit limit → IsFront (fin.entries (selected wanted s)) front (Some k)
+        → IsFront (fin.entries (selected wanted s)) (front ++ (seen_page wanted (Some k) limit s).found) (seen_page wanted (Some k) limit s).next }
+    ensures whole { (wanted : Selection) (s : Objects) (all : List (Key × Object)) → IsFront (fin.entries (selected wanted s)) all None → all ≡ fin.entries (selected wanted s) }
+    ensures rising { (wanted : Selection) (s : Objects) (front : List (Key × Object)) (next : Option Key) → IsFront (fin.entries (selected wanted s)) front next → T (is_sorted key_cmp front) }
+{}
+
+/// Rows can be read a few at a time: where fewer come than were asked for nothing is left, and else what is left is
+/// what comes after the last of them.
+pub fn rows_lead_on()
+    ensures ended { (kind : ℕ) (namespace : Option (List ℕ)) (after : Option (List ℕ × List ℕ)) (max : ℕ) (s : Objects)
+        → length (page kind namespace after max s) < max → listed kind namespace after s ≡ page kind namespace after max s }
+    ensures more { (kind : ℕ) (namespace : Option (List ℕ)) (after : Option (List ℕ × List ℕ)) (max : ℕ) (s : Objects) (k : Key) → last_key (page kind namespace after max s) ≡ Some k
+        → listed kind namespace after s ≡ page kind namespace after max s ++ listed kind namespace (Some (k.namespace, k.name)) s }
 {}
