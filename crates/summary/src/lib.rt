@@ -1,10 +1,14 @@
 //! How many objects have each value of one label, by the notices of an informer.
 //!
-//! So far the definition and its law; the summary that keeps the counts comes next.
+//! A summary that was told each notice of some objects has their counts, and the apply that it writes says these.
 //!
-//! Stands on `reflector` for notices, `indexer` for objects.
+//! Stands on `reflector` for notices, `indexer` for objects, `wireclient` for a request's bytes.
 #![tactic(auto)]
 
+mod applying;
+mod counting;
 mod law;
+mod summary;
 
 pub use law::counts_follow;
+pub use summary::Summary;

@@ -1,6 +1,6 @@
 -- One change of the objects, and the counts.
-use Rattle.std.proofs.Common.{◌≡◌, ℕ, ◌+◌, ◌-◌, suc, Bool, true, false, cond, ◌&&◌, T, List, [], ◌∷◌, length, filter, Option, Some, None, Ordering, Less, Equal, Greater, is_eq, refl, sym, ap, ap₂, subst, ◌∙◌, arith}
-use Rattle.std.specs.Ordering.{eq_by_cmp, is_lt, ordering_reverse, ordering_then}
+use Rattle.std.proofs.Common.{◌≡◌, ℕ, ◌+◌, ◌-◌, Bool, true, false, cond, ◌&&◌, T, List, [], ◌∷◌, length, filter, Option, Some, None, Ordering, Less, Equal, Greater, is_eq, refl, sym, ap, ap₂, subst, ◌∙◌, arith}
+use Rattle.std.specs.Ordering.{eq_by_cmp, is_lt, ordering_then}
 use Rattle.std.specs.Cmp.{IsTotalOrder, tied_itself}
 use Rattle.std.specs.Cmp.Lexicographic.{slice_cmp, nat_list_cmp_total}
 use Rattle.std.specs.Ordering.{nat_cmp}
@@ -11,7 +11,7 @@ use Rattle.std.specs.FinMap.Entries.{by_order, find, below_all, is_sorted, put}
 use Rattle.indexer.specs.Objects.{Place, place_cmp, Stored}
 use Rattle.reflector.specs.Client.{Objects, place_in, Notice, added, updated, deleted}
 use Rattle.reflector.specs.Replays.{with_notice}
-use Rattle.summary.specs.Counts.{has, count, one_if, counted, IsOld}
+use Rattle.summary.specs.Counts.{how_many, one_if, counted, IsOld}
 
 abbrev Entries : Type 0
 Entries = List (Place × Stored)
@@ -52,18 +52,18 @@ is_less Greater p = absurd p
 
 -- ---- lists
 
-module _ (label value : List ℕ) where
+module _ (test : Stored → Bool) where
   abbrev among : Entries → ℕ
-  among es = length (filter (λ e. has label value e.1) es)
+  among es = length (filter (λ e. test e.1) es)
 
   abbrev at_most_one : Option Stored → ℕ
   at_most_one None = 0
-  at_most_one (Some s) = one_if (has label value s)
+  at_most_one (Some s) = one_if (test s)
 
-  among-cons : (e : Place × Stored) (es : Entries) → among (e ∷ es) ≡ one_if (has label value e.1) + among es
-  among-cons e es = go (has label value e.1)
+  among-cons : (e : Place × Stored) (es : Entries) → among (e ∷ es) ≡ one_if (test e.1) + among es
+  among-cons e es = go (test e.1)
     where
-      go : (b : Bool) → length (cond b (e ∷ filter (λ e. has label value e.1) es) (filter (λ e. has label value e.1) es)) ≡ one_if b + among es
+      go : (b : Bool) → length (cond b (e ∷ filter (λ e. test e.1) es) (filter (λ e. test e.1) es)) ≡ one_if b + among es
       go true = omega arith
       go false = omega arith
 
@@ -80,29 +80,29 @@ module _ (label value : List ℕ) where
       go true x y = y
       go false x y = x
 
-  put_counted : (k : Place) (v : Stored) (es : Entries) → T (is_sorted place_cmp es) → among (put place_cmp k v es) + at_most_one (find place_cmp k es) ≡ among es + one_if (has label value v)
-  put_counted k v [] h = let a : among ((k, v) ∷ []) ≡ one_if (has label value v) + 0 = among-cons (k, v) [] in omega (arith, a)
+  put_counted : (k : Place) (v : Stored) (es : Entries) → T (is_sorted place_cmp es) → among (put place_cmp k v es) + at_most_one (find place_cmp k es) ≡ among es + one_if (test v)
+  put_counted k v [] h = let a : among ((k, v) ∷ []) ≡ one_if (test v) + 0 = among-cons (k, v) [] in omega (arith, a)
   put_counted k v (e ∷ es) h = go (place_cmp k e.0) refl (put_counted k v es (snd _ _ h))
     where
-      go : (o : Ordering) → place_cmp k e.0 ≡ o → among (put place_cmp k v es) + at_most_one (find place_cmp k es) ≡ among es + one_if (has label value v)
-          → among (by_order o ((k, v) ∷ e ∷ es) ((e.0, v) ∷ es) (e ∷ put place_cmp k v es)) + at_most_one (cond (is_eq o) (Some e.1) (find place_cmp k es)) ≡ among (e ∷ es) + one_if (has label value v)
+      go : (o : Ordering) → place_cmp k e.0 ≡ o → among (put place_cmp k v es) + at_most_one (find place_cmp k es) ≡ among es + one_if (test v)
+          → among (by_order o ((k, v) ∷ e ∷ es) ((e.0, v) ∷ es) (e ∷ put place_cmp k v es)) + at_most_one (cond (is_eq o) (Some e.1) (find place_cmp k es)) ≡ among (e ∷ es) + one_if (test v)
       go Less is more =
-          let a : among ((k, v) ∷ e ∷ es) ≡ one_if (has label value v) + among (e ∷ es) = among-cons (k, v) (e ∷ es) in
+          let a : among ((k, v) ∷ e ∷ es) ≡ one_if (test v) + among (e ∷ es) = among-cons (k, v) (e ∷ es) in
           let b : at_most_one (find place_cmp k es) ≡ 0 = ap at_most_one (not_found k es (below_lower k e.0 es is (fst _ _ h))) in
           omega (arith, a, b)
       go Equal is more =
-          let a : among ((e.0, v) ∷ es) ≡ one_if (has label value v) + among es = among-cons (e.0, v) es in
-          let b : among (e ∷ es) ≡ one_if (has label value e.1) + among es = among-cons e es in
+          let a : among ((e.0, v) ∷ es) ≡ one_if (test v) + among es = among-cons (e.0, v) es in
+          let b : among (e ∷ es) ≡ one_if (test e.1) + among es = among-cons e es in
           omega (arith, a, b)
       go Greater is more =
-          let a : among (e ∷ put place_cmp k v es) ≡ one_if (has label value e.1) + among (put place_cmp k v es) = among-cons e (put place_cmp k v es) in
-          let b : among (e ∷ es) ≡ one_if (has label value e.1) + among es = among-cons e es in
+          let a : among (e ∷ put place_cmp k v es) ≡ one_if (test e.1) + among (put place_cmp k v es) = among-cons e (put place_cmp k v es) in
+          let b : among (e ∷ es) ≡ one_if (test e.1) + among es = among-cons e es in
           omega (arith, a, b, more)
 
   -- ---- objects
 
   insert_counted : (o : Objects) (k : Place) (v : Stored) (was : Option Stored) → fin.get o k ≡ was
-      → count label value (fin.insert o k v) + at_most_one was ≡ count label value o + one_if (has label value v)
+      → how_many test (fin.insert o k v) + at_most_one was ≡ how_many test o + one_if (test v)
   insert_counted o k v was is =
       ap₂ (λ es s. among es + at_most_one s) (fin.entries-insert place_total o k v) (sym is ∙ fin.get-entries o k) ∙ put_counted k v (fin.entries o) (fin.entries_sorted o)
 
@@ -120,24 +120,24 @@ module _ (label value : List ℕ) where
       go q true e = sym (ap (fin.get o) (place_antisymmetric q k (same (place_cmp q k) e)) ∙ is)
       go q false e = refl
 
-  remove_counted : (o : Objects) (k : Place) (old : Stored) → fin.get o k ≡ Some old → count label value (fin.remove o k) ≡ count label value o - one_if (has label value old)
+  remove_counted : (o : Objects) (k : Place) (old : Stored) → fin.get o k ≡ Some old → how_many test (fin.remove o k) ≡ how_many test o - one_if (test old)
   remove_counted o k old is =
       let gone : fin.get (fin.remove o k) k ≡ None = fin.get-remove place_total o k k ∙ ap (λ (r : Ordering). cond (is_eq r) None (fin.get o k)) (tied_itself place_total k) in
-      let a : count label value (fin.insert (fin.remove o k) k old) + 0 ≡ count label value (fin.remove o k) + one_if (has label value old) = insert_counted (fin.remove o k) k old None gone in
-      let b : count label value (fin.insert (fin.remove o k) k old) ≡ count label value o = ap (count label value) (put_back o k old is) in
+      let a : how_many test (fin.insert (fin.remove o k) k old) + 0 ≡ how_many test (fin.remove o k) + one_if (test old) = insert_counted (fin.remove o k) k old None gone in
+      let b : how_many test (fin.insert (fin.remove o k) k old) ≡ how_many test o = ap (how_many test) (put_back o k old is) in
       omega (arith, a, b)
 
-  pub none_counted : count label value fin.empty ≡ 0
+  pub none_counted : how_many test fin.empty ≡ 0
   none_counted =
       let none : fin.entries (fin.from_sorted {X = Stored} {R = place_cmp} []) ≡ [] = fin.entries-from_sorted place_cmp [] tt in
       let nothing : fin.from_sorted {X = Stored} {R = place_cmp} [] ≡ fin.empty = fin.empty_of_len (fin.from_sorted {X = Stored} {R = place_cmp} []) (fin.len-entries (fin.from_sorted {X = Stored} {R = place_cmp} []) ∙ ap length none) in
-      ap (count label value) (sym nothing) ∙ ap among none
+      ap (how_many test) (sym nothing) ∙ ap among none
 
-  pub notice_counted : (o : Objects) (n : Notice) → IsOld o n → count label value (with_notice o n) ≡ counted label value (count label value o) n
+  pub notice_counted : (o : Objects) (n : Notice) → IsOld o n → how_many test (with_notice o n) ≡ counted test (how_many test o) n
   notice_counted o (added new) is =
-      let a : count label value (fin.insert o (place_in new) new) + 0 ≡ count label value o + one_if (has label value new) = insert_counted o (place_in new) new None is in
+      let a : how_many test (fin.insert o (place_in new) new) + 0 ≡ how_many test o + one_if (test new) = insert_counted o (place_in new) new None is in
       omega (arith, a)
   notice_counted o (updated old new) is =
-      let a : count label value (fin.insert o (place_in new) new) + one_if (has label value old) ≡ count label value o + one_if (has label value new) = insert_counted o (place_in new) new (Some old) is in
+      let a : how_many test (fin.insert o (place_in new) new) + one_if (test old) ≡ how_many test o + one_if (test new) = insert_counted o (place_in new) new (Some old) is in
       omega (arith, a)
   notice_counted o (deleted old) is = remove_counted o (place_in old) old is

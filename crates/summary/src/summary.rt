@@ -1,0 +1,109 @@
+//! How many objects have each value of one label.
+
+ghost use Rattle.std.specs.Prelude.{◌≡◌};
+
+use crate::applying::apply_request;
+use crate::counting::{add_one, take_one, value_of};
+use indexer::Object;
+use reflector::Notice;
+use std::alloc::{AllocError, Global};
+use std::collections::BTreeMap;
+
+/// How many objects have each value of one label, and how many have the label.
+#[derive(Drop)]
+pub struct Summary {
+    pub(crate) label: String,
+    pub(crate) counts: BTreeMap<String, u64>,
+    pub(crate) total: u64,
+    alloc: Global,
+}
+
+impl Summary {
+    ghost use Rattle.std.specs.Prelude.{◌≡◌, ◌<◌, ◌^◌, ℕ, List, IfOk, OnErr, OnOk, string_bytes};
+    ghost use Rattle.std.specs.FinMap as fin;
+    ghost use Rattle.indexer.specs.Objects.{stored_of};
+    ghost use Rattle.reflector.specs.Client.{Objects};
+    ghost use Rattle.reflector.specs.Replays.{with_notice};
+    ghost use Rattle.reflector.specs.Seen.{notice_seen};
+    ghost use Rattle.summary.specs.Apply.{apply_request};
+    ghost use Rattle.summary.specs.Counts.{IsOld, summed_of};
+    ghost use Rattle.summary.specs.Steps.{noted, with_object, without_object};
+    ghost use Rattle.summary.specs.Summary.{counts_in, summed};
+
+    /// The summary of no objects, by this label.
+    pub fn new(alloc: Global, label: String) -> Summary
+        ensures { summed result ≡ summed_of (string_bytes label) fin.empty }
+    {
+        Summary {
+            label,
+            counts: BTreeMap::new(alloc),
+            total: 0,
+            alloc,
+        }
+    }
+
+    /// Counts one object more. Refused, it changes nothing.
+    fn add(&mut self, object: &Object) -> Result<(), AllocError>
+        ensures ok { OnOk result (summed self.new ≡ with_object (summed self.old) (stored_of object.now)) }
+        ensures err { OnErr result (summed self.new ≡ summed self.old) }
+    {
+        if let Some(value) = value_of(object, self.label.as_str()) {
+            add_one(self.alloc, &mut self.counts, value)?;
+            self.total = self.total.saturating_add(1);
+        }
+        Ok(())
+    }
+
+    /// Counts one object less.
+    fn take_away(&mut self, object: &Object)
+        ensures { summed self.new ≡ without_object (summed self.old) (stored_of object.now) }
+    {
+        if let Some(value) = value_of(object, self.label.as_str()) {
+            take_one(&mut self.counts, value);
+            self.total = self.total.saturating_sub(1);
+        }
+    }
+
+    fn tell(&mut self, notice: &Notice) -> Result<(), AllocError>
+        ensures ok { OnOk result (summed self.new ≡ noted (summed self.old) (notice_seen notice.now)) }
+        ensures err { OnErr result (summed self.new ≡ summed self.old) }
+    {
+        match notice {
+            Notice::Added(new) => self.add(new),
+            Notice::Updated(old, new) => {
+                self.add(new)?;
+                self.take_away(old);
+                Ok(())
+            }
+            Notice::Deleted(old) => {
+                self.take_away(old);
+                Ok(())
+            }
+        }
+    }
+
+    /// Counts what a notice tells: the summary of the objects before it becomes that of the objects after it.
+    /// Refused, it changes nothing.
+    pub fn note(&mut self, notice: &Notice) -> Result<(), AllocError>
+        ensures noted { (label : List ℕ) (o : Objects) → summed self.old ≡ summed_of label o → fin.len o < 2 ^ 63 → IsOld o (notice_seen notice.now)
+            → OnOk result (summed self.new ≡ summed_of label (with_notice o (notice_seen notice.now))) }
+        ensures refused { OnErr result (summed self.new ≡ summed self.old) }
+    {
+        self.tell(notice)
+    }
+
+    /// How many objects have each value of the label; values that none has are not there.
+    pub fn counts(&self) -> &BTreeMap<String, u64>
+        ensures { counts_in result.now ≡ (summed self.now).counts }
+    {
+        &self.counts
+    }
+
+    /// The request that applies the summary as the object of this namespace and name (Kubernetes documentation,
+    /// "Server-Side Apply").
+    pub fn apply_call(&self, namespace: &str, name: &str) -> Result<Vec<u8>, AllocError>
+        ensures { IfOk result (λ v. v.items ≡ apply_request (summed self.now) namespace.now name.now) }
+    {
+        apply_request(self.alloc, self, namespace, name)
+    }
+}
