@@ -10,6 +10,8 @@ mod fields_v1;
 #[cfg(test)]
 mod given;
 #[cfg(test)]
+mod key_names;
+#[cfg(test)]
 mod objects;
 #[cfg(test)]
 mod owners;

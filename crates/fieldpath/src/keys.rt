@@ -53,7 +53,8 @@ impl Keys {
 
     /// The fields, in byte order of their names.
     pub fn fields(&self) -> &[(String, Scalar)]
-        ensures { key_fields result.now ≡ self.now }
+        ensures fields { key_fields result.now ≡ self.now }
+        ensures ascend { are_keys self.now ≡ true }
     {
         &self.fields
     }

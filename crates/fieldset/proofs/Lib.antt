@@ -9,3 +9,4 @@ pub mod Placed
 pub mod Ordered
 pub mod Saying
 pub mod Back
+pub mod KeyNames

@@ -5,6 +5,7 @@ ghost use Rattle.serde_json.specs.View.{members_view};
 ghost use Rattle.fieldpath.specs.Elements.{field_name};
 ghost use Rattle.pathmap.specs.Contents.{dom, marked};
 ghost use Rattle.pathmap.specs.Maps.{content};
+ghost use Rattle.schema.specs.KeyNames.{names_in};
 ghost use Rattle.schema.specs.Shape.{shape, shape_at, fields_in};
 ghost use Rattle.fieldset.specs.FieldsV1.{leaf, members_of, put_names};
 ghost use Rattle.fieldset.specs.Below.{as_item, members_some, shape_below};
@@ -57,7 +58,7 @@ fn put_names(
     alloc: Global,
     names: &[String],
 ) -> Result<(), AllocError>
-    ensures { OnOk result (members_view members.new.entries ≡ put_names (map string_bytes names.now) (members_view members.old.entries)) }
+    ensures { OnOk result (members_view members.new.entries ≡ put_names (names_in names.now) (members_view members.old.entries)) }
 {
     for name in names {
         let element = ElemText::of_field(alloc, name.as_str())?;
@@ -72,7 +73,7 @@ fn put_item(
     alloc: Global,
     names: &[String],
 ) -> Result<(), AllocError>
-    ensures { OnOk result (members_view members.new.entries ≡ put (codes ".") leaf (put_names (map string_bytes names.now) (members_view members.old.entries))) }
+    ensures { OnOk result (members_view members.new.entries ≡ put (codes ".") leaf (put_names (names_in names.now) (members_view members.old.entries))) }
 {
     put_names(members, alloc, names)?;
     put_leaf(members, alloc, String::from_str(alloc, ".")?)

@@ -8,6 +8,7 @@ ghost use Rattle.fieldpath.specs.Elems.{element};
 ghost use Rattle.pathmap.specs.Contents.{dom, gather, nothing};
 ghost use Rattle.pathmap.specs.Maps.{at_top, content, contents_in};
 ghost use Rattle.schema.specs.Keywords.{has};
+ghost use Rattle.schema.specs.KeyNames.{names_in};
 ghost use Rattle.schema.specs.Shape.{shape};
 ghost use Rattle.schema.specs.Spots.{spot};
 ghost use Rattle.fieldset.specs.Reading.{are_due, element_in, has_keys, is_empty, is_key_field, is_marked, may_have_dot, object_in, read_at, read_fields_v1, read_mark, read_member, read_members, top};
@@ -50,7 +51,7 @@ fn is_empty(members: &Map<String, Value>) -> bool
 }
 
 fn is_named(names: &[String], name: &str) -> bool
-    ensures { result ≡ list_any (bytes_eq name.now) (map string_bytes names.now) }
+    ensures { result ≡ list_any (bytes_eq name.now) (names_in names.now) }
 {
     for known in names {
         if name == known.as_str() {
@@ -78,7 +79,7 @@ fn has_keys(
     alloc: Global,
     members: &Map<String, Value>,
 ) -> Result<bool, AllocError>
-    ensures { IfOk result (λ b. b ≡ has_keys (map string_bytes names.now) (members_view members.now.entries)) }
+    ensures { IfOk result (λ b. b ≡ has_keys (names_in names.now) (members_view members.now.entries)) }
 {
     for name in names {
         let text = ElemText::of_field(alloc, name.as_str())?;

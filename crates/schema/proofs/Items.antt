@@ -338,9 +338,9 @@ names_by from names true is h =
     let rise : ascend (map (λ e. e.0) es) ≡ true = ascend_sorted es (holds _ (fin.entries_sorted (name_set from))) in
     (ap is_some_name (sym same) ∙ some, ap ascend (sym same) ∙ rise)
 
-names_in : (o : Option (List (List ℕ))) (names : List (List ℕ)) → option_and_then different o ≡ Some names → (is_some_name names ≡ true) × (ascend names ≡ true)
-names_in None names h = absurd cc
-names_in (Some from) names h = names_by from names _ refl h
+pub names_fit : (o : Option (List (List ℕ))) (names : List (List ℕ)) → option_and_then different o ≡ Some names → (is_some_name names ≡ true) × (ascend names ≡ true)
+names_fit None names h = absurd cc
+names_fit (Some from) names h = names_by from names _ refl h
 
 -- ---- the items of a list
 
@@ -348,7 +348,7 @@ item_of_kind : (depth : ℕ) (ms : Members) (k : Kind) (s : Shape) → KindFits 
 item_of_kind depth ms atomic s fit h = refl
 item_of_kind depth ms set s fit h = scalar_at depth (get_member (codes "items") ms) s fit (sym (schema_at-is (codes "items") depth ms) ∙ h)
 item_of_kind depth ms (keyed names) s fit h =
-    let named = names_in (option_and_then texts_in (items_at (codes "x-kubernetes-list-map-keys") ms)) names fit.0 in
+    let named = names_fit (option_and_then texts_in (items_at (codes "x-kubernetes-list-map-keys") ms)) names fit.0 in
     both_true (both_true named.0 named.1) (keyed_at depth names (get_member (codes "items") ms) s fit.1 (sym (schema_at-is (codes "items") depth ms) ∙ h))
 
 pub items_lawful : (depth : ℕ) (ms : Members) (k : Kind) (s : Shape) → own_form depth ms ≡ Ok (list_form k) → schema_at (codes "items") depth ms ≡ Ok s → item_is_lawful k s ≡ true

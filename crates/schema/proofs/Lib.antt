@@ -1,6 +1,8 @@
 pub mod Items
+pub mod KeyNames
 pub mod Depths
 pub mod Lists
+pub mod Members
 pub mod ObjectShapes
 pub mod ObjectTests
 pub mod Placing

@@ -1,5 +1,7 @@
+pub mod KeyNames
 pub mod Shape
 pub mod Place
+pub mod KeyFields
 pub mod Steps
 pub mod Spots
 pub mod Lawful

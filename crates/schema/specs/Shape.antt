@@ -4,6 +4,7 @@
 use Rattle.std.specs.Prelude.{ℕ, Bool, List, [], ◌∷◌, map, Option, Some, None, if◌then◌else◌, String, string_bytes}
 use Rattle.std.specs.Str.{bytes_eq}
 use Rattle.std.specs.declared.alloc.Global.{Global}
+use Rattle.schema.specs.KeyNames.{names_in}
 use Rattle.schema.specs.declared.schema.ListKind.{ListKind}
 use Rattle.schema.specs.declared.schema.ListKind.TheVariants as kinds
 use Rattle.schema.specs.declared.schema.Schema.{Schema, fold-Schema}
@@ -40,7 +41,7 @@ shape_at f (field known s more) = if bytes_eq known f then Some s else shape_at 
 abbrev pub kind_of : ListKind → Kind
 kind_of kinds.Atomic = atomic
 kind_of kinds.Set = set
-kind_of (kinds.Keyed names) = keyed (map string_bytes names.items)
+kind_of (kinds.Keyed names) = keyed (names_in names.items)
 
 abbrev pub fields_of : List (String Global × Shape) → Fields
 fields_of [] = no_fields

@@ -1,5 +1,5 @@
 -- The spot that a `Spot` stands for.
-use Rattle.std.specs.Prelude.{map, string_bytes}
+use Rattle.schema.specs.KeyNames.{names_in}
 use Rattle.schema.specs.Shape.{shape, fields_in}
 use Rattle.schema.specs.Steps as steps
 use Rattle.schema.specs.declared.step.Spot.{Spot}
@@ -8,4 +8,4 @@ use Rattle.schema.specs.declared.step.Spot.TheVariants as made
 abbrev pub spot : Spot → steps.Spot
 spot (made.Value schema) = steps.value_of (shape schema.now)
 spot made.SetItem = steps.set_item
-spot (made.MapItem fields names) = steps.map_item (map string_bytes names.now) (fields_in fields.now)
+spot (made.MapItem fields names) = steps.map_item (names_in names.now) (fields_in fields.now)

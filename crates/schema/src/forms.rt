@@ -1,6 +1,7 @@
 //! What a schema's own keywords say.
 ghost use Rattle.std.specs.Prelude.{◌≡◌, ◌≤◌, map, option_map, string_bytes, OnOk};
 ghost use Rattle.serde_json.specs.View.{items_view, members_view};
+ghost use Rattle.fieldpath.specs.Scalars.{ascend};
 ghost use Rattle.schema.specs.Shape.{Shape, kind_of};
 ghost use Rattle.schema.specs.Keywords.{texts_in, key_names, is_scalar_schema, have_scalars, is_keyed_struct, atomic_kind, set_kind, keyed_kind, list_type, object_type, array_type, scalar_type};
 ghost use Rattle.schema.specs.Forms.{scalar_form, object_fits, list_fits, scalar_fits, form_of, own_form};
@@ -12,7 +13,7 @@ use crate::keywords::{
     KEYWORDS, TypeName, has, has_no, has_only, is_object_or_absent, items_at, map_type, members_at,
     text_or, type_in,
 };
-use crate::lawful::{MAX_DEPTH, names_ascend};
+use crate::lawful::MAX_DEPTH;
 use crate::schema::ListKind;
 use serde_json::{Map, Value};
 use std::alloc::Global;
@@ -38,6 +39,12 @@ fn texts_in(alloc: Global, values: &[Value]) -> Result<Vec<String>, TypesFault>
         }
     }
     Ok(texts)
+}
+
+fn names_ascend(names: &[String]) -> bool
+    ensures { result ≡ ascend (map string_bytes names.now) }
+{
+    names.is_sorted_by(|one, next| one < next)
 }
 
 /// The names of a map list's key fields, in byte order.

@@ -1,10 +1,12 @@
 //! Which schemas keep the rules of a types file.
-ghost use Rattle.std.specs.Prelude.{◌≡◌, map, string_bytes, nat_le};
+ghost use Rattle.std.specs.Prelude.{◌≡◌, ◌&&◌, nat_le};
 ghost use Rattle.fieldpath.specs.Scalars.{ascend};
+ghost use Rattle.schema.specs.KeyNames.{names_in};
 ghost use Rattle.schema.specs.Shape.{shape, fields_in, kind_of, shape_at};
-ghost use Rattle.schema.specs.Lawful.{max_depth, is_scalar, is_some_scalar, names_of, has_keys, item_is_lawful, depth_limit, depth_of, fields_depth, is_well_formed, are_well_formed, is_lawful};
+ghost use Rattle.schema.specs.Lawful.{max_depth, is_scalar, is_some_name, is_some_scalar, names_of, has_keys, item_is_lawful, depth_limit, depth_of, fields_depth, is_well_formed, are_well_formed, is_lawful};
 
 use crate::schema::{ListKind, Schema};
+use crate::step::is_key;
 
 /// How deep a type's schema may nest, itself counted.
 pub const MAX_DEPTH: usize = 16;
@@ -15,10 +17,21 @@ fn fields_ascend(fields: &[(String, Schema)]) -> bool
     fields.is_sorted_by(|one, next| one.0 < next.0)
 }
 
-pub(crate) fn names_ascend(names: &[String]) -> bool
-    ensures { result ≡ ascend (map string_bytes names.now) }
+/// Whether no name stands twice.
+fn names_differ(names: &[String]) -> bool
+    ensures { result ≡ ascend (names_in names.now) }
 {
-    names.is_sorted_by(|one, next| one < next)
+    let Some((name, rest)) = names.split_first() else {
+        return true;
+    };
+    !is_key(rest, name.as_str()) && names_differ(rest)
+}
+
+/// One or more names, none of them twice.
+fn are_key_names(names: &[String]) -> bool
+    ensures { result ≡ (is_some_name (names_in names.now) && ascend (names_in names.now)) }
+{
+    !names.is_empty() && names_differ(names)
 }
 
 fn has_scalar(fields: &[(String, Schema)], name: &str) -> bool
@@ -40,9 +53,7 @@ impl ListKind {
         match self {
             ListKind::Atomic => true,
             ListKind::Set => item.is_scalar(),
-            ListKind::Keyed(names) => {
-                !names.is_empty() && names_ascend(names) && item.has_keys(names)
-            }
+            ListKind::Keyed(names) => are_key_names(names) && item.has_keys(names),
         }
     }
 }
@@ -79,7 +90,7 @@ impl Schema {
     }
 
     fn has_keys(&self, names: &[String]) -> bool
-        ensures { result ≡ has_keys (map string_bytes names.now) (shape self.now) }
+        ensures { result ≡ has_keys (names_in names.now) (shape self.now) }
     {
         match self {
             Schema::Struct(fields, is_atomic) => {
@@ -128,7 +139,7 @@ impl Schema {
     }
 
     /// Whether the schema keeps the rules of a types file, as a type's schema or as a part of one:
-    /// names in byte order, items as their list's kind wants them, at most 16 deep; 15 where it can only be a part.
+    /// fields in byte order of their names, items as their list's kind wants them, at most 16 deep; 15 where it can only be a part.
     pub fn lawful(&self) -> bool
         ensures { result ≡ is_lawful (shape self.now) }
     {

@@ -5,7 +5,7 @@ pub enum ListKind {
     Atomic,
     /// Unique scalars.
     Set,
-    /// Structs, unique by these key fields; the names stand in byte order.
+    /// Structs, unique by the key fields of these names.
     Keyed(Vec<String>),
 }
 

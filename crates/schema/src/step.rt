@@ -1,9 +1,11 @@
 //! One step down a schema, and the place of a path, which is the fold of its steps.
 ghost use Rattle.std.specs.Prelude.{◌≡◌, Some, map, option_map, string_bytes};
-ghost use Rattle.std.specs.List.{list_any};
+ghost use Rattle.std.specs.List.{list_all, list_any};
 ghost use Rattle.std.specs.Str.{bytes_eq};
 ghost use Rattle.fieldpath.specs.Elems.{element};
 ghost use Rattle.fieldpath.specs.Scalars.{key_fields, scalar};
+ghost use Rattle.schema.specs.KeyFields.{fits_key};
+ghost use Rattle.schema.specs.KeyNames.{names_in};
 ghost use Rattle.schema.specs.Shape.{shape, fields_in, shape_at};
 ghost use Rattle.schema.specs.Place.{fit_keys, fits, fits_some, place_of};
 ghost use Rattle.schema.specs.Spots.{spot};
@@ -24,8 +26,8 @@ pub enum Spot<'a> {
     MapItem(&'a [(String, Schema)], &'a [String]),
 }
 
-fn is_key(names: &[String], name: &str) -> bool
-    ensures { result ≡ list_any (bytes_eq name.now) (map string_bytes names.now) }
+pub(crate) fn is_key(names: &[String], name: &str) -> bool
+    ensures { result ≡ list_any (bytes_eq name.now) (names_in names.now) }
 {
     for known in names {
         if name == known.as_str() {
@@ -55,19 +57,30 @@ fn fits_field(fields: &[(String, Schema)], name: &str, value: &Scalar) -> bool
     }
 }
 
-/// Whether the key fields are just those named, each of its field's type.
-fn fit_keys(names: &[String], fields: &[(String, Schema)], keys: &[(String, Scalar)]) -> bool
-    ensures { result ≡ fit_keys (map string_bytes names.now) (fields_in fields.now) (key_fields keys.now) }
+/// Whether a key field is one of those named, and of its field's type.
+fn fits_key(names: &[String], fields: &[(String, Schema)], key: &(String, Scalar)) -> bool
+    ensures { result ≡ fits_key (names_in names.now) (fields_in fields.now) (string_bytes key.now.0, scalar key.now.1) }
 {
-    let Some((name, more)) = names.split_first() else {
-        return keys.is_empty();
-    };
-    let Some((key, rest)) = keys.split_first() else {
-        return false;
-    };
-    name.as_str() == key.0.as_str()
-        && fits_field(fields, name.as_str(), &key.1)
-        && fit_keys(more, fields, rest)
+    is_key(names, key.0.as_str()) && fits_field(fields, key.0.as_str(), &key.1)
+}
+
+fn fit_each(names: &[String], fields: &[(String, Schema)], keys: &[(String, Scalar)]) -> bool
+    ensures { result ≡ list_all (fits_key (names_in names.now) (fields_in fields.now)) (key_fields keys.now) }
+{
+    for key in keys {
+        if !fits_key(names, fields, key) {
+            return false;
+        }
+    }
+    true
+}
+
+/// Whether the key fields are just those named, each of its field's type.
+fn fit_keys(names: &[String], fields: &[(String, Schema)], keys: &Keys) -> bool
+    ensures { result ≡ fit_keys (names_in names.now) (fields_in fields.now) keys.now }
+{
+    let keys = keys.fields();
+    keys.len() == names.len() && fit_each(names, fields, keys)
 }
 
 fn field_spot<'a>(fields: &'a [(String, Schema)], name: &str) -> Option<Spot<'a>>
@@ -85,7 +98,7 @@ fn step_beside<'a>(
     names: &'a [String],
     elem: &Elem,
 ) -> Option<Spot<'a>>
-    ensures { option_map spot result ≡ step_beside (map string_bytes names.now) (fields_in fields.now) (element elem.now) }
+    ensures { option_map spot result ≡ step_beside (names_in names.now) (fields_in fields.now) (element elem.now) }
 {
     match elem {
         Elem::Field(name) => {
@@ -186,11 +199,11 @@ impl Schema {
     }
 
     fn step_item<'a>(&'a self, names: &'a [String], keys: &Keys) -> Option<Spot<'a>>
-        ensures { option_map spot result ≡ step_item (map string_bytes names.now) (shape self.now) keys.now }
+        ensures { option_map spot result ≡ step_item (names_in names.now) (shape self.now) keys.now }
     {
         match self {
             Schema::Struct(fields, _) => {
-                if fit_keys(names, fields, keys.fields()) {
+                if fit_keys(names, fields, keys) {
                     Some(Spot::MapItem(fields, names))
                 } else {
                     None

@@ -12,6 +12,7 @@ pub mod Parts
 pub mod Putting
 pub mod ElementTexts
 pub mod KeyFields
+pub mod KeyNames
 pub mod RoundTrip
 pub mod PlainAgain
 pub mod Placing

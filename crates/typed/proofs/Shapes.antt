@@ -1,9 +1,10 @@
 -- A schema, level by level.
-use Rattle.std.proofs.Common.{◌≡◌, ℕ, Bool, false, map, string_bytes, List, [], String, Vec, Box, Global, Ok, rules, refl}
+use Rattle.std.proofs.Common.{◌≡◌, ℕ, Bool, false, List, [], String, Vec, Box, Global, Ok, rules, refl}
 use Rattle.serde_json.specs.Data.{Data, Members, object, array}
 use Rattle.serde_json.specs.Find.{as_object, as_array}
 use Rattle.serde_json.specs.View.{items_view}
 use Rattle.serde_json.specs.declared.value.Value.{Value}
+use Rattle.schema.specs.KeyNames.{names_in}
 use Rattle.schema.specs.Shape.{shape, struct_of, map_of, list_of, fields_in, kind_of}
 use Rattle.schema.specs.declared.schema.ListKind.{ListKind}
 use Rattle.schema.specs.declared.schema.ListKind.TheVariants as kinds
@@ -44,5 +45,5 @@ content_struct s v b fs d ms is granular items found = rw (is, shape-Struct v b,
 
 pub content_list : (s : Schema) (inner : Box Schema Global) (kind : ListKind) (names : Vec (String Global) Global) (t : Schema) (ks : List (String Global)) (vs : List Value) (d : Data) (all : List Value)
     → s ≡ schemas.List inner kind → kind ≡ kinds.Keyed names → t ≡ inner.value → ks ≡ names.items → vs ≡ all → some_or WrongType (as_array d) ≡ Ok (items_view all)
-    → content_of (shape s) d ≡ items_at (keyed_item (map string_bytes ks) (λ ms. content_of_item (shape t) (map string_bytes ks) ms)) 0 [] (items_view vs)
+    → content_of (shape s) d ≡ items_at (keyed_item (names_in ks) (λ ms. content_of_item (shape t) (names_in ks) ms)) 0 [] (items_view vs)
 content_list s inner kind names t ks vs d all is keyed same keys items found = rw (is, shape-List inner kind, keyed, same, keys, items, found) refl

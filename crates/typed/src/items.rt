@@ -1,4 +1,4 @@
-ghost use Rattle.std.specs.Prelude.{◌≡◌, ℕ, List, [], None, Err, Ok, IfOk, OnOk, false, if◌then◌else◌, map, option_map, string_bytes};
+ghost use Rattle.std.specs.Prelude.{◌≡◌, ℕ, List, [], None, Err, Ok, IfOk, OnOk, false, if◌then◌else◌, option_map, string_bytes};
 ghost use Rattle.fieldpath.specs.Elements.{list_item_text, name_text, set_item_text};
 ghost use Rattle.pathmap.specs.Contents.{Content, gather, nothing};
 ghost use Rattle.std.specs.List.{list_any};
@@ -9,6 +9,7 @@ ghost use Rattle.pathmap.specs.Maps.{at_name, content, contents_in};
 ghost use Rattle.serde_json.specs.Data.{object};
 ghost use Rattle.serde_json.specs.Find.{as_array, as_object, get_member};
 ghost use Rattle.serde_json.specs.View.{items_view, members_view, view};
+ghost use Rattle.schema.specs.KeyNames.{names_in};
 ghost use Rattle.typed.specs.declared.fault.Cause.TheVariants.{KeyFieldMissing, NotAnObject, WrongType};
 ghost use Rattle.typed.specs.Faults.{Gives, Read, and_then, some_or};
 ghost use Rattle.typed.specs.Reading.{at_field, have_keys, is_there, keys_in, named_item, object_item, put_some};
@@ -65,7 +66,7 @@ fn is_there(value: Option<&Value>) -> bool
 }
 
 fn has_keys(names: &[String], members: &Map<String, Value>) -> bool
-    ensures { result ≡ have_keys (map string_bytes names.now) (members_view members.now.entries) }
+    ensures { result ≡ have_keys (names_in names.now) (members_view members.now.entries) }
 {
     for name in names {
         if !is_there(find(members, name.as_str())) {
@@ -82,7 +83,7 @@ pub(crate) fn keyed_object<'a>(
     item: &'a Value,
 ) -> Result<&'a Map<String, Value>, ReadFault>
     ensures { Gives (λ m. members_view m.now.entries) result
-        (and_then (object_item (view item.now)) (λ ms. if have_keys (map string_bytes names.now) ms then Ok ms else Err (KeyFieldMissing, []))) }
+        (and_then (object_item (view item.now)) (λ ms. if have_keys (names_in names.now) ms then Ok ms else Err (KeyFieldMissing, []))) }
 {
     match item.as_object() {
         Some(members) => {
@@ -137,7 +138,7 @@ fn key_members(
     alloc: Global,
     members: &Map<String, Value>,
 ) -> Result<Map<String, Value>, AllocError>
-    ensures { IfOk result (λ m. members_view m.entries ≡ keys_in (map string_bytes names.now) (members_view members.now.entries)) }
+    ensures { IfOk result (λ m. members_view m.entries ≡ keys_in (names_in names.now) (members_view members.now.entries)) }
 {
     let Some((name, rest)) = names.split_first() else {
         return Ok(Map::new(alloc));
@@ -155,7 +156,7 @@ pub(crate) fn list_item(
     below: BTreeMap<ElemText, PathMap>,
 ) -> Result<Item, ReadFault>
     ensures { Gives item_view result
-        (named_item (list_item_text (object (keys_in (map string_bytes names.now) (members_view members.now.entries)))) (gather (contents_in below.entries))) }
+        (named_item (list_item_text (object (keys_in (names_in names.now) (members_view members.now.entries)))) (gather (contents_in below.entries))) }
 {
     let keys = Value::Object(key_members(names, alloc, members)?);
     match ElemText::of_list_item(alloc, &keys)? {
@@ -192,7 +193,7 @@ pub(crate) fn add_item(
 
 /// Whether the name is that of a key field.
 fn is_key(names: &[String], name: &str) -> bool
-    ensures { result ≡ list_any (bytes_eq name.now) (map string_bytes names.now) }
+    ensures { result ≡ list_any (bytes_eq name.now) (names_in names.now) }
 {
     for known in names {
         if name == known.as_str() {
@@ -211,7 +212,7 @@ pub(crate) fn add_member(
     read: Result<PathMap, ReadFault>,
 ) -> Result<(), ReadFault>
     ensures joins { (answer : Read Content) → at_name (name_text name.now) below.old.entries ≡ None → Gives content read answer
-        → Joins below.old.entries below.new.entries result (at_field name.now (unless_key (map string_bytes names.now) name.now answer)) }
+        → Joins below.old.entries below.new.entries result (at_field name.now (unless_key (names_in names.now) name.now answer)) }
     ensures others { OnOk result ((g : List ℕ) → is_eq (slice_cmp nat_cmp g (name_text name.now)) ≡ false → at_name g below.new.entries ≡ at_name g below.old.entries) }
 {
     match read {

@@ -1,7 +1,8 @@
-ghost use Rattle.std.specs.Prelude.{◌≡◌, [], map, string_bytes};
+ghost use Rattle.std.specs.Prelude.{◌≡◌, []};
 ghost use Rattle.serde_json.specs.View.{items_view, members_view, view};
 ghost use Rattle.pathmap.specs.Contents.{gather};
 ghost use Rattle.pathmap.specs.Maps.{content, contents_in};
+ghost use Rattle.schema.specs.KeyNames.{names_in};
 ghost use Rattle.schema.specs.Shape.{fields_in, shape, text, truth, whole};
 ghost use Rattle.typed.specs.Faults.{Gives, below};
 ghost use Rattle.typed.specs.Reading.{beside_keys, content_of, content_of_field, content_of_item, items_at, keyed_item, leaf, members_at, plain_of, set_item};
@@ -96,7 +97,7 @@ fn read_list(
     items: &[Value],
 ) -> Result<BTreeMap<ElemText, PathMap>, ReadFault>
     ensures { Gives (λ m. gather (contents_in m.entries)) result
-        (items_at (keyed_item (map string_bytes names.now) (λ ms. content_of_item (shape inner.now) (map string_bytes names.now) ms)) 0 [] (items_view items.now)) }
+        (items_at (keyed_item (names_in names.now) (λ ms. content_of_item (shape inner.now) (names_in names.now) ms)) 0 [] (items_view items.now)) }
 {
     let mut below = BTreeMap::new(alloc);
     for (place, item) in items.iter().enumerate() {
@@ -114,7 +115,7 @@ fn read_item(
     item: &Value,
 ) -> Result<Item, ReadFault>
     ensures { Gives item_view result
-        (keyed_item (map string_bytes names.now) (λ ms. content_of_item (shape inner.now) (map string_bytes names.now) ms) (view item.now)) }
+        (keyed_item (names_in names.now) (λ ms. content_of_item (shape inner.now) (names_in names.now) ms) (view item.now)) }
 {
     let members = keyed_object(names, alloc, item)?;
     match inner {
@@ -171,7 +172,7 @@ fn read_struct(
     members: &Map<String, Value>,
 ) -> Result<BTreeMap<ElemText, PathMap>, ReadFault>
     ensures { Gives (λ m. gather (contents_in m.entries)) result
-        (members_at (beside_keys (map string_bytes names.now) (λ k e. content_of_field (fields_in fields.now) k e)) (members_view members.now.entries)) }
+        (members_at (beside_keys (names_in names.now) (λ k e. content_of_field (fields_in fields.now) k e)) (members_view members.now.entries)) }
 {
     let mut below = BTreeMap::new(alloc);
     for (name, member) in members.iter() {

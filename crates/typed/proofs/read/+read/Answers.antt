@@ -1,4 +1,4 @@
-use Rattle.std.proofs.Common.{◌≡◌, ℕ, List, [], Ok, drop, map, string_bytes, sym, subst, ap, ◌∙◌}
+use Rattle.std.proofs.Common.{◌≡◌, ℕ, List, [], Ok, drop, sym, subst, ap, ◌∙◌}
 use Rattle.std.proofs.lemmas.List.{drop_all}
 use Rattle.std.proofs.lemmas.Result.{err_from_is_err_and}
 use Rattle.serde_json.specs.Data.{Data, Members, object}
@@ -6,6 +6,7 @@ use Rattle.serde_json.specs.View.{items_view, members_view, view}
 use Rattle.fieldpath.specs.Elements.{list_item_text}
 use Rattle.pathmap.specs.Contents.{Content, gather}
 use Rattle.pathmap.specs.Maps.{content, contents_in}
+use Rattle.schema.specs.KeyNames.{names_in}
 use Rattle.schema.specs.Shape.{fields_in, shape}
 use Rattle.typed.specs.Faults.{Gives, Read, Tells, and_then, fault_in}
 use Rattle.typed.specs.Reading.{beside_keys, content_of, content_of_field, content_of_item, items_at, keyed_item, keys_in, members_at, named_item}
@@ -42,17 +43,17 @@ read_values-returns t c =
 
 pub read_struct-loop-name-init : goal.read_struct-loop-name-init
 read_struct-loop-name-init t c =
-    members_begin (beside_keys (map string_bytes c.args.names.now) (λ k e. content_of_field (fields_in c.args.fields.now) k e)) c.new-below.result.entries c.into_iter-name-iterator.result c.args.members.now.entries c.new-below.ensures.empty
+    members_begin (beside_keys (names_in c.args.names.now) (λ k e. content_of_field (fields_in c.args.fields.now) k e)) c.new-below.result.entries c.into_iter-name-iterator.result c.args.members.now.entries c.new-below.ensures.empty
     (c.into_iter-name-iterator.ensures.into_iter_gives ∙ c.iter-name-items.ensures.rest) c.iter-name-items.ensures.ordered
 
 pub read_struct-loop-name-preserved : goal.read_struct-loop-name-preserved
 read_struct-loop-name-preserved t c =
-    let inner : List ℕ → Data → Read Content = beside_keys (map string_bytes c.args.names.now) (λ k e. content_of_field (fields_in c.args.fields.now) k e) in
+    let inner : List ℕ → Data → Read Content = beside_keys (names_in c.args.names.now) (λ k e. content_of_field (fields_in c.args.fields.now) k e) in
     member_null inner (members_at inner (members_view c.args.members.now.entries)) c.loop-name.below.entries c.loop-name.name-iterator (c.in-Some.name.now, c.in-Some.member.now) c.next.new.self c.in-Some.ensures.steps c.loop-name.invariant (sym c.is_null.ensures ∙ c.if-not-is_null.false)
 
 pub read_struct-loop-name-preserved-in-Continue-1 : goal.read_struct-loop-name-preserved-in-Continue-1
 read_struct-loop-name-preserved-in-Continue-1 t c =
-    let inner : List ℕ → Data → Read Content = beside_keys (map string_bytes c.args.names.now) (λ k e. content_of_field (fields_in c.args.fields.now) k e) in
+    let inner : List ℕ → Data → Read Content = beside_keys (names_in c.args.names.now) (λ k e. content_of_field (fields_in c.args.fields.now) k e) in
     let whole = members_at inner (members_view c.args.members.now.entries) in
     let e : Entry = (c.in-Some.name.now, c.in-Some.member.now) in
     let new = member_new inner whole c.loop-name.below.entries c.loop-name.name-iterator e c.next.new.self c.in-Some.ensures.steps c.loop-name.invariant c.as_str-text.result.now c.as_str-text.ensures.value in
@@ -61,22 +62,22 @@ read_struct-loop-name-preserved-in-Continue-1 t c =
 
 pub read_struct-returns : goal.read_struct-returns
 read_struct-returns t c =
-    let inner : List ℕ → Data → Read Content = beside_keys (map string_bytes c.args.names.now) (λ k e. content_of_field (fields_in c.args.fields.now) k e) in
+    let inner : List ℕ → Data → Read Content = beside_keys (names_in c.args.names.now) (λ k e. content_of_field (fields_in c.args.fields.now) k e) in
     members_end inner (members_at inner (members_view c.args.members.now.entries)) c.loop-name.below.entries c.loop-name.name-iterator c.in-None.ensures.steps.0 c.loop-name.invariant
 
 pub read_list-loop-place-init : goal.read_list-loop-place-init
 read_list-loop-place-init t c =
-    items_begin (keyed_item (map string_bytes c.args.names.now) (λ ms. content_of_item (shape c.args.inner.now) (map string_bytes c.args.names.now) ms)) c.new-below.result.entries c.args.items.now c.new-below.ensures.empty
+    items_begin (keyed_item (names_in c.args.names.now) (λ ms. content_of_item (shape c.args.inner.now) (names_in c.args.names.now) ms)) c.new-below.result.entries c.args.items.now c.new-below.ensures.empty
 
 pub read_list-loop-place-preserved : goal.read_list-loop-place-preserved
 read_list-loop-place-preserved t c =
-    let inner = keyed_item (map string_bytes c.args.names.now) (λ ms. content_of_item (shape c.args.inner.now) (map string_bytes c.args.names.now) ms) in
+    let inner = keyed_item (names_in c.args.names.now) (λ ms. content_of_item (shape c.args.inner.now) (names_in c.args.names.now) ms) in
     item_added inner (items_at inner 0 [] (items_view c.args.items.now)) c.loop-place.below.entries c.args.items.now c.loop-place.place c.index-items-place.result c.loop-place-test.true c.index-items-place.is c.loop-place.invariant c.add_item.new.below.entries
     (c.in_ok-add_item.ensures (inner (view c.index-items-place.result)) c.loop-place.invariant.0 c.loop-place.invariant.2 c.read_item-read.ensures)
 
 pub read_list-returns-in_err-add_item : goal.read_list-returns-in_err-add_item
 read_list-returns-in_err-add_item t c =
-    let inner = keyed_item (map string_bytes c.args.names.now) (λ ms. content_of_item (shape c.args.inner.now) (map string_bytes c.args.names.now) ms) in
+    let inner = keyed_item (names_in c.args.names.now) (λ ms. content_of_item (shape c.args.inner.now) (names_in c.args.names.now) ms) in
     let p = err_from_is_err_and c.from_residual.result c.from_residual.ensures.1 in
     let f = c.in_err-add_item.field-0.0 in
     passed_on (λ m. gather (contents_in m.entries)) p.0 f c.from_residual.result _ p.1 p.2
@@ -85,12 +86,12 @@ read_list-returns-in_err-add_item t c =
 
 pub read_list-returns : goal.read_list-returns
 read_list-returns t c =
-    let inner = keyed_item (map string_bytes c.args.names.now) (λ ms. content_of_item (shape c.args.inner.now) (map string_bytes c.args.names.now) ms) in
+    let inner = keyed_item (names_in c.args.names.now) (λ ms. content_of_item (shape c.args.inner.now) (names_in c.args.names.now) ms) in
     items_end inner (items_at inner 0 [] (items_view c.args.items.now)) c.loop-place.below.entries c.loop-place.place (drop c.loop-place.place c.args.items.now) (drop_all c.loop-place.place c.args.items.now c.loop-place-test.false) c.loop-place.invariant
 
 pub read_item-returns-in_err-below-in-Struct : goal.read_item-returns-in_err-below-in-Struct
 read_item-returns-in_err-below-in-Struct t c =
-    let names = map string_bytes c.args.names.now in
+    let names = names_in c.args.names.now in
     let ms = members_view c.in_ok-members.members.now.entries in
     let inner : Members → Read Content = λ ms. content_of_item (shape c.args.inner.now) names ms in
     let p = err_from_is_err_and c.from_residual-in_err-below-in-Struct.result c.from_residual-in_err-below-in-Struct.ensures.1 in
@@ -103,7 +104,7 @@ read_item-returns-in_err-below-in-Struct t c =
 
 pub read_item-returns-in_ok-below-in-Struct : goal.read_item-returns-in_ok-below-in-Struct
 read_item-returns-in_ok-below-in-Struct t c =
-    let names = map string_bytes c.args.names.now in
+    let names = names_in c.args.names.now in
     let ms = members_view c.in_ok-members.members.now.entries in
     let inner : Members → Read Content = λ ms. content_of_item (shape c.args.inner.now) names ms in
     let made = gather (contents_in c.in_ok-below-in-Struct.below.entries) in

@@ -3,7 +3,7 @@ use Rattle.std.proofs.lemmas.List.Sorted.{answers_always}
 use Rattle.std.specs.Cmp.Lexicographic.{slice_cmp}
 use Rattle.std.specs.Ordering.{is_lt}
 use Rattle.fieldpath.proofs.Ascending.{ascend_by_neighbours}
-use Rattle.schema.proofs.lawful.names_ascend.Goals as goal
+use Rattle.schema.proofs.forms.names_ascend.Goals as goal
 
 pub returns : goal.returns
 returns c =
