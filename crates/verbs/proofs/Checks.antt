@@ -1,6 +1,12 @@
 -- Checks that were passed.
-use Rattle.std.proofs.Common.{◌≡◌, ℕ, Bool, true, false, List, Ok, Err, refl, sym, ap, true≢false}
+use Rattle.std.proofs.Common.{◌≡◌, ℕ, Bool, true, false, List, Option, None, Ok, Err, refl, sym, ap, not, true≢false}
+use denote.Enum.Bare.{sameb}
+use Rattle.verbs.specs.contracts.method.Method.{the_type}
+use Rattle.verbs.specs.declared.method.Method.{Method}
+use Rattle.verbs.specs.declared.method.Method.TheVariants.{Delete, Get, Patch, Post, Put}
+use Rattle.history.specs.History.{Change}
 use Rattle.verbs.specs.declared.reason.Reason.{Reason}
+use Rattle.verbs.specs.Calls.{Plan}
 use Rattle.verbs.specs.Judged.{Judged, and_then, unless}
 use Rattle.verbs.specs.Status.{Denial}
 
@@ -25,3 +31,15 @@ passed (Err d) f y e = no_err d y e
 pub held : (b : Bool) (r : Reason) (message : List ℕ) (u : Unit {0}) → unless b r message ≡ Ok u → b ≡ true
 held true r message u e = refl
 held false r message u e = absurd (true≢false (sym (ap is_ok e)))
+
+abbrev pub change_in : Judged Plan → Option Change
+change_in (Ok p) = p.change
+change_in (Err d) = None
+
+-- a method that doesn't differ from POST
+pub post_left : (w : Method) → not (sameb the_type w Post) ≡ false → w ≡ Post
+post_left Get e = absurd (true≢false e)
+post_left Post e = refl
+post_left Put e = absurd (true≢false e)
+post_left Patch e = absurd (true≢false e)
+post_left Delete e = absurd (true≢false e)

@@ -6,9 +6,8 @@ pub mod Checks
 pub mod Contents
 pub mod Counts
 pub mod Entries
+pub mod Fits
 pub mod Found
-pub mod Held
-pub mod Keys
 pub mod Machines
 pub mod Places
 pub mod Planning

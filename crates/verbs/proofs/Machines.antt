@@ -1,8 +1,9 @@
 -- A machine from its beginning on.
-use Rattle.std.proofs.Common.{List, [], ◌∷◌, sym, ap}
+use Rattle.std.proofs.Common.{◌≡◌, List, [], ◌∷◌, sym, ap}
 use Rattle.std.specs.List.{AllByRecursion}
 use Rattle.schema.specs.TypesFile.{ServedShape}
-use Rattle.history.specs.History.{History}
+use Rattle.history.specs.History.{History, standing}
+use Rattle.history.specs.View.{state_in, view}
 use Rattle.history.proofs.Views.{view_states}
 use Rattle.history.proofs.Wholes.{whole_compacts, whole_fresh}
 use Rattle.verbs.specs.Calls.{Call}
@@ -26,5 +27,9 @@ calls_keep_machines types m calls is json = calls_keep types calls m is json
 pub compactions_keep_machines : CompactionsKeepMachines
 compactions_keep_machines types m c is low high = record { first = is.first; whole = whole_compacts is.first m c is.whole low high; shapes = is.shapes; texts = is.texts }
 
+-- what stands is seen in the view
+pub standing_seen : (types : List ServedShape) (m : History) → IsMachine types m → state_in (view m) m.current ≡ standing m
+standing_seen types m is = view_states m m.current (is_history types m is) is.whole.low
+
 pub plans_by_views : PlansByViews
-plans_by_views types m call is = sym (ap (λ s. planned_over types m.current s call) (view_states m m.current (is_history types m is) is.whole.low))
+plans_by_views types m call is = sym (ap (λ s. planned_over types m.current s call) (standing_seen types m is))

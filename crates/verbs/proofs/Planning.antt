@@ -1,8 +1,11 @@
 -- What a call comes to at a machine.
-use Rattle.std.proofs.Common.{◌≡◌, Ok, Err, Option, Some, None, sym, ap, subst, ◌∙◌, List, ℕ}
-use Rattle.std.specs.Prelude.{IfSome, option_map}
+use Rattle.std.proofs.Common.{◌≡◌, Ok, Err, Bool, true, false, Option, Some, None, refl, sym, ap, subst, ◌∙◌, List, ℕ, true≢false, ltb-true, ltb-false}
+use Rattle.std.specs.Prelude.{◌↔◌, ◌<◌, ◌≤◌, IfSome, OnOk, nat_lt, option_map}
+use Rattle.std.specs.declared.result.Result.{Result}
 use Rattle.schema.specs.TypesFile.{ServedShape}
-use Rattle.history.specs.History.{Change, History, object_by, put_or_remove, standing}
+use Rattle.history.specs.History.{Change, History, compacted_to, standing}
+use Rattle.history.specs.View.{View, compacted_in, written_in}
+use Rattle.history.proofs.Seen.{view_compacts, view_writes}
 use Rattle.verbs.specs.declared.api.Api.{Api}
 use Rattle.verbs.specs.declared.body.Body.{Body}
 use Rattle.verbs.specs.declared.calls.Call.{Call as TheCall}
@@ -12,22 +15,23 @@ use Rattle.verbs.specs.Json.{IsJsonBody}
 use Rattle.verbs.specs.Calls.{Call, Plan}
 use Rattle.verbs.specs.Machine.{IsMachine, IsNext, after}
 use Rattle.verbs.specs.Status.{Denial}
-use Rattle.verbs.proofs.Changes.{machine_next, standing_next}
+use Rattle.verbs.proofs.Changes.{is_history, machine_next}
+use Rattle.verbs.proofs.Machines.{compactions_keep_machines, standing_seen}
 use Rattle.verbs.proofs.Promise.{plans_come_next}
 use Rattle.verbs.specs.Seen.{Stands, body_seen, call_of, change_of, plan_of, types_of, objects_in}
 use Rattle.verbs.specs.Step.{judged_over, planned, refused, told}
 
 module _ (api : Api) (types : List ServedShape) (m : History) (call : Call) (stands : Stands api types m) where
-  judged_is : judged_over (types_of api) api.current (objects_in api.objects) call ≡ judged_over types m.current (standing m) call
+  judged_is : judged_over (types_of api) api.store.current (objects_in api.store) call ≡ judged_over types m.current (standing m) call
   judged_is =
-      ap (λ ts. judged_over ts api.current (objects_in api.objects) call) stands.serves
-      ∙ ap (λ n. judged_over types n (objects_in api.objects) call) stands.current
-      ∙ ap (λ os. judged_over types m.current os call) stands.objects
+      ap (λ ts. judged_over ts api.store.current (objects_in api.store) call) stands.serves
+      ∙ ap (λ (v : View). judged_over types v.current (objects_in v) call) stands.store
+      ∙ ap (λ os. judged_over types m.current os call) (standing_seen types m stands.is_machine)
 
-  pub planned_ok : (p : Plan) → judged_over (types_of api) api.current (objects_in api.objects) call ≡ Ok p → p ≡ planned types m call
+  pub planned_ok : (p : Plan) → judged_over (types_of api) api.store.current (objects_in api.store) call ≡ Ok p → p ≡ planned types m call
   planned_ok p e = sym (ap told (sym judged_is ∙ e))
 
-  pub planned_denied : (d : Denial) → judged_over (types_of api) api.current (objects_in api.objects) call ≡ Err d → refused d ≡ planned types m call
+  pub planned_denied : (d : Denial) → judged_over (types_of api) api.store.current (objects_in api.store) call ≡ Err d → refused d ≡ planned types m call
   planned_denied d e = sym (ap told (sym judged_is ∙ e))
 
 -- ---- what is planned may come next
@@ -36,23 +40,57 @@ bodies_json : (body : Option Body) → IsJsonBody (option_map body_seen body)
 bodies_json None = tt
 bodies_json (Some b) = b.is_json
 
-seen_change : (types : List ServedShape) (m : History) (change : Option TheChange) → IfSome (option_map change_of change) (IsNext types m) → IfSome change (λ c. IsNext types m (change_of c))
-seen_change types m None is = tt
-seen_change types m (Some c) is = is
+pub seen_change : (P : Change → Type 0) (change : Option TheChange) → IfSome (option_map change_of change) P → IfSome change (λ c. P (change_of c))
+seen_change P None is = tt
+seen_change P (Some c) is = is
 
 pub planned_next : (types : List ServedShape) (m : History) (call : TheCall) → IsMachine types m → (p : ThePlan) → plan_of p ≡ planned types m (call_of call) → IfSome p.change (λ c. IsNext types m (change_of c))
 planned_next types m call is p same =
-    seen_change types m p.change
+    seen_change (IsNext types m) p.change
     (subst (λ (q : Plan). IfSome q.change (IsNext types m)) (sym same) (plans_come_next types m (call_of call) is (bodies_json call.body)))
 
 pub stands_next : (api new : Api) (types : List ServedShape) (m : History) (c : Change) → Stands api types m → IsNext types m c
-    → types_of new ≡ types_of api → new.current ≡ c.revision → objects_in new.objects ≡ put_or_remove (objects_in api.objects) c.key (object_by c.revision c.body)
-    → Stands new types (after m (Some c))
-stands_next api new types m c stands next serves current objects = record {
+    → types_of new ≡ types_of api → new.store ≡ written_in api.store c.key c.body → Stands new types (after m (Some c))
+stands_next api new types m c stands next serves store = record {
   is_machine = machine_next types m c stands.is_machine next;
   serves = serves ∙ stands.serves;
-  current = current ∙ next.next;
-  objects =
-      objects ∙ ap (λ os. put_or_remove os c.key (object_by c.revision c.body)) stands.objects
-      ∙ ap (λ (n : ℕ). put_or_remove (standing m) c.key (object_by n c.body)) next.next ∙ sym (standing_next types m c stands.is_machine next);
+  store = store ∙ ap (λ (v : View). written_in v c.key c.body) stands.store ∙ sym (view_writes m c.key c.body (is_history types m stands.is_machine));
 }
+
+pub on_ok : {X E A B : Type 0} (r : Result X E) → (A → B) → OnOk r A → OnOk r B
+on_ok (Ok x) f a = f a
+on_ok (Err e) f a = a
+
+pub stands_same : (api new : Api) (types : List ServedShape) (m : History) → types_of new ≡ types_of api → new.store ≡ api.store → Stands api types m → Stands new types m
+stands_same api new types m serves store stands = record { is_machine = stands.is_machine; serves = serves ∙ stands.serves; store = store ∙ stands.store }
+
+pub stands_compacted : (api new : Api) (types : List ServedShape) (m : History) (c : ℕ) → Stands api types m → types_of new ≡ types_of api → m.compacted ≤ c → c ≤ m.current
+    → new.store ≡ compacted_in c api.store → Stands new types (compacted_to c m)
+stands_compacted api new types m c stands serves low high store = record {
+  is_machine = compactions_keep_machines types m c stands.is_machine low high;
+  serves = serves ∙ stands.serves;
+  store = store ∙ ap (compacted_in c) stands.store ∙ sym (view_compacts m c (is_history types m stands.is_machine) low);
+}
+
+-- ---- a compaction
+
+abbrev is_done : {X E : Type 0} → Result X E → Bool
+is_done (Ok x) = true
+is_done (Err e) = false
+
+not_below : (c n : ℕ) → (c < n → ⊥) → n ≤ c
+not_below c n apart = go (nat_lt c n) refl
+  where
+    go : (b : Bool) → nat_lt c n ≡ b → n ≤ c
+    go true is = absurd (apart (ltb-true _ _ is))
+    go false is = ltb-false _ _ is
+
+-- it is done where neither refusal stands
+pub compacts : {X E : Type 0} (api new : Api) (types : List ServedShape) (m : History) (c : ℕ) (r : Result X E) (expired large : E) → Stands api types m → types_of new ≡ types_of api
+    → (r ≡ Err expired) ↔ (c < api.store.compacted) → (r ≡ Err large) ↔ (api.store.current < c) → OnOk r (new.store ≡ compacted_in c api.store) → OnOk r (Stands new types (compacted_to c m))
+compacts api new types m c (Err e) expired large stands serves low high store = tt
+compacts api new types m c (Ok x) expired large stands serves low high store =
+    stands_compacted api new types m c stands serves
+    (subst (λ (n : ℕ). n ≤ c) (ap (λ (v : View). v.compacted) stands.store) (not_below c api.store.compacted (λ lt. true≢false (ap is_done (low.1 lt)))))
+    (subst (λ (n : ℕ). c ≤ n) (ap (λ (v : View). v.current) stands.store) (not_below api.store.current c (λ lt. true≢false (ap is_done (high.1 lt)))))
+    store

@@ -40,9 +40,9 @@ use Rattle.verbs.specs.Options.{options_judged}
 use Rattle.verbs.specs.Parameters.{parameters_judged}
 use Rattle.verbs.specs.Promise.{AppliesKeepOthers, OthersKeepUnchanged, PlansComeNext, StepsKeepMachines, TextsSayStates, UpdatesTakeChanges}
 use Rattle.verbs.specs.Size.{size_judged}
-use Rattle.verbs.specs.Step.{Intent, applied_over, apply_judged, at_path, body_of, collection_judged_by, conflict_denial, create_judged, delete_judged, deleted_over, get_judged, intent_of, judged_at, judged_in, judged_over, kept, key_at, not_there, object_judged_by, ownership_judged, planned, printed, revisions_left, shape_judged, stored, stored_over, text_at, there, told, update_judged, updated_by, updated_over, version_checked, version_come}
+use Rattle.verbs.specs.Step.{Intent, applied_over, apply_judged, at_path, body_of, collection_judged_by, conflict_denial, Creation, create_judged, created_as, creation_judged, delete_judged, deleted_over, get_judged, intent_of, judged_at, judged_in, judged_over, kept, key_at, not_there, object_judged_by, ownership_judged, planned, printed, revisions_left, shape_judged, stored, stored_over, text_at, there, told, update_judged, updated_by, updated_over, version_checked, version_come}
 use Rattle.verbs.proofs.Changes.{AreTexts, machine_next, standing_next, standing_texts}
-use Rattle.verbs.proofs.Checks.{held, no_err, ok_is, passed}
+use Rattle.verbs.proofs.Checks.{change_in, held, no_err, ok_is, passed}
 use Rattle.verbs.proofs.Contents.{intended_content}
 use Rattle.verbs.proofs.Said.{Shapes, nothing_placed, printed_is_text, said_back, shapes_of}
 
@@ -56,10 +56,6 @@ BodyBy types objects D R c (Some text) =
 abbrev WritesBy : List ServedShape → ℕ → Objects → Type 0 → (State → State → Type 0) → Option Change → Type 0
 WritesBy types current objects D R None = Unit {0}
 WritesBy types current objects D R (Some c) = (c.revision ≡ suc current) × (c.revision ≤ last_revision) × BodyBy types objects D R c c.body
-
-abbrev change_in : Judged Plan → Option Change
-change_in (Ok p) = p.change
-change_in (Err d) = None
 
 next_left : (n : ℕ) → n < last_revision → suc n ≤ last_revision
 next_left n lt = lt
@@ -245,10 +241,14 @@ module _ (types : List ServedShape) (current : ℕ) (objects : Objects) (shapes 
       → create_judged t current objects kind namespace query body ≡ Ok p → WritesBy types current objects (Unit {0}) (λ old new. Unit {0}) p.change
   create_writes t kind serves namespace query body p json e =
       let of : Expected = record { served = t; namespace = namespace; name = None; method = Post } in
-      let intent = passed (intent_of of asked.Post query body) _ p e in
-      let name = passed (required_name (name_in body)) _ p intent.2 in
+      let creation = passed (creation_judged t kind namespace query body) _ p e in
+      let intent = passed (intent_of of asked.Post query body) _ creation.0 creation.1 in
+      let name = passed (required_name (name_in body)) _ creation.0 intent.2 in
       let k : Key = record { kind = kind; namespace = namespace; name = name.0 } in
-      let named = passed (names_judged k.namespace k.name intent.0.rest) _ p name.2 in
+      let made : Creation = record { key = k; intent = intent.0 } in
+      let same : made ≡ creation.0 = ok_is made creation.0 name.2 in
+      let f = subst (λ (c : Creation). created_as t current (fin.get objects c.key) c.key c.intent ≡ Ok p) (sym same) creation.2 in
+      let named = passed (names_judged k.namespace k.name intent.0.rest) _ p f in
       created_writes t k serves intent.0 p (intended_content of asked.Post query body intent.0 (shapes kind t serves) json intent.1) (fin.get objects k) refl named.2
 
 -- ---- each call

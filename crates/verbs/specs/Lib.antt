@@ -1,6 +1,7 @@
 pub mod Reasons
 pub mod Status
 pub mod Judged
+pub mod Faults
 pub mod Json
 pub mod Machine
 pub mod Calls

@@ -8,6 +8,7 @@ use Rattle.schema.specs.Shape.{Shape}
 use Rattle.schema.specs.TypesFile.{ServedShape}
 use Rattle.pathmap.specs.Contents.{nothing}
 use Rattle.history.specs.History.{Key, Change, Object, Objects, History, last_revision, standing, written}
+use Rattle.history.specs.View.{View, state_in}
 use Rattle.history.specs.Whole.{IsWhole}
 use Rattle.ownership.specs.Apply.{State}
 use Rattle.ownership.specs.ObjectText.{Identity}
@@ -88,3 +89,8 @@ pub record IsNext (types : List ServedShape) (m : History) (c : Change) : Type 0
   pub high : c.revision ≤ last_revision
   pub there : c.body ≡ None → fin.contains_key (standing m) c.key ≡ true
   pub is_text : IsOfTypes types c
+
+-- a change that may come after what is seen: it has the next revision, and a deletion is of what stands
+pub record ComesAfter (v : View) (c : Change) : Type 0 where
+  pub next : c.revision ≡ suc v.current
+  pub there : c.body ≡ None → fin.contains_key (state_in v v.current) c.key ≡ true

@@ -1,9 +1,7 @@
 -- What the crate's values stand for.
-use Rattle.std.specs.Prelude.{◌≡◌, ℕ, List, map, option_map, string_bytes}
+use Rattle.std.specs.Prelude.{◌≡◌, ℕ, List, option_map, string_bytes}
 use Rattle.std.specs.declared.result.Result.{Result}
 use Rattle.std.specs.declared.result.Result.TheVariants.{Ok, Err}
-use Rattle.std.specs.BTreeMap.{BTreeMap}
-use Rattle.std.specs.FinMap as fin
 use Rattle.serde_json.specs.View.{view, items_view}
 use Rattle.schema.specs.Served.{served, types_view}
 use Rattle.schema.specs.TypesFile.{ServedShape}
@@ -11,9 +9,9 @@ use Rattle.verbs.specs.declared.calls.Target.{Target as TheTarget}
 use Rattle.verbs.specs.declared.calls.Call.{Call as TheCall}
 use Rattle.verbs.specs.declared.calls.Answer.{Answer as TheAnswer}
 use Rattle.verbs.specs.declared.calls.Plan.{Plan as ThePlan}
-use Rattle.verbs.specs.declared.objects.Key.{Key as TheKey}
 use Rattle.verbs.specs.declared.change.Change.{Change as TheChange}
-use Rattle.verbs.specs.declared.objects.Stored.{Stored}
+use Rattle.revtable.specs.Read.{object_of as stored_object}
+use Rattle.revtable.specs.declared.row.Object.{Object as TheObject}
 use Rattle.verbs.specs.declared.admitting.Denied.{Denied as TheDenied}
 use Rattle.verbs.specs.declared.admitting.Refusal.{Refusal}
 use Rattle.verbs.specs.declared.admitting.Refusal.TheVariants as refusal
@@ -23,17 +21,20 @@ use Rattle.verbs.specs.declared.fault.Stop.TheVariants as stop
 use Rattle.verbs.specs.declared.api.Api.{Api}
 use Rattle.verbs.specs.declared.envelope.Expected.{Expected as TheExpected}
 use Rattle.verbs.specs.declared.envelope.Envelope.{Envelope as TheEnvelope}
+use Rattle.verbs.specs.declared.intent.Creation.{Creation as TheCreation}
 use Rattle.verbs.specs.declared.intent.Intent.{Intent as TheIntent}
 use Rattle.verbs.specs.declared.place.Place.{Place as ThePlace}
 use Rattle.verbs.specs.Envelope.{Expected, Envelope}
-use Rattle.verbs.specs.Step.{Intent}
+use Rattle.verbs.specs.Step.{Creation, Intent}
 use Rattle.verbs.specs.Admit.{Parts, Place}
 use Rattle.matchit.specs.Params.{walk}
 use Rattle.matchit.specs.declared.params.Params.{Params}
 use Rattle.verbs.specs.Status.{Denial}
 use Rattle.verbs.specs.Judged.{Judged, denial}
 use Rattle.verbs.specs.declared.reason.Reason.{Reason}
-use Rattle.history.specs.History.{Key, Change, Object, Objects, History, standing}
+use Rattle.history.specs.History.{Change, Object, Objects, History}
+use Rattle.history.specs.Read.{key_of}
+use Rattle.history.specs.View.{View, state_in, view as view_of}
 use Rattle.verbs.specs.Machine.{IsMachine}
 use Rattle.verbs.specs.declared.body.Body.{Body}
 use Rattle.serde_json.specs.Data.{Data}
@@ -53,9 +54,6 @@ call_of c = record { target = target_of c.target; query = c.query.items; body = 
 abbrev pub answer_of : TheAnswer → Answer
 answer_of a = record { status = a.status; body = string_bytes a.body }
 
-abbrev pub key_of : TheKey → Key
-key_of k = record { kind = k.kind; namespace = string_bytes k.namespace; name = string_bytes k.name }
-
 abbrev pub change_of : TheChange → Change
 change_of c = record { revision = c.revision; key = key_of c.key; body = option_map string_bytes c.body }
 
@@ -70,16 +68,18 @@ denial_of d = record { reason = d.reason; message = string_bytes d.message; caus
 abbrev pub Refuses : Stop → Denial → Type 0
 Refuses stop.Memory d = Unit {0}
 Refuses stop.Store d = Unit {0}
+Refuses stop.Unreadable d = Unit {0}
 Refuses (stop.Denied e) d = denial_of e ≡ d
 
--- the refusal is of this reason and message, without causes, unless memory ran out or a stored text is no object's
+-- the refusal is of this reason and message, without causes, unless it is none but a fault
 abbrev pub Denies : Stop → Reason → List ℕ → Type 0
 Denies e r message = Refuses e (denial r message)
 
--- what a check answered, seen by see, is what is judged, unless memory ran out or a stored text is no object's
+-- what a check answered, seen by see, is what is judged, unless a fault stands in its place
 abbrev pub Fails : {Y : Type 0} → Stop → Judged Y → Type 0
 Fails stop.Memory judged = Unit {0}
 Fails stop.Store judged = Unit {0}
+Fails stop.Unreadable judged = Unit {0}
 Fails (stop.Denied d) judged = judged ≡ Err (denial_of d)
 
 abbrev pub Gives : {X Y : Type 0} → (X → Y) → Result X Stop → Judged Y → Type 0
@@ -106,6 +106,9 @@ envelope_seen e = record { version = e.version; rest = view e.rest }
 abbrev pub intent_seen : TheIntent → Intent
 intent_seen i = record { version = i.version; content = i.content; manager = string_bytes i.manager; is_forced = i.is_forced; rest = view i.rest }
 
+abbrev pub creation_seen : TheCreation → Creation
+creation_seen c = record { key = key_of c.key; intent = intent_seen c.intent }
+
 abbrev pub parts_of : Params → Parts
 parts_of p = walk p.pattern.now p.text.now p.path.now p.names.now 0 0
 
@@ -114,19 +117,19 @@ place_seen p = record { resource = p.resource; kind = p.kind; namespace = option
 
 -- ---- the API
 
-abbrev pub object_of : Stored → Object
-object_of s = record { revision = s.revision; body = string_bytes s.text }
+abbrev pub object_of : TheObject → Object
+object_of = stored_object
 
-abbrev pub objects_in : BTreeMap TheKey Stored → Objects
-objects_in m = fin.from_entries (map (λ e. (key_of e.0, object_of e.1)) m.entries)
+-- the objects that stand, by what may be seen of the store
+abbrev pub objects_in : View → Objects
+objects_in v = state_in v v.current
 
 -- the types that it serves
 abbrev pub types_of : Api → List ServedShape
 types_of api = types_view api.types
 
--- the API serves these types, and its revision and objects are those of the machine
+-- the API serves these types, and of its store is seen what is seen of the machine
 pub record Stands (api : Api) (types : List ServedShape) (m : History) : Type 0 where
   pub is_machine : IsMachine types m
   pub serves : types_of api ≡ types
-  pub current : api.current ≡ m.current
-  pub objects : objects_in api.objects ≡ standing m
+  pub store : api.store ≡ view_of m

@@ -210,15 +210,21 @@ created_as t current live k intent =
     and_then (not_there t k.name live) (λ u.
     stored t current k 201 (updated_by intent no_state)))
 
-abbrev pub created_in : ServedShape → ℕ → Objects → Key → Intent → Judged Plan
-created_in t current objects k intent = created_as t current (fin.get objects k) k intent
+-- the object that a creation is of, and what it intends
+pub record Creation : Type 0 where
+  pub key : Key
+  pub intent : Intent
 
 -- the body names the object
-abbrev pub create_judged : ServedShape → ℕ → Objects → ℕ → List ℕ → List ℕ → Data → Judged Plan
-create_judged t current objects kind namespace query body =
+abbrev pub creation_judged : ServedShape → ℕ → List ℕ → List ℕ → Data → Judged Creation
+creation_judged t kind namespace query body =
     and_then (intent_of (record { served = t; namespace = namespace; name = None; method = Post }) asked.Post query body) (λ intent.
     and_then (required_name (name_in body)) (λ name.
-    created_in t current objects (record { kind = kind; namespace = namespace; name = name }) intent))
+    Ok (record { key = record { kind = kind; namespace = namespace; name = name }; intent = intent })))
+
+abbrev pub create_judged : ServedShape → ℕ → Objects → ℕ → List ℕ → List ℕ → Data → Judged Plan
+create_judged t current objects kind namespace query body =
+    and_then (creation_judged t kind namespace query body) (λ c. created_as t current (fin.get objects c.key) c.key c.intent)
 
 -- object there or not, version, size
 abbrev pub updated_over : ServedShape → ℕ → Key → Option Object → Intent → Judged Plan

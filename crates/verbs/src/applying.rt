@@ -7,7 +7,8 @@ ghost use Rattle.typed.specs.Fitting.{IsContent};
 ghost use Rattle.history.specs.History.{last_revision};
 ghost use Rattle.schema.specs.ObjectShape.{IsObjectShape};
 ghost use Rattle.verbs.specs.Json.{IsJson};
-ghost use Rattle.verbs.specs.Seen.{Gives, intent_seen, key_of, object_of, plan_of};
+ghost use Rattle.history.specs.Read.{key_of};
+ghost use Rattle.verbs.specs.Seen.{Gives, intent_seen, object_of, plan_of};
 ghost use Rattle.verbs.specs.Step.{applied_over, apply_judged};
 
 use crate::calls::Plan;
@@ -17,9 +18,10 @@ use crate::intent::{Intent, at_path, intent_of};
 use crate::live::read_live;
 use crate::method::Method;
 use crate::naming::judge_names;
-use crate::objects::{Key, Stored};
 use crate::storing::{check_version, stored_over};
+use history::Key;
 use params::Asked;
+use revtable::Object;
 use schema::Served;
 use serde_json::Value;
 use std::alloc::Global;
@@ -30,7 +32,7 @@ fn applied_over(
     served: &Served,
     current: u64,
     key: Key,
-    live: Option<&Stored>,
+    live: Option<&Object>,
     intent: &Intent,
 ) -> Result<Plan, Stop>
     requires numbered { current ≤ last_revision }
@@ -56,7 +58,7 @@ pub(crate) fn judge_apply(
     alloc: Global,
     served: &Served,
     current: u64,
-    live: Option<&Stored>,
+    live: Option<&Object>,
     key: Key,
     query: &[u8],
     body: &Value,

@@ -1,7 +1,7 @@
 ghost use Rattle.std.specs.Prelude.{◌≤◌};
 ghost use Rattle.history.specs.History.{last_revision};
 
-use crate::objects::Key;
+use history::Key;
 
 /// One change of the objects; without a body it is a deletion.
 #[derive(Drop)]

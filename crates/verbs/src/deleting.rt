@@ -7,7 +7,8 @@ ghost use Rattle.history.specs.History.{last_revision};
 ghost use Rattle.schema.specs.ObjectShape.{IsObjectShape};
 ghost use Rattle.ownership.specs.Results.{state_of};
 ghost use Rattle.verbs.specs.Machine.{state_said};
-ghost use Rattle.verbs.specs.Seen.{Gives, body_seen, key_of, object_of, plan_of};
+ghost use Rattle.history.specs.Read.{key_of};
+ghost use Rattle.verbs.specs.Seen.{Gives, body_seen, object_of, plan_of};
 ghost use Rattle.verbs.specs.Step.{delete_judged, deleted, deleted_over};
 
 use crate::body::Body;
@@ -15,13 +16,14 @@ use crate::calls::{Answer, Plan};
 use crate::change::Change;
 use crate::fault::Stop;
 use crate::live::read_stored;
-use crate::objects::{Key, Stored};
 use crate::options::judge_options;
 use crate::parameters::read_parameters;
 use crate::presence::there;
 use crate::storing::{check_revisions, check_version, printed_text};
+use history::Key;
 use ownership::Owned;
 use params::Asked;
+use revtable::Object;
 use schema::Served;
 use std::alloc::{AllocError, Global};
 
@@ -31,7 +33,7 @@ fn deleted(
     served: &Served,
     current: u64,
     key: Key,
-    live: &Stored,
+    live: &Object,
     state: &Owned,
 ) -> Result<Plan, AllocError>
     requires numbered { current < last_revision }
@@ -58,7 +60,7 @@ fn deleted_over(
     served: &Served,
     current: u64,
     key: Key,
-    live: Option<&Stored>,
+    live: Option<&Object>,
     version: Option<u64>,
 ) -> Result<Plan, Stop>
     requires numbered { current ≤ last_revision }
@@ -77,7 +79,7 @@ pub(crate) fn judge_delete(
     alloc: Global,
     served: &Served,
     current: u64,
-    live: Option<&Stored>,
+    live: Option<&Object>,
     key: Key,
     query: &[u8],
     body: Option<&Body>,

@@ -10,8 +10,10 @@ use thiserror::Error;
 pub enum Stop {
     Denied(Denial),
     Memory,
-    /// What is stored is no object's text.
+    /// The store refused a statement.
     Store,
+    /// What is stored is no object's text.
+    Unreadable,
 }
 
 impl Stop {
@@ -53,9 +55,12 @@ impl<T: Drop> From<AllocFailed<T>> for Stop {
 pub enum Fault {
     #[error("out of memory")]
     Memory,
+    /// The store refused a statement, for memory or for size.
+    #[error("the store refused a statement")]
+    Store,
     /// What is stored is no object's text, which it always is in an API that stands for a machine.
     #[error("what is stored is no object's text")]
-    Store,
+    Unreadable,
 }
 
 impl From<AllocError> for Fault {
@@ -77,5 +82,19 @@ impl<T: Drop> From<AllocFailed<T>> for Fault {
 
     fn from(_: AllocFailed<T>) -> Fault {
         Fault::Memory
+    }
+}
+
+impl From<revtable::Fault> for Fault {
+    ghost use Rattle.std.specs.Prelude.{◌≡◌};
+    ghost use Rattle.verbs.specs.Faults.{fault_of};
+
+    ghost from_gives = { λ fault e. e ≡ fault_of fault };
+
+    fn from(fault: revtable::Fault) -> Fault {
+        match fault {
+            revtable::Fault::Memory => Fault::Memory,
+            revtable::Fault::Store => Fault::Store,
+        }
     }
 }

@@ -2,18 +2,20 @@
 
 ghost use Rattle.std.specs.Prelude.{◌≡◌, IfOk, option_map, string_bytes};
 ghost use Rattle.schema.specs.Served as types;
-ghost use Rattle.verbs.specs.Seen.{Gives, key_of, object_of, plan_of};
+ghost use Rattle.history.specs.Read.{key_of};
+ghost use Rattle.verbs.specs.Seen.{Gives, object_of, plan_of};
 ghost use Rattle.verbs.specs.Step.{get_judged, too_large_message, version_come};
 
 use crate::calls::Plan;
 use crate::fault::Stop;
-use crate::objects::{Key, Stored};
 use crate::parameters::read_parameters;
 use crate::presence::there;
 use crate::reason::Reason;
 use crate::storing::kept;
 use crate::texts::joined;
+use history::Key;
 use params::Asked;
+use revtable::Object;
 use schema::Served;
 use std::alloc::{AllocError, Global};
 
@@ -47,7 +49,7 @@ pub(crate) fn judge_get(
     alloc: Global,
     served: &Served,
     current: u64,
-    live: Option<&Stored>,
+    live: Option<&Object>,
     key: &Key,
     query: &[u8],
 ) -> Result<Plan, Stop>

@@ -4,14 +4,15 @@ ghost use Rattle.std.specs.Prelude.{◌≡◌};
 ghost use Rattle.serde_json.specs.View.{view};
 ghost use Rattle.schema.specs.Served as types;
 ghost use Rattle.verbs.specs.Step.{at_path, intent_of};
-ghost use Rattle.verbs.specs.Seen.{Gives, expected_of, intent_seen, key_of};
+ghost use Rattle.history.specs.Read.{key_of};
+ghost use Rattle.verbs.specs.Seen.{Gives, expected_of, intent_seen};
 
 use crate::envelope::{Envelope, Expected, judge};
 use crate::fault::Stop;
 use crate::method::Method;
-use crate::objects::Key;
 use crate::parameters::read_parameters;
 use crate::reading::read_config;
+use history::Key;
 use params::Asked;
 use schema::Served;
 use serde_json::Value;
@@ -26,6 +27,13 @@ pub struct Intent {
     pub is_forced: bool,
     /// The body's fields, whose labels and annotations are judged next.
     pub rest: Value,
+}
+
+/// A creation: the object that the body names, and what is intended.
+#[derive(Drop)]
+pub struct Creation {
+    pub key: Key,
+    pub intent: Intent,
 }
 
 /// A write to the path of an object names that object.

@@ -2,7 +2,7 @@
 //!
 //! Promises: what a call answers and changes is the step of the machine, with its checks in their order;
 //! a refused call changes nothing. The machine is a history whose bodies are texts of objects.
-//! Stands on `history` for changes, `ownership` for apply, `typed` for reading, `schema` for types, `params` and `names` for parameters and names.
+//! Stands on `history` for changes, `revstore` for what stands, `ownership` for apply, `typed` for reading, `schema` for types, `params` and `names` for parameters and names.
 #![tactic(auto)]
 
 mod admitting;
@@ -19,12 +19,12 @@ mod envelope;
 mod fault;
 mod getting;
 mod intent;
+mod judging;
 mod laws;
 mod live;
 mod media;
 mod method;
 mod naming;
-mod objects;
 mod options;
 mod parameters;
 mod place;
@@ -38,6 +38,7 @@ mod status;
 mod storing;
 mod texts;
 mod updating;
+mod writing;
 
 pub use admitting::{Denied, Refusal};
 pub use api::Api;

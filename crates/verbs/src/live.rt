@@ -12,8 +12,9 @@ ghost use Rattle.verbs.specs.Seen.{Fails, object_of};
 
 use crate::envelope::api_version_of;
 use crate::fault::Stop;
-use crate::objects::{Key, Stored};
+use history::Key;
 use ownership::{Identity, ObjectFault, Owned};
+use revtable::Object;
 use schema::Served;
 use std::alloc::Global;
 
@@ -22,7 +23,7 @@ pub(crate) fn read_stored(
     alloc: Global,
     served: &Served,
     key: &Key,
-    stored: &Stored,
+    stored: &Object,
 ) -> Result<Owned, Stop>
     requires { IsObjectShape (types.served served.now).shape }
     ensures state { IfOk result (λ o. state_of o ≡ state_said (types.served served.now).shape (object_of stored.now).body) }
@@ -36,9 +37,9 @@ pub(crate) fn read_stored(
         namespace: key.namespace.as_str(),
         name: key.name.as_str(),
     };
-    match Owned::from_object(alloc, &served.schema, identity, stored.text.as_str()) {
+    match Owned::from_object(alloc, &served.schema, identity, stored.body.as_str()) {
         Ok(read) => Ok(read.0),
-        Err(ObjectFault::NotCanonical) => Err(Stop::Store),
+        Err(ObjectFault::NotCanonical) => Err(Stop::Unreadable),
         Err(ObjectFault::Memory) => Err(Stop::Memory),
     }
 }
@@ -48,7 +49,7 @@ pub(crate) fn read_live(
     alloc: Global,
     served: &Served,
     key: &Key,
-    live: Option<&Stored>,
+    live: Option<&Object>,
 ) -> Result<Owned, Stop>
     requires { IsObjectShape (types.served served.now).shape }
     ensures state { IfOk result (λ o. state_of o ≡ state_of_live (types.served served.now) (option_map (λ o. object_of o.now) live.entry)) }

@@ -6,9 +6,9 @@ ghost use Rattle.verbs.specs.Seen.{Gives, object_of};
 ghost use Rattle.verbs.specs.Step.{not_there, object_named, there};
 
 use crate::fault::Stop;
-use crate::objects::Stored;
 use crate::reason::Reason;
 use crate::texts::joined;
+use revtable::Object;
 use schema::Served;
 use std::alloc::{AllocError, Global};
 
@@ -29,8 +29,8 @@ pub fn there<'a>(
     alloc: Global,
     served: &Served,
     name: &str,
-    live: Option<&'a Stored>,
-) -> Result<&'a Stored, Stop>
+    live: Option<&'a Object>,
+) -> Result<&'a Object, Stop>
     ensures { Gives (λ o. object_of o.now) result (there (types.served served.now) name.now (option_map (λ o. object_of o.now) live.entry)) }
 {
     let Some(stored) = live else {
@@ -46,7 +46,7 @@ pub fn not_there(
     alloc: Global,
     served: &Served,
     name: &str,
-    live: Option<&Stored>,
+    live: Option<&Object>,
 ) -> Result<(), Stop>
     ensures { Gives (λ u. u) result (not_there (types.served served.now) name.now (option_map (λ o. object_of o.now) live.entry)) }
 {

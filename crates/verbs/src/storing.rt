@@ -9,18 +9,20 @@ ghost use Rattle.typed.specs.Fitting.{IsContent};
 ghost use Rattle.schema.specs.ObjectShape.{IsObjectShape};
 ghost use Rattle.ownership.specs.Results.{state_of};
 ghost use Rattle.verbs.specs.Machine.{state_of_live};
-ghost use Rattle.verbs.specs.Seen.{Gives, key_of, object_of, plan_of};
+ghost use Rattle.history.specs.Read.{key_of};
+ghost use Rattle.verbs.specs.Seen.{Gives, object_of, plan_of};
 ghost use Rattle.verbs.specs.Step.{kept, no_object_message, other_version_message, printed, revisions_left, stored, stored_as, stored_over, text_at, version_checked};
 
 use crate::calls::{Answer, Plan};
 use crate::change::Change;
 use crate::envelope::api_version_of;
 use crate::fault::Stop;
-use crate::objects::{Key, Stored};
 use crate::reason::Reason;
 use crate::size::judge_size;
 use crate::texts::joined;
+use history::Key;
 use ownership::{Identity, Owned};
+use revtable::Object;
 use schema::Served;
 use serde_json::Value;
 use std::alloc::{AllocError, Global};
@@ -84,7 +86,7 @@ fn other_version_message(alloc: Global, given: u64, stored: u64) -> Result<Strin
 }
 
 /// The version that a body names is that of the object that stands.
-pub fn check_version(alloc: Global, version: Option<u64>, live: Option<&Stored>) -> Result<(), Stop>
+pub fn check_version(alloc: Global, version: Option<u64>, live: Option<&Object>) -> Result<(), Stop>
     ensures { Gives (λ u. u) result (version_checked version (option_map (λ o. object_of o.now) live.entry)) }
 {
     let Some(given) = version else {
@@ -156,10 +158,10 @@ pub fn stored(
 }
 
 /// The object as it stands.
-pub fn kept(live: &Stored) -> Result<Plan, AllocError>
+pub fn kept(live: &Object) -> Result<Plan, AllocError>
     ensures { IfOk result (λ p. plan_of p ≡ kept (object_of live.now)) }
 {
-    let body = live.text.clone()?;
+    let body = live.body.clone()?;
     Ok(Plan {
         answer: Answer { status: 200, body },
         change: None,
@@ -172,7 +174,7 @@ pub fn stored_over(
     served: &Served,
     current: u64,
     key: Key,
-    live: Option<&Stored>,
+    live: Option<&Object>,
     before: &Owned,
     owned: &Owned,
 ) -> Result<Plan, Stop>

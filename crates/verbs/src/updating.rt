@@ -8,25 +8,26 @@ ghost use Rattle.history.specs.History.{last_revision};
 ghost use Rattle.schema.specs.ObjectShape.{IsObjectShape};
 ghost use Rattle.ownership.specs.Results.{state_of};
 ghost use Rattle.verbs.specs.Json.{IsJson};
-ghost use Rattle.verbs.specs.Seen.{Gives, intent_seen, key_of, object_of, objects_in, plan_of};
-ghost use Rattle.verbs.specs.Step.{create_judged, created_as, update_judged, updated_by, updated_over};
+ghost use Rattle.history.specs.Read.{key_of};
+ghost use Rattle.verbs.specs.Seen.{Gives, creation_seen, intent_seen, object_of, plan_of};
+ghost use Rattle.verbs.specs.Step.{created_as, creation_judged, update_judged, updated_by, updated_over};
 
 use crate::calls::Plan;
 use crate::envelope::{Expected, name_in};
 use crate::fault::Stop;
-use crate::intent::{Intent, at_path, intent_of};
+use crate::intent::{Creation, Intent, at_path, intent_of};
 use crate::live::read_live;
 use crate::method::Method;
 use crate::naming::{judge_marks, judge_names, require_name};
-use crate::objects::{Key, Stored, object_at};
 use crate::presence::{not_there, there};
 use crate::storing::{check_version, stored, stored_over};
+use history::Key;
 use ownership::{Owned, update};
 use params::Asked;
+use revtable::Object;
 use schema::Served;
 use serde_json::Value;
 use std::alloc::{AllocError, Global};
-use std::collections::BTreeMap;
 
 /// What stands after the write, over what stood: its manager owns what it changed.
 fn updated_by(alloc: Global, intent: Intent, live: &Owned) -> Result<Owned, AllocError>
@@ -41,11 +42,11 @@ fn updated_by(alloc: Global, intent: Intent, live: &Owned) -> Result<Owned, Allo
     update(alloc, live, manager.as_str(), content)
 }
 
-fn created_as(
+pub(crate) fn created_as(
     alloc: Global,
     served: &Served,
     current: u64,
-    live: Option<&Stored>,
+    live: Option<&Object>,
     key: Key,
     intent: Intent,
 ) -> Result<Plan, Stop>
@@ -76,21 +77,19 @@ fn key_in(kind: u32, namespace: &str, name: &str, alloc: Global) -> Result<Key, 
     })
 }
 
-/// A creation: the body names the object.
-pub(crate) fn judge_create(
+/// The object that a creation is of, and what it intends: the body names the object.
+pub(crate) fn judge_creation(
     alloc: Global,
     served: &Served,
-    current: u64,
-    objects: &BTreeMap<Key, Stored>,
     kind: u32,
     namespace: &str,
     query: &[u8],
     body: &Value,
-) -> Result<Plan, Stop>
-    requires numbered { current ≤ last_revision }
+) -> Result<Creation, Stop>
     requires shaped { IsObjectShape (types.served served.now).shape }
     requires json { IsJson (view body.now) }
-    ensures { Gives plan_of result (create_judged (types.served served.now) current (objects_in objects.now) kind namespace.now query.now (view body.now)) }
+    ensures judged { Gives creation_seen result (creation_judged (types.served served.now) kind namespace.now query.now (view body.now)) }
+    ensures content { IfOk result (λ c. IsContent (types.served served.now).shape c.intent.content) }
 {
     let expected = Expected {
         served,
@@ -101,8 +100,7 @@ pub(crate) fn judge_create(
     let intent = intent_of(alloc, expected, Asked::Post, query, body)?;
     let name = require_name(alloc, name_in(body))?;
     let key = key_in(kind, namespace, name, alloc)?;
-    let live = object_at(objects, &key);
-    created_as(alloc, served, current, live, key, intent)
+    Ok(Creation { key, intent })
 }
 
 /// Object there or not, version, size.
@@ -111,7 +109,7 @@ fn updated_over(
     served: &Served,
     current: u64,
     key: Key,
-    live: Option<&Stored>,
+    live: Option<&Object>,
     intent: Intent,
 ) -> Result<Plan, Stop>
     requires numbered { current ≤ last_revision }
@@ -131,7 +129,7 @@ pub(crate) fn judge_update(
     alloc: Global,
     served: &Served,
     current: u64,
-    live: Option<&Stored>,
+    live: Option<&Object>,
     key: Key,
     query: &[u8],
     body: &Value,

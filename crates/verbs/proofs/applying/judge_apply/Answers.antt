@@ -3,7 +3,8 @@ use Rattle.params.specs.declared.params.Asked.TheVariants as asked
 use Rattle.schema.specs.Served.{served}
 use Rattle.serde_json.specs.View.{view}
 use Rattle.verbs.specs.declared.method.Method.TheVariants.{Patch}
-use Rattle.verbs.specs.Seen.{intent_seen, key_of}
+use Rattle.history.specs.Read.{key_of}
+use Rattle.verbs.specs.Seen.{intent_seen}
 use Rattle.verbs.specs.Step.{at_path, intent_of}
 use Rattle.verbs.proofs.Contents.{intended_content}
 use Rattle.verbs.proofs.applying.judge_apply.Goals as goal

@@ -3,7 +3,7 @@ use Rattle.schema.specs.Served.{served}
 use Rattle.serde_json.specs.Written.{compact_text, has_float}
 use Rattle.ownership.specs.Results.{state_of}
 use Rattle.ownership.proofs.Answered.{ok_map}
-use Rattle.verbs.specs.Seen.{key_of}
+use Rattle.history.specs.Read.{key_of}
 use Rattle.verbs.proofs.Said.{printed_clean}
 use Rattle.verbs.proofs.storing.printed_text.Goals as goal
 

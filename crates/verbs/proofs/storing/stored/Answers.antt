@@ -2,7 +2,8 @@ use Rattle.std.proofs.Common.{add-one, ap, subst, ◌∙◌, ℕ, ◌+◌}
 use Rattle.schema.specs.Served.{served}
 use Rattle.serde_json.specs.Written.{has_float}
 use Rattle.ownership.specs.Results.{state_of}
-use Rattle.verbs.specs.Seen.{Gives, key_of, plan_of}
+use Rattle.history.specs.Read.{key_of}
+use Rattle.verbs.specs.Seen.{Gives, plan_of}
 use Rattle.verbs.specs.Step.{printed, stored_as}
 use Rattle.verbs.proofs.Said.{printed_clean}
 use Rattle.verbs.proofs.storing.stored.Goals as goal

@@ -1,10 +1,16 @@
-use Rattle.std.proofs.Common.{◌∙◌, ap, refl}
-use Rattle.history.specs.History.{put_or_remove}
-use Rattle.verbs.specs.Seen.{change_of, key_of, objects_in}
-use Rattle.verbs.proofs.Planning.{stands_next}
+use Rattle.std.proofs.Common.{Option, refl, sym, subst}
+use Rattle.std.specs.Prelude.{IfSome, OnOk, option_map}
+use Rattle.verbs.specs.declared.api.Api.{Api}
+use Rattle.verbs.specs.declared.change.Change.{Change}
+use Rattle.verbs.specs.Machine.{IsNext, after}
+use Rattle.verbs.specs.Seen.{Stands, change_of}
+use Rattle.verbs.proofs.Planning.{on_ok, stands_next}
 use Rattle.verbs.proofs.api.Api.commit.Goals as goal
 
-pub returns-clause-ok : goal.returns-clause-ok
-returns-clause-ok c = λ types m stands next.
-    stands_next c.args.self.now _ types m (change_of c.args.change) stands next refl refl
-    (c.in_ok-put_or_remove.ensures.ok ∙ ap (put_or_remove (objects_in c.args.self.now.objects) (key_of c.args.change.key)) c.stored_at-stored.ensures)
+pub returns-in-Some-clause-ok : goal.returns-in-Some-clause-ok
+returns-in-Some-clause-ok c = λ types m stands next.
+    let old = c.args.self.now in
+    let new : Api = record { alloc = old.alloc; types = old.types; routes = old.routes; store = c.written.new.store } in
+    let comes = subst (λ (o : Option Change). IfSome o (λ x. IsNext types m (change_of x))) c.in-Some.is next in
+    subst (λ (o : Option Change). OnOk c.written.result (Stands new types (after m (option_map change_of o)))) (sym c.in-Some.is)
+    (on_ok c.written.result (λ store. stands_next old new types m (change_of c.in-Some.change) stands comes refl store) c.written.ensures.ok)

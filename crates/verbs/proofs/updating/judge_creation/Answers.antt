@@ -6,9 +6,9 @@ use Rattle.verbs.specs.declared.method.Method.TheVariants.{Post}
 use Rattle.verbs.specs.Envelope.{Expected}
 use Rattle.verbs.specs.Seen.{intent_seen}
 use Rattle.verbs.proofs.Contents.{intended_content}
-use Rattle.verbs.proofs.updating.judge_create.Goals as goal
+use Rattle.verbs.proofs.updating.judge_creation.Goals as goal
 
-pub created_as-requires-clause-content : goal.created_as-requires-clause-content
-created_as-requires-clause-content c =
+pub returns-clause-content : goal.returns-clause-content
+returns-clause-content c =
     let of : Expected = record { served = served c.args.served.now; namespace = c.args.namespace.now; name = None; method = Post } in
     intended_content of asked.Post c.args.query.now (view c.args.body.now) (intent_seen c.in_ok-intent.intent) c.requires.shaped c.requires.json c.in_ok-intent.ensures

@@ -1,0 +1,39 @@
+//! Changes written to the store.
+
+ghost use Rattle.std.specs.Prelude.{◌≡◌, ◌<◌, None, OnErr, OnOk, option_map, true};
+ghost use Rattle.std.specs.FinMap as fin;
+ghost use Rattle.history.specs.History.{last_revision};
+ghost use Rattle.history.specs.Read.{key_of};
+ghost use Rattle.history.specs.View.{state_in, written_in};
+ghost use Rattle.verbs.specs.Machine.{ComesAfter};
+ghost use Rattle.verbs.specs.Seen.{change_of};
+
+use crate::change::Change;
+use crate::fault::Fault;
+use history::Key;
+use revstore::{Store, WriteFault};
+
+fn put(store: &mut Store, key: &Key, body: Option<&str>) -> Result<(), Fault>
+    requires left { store.old.current < last_revision }
+    requires there { body ≡ None → fin.contains_key (state_in store.old store.old.current) (key_of key.now) ≡ true }
+    ensures ok { OnOk result (store.new ≡ written_in store.old (key_of key.now) (option_map (λ b. b.now) body.entry)) }
+    ensures err { OnErr result (store.new ≡ store.old) }
+{
+    match store.write(key, body) {
+        Ok(_) => Ok(()),
+        Err(WriteFault::Exhausted) => unreachable!(),
+        Err(WriteFault::Failed(fault)) => Err(Fault::from(fault)),
+    }
+}
+
+/// Adds a change that comes next. Refused, it changes nothing.
+pub(crate) fn written(store: &mut Store, change: &Change) -> Result<(), Fault>
+    requires { ComesAfter store.old (change_of change.now) }
+    ensures ok { OnOk result (store.new ≡ written_in store.old (change_of change.now).key (change_of change.now).body) }
+    ensures err { OnErr result (store.new ≡ store.old) }
+{
+    match &change.body {
+        Some(text) => put(store, &change.key, Some(text.as_str())),
+        None => put(store, &change.key, None),
+    }
+}
