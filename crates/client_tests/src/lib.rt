@@ -1,0 +1,19 @@
+//! Tests of informers and summaries, against replies written by hand, by public calls alone.
+//!
+//! One function holds an informer; all else are rows that are played on it.
+#![tactic(auto)]
+
+#[cfg(test)]
+mod lists;
+#[cfg(test)]
+mod playing;
+#[cfg(test)]
+mod replies;
+#[cfg(test)]
+mod rows;
+#[cfg(test)]
+mod starting;
+#[cfg(test)]
+mod summing;
+#[cfg(test)]
+mod watches;

@@ -1,0 +1,74 @@
+//! Lists in pages, and what doesn't fit them.
+
+use crate::rows::expect_rows;
+use std::test::Fail;
+
+#[test]
+fn paged_relist_over_compaction(rt: HostRuntime) -> Result<(), Fail> {
+    let rows = "ask => /widgets?limit=2\n\
+        page 6 6.default.w2 w1@2 w2@3 => - 0=0\n\
+        ask => /widgets?limit=2&continue=6.default.w2\n\
+        page 6 6.default.w4 w3@4 w4@5 => - 0=0\n\
+        ask => /widgets?limit=2&continue=6.default.w4\n\
+        page 6 - w5@6 => 6 5=5 +w1 +w2 +w3 +w4 +w5\n\
+        ask => /widgets?watch=true&resourceVersion=6&allowWatchBookmarks=true\n\
+        watch => 6 5=5\n\
+        cut => 6 5=5\n\
+        ask => /widgets?watch=true&resourceVersion=6&allowWatchBookmarks=true\n\
+        status 410 Gone => 6 5=5\n\
+        ask => /widgets?limit=2\n\
+        page 7 7.default.w2 w1@2 w2@3 => 6 5=5\n\
+        ask => /widgets?limit=2&continue=7.default.w2\n\
+        status 410 Gone => 6 5=5\n\
+        ask => /widgets?limit=2\n\
+        page 8 8.default.w2 w1@2 w2@3 => 6 5=5\n\
+        ask => /widgets?limit=2&continue=8.default.w2\n\
+        page 8 8.default.w4 w3@4 w4@5 => 6 5=5\n\
+        ask => /widgets?limit=2&continue=8.default.w4\n\
+        page 8 - w5@8 => 8 5=5 *w5\n";
+    expect_rows(rt.alloc(), "", rows)
+}
+
+/// After what doesn't fit a first page nothing is kept, and a first page is asked.
+#[test]
+fn unfit_first_pages(rt: HostRuntime) -> Result<(), Fail> {
+    let rows = "after ask <- status 500 Internal Server Error => - 0=0 /widgets?limit=2\n\
+        after ask <- status 201 Created => - 0=0 /widgets?limit=2\n\
+        after ask <- watch;line ADDED w1@2 => - 0=0 /widgets?limit=2\n\
+        after ask <- watch;end => - 0=0 /widgets?limit=2\n\
+        after ask <- bytes no head;cut => - 0=0 /widgets?limit=2\n\
+        after ask <- body {} => - 0=0 /widgets?limit=2\n\
+        after ask <- body => - 0=0 /widgets?limit=2\n\
+        after ask <- body [] => - 0=0 /widgets?limit=2\n\
+        after ask <- page 06 - w1@2 => - 0=0 /widgets?limit=2\n\
+        after ask <- page 6 - w1@02 => - 0=0 /widgets?limit=2\n\
+        after ask <- page 6 - @2 => - 0=0 /widgets?limit=2\n\
+        after ask <- page 6 - w2@2 w1@3 => - 0=0 /widgets?limit=2\n\
+        after ask <- page 6 - w1@2 w1@3 => - 0=0 /widgets?limit=2\n\
+        after ask <- page 6 - w1@2 => 6 1=1 +w1 /widgets?watch=true&resourceVersion=6&allowWatchBookmarks=true\n";
+    expect_rows(rt.alloc(), "", rows)
+}
+
+/// A later page that doesn't fit begins the list again; what the first one told isn't kept.
+#[test]
+fn unfit_later_pages(rt: HostRuntime) -> Result<(), Fail> {
+    let rows = "after ask;page 6 t w1@2 w2@3;ask <- page 7 - w3@4 => - 0=0 /widgets?limit=2\n\
+        after ask;page 6 t w1@2 w2@3;ask <- page 6 - w1@4 => - 0=0 /widgets?limit=2\n\
+        after ask;page 6 t w1@2 w2@3;ask <- page 6 - w2@3 => - 0=0 /widgets?limit=2\n\
+        after ask;page 6 t w1@2 w2@3;ask <- status 410 Gone => - 0=0 /widgets?limit=2\n\
+        after ask;page 6 t w1@2 w2@3;ask <- status 400 Bad Request => - 0=0 /widgets?limit=2\n\
+        after ask;page 6 t w1@2 w2@3;ask <- watch;line ADDED w3@4 => - 0=0 /widgets?limit=2\n\
+        after ask;page 6 t w1@2 w2@3;ask <- cut => - 0=0 /widgets?limit=2\n\
+        after ask;page 6 t w1@2 w2@3;ask <- page 6 - w3@4 => 6 3=3 +w1 +w2 +w3 /widgets?watch=true&resourceVersion=6&allowWatchBookmarks=true\n";
+    expect_rows(rt.alloc(), "", rows)
+}
+
+/// A list that is cut anywhere begins again, and what was kept before it stays; with its last byte a page is whole.
+#[test]
+fn lists_cut_at_every_byte(rt: HostRuntime) -> Result<(), Fail> {
+    let rows =
+        "fronts ask <- page 6 t w1@2 => 0: - 0=0 /widgets?limit=2 | 321: - 0=0 /widgets?limit=2&continue=t\n\
+        fronts ask;page 6 t w1@2;ask <- page 6 - w2@3 => 0: - 0=0 /widgets?limit=2 | 306: 6 2=2 +w1 +w2 /widgets?watch=true&resourceVersion=6&allowWatchBookmarks=true\n\
+        fronts ask;page 6 - w1@2;ask;status 410 Gone;ask <- page 7 - w2@7 => 0: 6 1=1 /widgets?limit=2 | 306: 7 1=1 -w1 +w2 /widgets?watch=true&resourceVersion=7&allowWatchBookmarks=true\n";
+    expect_rows(rt.alloc(), "", rows)
+}
