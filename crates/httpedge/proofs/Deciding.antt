@@ -2,7 +2,7 @@
 use Rattle.std.proofs.Common.{◌≡◌, ◌≢◌, ℕ, List, ◌++◌, Result, Ok, Err, refl, sym, ap, ◌∙◌}
 use Rattle.schema.specs.TypesFile.{ServedShape}
 use Rattle.verbs.specs.Calls.{Denied, Target}
-use Rattle.httpedge.specs.Asks.{Asked, Asks, call_with, asked_by}
+use Rattle.httpedge.specs.Asks.{CallDecision, Asks, call_with, asked_by}
 use Rattle.httpedge.specs.Bodies.{body_in}
 use Rattle.httpedge.specs.Decision.{undecided, refused, accepted, and_then, decided_by}
 use Rattle.httpedge.specs.Heads.{Request, HeadDecision, with_more}
@@ -20,7 +20,7 @@ head_more types (refused r) more decided = refl
 head_more types (accepted (request, rest)) more decided = some_target _ request rest more decided
 
 -- what is asked stays asked, whatever bytes follow
-pub asks_more : (types : List ServedShape) (bytes more : List ℕ) (asked : Asked) → Asks types bytes asked → asked ≢ undecided → Asks types (bytes ++ more) asked
+pub asks_more : (types : List ServedShape) (bytes more : List ℕ) (asked : CallDecision) → Asks types bytes asked → asked ≢ undecided → Asks types (bytes ++ more) asked
 asks_more types bytes more asked (said, says, is) decided = (
   with_more more said,
   reads_more bytes more said says (λ u. decided (is ∙ ap (asked_by types) u)),
@@ -28,5 +28,5 @@ asks_more types bytes more asked (said, says, is) decided = (
 )
 
 -- and nothing else is asked
-pub asks_one : (types : List ServedShape) (bytes : List ℕ) (x y : Asked) → Asks types bytes x → Asks types bytes y → x ≡ y
+pub asks_one : (types : List ServedShape) (bytes : List ℕ) (x y : CallDecision) → Asks types bytes x → Asks types bytes y → x ≡ y
 asks_one types bytes x y (said, says, is) (other, also, that) = is ∙ ap (asked_by types) (reads_one bytes said other says also) ∙ sym that

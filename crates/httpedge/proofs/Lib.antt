@@ -11,6 +11,6 @@ pub mod Saying
 pub mod Searching
 pub mod Staying
 pub mod Taking
-pub mod Targets
+pub mod RequestTargets
 pub mod Untaken
 pub mod Whole

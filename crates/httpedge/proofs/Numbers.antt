@@ -16,11 +16,11 @@ number_grows n (d ∷ ds) =
 
 pub above_limit : (n i d : ℕ) (ds : List ℕ) → i < length ds → d ≡ get_or ds i 0 - 48 → number_after n (drop i ds) ≡ number_after 0 ds
     → max_body < n * 10 + d → max_body < decimal_value ds
-above_limit n i d ds lt is told above =
+above_limit n i d ds lt is stated above =
     let step : number_after n (drop i ds) ≡ number_after (n * 10 + d) (drop (suc i) ds) =
     ap (number_after n) (drop-cons ds i 0 lt) ∙ ap (λ (e : ℕ). number_after (n * 10 + e) (drop (suc i) ds)) (sym is) in
     let grown = number_grows (n * 10 + d) (drop (suc i) ds) in
-    let same : number_after 0 ds ≡ number_after (n * 10 + d) (drop (suc i) ds) = sym told ∙ step in
+    let same : number_after 0 ds ≡ number_after (n * 10 + d) (drop (suc i) ds) = sym stated ∙ step in
     omega (arith, grown, same, above)
 
 -- ---- a body as JSON

@@ -6,7 +6,7 @@ use Rattle.schema.specs.TypesFile.{ServedShape}
 use Rattle.history.specs.History.{History}
 use Rattle.verbs.specs.Machine.{after}
 use Rattle.verbs.specs.Step.{planned}
-use Rattle.httpedge.specs.Asks.{Asked, Asks, asked_by}
+use Rattle.httpedge.specs.Asks.{CallDecision, Asks, asked_by}
 use Rattle.httpedge.specs.Connections.{Connection, Standing, waiting, watching, ended, gone, with_standing, with_written}
 use Rattle.httpedge.specs.Decision.{undecided, refused, accepted}
 use Rattle.httpedge.specs.Heads.{HeadDecision, ReadsHead}
@@ -20,24 +20,24 @@ use Rattle.httpedge.proofs.Connected.{put_there, put_again}
 -- bytes come on this connection, if there is one
 abbrev pub ComesBy : State → ℕ → Option Connection → List ℕ → State → Type 0
 ComesBy s id o bytes t =
-    (asked : Asked) × AsksIf s (option_and_then (λ c. all_bytes c.standing bytes) o) asked
+    (asked : CallDecision) × AsksIf s (option_and_then (λ c. all_bytes c.standing bytes) o) asked
     × (t ≡ unless_refused (cond (is_some o) None (Some 2)) s (by_connection s o (λ c. received_by s id c c.standing bytes asked)))
 
 -- the same of a connection that stands so
 abbrev pub ComesOn : State → ℕ → Connection → Standing → List ℕ → State → Type 0
-ComesOn s id c st bytes t = (asked : Asked) × AsksIf s (all_bytes st bytes) asked × (t ≡ received_by s id c st bytes asked)
+ComesOn s id c st bytes t = (asked : CallDecision) × AsksIf s (all_bytes st bytes) asked × (t ≡ received_by s id c st bytes asked)
 
 again : (s : State) (id : ℕ) (c d : Connection) → with_connection (with_connection s id c) id d ≡ with_connection s id d
 again s id c d = ap (with_connections s) (put_again s.connections id c d)
 
 -- more bytes, after those that left it undecided
-connection_later : (types : List ServedShape) (m : History) (c : Connection) (front bytes : List ℕ) (asked : Asked)
+connection_later : (types : List ServedShape) (m : History) (c : Connection) (front bytes : List ℕ) (asked : CallDecision)
     → connection_after types m (with_standing c (waiting front)) bytes asked ≡ connection_after types m c bytes asked
 connection_later types m c front bytes undecided = refl
 connection_later types m c front bytes (refused d) = refl
 connection_later types m c front bytes (accepted call) = refl
 
-received_after : (s : State) (id : ℕ) (c : Connection) (front bytes : List ℕ) (asked : Asked)
+received_after : (s : State) (id : ℕ) (c : Connection) (front bytes : List ℕ) (asked : CallDecision)
     → received (with_connection s id (with_standing c (waiting front))) id (with_standing c (waiting front)) bytes asked ≡ received s id c bytes asked
 received_after s id c front bytes asked =
     let m = machine_after s.types s.machine asked in
@@ -60,7 +60,7 @@ then_waits s t id c front first second (asked, asks, is) =
     )
 
 -- what the first piece asked, the whole asks too
-then_ended : (s t : State) (id : ℕ) (c : Connection) (front first second written : List ℕ) (asked : Asked) (r : State)
+then_ended : (s t : State) (id : ℕ) (c : Connection) (front first second written : List ℕ) (asked : CallDecision) (r : State)
     → asked ≢ undecided → Asks s.types (front ++ first) asked → received s id c (front ++ first) asked ≡ with_connection r id (with_written c written ended)
     → received s id c (front ++ (first ++ second)) asked ≡ with_connection r id (with_written c written ended)
     → ComesBy (with_connection r id (with_written c written ended)) id (Some (with_written c written ended)) second t → ComesOn s id c (waiting front) (first ++ second) t
@@ -78,7 +78,7 @@ found r id d second t later = subst (λ (o : Option Connection). ComesBy (with_c
 abbrev pub ThenComes : State → ℕ → List ℕ → State → Type 0
 ThenComes mid id second t = ComesBy mid id (fin.get mid.connections id) second t
 
-by_asked : (s mid t : State) (id : ℕ) (c : Connection) (front first second : List ℕ) (asked : Asked) → Asks s.types (front ++ first) asked
+by_asked : (s mid t : State) (id : ℕ) (c : Connection) (front first second : List ℕ) (asked : CallDecision) → Asks s.types (front ++ first) asked
     → mid ≡ received s id c (front ++ first) asked → ThenComes mid id second t → ComesOn s id c (waiting front) (first ++ second) t
 by_asked s mid t id c front first second undecided asks is later =
     let d = with_standing c (waiting (front ++ first)) in
@@ -96,7 +96,7 @@ by_asked s mid t id c front first second (accepted call) asks is later =
 
 -- on a connection that doesn't wait both pieces change nothing
 idle : (s mid t : State) (id : ℕ) (c : Connection) (st : Standing) (first second : List ℕ) → c.standing ≡ st → fin.get s.connections id ≡ Some c
-    → ((bytes : List ℕ) → all_bytes st bytes ≡ None) → ((bytes : List ℕ) (asked : Asked) → received_by s id c st bytes asked ≡ s)
+    → ((bytes : List ℕ) → all_bytes st bytes ≡ None) → ((bytes : List ℕ) (asked : CallDecision) → received_by s id c st bytes asked ≡ s)
     → mid ≡ s → ThenComes mid id second t → ComesOn s id c st (first ++ second) t
 idle s mid t id c st first second stands at none same is later =
     let here = subst (λ (m : State). ThenComes m id second t) is later in
@@ -129,7 +129,7 @@ two_pieces s mid t id first second one other = by_id s mid t id (fin.get s.conne
 
 -- ---- one outcome
 
-one_asked : (s : State) (o : Option (List ℕ)) (a b : Asked) → AsksIf s o a → AsksIf s o b → a ≡ b
+one_asked : (s : State) (o : Option (List ℕ)) (a b : CallDecision) → AsksIf s o a → AsksIf s o b → a ≡ b
 one_asked s None a b is that = is ∙ sym that
 one_asked s (Some bytes) a b is that = asks_one s.types bytes a b is that
 
@@ -154,5 +154,5 @@ step_without s e none = (stepped s e undecided, (undecided, subst (λ (o : Optio
 
 pub step_with : (s : State) (e : Event) (bytes : List ℕ) (head : HeadDecision) → ReadsHead bytes head → bytes_at s e ≡ Some bytes → (t : State) × Steps s e t
 step_with s e bytes head reads some =
-    let asked : Asked = asked_by s.types head in
+    let asked : CallDecision = asked_by s.types head in
     (stepped s e asked, (asked, subst (λ (o : Option (List ℕ)). AsksIf s o asked) (sym some) (head, reads, refl), refl))

@@ -18,7 +18,7 @@ use Rattle.httpedge.specs.declared.connection.Connection.TheVariants as conn
 use Rattle.httpedge.specs.declared.out.Out.{Out}
 use Rattle.httpedge.specs.declared.fault.HubFault.{HubFault}
 use Rattle.httpedge.specs.declared.fault.HubFault.TheVariants.{IdNotAbove, UnknownId, Memory, Store}
-use Rattle.httpedge.specs.Asks.{Asked}
+use Rattle.httpedge.specs.Asks.{CallDecision}
 use Rattle.httpedge.specs.Connections.{Connection, Connections, Standing, waiting, watching, ended, gone, has_ended, is_new, is_open, is_waiting, left_out, open_count, opened, out_of, with_standing, with_taken, with_written}
 use Rattle.httpedge.specs.Decision.{undecided, refused, accepted}
 use Rattle.httpedge.specs.Held.{DiesAt, Holds, HoldsAt, PutAt, ReceivedAt, ReceivedBy, Represents, TakesAt, count_after, is_above, is_open_in, left, out_in, waiting_for}
@@ -196,7 +196,7 @@ opens_well s id count' api old new count highest d held above holds put is =
 
 -- ---- bytes that come
 
-later : (types : List ServedShape) (m : History) (front bytes : List ℕ) (asked : Asked)
+later : (types : List ServedShape) (m : History) (front bytes : List ℕ) (asked : CallDecision)
     → connection_after types m opened bytes asked ≡ connection_after types m (waiting_for front) bytes asked
 later types m front bytes undecided = refl
 later types m front bytes (refused d) = refl

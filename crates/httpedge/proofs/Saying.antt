@@ -5,8 +5,8 @@ use Rattle.serde_json.specs.Written.{has_float}
 use Rattle.schema.specs.TypesFile.{ServedShape}
 use Rattle.verbs.specs.declared.reason.Reason.{Reason}
 use Rattle.verbs.specs.Status.{status_value}
-use Rattle.httpedge.specs.declared.asking.Asked as askings
-use Rattle.httpedge.specs.declared.asking.Asked.TheVariants as asking
+use Rattle.httpedge.specs.declared.asking.Progress as askings
+use Rattle.httpedge.specs.declared.asking.Progress.TheVariants as asking
 use Rattle.httpedge.specs.declared.asking.Pending as pendings
 use Rattle.httpedge.specs.Asks.{Asks, call_in}
 use Rattle.httpedge.specs.Decision.{accepted}
@@ -30,7 +30,7 @@ status_plain r message = refl
 
 -- ---- once a head has come
 
-pub finds_first : (types : List ServedShape) (bytes rest : List ℕ) (request : Request) (a : askings.Asked) → ReadsHead bytes (accepted (request, rest))
+pub finds_first : (types : List ServedShape) (bytes rest : List ℕ) (request : Request) (a : askings.Progress) → ReadsHead bytes (accepted (request, rest))
     → asked_of a ≡ call_in types request rest → Carries (call_in types request) rest a → Finds types bytes a
 finds_first types bytes rest request (asking.Pending p) head is (came, same) = (
   (accepted (request, rest), head, is),
@@ -44,7 +44,7 @@ finds_first types bytes rest request (asking.Refused d) head is carries = (accep
 finds_first types bytes rest request (asking.Call c) head is carries = (accepted (request, rest), head, is)
 
 -- more bytes of a body
-pub finds_more : (types : List ServedShape) (front bytes : List ℕ) (p : pendings.Pending) (a : askings.Asked) → Awaits types front p
+pub finds_more : (types : List ServedShape) (front bytes : List ℕ) (p : pendings.Pending) (a : askings.Progress) → Awaits types front p
     → asked_of a ≡ pending_call p (p.body.items ++ bytes) → Carries (pending_call p) (p.body.items ++ bytes) a → Finds types (front ++ bytes) a
 finds_more types front bytes p (asking.Pending q) awaits is (came, same) = (
   subst (Asks types (front ++ bytes)) (sym is) (awaits bytes),

@@ -4,7 +4,7 @@ use Rattle.std.specs.Prelude.{◌&&◌, option_map, unwrap_or}
 use Rattle.std.specs.Cmp.{nat_cmp_total}
 use Rattle.std.specs.FinMap as fin
 use Rattle.std.specs.Ordering.{nat_cmp, eq_by_cmp}
-use Rattle.httpedge.specs.Asks.{Asked}
+use Rattle.httpedge.specs.Asks.{CallDecision}
 use Rattle.httpedge.specs.Connections.{Connection, Connections, Standing, waiting, watching, ended, gone, each, ended_on, has_ended, is_new, is_open, is_watching, watching_on, with_standing, with_taken}
 use Rattle.httpedge.specs.Runs.{Follows, Happening, HappensElsewhere, IsElsewhere, Starves, Steps, happens, starves, takes}
 use Rattle.httpedge.specs.Steps.{Event, State, opens, comes, goes, pumps, ticks, compacts, after_turn, by_connection, dead, dead_or_ticked, opening, received_by, refusal, starved, carried_out, unless_refused, with_connection, with_turn}
@@ -28,14 +28,14 @@ by_elsewhere : (s : State) (q : ℕ) (o : Option Connection) (f : Connection →
 by_elsewhere s q None f stays = refl
 by_elsewhere s q (Some c) f stays = stays c
 
-received_elsewhere : (s : State) (id q : ℕ) (c : Connection) (st : Standing) (bytes : List ℕ) (asked : Asked) → q ≢ id
+received_elsewhere : (s : State) (id q : ℕ) (c : Connection) (st : Standing) (bytes : List ℕ) (asked : CallDecision) → q ≢ id
     → fin.get (received_by s id c st bytes asked).connections q ≡ fin.get s.connections q
 received_elsewhere s id q c (waiting front) bytes asked isnt = put_elsewhere s.connections id q _ isnt
 received_elsewhere s id q c (watching w) bytes asked isnt = refl
 received_elsewhere s id q c ended bytes asked isnt = refl
 received_elsewhere s id q c (gone had_ended) bytes asked isnt = refl
 
-carried_elsewhere : (s : State) (e : Event) (asked : Asked) (q : ℕ) → IsElsewhere e q → fin.get (carried_out s e asked).connections q ≡ fin.get s.connections q
+carried_elsewhere : (s : State) (e : Event) (asked : CallDecision) (q : ℕ) → IsElsewhere e q → fin.get (carried_out s e asked).connections q ≡ fin.get s.connections q
 carried_elsewhere s (opens id) asked q isnt = put_elsewhere s.connections id q (opening s.connections) isnt
 carried_elsewhere s (comes id bytes) asked q isnt =
     by_elsewhere s q (fin.get s.connections id) _ (λ c. received_elsewhere s id q c c.standing bytes asked isnt)
@@ -113,7 +113,7 @@ by_ended : (s : State) (id q : ℕ) (o : Option Connection) (f : Connection → 
 by_ended s id q None f at stays is = is
 by_ended s id q (Some c) f at stays is = stays c at
 
-received_ended : (s : State) (id q : ℕ) (c : Connection) (st : Standing) (bytes : List ℕ) (asked : Asked) → fin.get s.connections id ≡ Some c → c.standing ≡ st
+received_ended : (s : State) (id q : ℕ) (c : Connection) (st : Standing) (bytes : List ℕ) (asked : CallDecision) → fin.get s.connections id ≡ Some c → c.standing ≡ st
     → ended_on s.connections q ≡ true → ended_on (received_by s id c st bytes asked).connections q ≡ true
 received_ended s id q c (waiting front) bytes asked at stands is =
     put_ended s.connections id q _ (λ e. absurd (wrong (sym (ap ended_in at ∙ ap has_ended stands) ∙ e))) is
@@ -161,7 +161,7 @@ unless_ended : (s t : State) (o : Option ℕ) (q : ℕ) → ended_on t.connectio
 unless_ended s t None q then is = then
 unless_ended s t (Some n) q then is = is
 
-stepped_ended : (s : State) (e : Event) (asked : Asked) (q : ℕ) → ended_on s.connections q ≡ true → ended_on (unless_refused (refusal s e) s (carried_out s e asked)).connections q ≡ true
+stepped_ended : (s : State) (e : Event) (asked : CallDecision) (q : ℕ) → ended_on s.connections q ≡ true → ended_on (unless_refused (refusal s e) s (carried_out s e asked)).connections q ≡ true
 stepped_ended s (opens id) asked q is = opened_ended s id q (is_new s.connections id) refl is
 stepped_ended s (comes id bytes) asked q is =
     unless_ended s (carried_out s (comes id bytes) asked) (refusal s (comes id bytes)) q

@@ -6,7 +6,7 @@ use Rattle.std.specs.FinMap as fin
 use Rattle.std.specs.Ordering.{nat_cmp, eq_by_cmp}
 use Rattle.schema.specs.TypesFile.{ServedShape}
 use Rattle.history.specs.History.{History}
-use Rattle.httpedge.specs.Asks.{Asked}
+use Rattle.httpedge.specs.Asks.{CallDecision}
 use Rattle.httpedge.specs.Connections.{AllIsOut, Connection, Connections, IsUntaken, Standing, waiting, watching, ended, gone, each, has_gone, left_out, opened, out_of, out_on, with_written, written_on}
 use Rattle.httpedge.specs.Decision.{undecided, refused, accepted}
 use Rattle.httpedge.specs.Refusals.{as_denied, too_many_connections}
@@ -34,7 +34,7 @@ opened_untaken : (full : Bool) (bytes : List ℕ) → IsUntaken (Some (cond full
 opened_untaken true bytes = (refl, refl)
 opened_untaken false bytes = (refl, refl)
 
-after_untaken : (types : List ServedShape) (m : History) (c : Connection) (bytes : List ℕ) (asked : Asked) → IsUntaken (Some c) → IsUntaken (Some (connection_after types m c bytes asked))
+after_untaken : (types : List ServedShape) (m : History) (c : Connection) (bytes : List ℕ) (asked : CallDecision) → IsUntaken (Some c) → IsUntaken (Some (connection_after types m c bytes asked))
 after_untaken types m c bytes undecided is = (is.0, refl)
 after_untaken types m c bytes (refused d) is = (is.0, refl)
 after_untaken types m c bytes (accepted call) is = (is.0, refl)
@@ -70,14 +70,14 @@ each_by f id (Some c) stays is = stays c is
 each_untaken : (f : ℕ → Connection → Connection) (all : Connections) → ((id : ℕ) (c : Connection) → IsUntaken (Some c) → IsUntaken (Some (f id c))) → AllIsOut all → AllIsOut (each f all)
 each_untaken f all stays out = λ q. subst IsUntaken (sym (got_each f all q)) (each_by f q (fin.get all q) (stays q) (out q))
 
-received_untaken : (s : State) (id : ℕ) (c : Connection) (st : Standing) (bytes : List ℕ) (asked : Asked) → AllIsOut s.connections → IsUntaken (Some c)
+received_untaken : (s : State) (id : ℕ) (c : Connection) (st : Standing) (bytes : List ℕ) (asked : CallDecision) → AllIsOut s.connections → IsUntaken (Some c)
     → AllIsOut (received_by s id c st bytes asked).connections
 received_untaken s id c (waiting front) bytes asked out is = put_untaken s.connections id _ out (after_untaken s.types s.machine c _ asked is)
 received_untaken s id c (watching w) bytes asked out is = out
 received_untaken s id c ended bytes asked out is = out
 received_untaken s id c (gone had_ended) bytes asked out is = out
 
-carried_untaken : (s : State) (e : Event) (asked : Asked) → peer_goes e ≡ false → AllIsOut s.connections → AllIsOut (carried_out s e asked).connections
+carried_untaken : (s : State) (e : Event) (asked : CallDecision) → peer_goes e ≡ false → AllIsOut s.connections → AllIsOut (carried_out s e asked).connections
 carried_untaken s (opens id) asked stays out = put_untaken s.connections id (opening s.connections) out (opened_untaken _ (refusal_reply (as_denied too_many_connections)))
 carried_untaken s (comes id bytes) asked stays out =
     by_untaken s (fin.get s.connections id) _ out (out id) (λ c is. received_untaken s id c c.standing bytes asked out is)

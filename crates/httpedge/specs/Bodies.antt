@@ -1,4 +1,4 @@
--- The body of a request by its length (RFC 9112, section 6.3), and the parts of its target (section 3.2.1).
+-- The body of a request by its length (RFC 9112, section 6.3), and the parts of its request target (section 3.2.1).
 -- A length is needed where a body is (RFC 9110, section 15.5.12), and no transfer coding is served (RFC 9112, section 6.1).
 use Rattle.std.specs.Prelude.{ℕ, Bool, true, false, ◌&&◌, ◌||◌, ◌==◌, not, nat_lt, if◌then◌else◌, List, length, take, Option, Some, None, codes}
 use Rattle.std.specs.List.{before_first, after_first}
@@ -78,9 +78,9 @@ has_length (number n) = nat_lt 0 n
 abbrev pub checked_media : Request → Option (List ℕ)
 checked_media request = if may_have_body request.method && not (has_length request.length) then None else request.media
 
--- the target is cut at its first question mark
+-- the request target is cut at its first question mark
 abbrev pub path_of : List ℕ → List ℕ
-path_of target = before_first (λ b. b == 63) target
+path_of request_target = before_first (λ b. b == 63) request_target
 
 abbrev pub query_of : List ℕ → List ℕ
-query_of target = after_first (λ b. b == 63) target
+query_of request_target = after_first (λ b. b == 63) request_target

@@ -99,9 +99,9 @@ pub record Request : Type 0 where
   pub length : Length
 
 abbrev pub request_of : List ℕ → List ℕ → List Named → Request
-request_of method target fields = record {
+request_of method request_target fields = record {
   method = method;
-  request_target = target;
+  request_target = request_target;
   media = media_in fields;
   transfer_encoded = is_transfer_encoded fields;
   length = length_after missing fields;
@@ -110,12 +110,12 @@ request_of method target fields = record {
 -- a head of the grammar is validated in this order: the version (RFC 9110, section 15.6.6), one Host (RFC 9112, section 3.2), a target that is a path
 -- (section 3.2.1); rest is what came after it
 abbrev pub validated : List ℕ → List ℕ → ℕ → List Named → List ℕ → Decision (Request × List ℕ)
-validated method target minor fields rest =
+validated method request_target minor fields rest =
     if nat_lt max_fields (length fields) then refuse head_too_large
     else if not (minor == 1) then refuse wrong_version
     else if not (length (filter is_host fields) == 1) then refuse not_one_host
-    else if not (starts_with nat_eq target (codes "/")) then refuse bad_head
-    else accepted (request_of method target fields, rest)
+    else if not (starts_with nat_eq request_target (codes "/")) then refuse bad_head
+    else accepted (request_of method request_target fields, rest)
 
 -- the same with more bytes after it
 abbrev pub with_more : List ℕ → Decision (Request × List ℕ) → Decision (Request × List ℕ)

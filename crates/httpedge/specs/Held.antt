@@ -13,7 +13,7 @@ use Rattle.verbs.specs.Step.{planned}
 use Rattle.httpedge.specs.declared.connection.Connection as conns
 use Rattle.httpedge.specs.declared.connection.Connection.TheVariants as conn
 use Rattle.httpedge.specs.declared.out.Out as outs
-use Rattle.httpedge.specs.Asks.{Asked, Asks}
+use Rattle.httpedge.specs.Asks.{CallDecision, Asks}
 use Rattle.httpedge.specs.Connections.{Connection, Standing, waiting, watching, ended, gone, opened, with_standing, with_taken, open_count, is_new}
 use Rattle.httpedge.specs.Pendings.{Awaits}
 use Rattle.httpedge.specs.Steps.{State, answer_reply, connection_after, machine_after}
@@ -52,7 +52,7 @@ Serves types m call bytes api = (bytes ≡ answer_reply (planned types m call).a
 -- by all these bytes a connection that waited becomes this one, and the API then stands for the machine that they lead to
 abbrev pub Becomes : List ServedShape → History → List ℕ → conns.Connection → Api → Type 0
 Becomes types m bytes c api =
-    (asked : Asked) × Asks types bytes asked × Holds types c (connection_after types m opened bytes asked) × Stands api types (machine_after types m asked)
+    (asked : CallDecision) × Asks types bytes asked × Holds types c (connection_after types m opened bytes asked) × Stands api types (machine_after types m asked)
 
 -- by how it stood
 abbrev pub ReceivedBy : List ServedShape → History → Connection → Standing → List ℕ → conns.Connection → Api → Type 0

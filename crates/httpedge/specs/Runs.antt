@@ -2,7 +2,7 @@
 use Rattle.std.specs.Prelude.{◌≡◌, ◌≢◌, ℕ, Bool, true, false, ◌&&◌, List, [], ◌∷◌, ◌++◌, Option, Some, None, option_and_then, ⊤}
 use Rattle.std.specs.List.{list_any}
 use Rattle.std.specs.FinMap as fin
-use Rattle.httpedge.specs.Asks.{Asked, Asks}
+use Rattle.httpedge.specs.Asks.{CallDecision, Asks}
 use Rattle.httpedge.specs.Connections.{Standing, waiting, watching, ended, gone, is_watching, waiting_on, watching_on}
 use Rattle.httpedge.specs.Decision.{undecided}
 use Rattle.httpedge.specs.Steps.{State, Event, opens, comes, goes, pumps, ticks, compacts, refusal, stepped, starved, with_bytes_taken}
@@ -26,7 +26,7 @@ bytes_at s (ticks ms) = None
 bytes_at s (compacts c) = None
 
 -- what bytes ask; where none came nothing is decided
-abbrev pub AsksIf : State → Option (List ℕ) → Asked → Type 0
+abbrev pub AsksIf : State → Option (List ℕ) → CallDecision → Type 0
 AsksIf s None asked = asked ≡ undecided
 AsksIf s (Some bytes) asked = Asks s.types bytes asked
 
@@ -34,7 +34,7 @@ AsksIf s (Some bytes) asked = Asks s.types bytes asked
 
 -- the event leads to this state
 abbrev pub Steps : State → Event → State → Type 0
-Steps s e t = (asked : Asked) × AsksIf s (bytes_at s e) asked × (t ≡ stepped s e asked)
+Steps s e t = (asked : CallDecision) × AsksIf s (bytes_at s e) asked × (t ≡ stepped s e asked)
 
 -- which events take memory: bytes only where the connection waits for them, a pump only where it watches, a tick where some watch found none
 abbrev pub takes_memory : State → Event → (ℕ → Bool) → Bool

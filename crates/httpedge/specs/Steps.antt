@@ -9,7 +9,7 @@ use Rattle.verbs.specs.Machine.{after}
 use Rattle.verbs.specs.Reasons.{code_of}
 use Rattle.verbs.specs.Status.{status_value}
 use Rattle.verbs.specs.Step.{planned}
-use Rattle.httpedge.specs.Asks.{Asked}
+use Rattle.httpedge.specs.Asks.{CallDecision}
 use Rattle.httpedge.specs.Connections.{Connection, Connections, Standing, waiting, watching, ended, gone, opened, with_standing, with_written, with_taken, has_ended, is_known, is_new, is_open, is_watching, open_count, max_open, each}
 use Rattle.httpedge.specs.Decision.{undecided, refused, accepted}
 use Rattle.httpedge.specs.Refusals.{as_denied, too_many_connections}
@@ -91,23 +91,23 @@ abbrev pub answer_reply : Answer → List ℕ
 answer_reply a = reply a.status None a.body
 
 -- by what all the bytes of a connection ask it waits for more, or gets its reply and has ended
-abbrev pub connection_after : List ServedShape → History → Connection → List ℕ → Asked → Connection
+abbrev pub connection_after : List ServedShape → History → Connection → List ℕ → CallDecision → Connection
 connection_after types m c bytes undecided = with_standing c (waiting bytes)
 connection_after types m c bytes (refused d) = with_written c (refusal_reply d) ended
 connection_after types m c bytes (accepted call) = with_written c (answer_reply (planned types m call).answer) ended
 
 -- a call makes its change
-abbrev pub machine_after : List ServedShape → History → Asked → History
+abbrev pub machine_after : List ServedShape → History → CallDecision → History
 machine_after types m undecided = m
 machine_after types m (refused d) = m
 machine_after types m (accepted call) = after m (planned types m call).change
 
-abbrev pub received : State → ℕ → Connection → List ℕ → Asked → State
+abbrev pub received : State → ℕ → Connection → List ℕ → CallDecision → State
 received s id c bytes asked =
     with_connection (with_machine s (machine_after s.types s.machine asked)) id (connection_after s.types s.machine c bytes asked)
 
 -- only a connection that waits receives bytes
-abbrev pub received_by : State → ℕ → Connection → Standing → List ℕ → Asked → State
+abbrev pub received_by : State → ℕ → Connection → Standing → List ℕ → CallDecision → State
 received_by s id c (waiting front) bytes asked = received s id c (front ++ bytes) asked
 received_by s id c (watching w) bytes asked = s
 received_by s id c ended bytes asked = s
@@ -135,7 +135,7 @@ abbrev pub with_tick : State → ℕ → Connections → State
 with_tick s ms all = record { types = s.types; machine = s.machine; last_tick = ms; connections = all }
 
 -- the state after an event that is not refused: asked is what the bytes of its connection ask
-abbrev pub carried_out : State → Event → Asked → State
+abbrev pub carried_out : State → Event → CallDecision → State
 carried_out s (opens id) asked = with_connection s id (opening s.connections)
 carried_out s (comes id bytes) asked = on_connection s id (λ c. received_by s id c c.standing bytes asked)
 carried_out s (goes id) asked = on_connection s id (λ c. with_connection s id (with_standing c (gone (has_ended c.standing))))
@@ -148,7 +148,7 @@ unless_refused None s t = t
 unless_refused (Some n) s t = s
 
 -- a refused event changes nothing
-abbrev pub stepped : State → Event → Asked → State
+abbrev pub stepped : State → Event → CallDecision → State
 stepped s e asked = unless_refused (refusal s e) s (carried_out s e asked)
 
 -- ---- out of memory

@@ -24,17 +24,17 @@ use Rattle.httpedge.specs.Refusals.{Refusal, head_too_large, bad_head, wrong_ver
 use Rattle.httpedge.specs.Decision.{Decision, undecided, refused, accepted}
 use Rattle.httpedge.specs.Heads.{Length, missing, malformed, number, decimal_value, Request}
 
-abbrev pub refusal_of : refusals.Refusal → Refusal
-refusal_of refusal.HeadTooLarge = head_too_large
-refusal_of refusal.BadHead = bad_head
-refusal_of refusal.WrongVersion = wrong_version
-refusal_of refusal.NotOneHost = not_one_host
-refusal_of refusal.TransferEncoding = transfer_encoding
-refusal_of refusal.NoLength = no_length
-refusal_of refusal.BadLength = bad_length
-refusal_of refusal.BodyTooLarge = body_too_large
-refusal_of refusal.NotJson = not_json
-refusal_of refusal.TooManyConnections = too_many_connections
+abbrev pub refusal_seen : refusals.Refusal → Refusal
+refusal_seen refusal.HeadTooLarge = head_too_large
+refusal_seen refusal.BadHead = bad_head
+refusal_seen refusal.WrongVersion = wrong_version
+refusal_seen refusal.NotOneHost = not_one_host
+refusal_seen refusal.TransferEncoding = transfer_encoding
+refusal_seen refusal.NoLength = no_length
+refusal_seen refusal.BadLength = bad_length
+refusal_seen refusal.BodyTooLarge = body_too_large
+refusal_seen refusal.NotJson = not_json
+refusal_seen refusal.TooManyConnections = too_many_connections
 
 abbrev pub decision_of : {A B : Type 0} → (A → B) → decisions.Decision A → Decision B
 decision_of view decision.Undecided = undecided

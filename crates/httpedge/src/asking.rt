@@ -11,7 +11,7 @@ ghost use Rattle.httpedge.specs.Views.{request_in};
 use crate::body::{body_of, declared_length};
 use crate::decision::Decision;
 use crate::head::{Head, read_to};
-use crate::target::{checked_media, path_of, query_of};
+use crate::request_target::{checked_media, path_of, query_of};
 use std::alloc::{AllocError, Global};
 use verbs::{Api, Call, Denied, Target};
 
@@ -27,7 +27,7 @@ pub(crate) struct Pending {
 
 /// What a request asks once its head has come.
 #[derive(Debug, Drop)]
-pub(crate) enum Asked {
+pub(crate) enum Progress {
     /// More bytes of its body are needed.
     Pending(Pending),
     Refused(Denied),
@@ -35,7 +35,7 @@ pub(crate) enum Asked {
 }
 
 /// More bytes of the body.
-pub(crate) fn ask_on(alloc: Global, pending: Pending, bytes: &[u8]) -> Result<Asked, AllocError>
+pub(crate) fn ask_on(alloc: Global, pending: Pending, bytes: &[u8]) -> Result<Progress, AllocError>
     ensures asks { IfOk result (λ a. asked_of a ≡ pending_call pending (pending.body.items ++ bytes.now)) }
     ensures carries { IfOk result (Carries (pending_call pending) (pending.body.items ++ bytes.now)) }
 {
@@ -47,14 +47,14 @@ pub(crate) fn ask_on(alloc: Global, pending: Pending, bytes: &[u8]) -> Result<As
     } = pending;
     body.extend_from_slice(bytes)?;
     match body_of(alloc, length, &body)? {
-        Decision::Undecided => Ok(Asked::Pending(Pending {
+        Decision::Undecided => Ok(Progress::Pending(Pending {
             target,
             query,
             length,
             body,
         })),
-        Decision::Refused(denied) => Ok(Asked::Refused(denied)),
-        Decision::Accepted(body) => Ok(Asked::Call(Call {
+        Decision::Refused(denied) => Ok(Progress::Refused(denied)),
+        Decision::Accepted(body) => Ok(Progress::Call(Call {
             target,
             query,
             body,
@@ -69,19 +69,19 @@ fn ask_sized(
     query: Vec<u8>,
     length: usize,
     rest: &[u8],
-) -> Result<Asked, AllocError>
+) -> Result<Progress, AllocError>
     ensures asks { IfOk result (λ a. asked_of a ≡ sized_call (target_of target) query.items length rest.now) }
     ensures carries { IfOk result (Carries (sized_call (target_of target) query.items length) rest.now) }
 {
     match body_of(alloc, length, rest)? {
-        Decision::Undecided => Ok(Asked::Pending(Pending {
+        Decision::Undecided => Ok(Progress::Pending(Pending {
             target,
             query,
             length,
             body: Vec::from_slice(alloc, rest)?,
         })),
-        Decision::Refused(denied) => Ok(Asked::Refused(denied)),
-        Decision::Accepted(body) => Ok(Asked::Call(Call {
+        Decision::Refused(denied) => Ok(Progress::Refused(denied)),
+        Decision::Accepted(body) => Ok(Progress::Call(Call {
             target,
             query,
             body,
@@ -94,13 +94,13 @@ fn ask_declared(
     target: Target,
     head: &Head<'_>,
     length: Option<usize>,
-) -> Result<Asked, AllocError>
+) -> Result<Progress, AllocError>
     ensures asks { IfOk result (λ a. asked_of a ≡ call_with (request_in head.now) (target_of target) (declared_body length head.now.rest.now)) }
     ensures carries { IfOk result (Carries (λ rest. call_with (request_in head.now) (target_of target) (declared_body length rest)) head.now.rest.now) }
 {
     let query = Vec::from_slice(alloc, query_of(head.request_target).as_bytes())?;
     match length {
-        None => Ok(Asked::Call(Call {
+        None => Ok(Progress::Call(Call {
             target,
             query,
             body: None,
@@ -109,17 +109,17 @@ fn ask_declared(
     }
 }
 
-fn ask_of(alloc: Global, target: Target, head: &Head<'_>) -> Result<Asked, AllocError>
+fn ask_of(alloc: Global, target: Target, head: &Head<'_>) -> Result<Progress, AllocError>
     ensures asks { IfOk result (λ a. asked_of a ≡ call_with (request_in head.now) (target_of target) (body_in (request_in head.now) head.now.rest.now)) }
     ensures carries { IfOk result (Carries (λ rest. call_with (request_in head.now) (target_of target) (body_in (request_in head.now) rest)) head.now.rest.now) }
 {
     match declared_length(head) {
         Ok(length) => ask_declared(alloc, target, head, length),
-        Err(denied) => Ok(Asked::Refused(denied)),
+        Err(denied) => Ok(Progress::Refused(denied)),
     }
 }
 
-fn ask_in(alloc: Global, api: &Api, head: &Head<'_>) -> Result<Asked, AllocError>
+fn ask_in(alloc: Global, api: &Api, head: &Head<'_>) -> Result<Progress, AllocError>
     ensures asks { IfOk result (λ a. asked_of a ≡ call_in (types_of api.now) (request_in head.now) head.now.rest.now) }
     ensures carries { IfOk result (Carries (call_in (types_of api.now) (request_in head.now)) head.now.rest.now) }
 {
@@ -129,7 +129,7 @@ fn ask_in(alloc: Global, api: &Api, head: &Head<'_>) -> Result<Asked, AllocError
         checked_media(head),
     ) {
         Ok(target) => ask_of(alloc, target, head),
-        Err(verbs::Refusal::Denied(denied)) => Ok(Asked::Refused(denied)),
+        Err(verbs::Refusal::Denied(denied)) => Ok(Progress::Refused(denied)),
         Err(verbs::Refusal::Memory) => Err(AllocError),
     }
 }
@@ -140,13 +140,13 @@ pub(crate) fn ask(
     api: &Api,
     bytes: &[u8],
     end: Option<usize>,
-) -> Result<Option<Asked>, AllocError>
+) -> Result<Option<Progress>, AllocError>
     requires { end ≡ head_end (take max_head bytes.now) }
     ensures { IfOk result (λ o. FindsAll (types_of api.now) bytes.now o) }
 {
     match read_to(bytes, end) {
         Decision::Undecided => Ok(None),
-        Decision::Refused(denied) => Ok(Some(Asked::Refused(denied))),
+        Decision::Refused(denied) => Ok(Some(Progress::Refused(denied))),
         Decision::Accepted(head) => Ok(Some(ask_in(alloc, api, &head)?)),
     }
 }

@@ -11,7 +11,7 @@ ghost use Rattle.httpedge.specs.Pendings.{Awaits, Finds};
 ghost use Rattle.httpedge.specs.Steps.{opening};
 
 use crate::answering::{refusal_reply, serve};
-use crate::asking::{Asked, Pending, ask, ask_on};
+use crate::asking::{Progress, Pending, ask, ask_on};
 use crate::front::Front;
 use crate::out::Out;
 use crate::refusal::Refusal;
@@ -84,17 +84,17 @@ pub(crate) fn take_from(alloc: Global, connection: &mut Connection, n: usize)
 }
 
 /// What becomes of a connection by what its bytes ask.
-fn decided(alloc: Global, api: &mut Api, asked: Asked) -> Result<Connection, Fault>
+fn decided(alloc: Global, api: &mut Api, asked: Progress) -> Result<Connection, Fault>
     ensures ok { (types : List ServedShape) (m : History) (bytes : List ℕ) → Stands api.old types m → Finds types bytes asked → IfOk result (λ c. Becomes types m bytes c api.new) }
     ensures err { (types : List ServedShape) (m : History) → Stands api.old types m → OnErr result (Stands api.new types m) }
 {
     match asked {
-        Asked::Pending(pending) => Ok(Connection::Body(pending)),
-        Asked::Refused(denied) => {
+        Progress::Pending(pending) => Ok(Connection::Body(pending)),
+        Progress::Refused(denied) => {
             let reply = refusal_reply(alloc, denied)?;
             Ok(Connection::Ended(Out::of(reply)))
         }
-        Asked::Call(call) => {
+        Progress::Call(call) => {
             let reply = serve(alloc, api, &call)?;
             Ok(Connection::Ended(Out::of(reply)))
         }

@@ -1,6 +1,6 @@
 //! What happens to the hub.
 
-/// An event; the hub takes them in the order in which they are handed in.
+/// An event; the hub handles them in the order in which they are handed in.
 #[derive(Debug, Drop)]
 pub enum Event {
     /// A connection is opened; its id is above all earlier ones.

@@ -177,7 +177,7 @@ fn text_of(bytes: &[u8]) -> &str
     }
 }
 
-/// The judgement of a head of the grammar.
+/// The validation of a head of the grammar.
 fn validated<'b>(
     head: &'b [u8],
     parts: RequestSpans,
@@ -200,13 +200,13 @@ fn validated<'b>(
     if hosts_in(head, fields) != 1 {
         return Decision::Refused(Refusal::NotOneHost.denied());
     }
-    let target = parts.path.of(head);
-    if !target.starts_with(b"/") {
+    let request_target = parts.path.of(head);
+    if !request_target.starts_with(b"/") {
         return Decision::Refused(Refusal::BadHead.denied());
     }
     Decision::Accepted(Head {
         method: text_of(parts.method.of(head)),
-        request_target: text_of(target),
+        request_target: text_of(request_target),
         media: media_in(head, fields),
         is_transfer_encoded: is_transfer_encoded(head, fields),
         length: length_of(head, fields),
@@ -235,7 +235,7 @@ fn parts_of(head: &[u8], spans: &mut [HeaderSpan]) -> Option<RequestSpans>
     }
 }
 
-/// The judgement of the bytes up to the first empty line.
+/// The validation of the bytes up to the first empty line.
 fn validate<'b>(head: &'b [u8], rest: &'b [u8]) -> Decision<Head<'b>>
     requires { length head.now ≤ max_head }
     ensures { ReadsWholeHead head.now rest.now (decision_of head_of result) }

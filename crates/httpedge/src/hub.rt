@@ -96,7 +96,7 @@ impl Hub {
         }
     }
 
-    /// Takes an event: in the event that decides what the bytes of a connection ask, the reply is written and the
+    /// Handles an event: in the event that decides what the bytes of a connection ask, the reply is written and the
     /// connection has ended. Refused, an event changes nothing; without memory an opening changes nothing, and a
     /// connection that waits is dead where bytes come on it. Bytes on one that has ended want no memory.
     pub fn on(&mut self, event: &Event) -> Result<(), HubFault>

@@ -4,7 +4,7 @@ ghost use Rattle.std.specs.Prelude.{◌≡◌, ◌≢◌, ◌++◌, ℕ, Bool, t
 ghost use Rattle.std.specs.FinMap as fin;
 ghost use Rattle.schema.specs.TypesFile.{ServedShape};
 ghost use Rattle.history.specs.History.{History};
-ghost use Rattle.httpedge.specs.Asks.{Asked, Asks};
+ghost use Rattle.httpedge.specs.Asks.{CallDecision, Asks};
 ghost use Rattle.httpedge.specs.Connections.{AllIsOut, Connection, Connections, each, ended_on, out_on, watching_on, written_on};
 ghost use Rattle.httpedge.specs.Decision.{undecided};
 ghost use Rattle.httpedge.specs.Runs.{Follows, Happening, HappensElsewhere, Runs, Starves, Steps, bytes_at, peer_goes};
@@ -14,8 +14,8 @@ use crate::head::read_head;
 
 /// Bytes ask one thing; and what they ask stays asked, whatever bytes follow, once it is decided.
 pub fn one_asked()
-    ensures one { (types : List ServedShape) (bytes : List ℕ) (a b : Asked) → Asks types bytes a → Asks types bytes b → a ≡ b }
-    ensures stays { (types : List ServedShape) (bytes more : List ℕ) (asked : Asked) → Asks types bytes asked → asked ≢ undecided → Asks types (bytes ++ more) asked }
+    ensures one { (types : List ServedShape) (bytes : List ℕ) (a b : CallDecision) → Asks types bytes a → Asks types bytes b → a ≡ b }
+    ensures stays { (types : List ServedShape) (bytes more : List ℕ) (asked : CallDecision) → Asks types bytes asked → asked ≢ undecided → Asks types (bytes ++ more) asked }
 {}
 
 /// Bytes that come on a connection in two events, with none between them, leave the hub as in one: what a

@@ -23,7 +23,7 @@ mod laws;
 mod out;
 mod refusal;
 mod reply;
-mod target;
+mod request_target;
 
 pub use body::read_body;
 pub use decision::Decision;
@@ -37,4 +37,4 @@ pub use laws::{
 };
 pub use refusal::Refusal;
 pub use reply::reply_bytes;
-pub use target::{checked_media, path_of, query_of};
+pub use request_target::{checked_media, path_of, query_of};

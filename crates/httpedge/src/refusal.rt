@@ -2,7 +2,7 @@
 
 ghost use Rattle.std.specs.Prelude.{◌≡◌};
 ghost use Rattle.httpedge.specs.Refusals.{as_denied, reason_of, message_of};
-ghost use Rattle.httpedge.specs.Views.{refusal_of};
+ghost use Rattle.httpedge.specs.Views.{refusal_seen};
 ghost use Rattle.verbs.specs.Seen.{denied_of};
 
 use verbs::{Denied, Reason};
@@ -25,7 +25,7 @@ pub enum Refusal {
 impl Refusal {
     /// The reason in the Status, which has the status code (RFC 9110, section 15; RFC 6585, section 5).
     pub fn reason(self) -> Reason
-        ensures { result ≡ reason_of (refusal_of self) }
+        ensures { result ≡ reason_of (refusal_seen self) }
     {
         match self {
             Refusal::BadHead | Refusal::NotOneHost | Refusal::BadLength | Refusal::NotJson => {
@@ -42,7 +42,7 @@ impl Refusal {
 
     /// The message in the Status.
     pub fn message(self) -> &'static str
-        ensures { result.now ≡ message_of (refusal_of self) }
+        ensures { result.now ≡ message_of (refusal_seen self) }
     {
         match self {
             Refusal::HeadTooLarge => "request head too large",
@@ -60,7 +60,7 @@ impl Refusal {
 
     /// The refusal as a call is denied.
     pub fn denied(self) -> Denied
-        ensures { denied_of result ≡ as_denied (refusal_of self) }
+        ensures { denied_of result ≡ as_denied (refusal_seen self) }
     {
         Denied {
             reason: self.reason(),

@@ -14,7 +14,7 @@ use Rattle.std.proofs.lemmas.Slice.Eq.{bytes_eq-Decides}
 use Rattle.serde_json.specs.Data.{unsigned, negative, float, Data, null, boolean, number, string, array, object, Items, no_items, item, Members, no_members, member}
 use Rattle.serde_json.specs.Find.{as_array, as_bool, as_object, as_str}
 use Rattle.serde_json.specs.Read.{read as read_json}
-use Rattle.programs.specs.Script.{Apply, AreEvents, Event, apply, opens, comes, HasTarget, IsFirstBad, IsTarget, Says, is_filled, object_of}
+use Rattle.programs.specs.Script.{Apply, AreEvents, Event, apply, opens, comes, HasTarget, IsFirstBad, IsTarget, IsEventLine, is_filled, object_of}
 use Rattle.programs.specs.ScriptSteps.{apply_in, comes_in, event_in, event_named, event_of, if_target, is_last, is_last_item, is_target, next_item, next_named, number_in, only_member, with_items, with_rest}
 
 some≢none : {X : Type 0} (x : X) → Some x ≡ None → ⊥
@@ -111,7 +111,7 @@ target_is s e = λ k d lt. byte_passes _ (AllPass-from_list_all _ s e k d lt)
 is_target_of : (s : List ℕ) → IsTarget s → is_target s ≡ true
 is_target_of s h = list_all-from_AllPass _ s (λ k d lt. byte_fits _ (h k d lt))
 
--- ---- what a line says
+-- ---- whose line a line is
 
 checked : (a b : Apply) → if_target a ≡ Some b → (a ≡ b) × IsTarget b.target
 checked a b e = go (is_target a.target) refl
@@ -222,20 +222,20 @@ event_is d e is =
     let said = named_is p.0.0 p.0.1 e p.2 in
     (inner d ms.0 ms.1 ∙ ap object (only ms.0 p.0 ms.2) ∙ said.0, said.1)
 
-pub says_event : (line : List ℕ) (e : Event) → event_of line ≡ Some e → Says line e
+pub says_event : (line : List ℕ) (e : Event) → event_of line ≡ Some e → IsEventLine line e
 says_event line e is =
     let d = and_then-Some event_in (read_json line) e is in
     let said = event_is d.0 e d.2 in
     (d.1 ∙ ap Some said.0, said.1)
 
-event_said : (line : List ℕ) (e : Event) → Says line e → event_of line ≡ Some e
+event_said : (line : List ℕ) (e : Event) → IsEventLine line e → event_of line ≡ Some e
 event_said line (apply a) says = rw (says.0, is_target_of a.target says.1) refl
 event_said line (opens k) says = rw says.0 refl
 event_said line (comes k text) says = rw says.0 refl
 
 -- ---- lists of lines
 
-zip_push : (xs : List (List ℕ)) (ys : List Event) (x : List ℕ) (y : Event) → AllZip Says xs ys → Says x y → AllZip Says (xs ++ x ∷ []) (ys ++ y ∷ [])
+zip_push : (xs : List (List ℕ)) (ys : List Event) (x : List ℕ) (y : Event) → AllZip IsEventLine xs ys → IsEventLine x y → AllZip IsEventLine (xs ++ x ∷ []) (ys ++ y ∷ [])
 zip_push [] [] x y h r = (r, tt)
 zip_push [] (z ∷ ys) x y h r = absurd h
 zip_push (w ∷ xs) [] x y h r = absurd h
@@ -255,9 +255,9 @@ past_empty lines i d events lt empty before =
     let same : filter is_filled (texts (take (i + 1) lines)) ≡ filter is_filled (texts (take i lines)) =
     ap (filter is_filled) (one_more lines i d lt) ∙ filter-append is_filled (texts (take i lines)) (line ∷ [])
     ∙ ap (λ xs. filter is_filled (texts (take i lines)) ++ xs) (rw empty refl) ∙ append-nil _ in
-    subst (λ xs. AllZip Says xs events) (sym same) before
+    subst (λ xs. AllZip IsEventLine xs events) (sym same) before
 
--- a line that says an event adds it
+-- an event's line adds it
 pub with_event : (lines : List (Bor (List ℕ))) (i : ℕ) (d : Bor (List ℕ)) (events : List Event) (a : Event) → i < length lines → is_filled (slice_index_or lines i d).now ≡ true
     → event_of (slice_index_or lines i d).now ≡ Some a → AreEvents (texts (take i lines)) events → AreEvents (texts (take (i + 1) lines)) (events ++ a ∷ [])
 with_event lines i d events a lt full says before =
@@ -265,9 +265,9 @@ with_event lines i d events a lt full says before =
     let same : filter is_filled (texts (take (i + 1) lines)) ≡ filter is_filled (texts (take i lines)) ++ line ∷ [] =
     ap (filter is_filled) (one_more lines i d lt) ∙ filter-append is_filled (texts (take i lines)) (line ∷ [])
     ∙ ap (λ xs. filter is_filled (texts (take i lines)) ++ xs) (rw full refl) in
-    subst (λ xs. AllZip Says xs (events ++ a ∷ [])) (sym same) (zip_push _ events line a before (says_event line a says))
+    subst (λ xs. AllZip IsEventLine xs (events ++ a ∷ [])) (sym same) (zip_push _ events line a before (says_event line a says))
 
--- a line that isn't empty and says no event is the first bad one
+-- a line that isn't empty and is no event's is the first bad one
 pub first_bad : (lines : List (Bor (List ℕ))) (i : ℕ) (d : Bor (List ℕ)) (events : List Event) (n : ℕ) → i < length lines → is_filled (slice_index_or lines i d).now ≡ true
     → event_of (slice_index_or lines i d).now ≡ None → AreEvents (texts (take i lines)) events → n ≡ i + 1 → IsFirstBad (texts lines) n
 first_bad lines i d events n lt full none before counted = record {

@@ -8,12 +8,12 @@ use Rattle.programs.specs.declared.replay_program.RunFault.{RunFault}
 use Rattle.programs.specs.declared.replay_program.RunFault.TheVariants as fault
 
 -- a refusal of what the text reads as is told of the text
-pub told : (text : List ℕ) (d : Data) (r : RunFault) → read_json text ≡ Some d → IsRefusal (declared_types d) r → Tells text (Err r)
-told text d (fault.Words e) reads is = absurd is
-told text d (fault.TypesFile e) reads is = absurd is
-told text d (fault.TypesText e) reads is = absurd is
-told text d (fault.Types n e) reads is = (d, reads, is)
-told text d (fault.ScriptFile e) reads is = absurd is
-told text d (fault.Script n) reads is = absurd is
-told text d (fault.Output e) reads is = absurd is
-told text d fault.Memory reads is = tt
+pub tells_of_text : (text : List ℕ) (d : Data) (r : RunFault) → read_json text ≡ Some d → IsRefusal (declared_types d) r → Tells text (Err r)
+tells_of_text text d (fault.Words e) reads is = absurd is
+tells_of_text text d (fault.TypesFile e) reads is = absurd is
+tells_of_text text d (fault.TypesText e) reads is = absurd is
+tells_of_text text d (fault.Types n e) reads is = (d, reads, is)
+tells_of_text text d (fault.ScriptFile e) reads is = absurd is
+tells_of_text text d (fault.Script n) reads is = absurd is
+tells_of_text text d (fault.Output e) reads is = absurd is
+tells_of_text text d fault.Memory reads is = tt

@@ -29,17 +29,17 @@ status_of (fault.Script n) = 4
 status_of (fault.Output e) = 1
 status_of fault.Memory = 5
 
-abbrev pub number_of : Refusal → ℕ
-number_of unknown_keyword = 1
-number_of unknown_type = 2
-number_of misfit = 3
-number_of too_deep = 4
-number_of same_names = 5
-number_of not_the_form = 6
+abbrev pub types_refusal_number : Refusal → ℕ
+types_refusal_number unknown_keyword = 1
+types_refusal_number unknown_type = 2
+types_refusal_number misfit = 3
+types_refusal_number too_deep = 4
+types_refusal_number same_names = 5
+types_refusal_number not_the_form = 6
 
 -- the fault tells the refusal, by its number
 abbrev pub IsRefusal : Result (List ServedShape) Refusal → RunFault → Type 0
-IsRefusal answer (fault.Types n e) = (r : Refusal) × (answer ≡ Err r) × (n ≡ number_of r)
+IsRefusal answer (fault.Types n e) = (r : Refusal) × (answer ≡ Err r) × (n ≡ types_refusal_number r)
 IsRefusal answer fault.Memory = ⊤
 IsRefusal answer _ = ⊥
 

@@ -16,8 +16,8 @@ abbrev pub query_of : Apply → List ℕ
 query_of a = with_force a.force (append_pair [] (codes "fieldManager") a.manager)
 
 -- the path, a question mark and the query
-abbrev pub target_of : Apply → List ℕ
-target_of a = a.target ++ (63 ∷ query_of a)
+abbrev pub request_target_of : Apply → List ℕ
+request_target_of a = a.target ++ (63 ∷ query_of a)
 
 abbrev pub media_type : List ℕ
 media_type = codes "application/apply-patch+yaml"
@@ -29,4 +29,4 @@ pub record IsBodyText (d : Data) (text : List ℕ) : Type 0 where
 
 -- these bytes are the request of the apply
 abbrev pub IsRequestOf : Apply → List ℕ → Type 0
-IsRequestOf a bytes = (text : List ℕ) × IsBodyText a.body text × (bytes ≡ request (codes "PATCH") (target_of a) (Some (media_type, text)))
+IsRequestOf a bytes = (text : List ℕ) × IsBodyText a.body text × (bytes ≡ request (codes "PATCH") (request_target_of a) (Some (media_type, text)))

@@ -40,18 +40,18 @@ HasTarget (apply a) = IsTarget a.target
 HasTarget (opens k) = Unit {0}
 HasTarget (comes k text) = Unit {0}
 
--- the line says the event: it is the JSON text of the event's object
-abbrev pub Says : List ℕ → Event → Type 0
-Says line e = (read_json line ≡ Some (object_of e)) × HasTarget e
+-- the line is the event's: it is the JSON text of the event's object
+abbrev pub IsEventLine : List ℕ → Event → Type 0
+IsEventLine line e = (read_json line ≡ Some (object_of e)) × HasTarget e
 
 abbrev pub is_filled : List ℕ → Bool
 is_filled line = not (length line == 0)
 
--- each line that isn't empty says an event: these, in order
+-- each line that isn't empty is an event's: these, in order
 abbrev pub AreEvents : List (List ℕ) → List Event → Type 0
-AreEvents lines events = AllZip Says (filter is_filled lines) events
+AreEvents lines events = AllZip IsEventLine (filter is_filled lines) events
 
--- line n, counted from 1, is the first that isn't empty and says no event
+-- line n, counted from 1, is the first that isn't empty and is no event's
 pub record IsFirstBad (lines : List (List ℕ)) (n : ℕ) : Type 0 where
   pub before : List (List ℕ)
   pub line : List ℕ
@@ -61,4 +61,4 @@ pub record IsFirstBad (lines : List (List ℕ)) (n : ℕ) : Type 0 where
   pub good : AreEvents before events
   pub place : n ≡ length before + 1
   pub filled : line ≢ []
-  pub bad : (e : Event) → Says line e → ⊥
+  pub bad : (e : Event) → IsEventLine line e → ⊥

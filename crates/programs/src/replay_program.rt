@@ -36,7 +36,7 @@ pub enum RunFault {
     /// The script cannot be read.
     #[error("script: {0}")]
     ScriptFile(io::Error),
-    /// This line of the script, counted from 1, is the first that says no event.
+    /// This line of the script, counted from 1, is the first that is no event's.
     #[error("line {0}: bad event")]
     Script(usize),
     /// The replies cannot be written.
@@ -168,15 +168,15 @@ fn run<R: Files + Print + AllocGlobal>(rt: &R, words: &[String]) -> Result<(), R
 }
 
 /// Runs `ssa-replay` on its words, the program's name first: reads both files, runs the script's lines and prints their
-/// replies. Answers the exit status; a fault is told on the standard error.
+/// replies. Answers the exit status; a fault is printed on the standard error.
 pub fn ssa_replay<R: Files + Print + Eprint + AllocGlobal>(rt: &R, words: &[String]) -> ExitCode {
     let Err(fault) = run(rt, words) else {
         return ExitCode::SUCCESS;
     };
-    // Where the standard error takes nothing, the status still tells the fault.
+    // Where the standard error takes nothing, the status still names the fault.
     let _ = match &fault {
         RunFault::Words(error) => error.print(rt),
-        told => rt.eprintln(told),
+        fault => rt.eprintln(fault),
     };
     ExitCode::from(fault.status())
 }

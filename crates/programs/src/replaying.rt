@@ -12,7 +12,7 @@ ghost use Rattle.programs.specs.ApplyLine.{apply_of, event_view};
 ghost use Rattle.programs.specs.Replays.{Answers, Applies, Does, Prints, PrintsFront, Runs, TellsReply, connection_text, connections_text, next_id, start, words_of};
 ghost use Rattle.programs.specs.Replays as replays;
 ghost use Rattle.programs.specs.Script.{opens, comes};
-ghost use Rattle.programs.specs.Requests.{IsRequestOf, query_of, target_of};
+ghost use Rattle.programs.specs.Requests.{IsRequestOf, query_of, request_target_of};
 ghost use Rattle.programs.specs.Running.{IsUntaken, RunStands};
 
 use crate::script::{ApplyLine, Event};
@@ -85,8 +85,8 @@ fn query_of(alloc: Global, line: &ApplyLine) -> Result<String, AllocError>
     Ok(query.finish())
 }
 
-fn target_of(alloc: Global, line: &ApplyLine) -> Result<String, AllocError>
-    ensures { IfOk result (λ s. string_bytes s ≡ target_of (apply_of line.now)) }
+fn request_target_of(alloc: Global, line: &ApplyLine) -> Result<String, AllocError>
+    ensures { IfOk result (λ s. string_bytes s ≡ request_target_of (apply_of line.now)) }
 {
     let query = query_of(alloc, line)?;
     let path = line.target.as_str();
@@ -97,12 +97,12 @@ fn target_of(alloc: Global, line: &ApplyLine) -> Result<String, AllocError>
 fn request_of(alloc: Global, line: &ApplyLine) -> Result<Vec<u8>, AllocError>
     ensures { IfOk result (λ v. IsRequestOf (apply_of line.now) v.items) }
 {
-    let target = target_of(alloc, line)?;
+    let request_target = request_target_of(alloc, line)?;
     let body = line.body.to_string(alloc)?;
     request_bytes(
         alloc,
         "PATCH",
-        target.as_str(),
+        request_target.as_str(),
         Some((APPLY, body.as_bytes())),
     )
 }
@@ -234,7 +234,7 @@ impl Run {
         Ok(())
     }
 
-    /// Takes one event: what is printed of it.
+    /// Handles one event: what is printed of it.
     fn take(&mut self, event: &Event) -> Result<Vec<u8>, ReplayFault>
         ensures { (r : replays.Run) → RunStands self.old r → IfOk result (λ v. (q : replays.Run) × Does r (event_view event.now) v.items q × RunStands self.new q) }
     {

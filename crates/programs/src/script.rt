@@ -188,7 +188,7 @@ fn event_in(value: Value) -> Option<Event>
     event_named(name.as_str(), value)
 }
 
-/// The event that a line says, or None where it says none.
+/// The event whose line this is, or None where it is none's.
 fn read_line(alloc: Global, line: &str) -> Result<Option<Event>, AllocError>
     ensures { IfOk result (λ o. option_map event_view o ≡ event_of line.now) }
 {
@@ -202,7 +202,7 @@ fn read_line(alloc: Global, line: &str) -> Result<Option<Event>, AllocError>
 /// Why a script has no events.
 #[derive(Clone, Copy, Debug, PartialEq, Eq, Error)]
 pub enum ScriptFault {
-    /// This line, counted from 1, is the first that says no event.
+    /// This line, counted from 1, is the first that is no event's.
     #[error("line {0}: bad event")]
     BadEvent(usize),
     /// A growth of memory was refused.

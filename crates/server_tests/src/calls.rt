@@ -49,7 +49,7 @@ fn words_of(body: &Value) -> &str {
     message.or(version).unwrap_or("")
 }
 
-fn told(alloc: Global, answer: &Answer) -> Result<String, Fail> {
+fn shown(alloc: Global, answer: &Answer) -> Result<String, Fail> {
     let status = answer.status;
     let body = Value::from_str(alloc, &answer.body)?;
     let words = words_of(&body);
@@ -61,7 +61,7 @@ fn step(alloc: Global, api: &mut Api, line: &str) -> Result<String, Fail> {
     let (name, line) = line.split_once(' ').ok_or("no name")?;
     let (query, rest) = line.split_once(' ').ok_or("no query")?;
     let call = call(alloc, api, name, query, rest)?;
-    told(alloc, &answered(api, &call)?)
+    shown(alloc, &answered(api, &call)?)
 }
 
 /// Does a line, and puts its answer behind those so far.

@@ -41,22 +41,22 @@ fn run_on(recording: &Recording<'_>, words: &str) -> Result<ExitCode, Fail> {
 }
 
 /// The number of an exit status.
-fn number_of(status: ExitCode) -> Option<u8> {
+fn exit_number(status: ExitCode) -> Option<u8> {
     (0..=5).find(|number| ExitCode::from(*number) == status)
 }
 
 /// Runs the program on these words: its exit status, and what it says on the standard error.
-fn told(rt: &HostRuntime, words: &str) -> Result<String, Fail> {
+fn shown(rt: &HostRuntime, words: &str) -> Result<String, Fail> {
     let recording = Recording::new(rt);
     let status = run_on(&recording, words)?;
-    let number = number_of(status).ok_or("another status")?;
+    let number = exit_number(status).ok_or("another status")?;
     let text = recording.errors()?;
     Ok(format!(in rt.alloc(); "{number} {text}")?)
 }
 
 /// The exit status of the program on these words.
 fn status_of(rt: &HostRuntime, words: &str) -> Result<Option<u8>, Fail> {
-    Ok(number_of(run_on(&Recording::new(rt), words)?))
+    Ok(exit_number(run_on(&Recording::new(rt), words)?))
 }
 
 #[test]
@@ -66,19 +66,19 @@ fn words_are_told_first(rt: HostRuntime) -> Result<(), Fail> {
     Ok(())
 }
 
-/// What is told of a types file.
+/// What is printed of a types file.
 fn told_of_types(rt: &HostRuntime, types: &str) -> Result<String, Fail> {
     fs::write(rt, TYPES, types)?;
-    told(rt, WORDS)
+    shown(rt, WORDS)
 }
 
-/// What is told of a script over widgets.
+/// What is printed of a script over widgets.
 fn told_of_script(rt: &HostRuntime, script: &str) -> Result<String, Fail> {
     fs::write(rt, SCRIPT, script)?;
     told_of_types(rt, WIDGET_TYPES)
 }
 
-/// What is told of types files, one in each line.
+/// What is printed of types files, one in each line.
 fn told_of_all(rt: &HostRuntime, lines: &str) -> Result<String, Fail> {
     let mut all = String::new(rt.alloc());
     for types in lines.split('\n') {
@@ -99,7 +99,7 @@ fn printed(rt: &HostRuntime, script: &str) -> Result<String, Fail> {
 #[test]
 fn faults_are_told_in_order(rt: HostRuntime) -> Result<(), Fail> {
     assert_eq!(rt;
-        told(&rt, WORDS)?.as_str(),
+        shown(&rt, WORDS)?.as_str(),
         "3 types file: No such file or directory (os error 2)\n"
     );
     assert!(rt; told_of_types(&rt, "[")?.starts_with("3 types file: not JSON: "));

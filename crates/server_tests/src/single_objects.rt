@@ -66,7 +66,7 @@ fn answered(api: &mut Api, call: &Call) -> Result<Answer, Fail> {
 }
 
 /// The message of a refusal, or else the object.
-fn told(alloc: Global, answer: &Answer) -> Result<String, Fail> {
+fn shown(alloc: Global, answer: &Answer) -> Result<String, Fail> {
     let status = answer.status;
     let body = Value::from_str(alloc, &answer.body)?;
     let message = body.get("message").and_then(|text| text.as_str());
@@ -77,7 +77,7 @@ fn told(alloc: Global, answer: &Answer) -> Result<String, Fail> {
 fn push_answer(alloc: Global, all: &mut String, api: &mut Api, line: &str) -> Result<(), Fail> {
     let call = call_of(alloc, api, line)?;
     let answer = answered(api, &call)?;
-    Ok(all.push_str(told(alloc, &answer)?.as_str())?)
+    Ok(all.push_str(shown(alloc, &answer)?.as_str())?)
 }
 
 /// Does lines, and tells the answers, a line each.

@@ -18,10 +18,10 @@ use Rattle.typed.proofs.Keeping.{reading_content}
 use Rattle.schema.specs.ObjectShape.{IsObjectShape}
 use Rattle.ownership.proofs.Taken.{Kept, found_spelled, found_depth}
 use Rattle.verbs.specs.Json.{IsJson}
-use Rattle.verbs.specs.Envelope.{Envelope, Expected, envelope_of, given_judged, kind_judged, managers_by, member_of, members_but, metadata_in, metadata_judged, metadata_names, put_metadata, rest_of, top_names, version_allowed, version_judged, with_others}
-use Rattle.verbs.specs.Judged.{Judged}
-use Rattle.verbs.specs.Parameters.{parameters_judged}
-use Rattle.verbs.specs.Step.{Intent, intent_of, shape_judged}
+use Rattle.verbs.specs.Envelope.{Envelope, Expected, envelope_of, given_validated, kind_validated, managers_by, member_of, members_but, metadata_in, metadata_validated, metadata_names, put_metadata, rest_of, top_names, version_allowed, version_validated, with_others}
+use Rattle.verbs.specs.Validated.{Validated}
+use Rattle.verbs.specs.Parameters.{parameters_validated}
+use Rattle.verbs.specs.Step.{Intent, intent_of, shape_validated}
 use Rattle.verbs.proofs.Checks.{no_err, ok_is, passed}
 
 -- ---- members left out
@@ -74,15 +74,15 @@ metadata_kept n rest (Some (object ms)) metadata kept is e =
 
 -- ---- the envelope
 
-abbrev rest_in : Judged Envelope → Data
+abbrev rest_in : Validated Envelope → Data
 rest_in (Ok e) = e.rest
 rest_in (Err d) = null
 
-judged_rest : (of : Expected) (top : Members) (metadata : Option Members) (e : Envelope) → metadata_judged of top metadata ≡ Ok e → rest_of top metadata ≡ e.rest
-judged_rest of top metadata e is =
-    let name = passed (given_judged (codes "name") of.name metadata) _ e is in
-    let namespace = passed (given_judged (codes "namespace") (Some of.namespace) metadata) _ e name.2 in
-    let version = passed (version_judged metadata) _ e namespace.2 in
+validated_rest : (of : Expected) (top : Members) (metadata : Option Members) (e : Envelope) → metadata_validated of top metadata ≡ Ok e → rest_of top metadata ≡ e.rest
+validated_rest of top metadata e is =
+    let name = passed (given_validated (codes "name") of.name metadata) _ e is in
+    let namespace = passed (given_validated (codes "namespace") (Some of.namespace) metadata) _ e name.2 in
+    let version = passed (version_validated metadata) _ e namespace.2 in
     let allowed = passed (version_allowed of.method version.0) _ e version.2 in
     let managers = passed (managers_by of.method (member_of (codes "managedFields") metadata)) _ e allowed.2 in
     ap rest_in managers.2
@@ -100,21 +100,21 @@ rest_json of (number x) e json is = no_err _ e is
 rest_json of (string s) e json is = no_err _ e is
 rest_json of (array ds) e json is = no_err _ e is
 rest_json of (object top) e json is =
-    let kind = passed (kind_judged of.served top) _ e is in
+    let kind = passed (kind_validated of.served top) _ e is in
     let metadata = passed (metadata_in (get_member (codes "metadata") top)) _ e kind.2 in
     let low = less_deep (members_depth top) json.1 in
     let left = left_kept 126 top_names top json.0.1 low in
     let whole = metadata_kept 126 (members_but top_names top) (get_member (codes "metadata") top) metadata.0 left
     (λ d there. (found_spelled (codes "metadata") d top json.0.1 there, found_depth 126 (codes "metadata") d top low there)) metadata.1 in
-    subst IsJson (judged_rest of top metadata.0 e metadata.2) ((whole.0, whole.1), deep_enough (members_depth (put_metadata metadata.0 (members_but top_names top))) whole.2)
+    subst IsJson (validated_rest of top metadata.0 e metadata.2) ((whole.0, whole.1), deep_enough (members_depth (put_metadata metadata.0 (members_but top_names top))) whole.2)
 
 -- ---- the content
 
-read_well : (r : Read Content) (c : Content) → shape_judged r ≡ Ok c → r ≡ Ok c
+read_well : (r : Read Content) (c : Content) → shape_validated r ≡ Ok c → r ≡ Ok c
 read_well (Ok x) c e = ap Ok (ok_is x c e)
 read_well (Err f) c e = no_err _ c e
 
-abbrev content_in : Content → Judged Intent → Content
+abbrev content_in : Content → Validated Intent → Content
 content_in c (Ok i) = i.content
 content_in c (Err d) = c
 
@@ -124,8 +124,8 @@ pub intended_content : (of : Expected) (how : Asked) (query : List ℕ) (body : 
 intended_content of how query body i shaped json e =
     let s = of.served.shape in
     let envelope = passed (envelope_of of body) _ i e in
-    let shape = passed (shape_judged (content_of s envelope.0.rest)) _ i envelope.2 in
-    let values = passed (parameters_judged how query) _ i shape.2 in
+    let shape = passed (shape_validated (content_of s envelope.0.rest)) _ i envelope.2 in
+    let values = passed (parameters_validated how query) _ i shape.2 in
     let rest = rest_json of body envelope.0 json envelope.1 in
     subst (IsContent s) (ap (content_in shape.0) values.2)
     (reading_content s envelope.0.rest shape.0 (and_parts (is_well_formed s) _ shaped.1).0 rest.0 rest.1 (read_well (content_of s envelope.0.rest) shape.0 shape.1))

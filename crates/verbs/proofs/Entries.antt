@@ -3,11 +3,11 @@ use Rattle.std.proofs.Common.{◌≡◌, false, List, [], ◌∷◌, length, ◌
 use Rattle.serde_json.specs.View.{items_view}
 use Rattle.serde_json.specs.declared.value.Value.{Value}
 use Rattle.verbs.specs.declared.reason.Reason.TheVariants.{BadRequest}
-use Rattle.verbs.specs.Envelope.{entries_judged}
-use Rattle.verbs.specs.Judged.{denied}
+use Rattle.verbs.specs.Envelope.{entries_validated}
+use Rattle.verbs.specs.Validated.{refused_for}
 use Rattle.verbs.specs.Options.{is_no_list}
 
-pub some_entries : (vs : List Value) → (length vs == 0) ≡ false → denied BadRequest (codes "metadata.managedFields must be empty") ≡ entries_judged (items_view vs)
+pub some_entries : (vs : List Value) → (length vs == 0) ≡ false → refused_for BadRequest (codes "metadata.managedFields must be empty") ≡ entries_validated (items_view vs)
 some_entries [] e = absurd (true≢false e)
 some_entries (v ∷ vs) e = refl
 

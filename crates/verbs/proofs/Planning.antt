@@ -14,25 +14,25 @@ use Rattle.verbs.specs.declared.change.Change.{Change as TheChange}
 use Rattle.verbs.specs.Json.{IsJsonBody}
 use Rattle.verbs.specs.Calls.{Call, Plan}
 use Rattle.verbs.specs.Machine.{IsMachine, IsNext, after}
-use Rattle.verbs.specs.Status.{Denial}
+use Rattle.verbs.specs.Status.{CallRefusal}
 use Rattle.verbs.proofs.Changes.{is_history, machine_next}
 use Rattle.verbs.proofs.Machines.{compactions_keep_machines, standing_seen}
 use Rattle.verbs.proofs.Promise.{plans_come_next}
 use Rattle.verbs.specs.Seen.{Stands, body_seen, call_of, change_of, plan_of, types_of, objects_in}
-use Rattle.verbs.specs.Step.{judged_over, planned, refused, told}
+use Rattle.verbs.specs.Step.{validated_over, planned, refused, plan_for}
 
 module _ (api : Api) (types : List ServedShape) (m : History) (call : Call) (stands : Stands api types m) where
-  judged_is : judged_over (types_of api) api.store.current (objects_in api.store) call ≡ judged_over types m.current (standing m) call
-  judged_is =
-      ap (λ ts. judged_over ts api.store.current (objects_in api.store) call) stands.serves
-      ∙ ap (λ (v : View). judged_over types v.current (objects_in v) call) stands.store
-      ∙ ap (λ os. judged_over types m.current os call) (standing_seen types m stands.is_machine)
+  validated_is : validated_over (types_of api) api.store.current (objects_in api.store) call ≡ validated_over types m.current (standing m) call
+  validated_is =
+      ap (λ ts. validated_over ts api.store.current (objects_in api.store) call) stands.serves
+      ∙ ap (λ (v : View). validated_over types v.current (objects_in v) call) stands.store
+      ∙ ap (λ os. validated_over types m.current os call) (standing_seen types m stands.is_machine)
 
-  pub planned_ok : (p : Plan) → judged_over (types_of api) api.store.current (objects_in api.store) call ≡ Ok p → p ≡ planned types m call
-  planned_ok p e = sym (ap told (sym judged_is ∙ e))
+  pub planned_ok : (p : Plan) → validated_over (types_of api) api.store.current (objects_in api.store) call ≡ Ok p → p ≡ planned types m call
+  planned_ok p e = sym (ap plan_for (sym validated_is ∙ e))
 
-  pub planned_denied : (d : Denial) → judged_over (types_of api) api.store.current (objects_in api.store) call ≡ Err d → refused d ≡ planned types m call
-  planned_denied d e = sym (ap told (sym judged_is ∙ e))
+  pub planned_refused : (d : CallRefusal) → validated_over (types_of api) api.store.current (objects_in api.store) call ≡ Err d → refused d ≡ planned types m call
+  planned_refused d e = sym (ap plan_for (sym validated_is ∙ e))
 
 -- ---- what is planned may come next
 

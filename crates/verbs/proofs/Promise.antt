@@ -33,14 +33,14 @@ use Rattle.verbs.specs.declared.method.Method.TheVariants.{Get, Post, Put, Patch
 use Rattle.verbs.specs.Calls.{Call, Plan}
 use Rattle.verbs.specs.Json.{IsJson, IsJsonBody}
 use Rattle.verbs.specs.Envelope.{Expected, api_version_of, envelope_of, name_in}
-use Rattle.verbs.specs.Judged.{Judged, and_then}
+use Rattle.verbs.specs.Validated.{Validated, and_then}
 use Rattle.verbs.specs.Machine.{IsBodyAt, IsMachine, IsNext, after, identity_of, no_state, state_by, state_of_live, state_said, state_under}
-use Rattle.verbs.specs.Naming.{marks_judged, names_judged, required_name}
-use Rattle.verbs.specs.Options.{options_judged}
-use Rattle.verbs.specs.Parameters.{parameters_judged}
+use Rattle.verbs.specs.Naming.{marks_validated, names_validated, required_name}
+use Rattle.verbs.specs.Options.{options_validated}
+use Rattle.verbs.specs.Parameters.{parameters_validated}
 use Rattle.verbs.specs.Promise.{AppliesKeepOthers, OthersKeepUnchanged, PlansComeNext, StepsKeepMachines, TextsSayStates, UpdatesTakeChanges}
-use Rattle.verbs.specs.Size.{size_judged}
-use Rattle.verbs.specs.Step.{Intent, applied_over, apply_judged, at_path, body_of, collection_judged_by, conflict_denial, Creation, create_judged, created_as, creation_judged, delete_judged, deleted_over, get_judged, intent_of, judged_at, judged_in, judged_over, kept, key_at, not_there, object_judged_by, ownership_judged, planned, printed, revisions_left, shape_judged, stored, stored_over, text_at, there, told, update_judged, updated_by, updated_over, version_checked, version_come}
+use Rattle.verbs.specs.Size.{size_validated}
+use Rattle.verbs.specs.Step.{Intent, applied_over, apply_validated, at_path, body_of, collection_validated_by, conflict_refusal, Creation, create_validated, created_as, creation_validated, delete_validated, deleted_over, get_validated, intent_of, validated_at, validated_in, validated_over, as_it_stands, key_at, not_there, object_validated_by, ownership_validated, planned, printed, revisions_left, shape_validated, stored, stored_over, text_at, there, plan_for, update_validated, updated_by, updated_over, version_checked, version_come}
 use Rattle.verbs.proofs.Changes.{AreTexts, machine_next, standing_next, standing_texts}
 use Rattle.verbs.proofs.Checks.{change_in, held, no_err, ok_is, passed}
 use Rattle.verbs.proofs.Contents.{intended_content}
@@ -67,7 +67,7 @@ module _ (types : List ServedShape) (current : ℕ) (objects : Objects) (t : Ser
 
   stored_writes : (status : ℕ) (s : State) (p : Plan) → IsPlacedState t.shape s → R (state_of_live t (fin.get objects k)) s → stored t current k status s ≡ Ok p → WritesBy types current objects D R p.change
   stored_writes status s p placed keeps e =
-      let sized = passed (size_judged (printed t k (suc current) s)) _ p e in
+      let sized = passed (size_validated (printed t k (suc current) s)) _ p e in
       let left = passed (revisions_left current) _ p sized.2 in
       subst (WritesBy types current objects D R) (ap change_in left.2)
       (refl, next_left current (ltb-true _ _ (held (nat_lt current last_revision) _ _ left.0 left.1)), (t, serves, s, placed, refl, subst (λ x. R x s) (sym under) keeps))
@@ -76,38 +76,38 @@ module _ (types : List ServedShape) (current : ℕ) (objects : Objects) (t : Ser
   over_writes None s p placed keeps e = stored_writes 201 s p placed keeps e
   over_writes (Some o) s p placed keeps e = go (same_state s (state_said t.shape o.body)) e
     where
-      go : (b : Bool) → cond b (Ok (kept o)) (stored t current k 200 s) ≡ Ok p → WritesBy types current objects D R p.change
+      go : (b : Bool) → cond b (Ok (as_it_stands o)) (stored t current k 200 s) ≡ Ok p → WritesBy types current objects D R p.change
       go true f = subst (WritesBy types current objects D R) (ap change_in f) tt
       go false f = stored_writes 200 s p placed keeps f
 
 -- ---- what the parameters say is what is intended
 
-abbrev manager_in : Judged Intent → List ℕ
+abbrev manager_in : Validated Intent → List ℕ
 manager_in (Ok i) = i.manager
 manager_in (Err d) = []
 
-abbrev force_in : Judged Intent → Bool
+abbrev force_in : Validated Intent → Bool
 force_in (Ok i) = i.is_forced
 force_in (Err d) = false
 
 intended : (of : Expected) (how : Asked) (query : List ℕ) (body : Data) (i : Intent) (values : Values) → intent_of of how query body ≡ Ok i
-    → parameters_judged how query ≡ Ok values → (values.manager ≡ i.manager) × (values.is_forced ≡ i.is_forced)
+    → parameters_validated how query ≡ Ok values → (values.manager ≡ i.manager) × (values.is_forced ≡ i.is_forced)
 intended of how query body i values e is =
     let envelope = passed (envelope_of of body) _ i e in
-    let shape = passed (shape_judged (content_of of.served.shape envelope.0.rest)) _ i envelope.2 in
-    let read = passed (parameters_judged how query) _ i shape.2 in
+    let shape = passed (shape_validated (content_of of.served.shape envelope.0.rest)) _ i envelope.2 in
+    let read = passed (parameters_validated how query) _ i shape.2 in
     let same = ok_is values read.0 (sym is ∙ read.1) in
     (ap (λ v. v.manager) same ∙ ap manager_in read.2, ap (λ v. v.is_forced) same ∙ ap force_in read.2)
 
 -- ---- an apply without force
 
 owned_keeps : (api_version : List ℕ) (live : State) (config : Content) (mgr : Manager) (is_forced : Bool) (s : State)
-    → is_forced ≡ false → ownership_judged api_version live config mgr is_forced ≡ Ok s → OthersKeep live s mgr
+    → is_forced ≡ false → ownership_validated api_version live config mgr is_forced ≡ Ok s → OthersKeep live s mgr
 owned_keeps api_version live config mgr true s gentle e = absurd (true≢false gentle)
 owned_keeps api_version live config mgr false s gentle e = go (is_refused (conflicts live config mgr) false) refl e
   where
     go : (b : Bool) → is_refused (conflicts live config mgr) false ≡ b
-        → cond b (Err (conflict_denial api_version (conflicts live config mgr))) (Ok (applied live config mgr)) ≡ Ok s → OthersKeep live s mgr
+        → cond b (Err (conflict_refusal api_version (conflicts live config mgr))) (Ok (applied live config mgr)) ≡ Ok s → OthersKeep live s mgr
     go true is f = no_err _ s f
     go false is f = subst (λ x. OthersKeep live x mgr) (ok_is _ s f) (others_keep live config mgr is)
 
@@ -151,10 +151,10 @@ AsUpdated name old new = OthersKeepUnchanged old new (manager_of name update_ope
 
 -- the applied state is of a content and owners of its paths
 owned_placed : (t : ServedShape) (api_version : List ℕ) (before : State) (config : Content) (mgr : Manager) (is_forced : Bool) (s : State)
-    → IsPlacedState t.shape before → IsContent t.shape config → ownership_judged api_version before config mgr is_forced ≡ Ok s → IsPlacedState t.shape s
+    → IsPlacedState t.shape before → IsContent t.shape config → ownership_validated api_version before config mgr is_forced ≡ Ok s → IsPlacedState t.shape s
 owned_placed t api_version before config mgr is_forced s placed content e = go (is_refused (conflicts before config mgr) is_forced) e
   where
-    go : (b : Bool) → cond b (Err (conflict_denial api_version (conflicts before config mgr))) (Ok (applied before config mgr)) ≡ Ok s → IsPlacedState t.shape s
+    go : (b : Bool) → cond b (Err (conflict_refusal api_version (conflicts before config mgr))) (Ok (applied before config mgr)) ≡ Ok s → IsPlacedState t.shape s
     go true f = no_err _ s f
     go false f = subst (IsPlacedState t.shape) (ok_is _ s f) (applied_placed before config mgr t.shape content placed)
 
@@ -173,22 +173,22 @@ module _ (types : List ServedShape) (current : ℕ) (objects : Objects) (shapes 
     shaped = shapes k.kind t serves
 
     applied_writes : (intent : Intent) (p : Plan) → IsContent t.shape intent.content
-        → ((before s : State) → ownership_judged (api_version_of t) before intent.content (manager_of intent.manager apply_operation) intent.is_forced ≡ Ok s → R before s)
+        → ((before s : State) → ownership_validated (api_version_of t) before intent.content (manager_of intent.manager apply_operation) intent.is_forced ≡ Ok s → R before s)
         → applied_over t current k (fin.get objects k) intent ≡ Ok p → WritesBy types current objects D R p.change
     applied_writes intent p content keeps e =
         let version = passed (version_checked intent.version (fin.get objects k)) _ p e in
         let before = state_of_live t (fin.get objects k) in
-        let owned = passed (ownership_judged (api_version_of t) before intent.content (manager_of intent.manager apply_operation) intent.is_forced) _ p version.2 in
+        let owned = passed (ownership_validated (api_version_of t) before intent.content (manager_of intent.manager apply_operation) intent.is_forced) _ p version.2 in
         over_writes types current objects t k serves D R (fin.get objects k) owned.0 p
         (owned_placed t _ before intent.content _ intent.is_forced owned.0 (live_placed t k serves (fin.get objects k) refl) content owned.1) (keeps before owned.0 owned.1) owned.2
 
     apply_writes : (query : List ℕ) (body : Data) (p : Plan) → IsJson body
         → ((i : Intent) → intent_of (at_path t k Patch) asked.Apply query body ≡ Ok i → (before s : State)
-        → ownership_judged (api_version_of t) before i.content (manager_of i.manager apply_operation) i.is_forced ≡ Ok s → R before s)
-        → apply_judged t current (fin.get objects k) k query body ≡ Ok p → WritesBy types current objects D R p.change
+        → ownership_validated (api_version_of t) before i.content (manager_of i.manager apply_operation) i.is_forced ≡ Ok s → R before s)
+        → apply_validated t current (fin.get objects k) k query body ≡ Ok p → WritesBy types current objects D R p.change
     apply_writes query body p json keeps e =
         let intent = passed (intent_of (at_path t k Patch) asked.Apply query body) _ p e in
-        let named = passed (names_judged k.namespace k.name intent.0.rest) _ p intent.2 in
+        let named = passed (names_validated k.namespace k.name intent.0.rest) _ p intent.2 in
         applied_writes intent.0 p (intended_content (at_path t k Patch) asked.Apply query body intent.0 shaped json intent.1) (keeps intent.0 intent.1) named.2
 
     updated_writes : (intent : Intent) (p : Plan) → IsContent t.shape intent.content → ((before : State) → R before (updated_by intent before))
@@ -203,10 +203,10 @@ module _ (types : List ServedShape) (current : ℕ) (objects : Objects) (shapes 
 
     update_writes : (query : List ℕ) (body : Data) (p : Plan) → IsJson body
         → ((i : Intent) → intent_of (at_path t k Put) asked.Put query body ≡ Ok i → (before : State) → R before (updated_by i before))
-        → update_judged t current (fin.get objects k) k query body ≡ Ok p → WritesBy types current objects D R p.change
+        → update_validated t current (fin.get objects k) k query body ≡ Ok p → WritesBy types current objects D R p.change
     update_writes query body p json keeps e =
         let intent = passed (intent_of (at_path t k Put) asked.Put query body) _ p e in
-        let marks = passed (marks_judged intent.0.rest) _ p intent.2 in
+        let marks = passed (marks_validated intent.0.rest) _ p intent.2 in
         updated_writes intent.0 p (intended_content (at_path t k Put) asked.Put query body intent.0 shaped json intent.1) (keeps intent.0 intent.1) (fin.get objects k) refl marks.2
 
     deleted_writes : D → (version : Option ℕ) (p : Plan) (found : Option Object) → fin.get objects k ≡ found → deleted_over t current k found version ≡ Ok p → WritesBy types current objects D R p.change
@@ -217,15 +217,15 @@ module _ (types : List ServedShape) (current : ℕ) (objects : Objects) (shapes 
         subst (WritesBy types current objects D R) (ap change_in left.2)
         (refl, next_left current (ltb-true _ _ (held (nat_lt current last_revision) _ _ left.0 left.1)), (d, ap is_some is))
 
-    delete_writes : D → (query : List ℕ) (body : Option Data) (p : Plan) → delete_judged t current (fin.get objects k) k query body ≡ Ok p → WritesBy types current objects D R p.change
+    delete_writes : D → (query : List ℕ) (body : Option Data) (p : Plan) → delete_validated t current (fin.get objects k) k query body ≡ Ok p → WritesBy types current objects D R p.change
     delete_writes d query body p e =
-        let version = passed (options_judged body) _ p e in
-        let values = passed (parameters_judged asked.Delete query) _ p version.2 in
+        let version = passed (options_validated body) _ p e in
+        let values = passed (parameters_validated asked.Delete query) _ p version.2 in
         deleted_writes d version.0 p (fin.get objects k) refl values.2
 
-    get_writes : (query : List ℕ) (p : Plan) → get_judged t current (fin.get objects k) k query ≡ Ok p → WritesBy types current objects D R p.change
+    get_writes : (query : List ℕ) (p : Plan) → get_validated t current (fin.get objects k) k query ≡ Ok p → WritesBy types current objects D R p.change
     get_writes query p e =
-        let values = passed (parameters_judged asked.Get query) _ p e in
+        let values = passed (parameters_validated asked.Get query) _ p e in
         let o = passed (there t k.name (fin.get objects k)) _ p values.2 in
         let come = passed (version_come values.0.version current) _ p o.2 in
         subst (WritesBy types current objects D R) (ap change_in come.2) tt
@@ -238,17 +238,17 @@ module _ (types : List ServedShape) (current : ℕ) (objects : Objects) (shapes 
       stored_writes types current objects t k serves (Unit {0}) (λ old new. Unit {0}) 201 (updated_by intent no_state) p (updated_placed no_state intent.content _ t.shape content (nothing_placed t.shape)) tt e
 
   create_writes : (t : ServedShape) (kind : ℕ) → slice_get types kind ≡ Some t → (namespace query : List ℕ) (body : Data) (p : Plan) → IsJson body
-      → create_judged t current objects kind namespace query body ≡ Ok p → WritesBy types current objects (Unit {0}) (λ old new. Unit {0}) p.change
+      → create_validated t current objects kind namespace query body ≡ Ok p → WritesBy types current objects (Unit {0}) (λ old new. Unit {0}) p.change
   create_writes t kind serves namespace query body p json e =
       let of : Expected = record { served = t; namespace = namespace; name = None; method = Post } in
-      let creation = passed (creation_judged t kind namespace query body) _ p e in
+      let creation = passed (creation_validated t kind namespace query body) _ p e in
       let intent = passed (intent_of of asked.Post query body) _ creation.0 creation.1 in
       let name = passed (required_name (name_in body)) _ creation.0 intent.2 in
       let k : Key = record { kind = kind; namespace = namespace; name = name.0 } in
       let made : Creation = record { key = k; intent = intent.0 } in
       let same : made ≡ creation.0 = ok_is made creation.0 name.2 in
       let f = subst (λ (c : Creation). created_as t current (fin.get objects c.key) c.key c.intent ≡ Ok p) (sym same) creation.2 in
-      let named = passed (names_judged k.namespace k.name intent.0.rest) _ p f in
+      let named = passed (names_validated k.namespace k.name intent.0.rest) _ p f in
       created_writes t k serves intent.0 p (intended_content of asked.Post query body intent.0 (shapes kind t serves) json intent.1) (fin.get objects k) refl named.2
 
 -- ---- each call
@@ -258,38 +258,38 @@ body_json None d json e = no_err _ d e
 body_json (Some x) d json e = subst IsJson (ok_is x d e) json
 
 module _ (types : List ServedShape) (current : ℕ) (objects : Objects) (shapes : Shapes types) (texts : AreTexts types objects) (call : Call) (json : IsJsonBody call.body) where
-  abbrev Writes : Judged Plan → Type 0
+  abbrev Writes : Validated Plan → Type 0
   Writes j = (p : Plan) → j ≡ Ok p → WritesBy types current objects (Unit {0}) (λ old new. Unit {0}) p.change
 
-  with_body : (judged : Data → Judged Plan) → ((body : Data) → IsJson body → Writes (judged body)) → Writes (and_then (body_of call.body) judged)
-  with_body judged writes p e =
-      let body = passed (body_of call.body) judged p e in
+  with_body : (validated : Data → Validated Plan) → ((body : Data) → IsJson body → Writes (validated body)) → Writes (and_then (body_of call.body) validated)
+  with_body validated writes p e =
+      let body = passed (body_of call.body) validated p e in
       writes body.0 (body_json call.body body.0 json body.1) p body.2
 
-  object_writes : (w : Method) (t : ServedShape) (k : Key) → slice_get types k.kind ≡ Some t → Writes (object_judged_by w t current (fin.get objects k) k call.query call.body)
+  object_writes : (w : Method) (t : ServedShape) (k : Key) → slice_get types k.kind ≡ Some t → Writes (object_validated_by w t current (fin.get objects k) k call.query call.body)
   object_writes Get t k serves p e = get_writes types current objects shapes texts t k serves (Unit {0}) (λ old new. Unit {0}) call.query p e
   object_writes Post t k serves p e = no_err _ p e
   object_writes Put t k serves p e = with_body _ (λ body read q f. update_writes types current objects shapes texts t k serves (Unit {0}) (λ old new. Unit {0}) call.query body q read (λ i is before. tt) f) p e
   object_writes Patch t k serves p e = with_body _ (λ body read q f. apply_writes types current objects shapes texts t k serves (Unit {0}) (λ old new. Unit {0}) call.query body q read (λ i is before s owned. tt) f) p e
   object_writes Delete t k serves p e = delete_writes types current objects shapes texts t k serves (Unit {0}) (λ old new. Unit {0}) tt call.query call.body p e
 
-  collection_writes : (w : Method) (t : ServedShape) (kind : ℕ) (namespace : List ℕ) → slice_get types kind ≡ Some t → Writes (collection_judged_by w t current objects kind namespace call.query call.body)
+  collection_writes : (w : Method) (t : ServedShape) (kind : ℕ) (namespace : List ℕ) → slice_get types kind ≡ Some t → Writes (collection_validated_by w t current objects kind namespace call.query call.body)
   collection_writes Post t kind namespace serves p e = with_body _ (λ body read q f. create_writes types current objects shapes texts t kind serves namespace call.query body q read f) p e
   collection_writes Get t kind namespace serves p e = no_err _ p e
   collection_writes Put t kind namespace serves p e = no_err _ p e
   collection_writes Patch t kind namespace serves p e = no_err _ p e
   collection_writes Delete t kind namespace serves p e = no_err _ p e
 
-  in_writes : (t : ServedShape) → slice_get types call.target.kind ≡ Some t → (namespace name : Option (List ℕ)) → Writes (judged_in t current objects call namespace name)
+  in_writes : (t : ServedShape) → slice_get types call.target.kind ≡ Some t → (namespace name : Option (List ℕ)) → Writes (validated_in t current objects call namespace name)
   in_writes t serves None name p e = no_err _ p e
   in_writes t serves (Some namespace) None p e = collection_writes call.target.method t call.target.kind namespace serves p e
   in_writes t serves (Some namespace) (Some name) p e = object_writes call.target.method t (key_at call namespace name) serves p e
 
-  at_writes : (found : Option ServedShape) → slice_get types call.target.kind ≡ found → Writes (judged_at found current objects call)
+  at_writes : (found : Option ServedShape) → slice_get types call.target.kind ≡ found → Writes (validated_at found current objects call)
   at_writes None is p e = no_err _ p e
   at_writes (Some t) is p e = in_writes t is call.target.namespace call.target.name p e
 
-  call_writes : (j : Judged Plan) → judged_over types current objects call ≡ j → WritesBy types current objects (Unit {0}) (λ old new. Unit {0}) (told j).change
+  call_writes : (j : Validated Plan) → validated_over types current objects call ≡ j → WritesBy types current objects (Unit {0}) (λ old new. Unit {0}) (plan_for j).change
   call_writes (Err d) e = tt
   call_writes (Ok p) e = at_writes (slice_get types call.target.kind) refl p e
 
@@ -323,7 +323,7 @@ if_next types m D R (Some c) is = comes_next types m D R c is
 pub plans_come_next : PlansComeNext
 plans_come_next types m call is json =
     if_next types m (Unit {0}) (λ old new. Unit {0}) (planned types m call).change
-    (call_writes types m.current (standing m) (shapes_of types is.shapes) (standing_texts types m is) call json (judged_over types m.current (standing m) call) refl)
+    (call_writes types m.current (standing m) (shapes_of types is.shapes) (standing_texts types m is) call json (validated_over types m.current (standing m) call) refl)
 
 pub after_machine : (types : List ServedShape) (m : History) (change : Option Change) → IsMachine types m → IfSome change (IsNext types m) → IsMachine types (after m change)
 after_machine types m None is next = is
@@ -339,26 +339,26 @@ texts_say_states types m k o is there =
 
 -- ---- a call whose method is a write of an object
 
-module _ (types : List ServedShape) (current : ℕ) (objects : Objects) (call : Call) (json : IsJsonBody call.body) (R : State → State → Type 0) (w : Method) (judged : ServedShape → Key → Data → Judged Plan)
+module _ (types : List ServedShape) (current : ℕ) (objects : Objects) (call : Call) (json : IsJsonBody call.body) (R : State → State → Type 0) (w : Method) (validated : ServedShape → Key → Data → Validated Plan)
     (is : call.target.method ≡ w)
-    (alone : (t : ServedShape) (kind : ℕ) (namespace : List ℕ) (p : Plan) → collection_judged_by w t current objects kind namespace call.query call.body ≡ Ok p → ⊥)
-    (object : (t : ServedShape) (k : Key) → object_judged_by w t current (fin.get objects k) k call.query call.body ≡ and_then (body_of call.body) (judged t k))
-    (keeps : (t : ServedShape) (k : Key) → slice_get types k.kind ≡ Some t → (body : Data) (p : Plan) → IsJson body → judged t k body ≡ Ok p → WritesBy types current objects ⊥ R p.change) where
-  in_keeps : (t : ServedShape) → slice_get types call.target.kind ≡ Some t → (namespace name : Option (List ℕ)) (p : Plan) → judged_in t current objects call namespace name ≡ Ok p → WritesBy types current objects ⊥ R p.change
+    (alone : (t : ServedShape) (kind : ℕ) (namespace : List ℕ) (p : Plan) → collection_validated_by w t current objects kind namespace call.query call.body ≡ Ok p → ⊥)
+    (object : (t : ServedShape) (k : Key) → object_validated_by w t current (fin.get objects k) k call.query call.body ≡ and_then (body_of call.body) (validated t k))
+    (keeps : (t : ServedShape) (k : Key) → slice_get types k.kind ≡ Some t → (body : Data) (p : Plan) → IsJson body → validated t k body ≡ Ok p → WritesBy types current objects ⊥ R p.change) where
+  in_keeps : (t : ServedShape) → slice_get types call.target.kind ≡ Some t → (namespace name : Option (List ℕ)) (p : Plan) → validated_in t current objects call namespace name ≡ Ok p → WritesBy types current objects ⊥ R p.change
   in_keeps t serves None name p e = no_err _ p e
   in_keeps t serves (Some namespace) None p e =
-      absurd (alone t call.target.kind namespace p (subst (λ (m : Method). collection_judged_by m t current objects call.target.kind namespace call.query call.body ≡ Ok p) is e))
+      absurd (alone t call.target.kind namespace p (subst (λ (m : Method). collection_validated_by m t current objects call.target.kind namespace call.query call.body ≡ Ok p) is e))
   in_keeps t serves (Some namespace) (Some name) p e =
       let k = key_at call namespace name in
-      let served = sym (object t k) ∙ subst (λ (m : Method). object_judged_by m t current (fin.get objects k) k call.query call.body ≡ Ok p) is e in
-      let body = passed (body_of call.body) (judged t k) p served in
+      let served = sym (object t k) ∙ subst (λ (m : Method). object_validated_by m t current (fin.get objects k) k call.query call.body ≡ Ok p) is e in
+      let body = passed (body_of call.body) (validated t k) p served in
       keeps t k serves body.0 p (body_json call.body body.0 json body.1) body.2
 
-  at_keeps : (found : Option ServedShape) → slice_get types call.target.kind ≡ found → (p : Plan) → judged_at found current objects call ≡ Ok p → WritesBy types current objects ⊥ R p.change
+  at_keeps : (found : Option ServedShape) → slice_get types call.target.kind ≡ found → (p : Plan) → validated_at found current objects call ≡ Ok p → WritesBy types current objects ⊥ R p.change
   at_keeps None serves p e = no_err _ p e
   at_keeps (Some t) serves p e = in_keeps t serves call.target.namespace call.target.name p e
 
-  plan_keeps : (j : Judged Plan) → judged_over types current objects call ≡ j → WritesBy types current objects ⊥ R (told j).change
+  plan_keeps : (j : Validated Plan) → validated_over types current objects call ≡ j → WritesBy types current objects ⊥ R (plan_for j).change
   plan_keeps (Err d) e = tt
   plan_keeps (Ok p) e = at_keeps (slice_get types call.target.kind) refl p e
 
@@ -398,26 +398,26 @@ pub applies_keep_others : AppliesKeepOthers
 applies_keep_others types m call values is json patch read gentle =
     let R = AsApplied values.manager in
     let texts = standing_texts types m is in
-    after_keeps types m is R (λ s k p apart owns. (refl, owns)) (told (judged_over types m.current (standing m) call)).change
-    (plan_keeps types m.current (standing m) call json R Patch (λ t k. apply_judged t m.current (fin.get (standing m) k) k call.query) patch
+    after_keeps types m is R (λ s k p apart owns. (refl, owns)) (plan_for (validated_over types m.current (standing m) call)).change
+    (plan_keeps types m.current (standing m) call json R Patch (λ t k. apply_validated t m.current (fin.get (standing m) k) k call.query) patch
     (λ t kind namespace p e. no_err _ p e) (λ t k. refl)
     (λ t k serves body p spelled e. apply_writes types m.current (standing m) (shapes_of types is.shapes) texts t k serves ⊥ R call.query body p spelled
     (λ i intends before s owned.
     let said = intended (at_path t k Patch) asked.Apply call.query body i values intends read in
     subst (λ w. AsApplied w before s) (sym said.0)
     (owned_keeps _ before i.content (manager_of i.manager apply_operation) i.is_forced s (sym said.1 ∙ gentle) owned)) e)
-    (judged_over types m.current (standing m) call) refl)
+    (validated_over types m.current (standing m) call) refl)
 
 pub updates_take_changes : UpdatesTakeChanges
 updates_take_changes types m call values is json put read =
     let R = AsUpdated values.manager in
     let texts = standing_texts types m is in
-    after_keeps types m is R (λ s k p apart owns same. owns) (told (judged_over types m.current (standing m) call)).change
-    (plan_keeps types m.current (standing m) call json R Put (λ t k. update_judged t m.current (fin.get (standing m) k) k call.query) put
+    after_keeps types m is R (λ s k p apart owns same. owns) (plan_for (validated_over types m.current (standing m) call)).change
+    (plan_keeps types m.current (standing m) call json R Put (λ t k. update_validated t m.current (fin.get (standing m) k) k call.query) put
     (λ t kind namespace p e. no_err _ p e) (λ t k. refl)
     (λ t k serves body p spelled e. update_writes types m.current (standing m) (shapes_of types is.shapes) texts t k serves ⊥ R call.query body p spelled
     (λ i intends before.
     let said = intended (at_path t k Put) asked.Put call.query body i values intends read in
     subst (λ w. AsUpdated w before (updated_by i before)) (sym said.0)
     (updated_keeps before i.content (manager_of i.manager update_operation))) e)
-    (judged_over types m.current (standing m) call) refl)
+    (validated_over types m.current (standing m) call) refl)

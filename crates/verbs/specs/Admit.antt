@@ -21,7 +21,7 @@ use Rattle.verbs.specs.declared.resource.Resource.{Resource}
 use Rattle.verbs.specs.declared.resource.Resource.TheVariants.{Collection, Object}
 use Rattle.verbs.specs.Calls.{Target, Denied}
 
--- ---- methods (RFC 9110, section 9.1: they are told by their bytes)
+-- ---- methods (RFC 9110, section 9.1: they are known by their bytes)
 
 abbrev pub method_named : List ℕ → Option Method
 method_named s =
@@ -139,35 +139,35 @@ is_apply None = false
 is_apply (Some field) = str_eq_ignore_ascii_case (media_type field) apply_type
 
 -- whether a body of this media type is taken; a GET has none
-abbrev pub takes : Method → Option (List ℕ) → Bool
-takes Get field = true
-takes Post field = is_json field
-takes Put field = is_json field
-takes Patch field = is_apply field
-takes Delete field = is_json field
+abbrev pub accepts_media : Method → Option (List ℕ) → Bool
+accepts_media Get field = true
+accepts_media Post field = is_json field
+accepts_media Put field = is_json field
+accepts_media Patch field = is_apply field
+accepts_media Delete field = is_json field
 
 -- ---- the three in turn
 
-abbrev pub denied_by : Reason → List ℕ → Option (List ℕ) → Result Target Denied
-denied_by r message allow = Err (record { reason = r; message = message; allow = allow })
+abbrev pub not_admitted : Reason → List ℕ → Option (List ℕ) → Result Target Denied
+not_admitted r message allow = Err (record { reason = r; message = message; allow = allow })
 
 abbrev pub target_at : Place → Method → Target
 target_at place method = record { kind = place.kind; namespace = place.namespace; name = place.name; method = method }
 
 abbrev pub media_admitted : Place → Method → Option (List ℕ) → Result Target Denied
 media_admitted place method media =
-    if takes method media then Ok (target_at place method) else denied_by UnsupportedMediaType (codes "media type not served") None
+    if accepts_media method media then Ok (target_at place method) else not_admitted UnsupportedMediaType (codes "media type not served") None
 
 abbrev pub method_served : Resource → Option Method → Option Method
 method_served r None = None
 method_served r (Some m) = if serves r m then Some m else None
 
 abbrev pub method_admitted : Place → Option Method → Option (List ℕ) → Result Target Denied
-method_admitted place None media = denied_by MethodNotAllowed (codes "method not served here") (Some (allowed place.resource))
+method_admitted place None media = not_admitted MethodNotAllowed (codes "method not served here") (Some (allowed place.resource))
 method_admitted place (Some m) media = media_admitted place m media
 
 abbrev pub place_admitted : Option Place → List ℕ → Option (List ℕ) → Result Target Denied
-place_admitted None method media = denied_by NotFound (codes "no such path") None
+place_admitted None method media = not_admitted NotFound (codes "no such path") None
 place_admitted (Some place) method media = method_admitted place (method_served place.resource (method_named method)) media
 
 -- what a request asks, by its method, its path and its `Content-Type`, or why it is refused

@@ -1,4 +1,4 @@
--- What stands round an object's fields (Kubernetes API conventions, "Types (Kinds)", "Metadata"; ObjectMeta v1), judged in this order:
+-- What stands round an object's fields (Kubernetes API conventions, "Types (Kinds)", "Metadata"; ObjectMeta v1), validated in this order:
 -- the body is an object, `apiVersion` and `kind`, `metadata`, `name`, `namespace`, `resourceVersion`, `managedFields`.
 use Rattle.std.specs.Prelude.{ℕ, Bool, true, false, ◌&&◌, List, [], ◌∷◌, ◌++◌, Option, Some, None, option_and_then, if◌then◌else◌, codes}
 use Rattle.std.specs.declared.result.Result.TheVariants.{Ok}
@@ -11,7 +11,7 @@ use Rattle.schema.specs.TypesFile.{ServedShape}
 use Rattle.verbs.specs.declared.method.Method.{Method}
 use Rattle.verbs.specs.declared.method.Method.TheVariants.{Get, Post, Put, Patch, Delete}
 use Rattle.verbs.specs.declared.reason.Reason.TheVariants.{BadRequest}
-use Rattle.verbs.specs.Judged.{Judged, and_then, denied, unless}
+use Rattle.verbs.specs.Validated.{Validated, and_then, refused_for, require}
 
 -- what a body has to name, and what it is sent by; without a name the body gives its object's
 pub record Expected : Type 0 where
@@ -29,11 +29,11 @@ pub record Envelope : Type 0 where
 abbrev pub api_version_of : ServedShape → List ℕ
 api_version_of t = t.group ++ codes "/" ++ t.version
 
-abbrev pub wrong_type : {X : Type 0} → List ℕ → Judged X
-wrong_type path = denied BadRequest (path ++ codes ": wrong type")
+abbrev pub wrong_type : {X : Type 0} → List ℕ → Validated X
+wrong_type path = refused_for BadRequest (path ++ codes ": wrong type")
 
-abbrev pub not_an_object : {X : Type 0} → List ℕ → Judged X
-not_an_object path = denied BadRequest (path ++ codes ": not an object")
+abbrev pub not_an_object : {X : Type 0} → List ℕ → Validated X
+not_an_object path = refused_for BadRequest (path ++ codes ": not an object")
 
 -- ---- texts
 
@@ -42,7 +42,7 @@ if_filled [] = None
 if_filled (b ∷ bs) = Some (b ∷ bs)
 
 -- the text that a value is; null and the empty text are none
-abbrev pub text_of : List ℕ → Data → Judged (Option (List ℕ))
+abbrev pub text_of : List ℕ → Data → Validated (Option (List ℕ))
 text_of path null = Ok None
 text_of path (string s) = Ok (if_filled s)
 text_of path (boolean b) = wrong_type path
@@ -51,7 +51,7 @@ text_of path (array ds) = wrong_type path
 text_of path (object ms) = wrong_type path
 
 -- the text of a member, none where it is absent
-abbrev pub text_in : List ℕ → Option Data → Judged (Option (List ℕ))
+abbrev pub text_in : List ℕ → Option Data → Validated (Option (List ℕ))
 text_in path None = Ok None
 text_in path (Some d) = text_of path d
 
@@ -72,14 +72,14 @@ is_text_or_none (Some t) s = bytes_eq t s
 abbrev pub kind_message : List ℕ → List ℕ → List ℕ
 kind_message api_version kind = codes "apiVersion and kind must be " ++ api_version ++ codes " and " ++ kind
 
-abbrev pub kind_judged : ServedShape → Members → Judged (Unit {0})
-kind_judged t top =
+abbrev pub kind_validated : ServedShape → Members → Validated (Unit {0})
+kind_validated t top =
     and_then (text_in (codes ".apiVersion") (get_member (codes "apiVersion") top)) (λ v.
     and_then (text_in (codes ".kind") (get_member (codes "kind") top)) (λ k.
-    unless (is_text v (api_version_of t) && is_text k t.kind) BadRequest (kind_message (api_version_of t) t.kind)))
+    require (is_text v (api_version_of t) && is_text k t.kind) BadRequest (kind_message (api_version_of t) t.kind)))
 
 -- `metadata`, if it is there
-abbrev pub metadata_in : Option Data → Judged (Option Members)
+abbrev pub metadata_in : Option Data → Validated (Option Members)
 metadata_in None = Ok None
 metadata_in (Some null) = Ok None
 metadata_in (Some (object ms)) = Ok (Some ms)
@@ -92,27 +92,27 @@ abbrev pub must_be : List ℕ → List ℕ → List ℕ
 must_be k wanted = codes "metadata." ++ k ++ codes " must be " ++ wanted
 
 -- what is given is that of the path, where the path has one
-abbrev pub wanted_judged : List ℕ → Option (List ℕ) → Option (List ℕ) → Judged (Unit {0})
-wanted_judged k None given = Ok tt
-wanted_judged k (Some wanted) given = unless (is_text_or_none given wanted) BadRequest (must_be k wanted)
+abbrev pub wanted_validated : List ℕ → Option (List ℕ) → Option (List ℕ) → Validated (Unit {0})
+wanted_validated k None given = Ok tt
+wanted_validated k (Some wanted) given = require (is_text_or_none given wanted) BadRequest (must_be k wanted)
 
-abbrev pub given_judged : List ℕ → Option (List ℕ) → Option Members → Judged (Unit {0})
-given_judged k wanted metadata = and_then (text_in (codes ".metadata." ++ k) (member_of k metadata)) (wanted_judged k wanted)
+abbrev pub given_validated : List ℕ → Option (List ℕ) → Option Members → Validated (Unit {0})
+given_validated k wanted metadata = and_then (text_in (codes ".metadata." ++ k) (member_of k metadata)) (wanted_validated k wanted)
 
-abbrev pub version_or_fault : Option ℕ → Judged (Option ℕ)
-version_or_fault None = denied BadRequest (codes "metadata.resourceVersion: bad version")
+abbrev pub version_or_fault : Option ℕ → Validated (Option ℕ)
+version_or_fault None = refused_for BadRequest (codes "metadata.resourceVersion: bad version")
 version_or_fault (Some v) = Ok (Some v)
 
-abbrev pub version_read : Option (List ℕ) → Judged (Option ℕ)
+abbrev pub version_read : Option (List ℕ) → Validated (Option ℕ)
 version_read None = Ok None
 version_read (Some s) = version_or_fault (version_of s)
 
-abbrev pub version_judged : Option Members → Judged (Option ℕ)
-version_judged metadata = and_then (text_in (codes ".metadata.resourceVersion") (member_of (codes "resourceVersion") metadata)) version_read
+abbrev pub version_validated : Option Members → Validated (Option ℕ)
+version_validated metadata = and_then (text_in (codes ".metadata.resourceVersion") (member_of (codes "resourceVersion") metadata)) version_read
 
 -- a creation is of no version
-abbrev pub version_allowed : Method → Option ℕ → Judged (Unit {0})
-version_allowed Post (Some v) = denied BadRequest (codes "metadata.resourceVersion must not be set")
+abbrev pub version_allowed : Method → Option ℕ → Validated (Unit {0})
+version_allowed Post (Some v) = refused_for BadRequest (codes "metadata.resourceVersion must not be set")
 version_allowed Post None = Ok tt
 version_allowed Get given = Ok tt
 version_allowed Put given = Ok tt
@@ -120,22 +120,22 @@ version_allowed Patch given = Ok tt
 version_allowed Delete given = Ok tt
 
 -- an apply doesn't say who owns what (Server-Side Apply, "Managers")
-abbrev pub entries_judged : Items → Judged (Unit {0})
-entries_judged no_items = Ok tt
-entries_judged (item d ds) = denied BadRequest (codes "metadata.managedFields must be empty")
+abbrev pub entries_validated : Items → Validated (Unit {0})
+entries_validated no_items = Ok tt
+entries_validated (item d ds) = refused_for BadRequest (codes "metadata.managedFields must be empty")
 
-abbrev pub managers_judged : Option Data → Judged (Unit {0})
-managers_judged None = Ok tt
-managers_judged (Some null) = Ok tt
-managers_judged (Some (array ds)) = entries_judged ds
-managers_judged (Some (boolean b)) = wrong_type (codes ".metadata.managedFields")
-managers_judged (Some (number n)) = wrong_type (codes ".metadata.managedFields")
-managers_judged (Some (string s)) = wrong_type (codes ".metadata.managedFields")
-managers_judged (Some (object ms)) = wrong_type (codes ".metadata.managedFields")
+abbrev pub managers_validated : Option Data → Validated (Unit {0})
+managers_validated None = Ok tt
+managers_validated (Some null) = Ok tt
+managers_validated (Some (array ds)) = entries_validated ds
+managers_validated (Some (boolean b)) = wrong_type (codes ".metadata.managedFields")
+managers_validated (Some (number n)) = wrong_type (codes ".metadata.managedFields")
+managers_validated (Some (string s)) = wrong_type (codes ".metadata.managedFields")
+managers_validated (Some (object ms)) = wrong_type (codes ".metadata.managedFields")
 
 -- what any other write says of it is ignored
-abbrev pub managers_by : Method → Option Data → Judged (Unit {0})
-managers_by Patch given = managers_judged given
+abbrev pub managers_by : Method → Option Data → Validated (Unit {0})
+managers_by Patch given = managers_validated given
 managers_by Get given = Ok tt
 managers_by Post given = Ok tt
 managers_by Put given = Ok tt
@@ -167,25 +167,25 @@ put_metadata (Some ms) rest = put (codes "metadata") (object (members_but metada
 abbrev pub rest_of : Members → Option Members → Data
 rest_of top metadata = object (put_metadata metadata (members_but top_names top))
 
-abbrev pub metadata_judged : Expected → Members → Option Members → Judged Envelope
-metadata_judged of top metadata =
-    and_then (given_judged (codes "name") of.name metadata) (λ u.
-    and_then (given_judged (codes "namespace") (Some of.namespace) metadata) (λ u.
-    and_then (version_judged metadata) (λ version.
+abbrev pub metadata_validated : Expected → Members → Option Members → Validated Envelope
+metadata_validated of top metadata =
+    and_then (given_validated (codes "name") of.name metadata) (λ u.
+    and_then (given_validated (codes "namespace") (Some of.namespace) metadata) (λ u.
+    and_then (version_validated metadata) (λ version.
     and_then (version_allowed of.method version) (λ u.
     and_then (managers_by of.method (member_of (codes "managedFields") metadata)) (λ u.
     Ok (record { version = version; rest = rest_of top metadata }))))))
 
-abbrev pub object_judged : Expected → Option Members → Judged Envelope
-object_judged of None = not_an_object (codes ".")
-object_judged of (Some top) =
-    and_then (kind_judged of.served top) (λ u.
+abbrev pub object_validated : Expected → Option Members → Validated Envelope
+object_validated of None = not_an_object (codes ".")
+object_validated of (Some top) =
+    and_then (kind_validated of.served top) (λ u.
     and_then (metadata_in (get_member (codes "metadata") top)) (λ metadata.
-    metadata_judged of top metadata))
+    metadata_validated of top metadata))
 
 -- the envelope of a write's body, or its first fault
-abbrev pub envelope_of : Expected → Data → Judged Envelope
-envelope_of of body = object_judged of (as_object body)
+abbrev pub envelope_of : Expected → Data → Validated Envelope
+envelope_of of body = object_validated of (as_object body)
 
 -- ---- the name that a body gives
 

@@ -1,6 +1,6 @@
 pub mod Reasons
 pub mod Status
-pub mod Judged
+pub mod Validated
 pub mod Faults
 pub mod Json
 pub mod Machine

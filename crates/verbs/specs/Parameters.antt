@@ -10,15 +10,15 @@ use Rattle.params.specs.Query.{pairs_in}
 use Rattle.params.specs.Reading.{params_of}
 use Rattle.params.specs.Values.{Values}
 use Rattle.verbs.specs.declared.reason.Reason.TheVariants.{BadRequest, Invalid}
-use Rattle.verbs.specs.Status.{Denial}
-use Rattle.verbs.specs.Judged.{Judged, denial}
+use Rattle.verbs.specs.Status.{CallRefusal}
+use Rattle.verbs.specs.Validated.{Validated, call_refusal}
 
-abbrev pub named_bad : Parameter → Denial
-named_bad p = denial BadRequest (codes "bad parameter: " ++ name_of p)
+abbrev pub named_bad : Parameter → CallRefusal
+named_bad p = call_refusal BadRequest (codes "bad parameter: " ++ name_of p)
 
 -- a manager's name has a refusal of its own
-abbrev pub bad_parameter : Parameter → Denial
-bad_parameter FieldManager = denial Invalid (codes "fieldManager: 1 to 128 printable characters")
+abbrev pub bad_parameter : Parameter → CallRefusal
+bad_parameter FieldManager = call_refusal Invalid (codes "fieldManager: 1 to 128 printable characters")
 bad_parameter AllowWatchBookmarks = named_bad AllowWatchBookmarks
 bad_parameter Continue = named_bad Continue
 bad_parameter DryRun = named_bad DryRun
@@ -33,9 +33,9 @@ bad_parameter SendInitialEvents = named_bad SendInitialEvents
 bad_parameter TimeoutSeconds = named_bad TimeoutSeconds
 bad_parameter Watch = named_bad Watch
 
-abbrev pub read_or_denied : Result Values Parameter → Judged Values
-read_or_denied (Ok values) = Ok values
-read_or_denied (Err p) = Err (bad_parameter p)
+abbrev pub read_or_refused : Result Values Parameter → Validated Values
+read_or_refused (Ok values) = Ok values
+read_or_refused (Err p) = Err (bad_parameter p)
 
-abbrev pub parameters_judged : Asked → List ℕ → Judged Values
-parameters_judged asked query = read_or_denied (params_of asked (pairs_in query))
+abbrev pub parameters_validated : Asked → List ℕ → Validated Values
+parameters_validated asked query = read_or_refused (params_of asked (pairs_in query))

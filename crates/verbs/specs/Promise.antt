@@ -17,7 +17,7 @@ use Rattle.verbs.specs.declared.method.Method.TheVariants.{Patch, Put}
 use Rattle.verbs.specs.Calls.{Call}
 use Rattle.verbs.specs.Json.{IsJsonBody}
 use Rattle.verbs.specs.Machine.{AreObjectTypes, IsMachine, IsNext, IsTextAt, state_under}
-use Rattle.verbs.specs.Parameters.{parameters_judged}
+use Rattle.verbs.specs.Parameters.{parameters_validated}
 use Rattle.verbs.specs.Step.{planned, planned_in, step, steps}
 
 -- what a call plans may come next, so the machine is one after each call whose body is a value that a JSON text spells
@@ -52,7 +52,7 @@ TextsSayStates =
 abbrev pub AppliesKeepOthers : Type 0
 AppliesKeepOthers =
     (types : List ServedShape) (m : History) (call : Call) (values : Values) → IsMachine types m → IsJsonBody call.body
-    → call.target.method ≡ Patch → parameters_judged asked.Apply call.query ≡ Ok values → values.is_forced ≡ false
+    → call.target.method ≡ Patch → parameters_validated asked.Apply call.query ≡ Ok values → values.is_forced ≡ false
     → (k : Key) → OthersKeep (state_under types (standing m) k) (state_under types (standing (step types m call).1) k) (manager_of values.manager apply_operation)
 
 -- each path that another manager owned, and that has the value that it had, is still owned by that manager
@@ -63,5 +63,5 @@ OthersKeepUnchanged old new m = (k : Manager) (p : PathTexts) → ¬ (k ≡ m) �
 abbrev pub UpdatesTakeChanges : Type 0
 UpdatesTakeChanges =
     (types : List ServedShape) (m : History) (call : Call) (values : Values) → IsMachine types m → IsJsonBody call.body
-    → call.target.method ≡ Put → parameters_judged asked.Put call.query ≡ Ok values
+    → call.target.method ≡ Put → parameters_validated asked.Put call.query ≡ Ok values
     → (k : Key) → OthersKeepUnchanged (state_under types (standing m) k) (state_under types (standing (step types m call).1) k) (manager_of values.manager update_operation)

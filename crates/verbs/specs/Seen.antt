@@ -15,9 +15,9 @@ use Rattle.revtable.specs.declared.row.Object.{Object as TheObject}
 use Rattle.verbs.specs.declared.admitting.Denied.{Denied as TheDenied}
 use Rattle.verbs.specs.declared.admitting.Refusal.{Refusal}
 use Rattle.verbs.specs.declared.admitting.Refusal.TheVariants as refusal
-use Rattle.verbs.specs.declared.denial.Denial.{Denial as TheDenial}
-use Rattle.verbs.specs.declared.fault.Stop.{Stop}
-use Rattle.verbs.specs.declared.fault.Stop.TheVariants as stop
+use Rattle.verbs.specs.declared.call_refusal.CallRefusal.{CallRefusal as TheCallRefusal}
+use Rattle.verbs.specs.declared.fault.CallError.{CallError}
+use Rattle.verbs.specs.declared.fault.CallError.TheVariants as call_error
 use Rattle.verbs.specs.declared.api.Api.{Api}
 use Rattle.verbs.specs.declared.envelope.Expected.{Expected as TheExpected}
 use Rattle.verbs.specs.declared.envelope.Envelope.{Envelope as TheEnvelope}
@@ -29,8 +29,8 @@ use Rattle.verbs.specs.Step.{Creation, Intent}
 use Rattle.verbs.specs.Admit.{Parts, Place}
 use Rattle.matchit.specs.Params.{walk}
 use Rattle.matchit.specs.declared.params.Params.{Params}
-use Rattle.verbs.specs.Status.{Denial}
-use Rattle.verbs.specs.Judged.{Judged, denial}
+use Rattle.verbs.specs.Status.{CallRefusal}
+use Rattle.verbs.specs.Validated.{Validated, call_refusal}
 use Rattle.verbs.specs.declared.reason.Reason.{Reason}
 use Rattle.history.specs.History.{Change, Object, Objects, History}
 use Rattle.history.specs.Read.{key_of}
@@ -62,29 +62,29 @@ plan_of p = record { answer = answer_of p.answer; change = option_map change_of 
 
 -- ---- refusals
 
-abbrev pub denial_of : TheDenial → Denial
-denial_of d = record { reason = d.reason; message = string_bytes d.message; causes = items_view d.causes.items }
+abbrev pub call_refusal_of : TheCallRefusal → CallRefusal
+call_refusal_of d = record { reason = d.reason; message = string_bytes d.message; causes = items_view d.causes.items }
 
-abbrev pub Refuses : Stop → Denial → Type 0
-Refuses stop.Memory d = Unit {0}
-Refuses stop.Store d = Unit {0}
-Refuses stop.Unreadable d = Unit {0}
-Refuses (stop.Denied e) d = denial_of e ≡ d
+abbrev pub Refuses : CallError → CallRefusal → Type 0
+Refuses call_error.Memory d = Unit {0}
+Refuses call_error.Store d = Unit {0}
+Refuses call_error.Unreadable d = Unit {0}
+Refuses (call_error.Refused e) d = call_refusal_of e ≡ d
 
 -- the refusal is of this reason and message, without causes, unless it is none but a fault
-abbrev pub Denies : Stop → Reason → List ℕ → Type 0
-Denies e r message = Refuses e (denial r message)
+abbrev pub RefusesFor : CallError → Reason → List ℕ → Type 0
+RefusesFor e r message = Refuses e (call_refusal r message)
 
--- what a check answered, seen by see, is what is judged, unless a fault stands in its place
-abbrev pub Fails : {Y : Type 0} → Stop → Judged Y → Type 0
-Fails stop.Memory judged = Unit {0}
-Fails stop.Store judged = Unit {0}
-Fails stop.Unreadable judged = Unit {0}
-Fails (stop.Denied d) judged = judged ≡ Err (denial_of d)
+-- what a check answered, seen by see, is what is validated, unless a fault stands in its place
+abbrev pub Fails : {Y : Type 0} → CallError → Validated Y → Type 0
+Fails call_error.Memory validated = Unit {0}
+Fails call_error.Store validated = Unit {0}
+Fails call_error.Unreadable validated = Unit {0}
+Fails (call_error.Refused d) validated = validated ≡ Err (call_refusal_of d)
 
-abbrev pub Gives : {X Y : Type 0} → (X → Y) → Result X Stop → Judged Y → Type 0
-Gives see (Ok x) judged = judged ≡ Ok (see x)
-Gives see (Err e) judged = Fails e judged
+abbrev pub Gives : {X Y : Type 0} → (X → Y) → Result X CallError → Validated Y → Type 0
+Gives see (Ok x) validated = validated ≡ Ok (see x)
+Gives see (Err e) validated = Fails e validated
 
 abbrev pub denied_of : TheDenied → Denied
 denied_of d = record { reason = d.reason; message = d.message.now; allow = option_map (λ s. s.now) d.allow }

@@ -23,10 +23,10 @@ with_causes no_items ms = ms
 with_causes (item c cs) ms = put_causes (item c cs) ms
 
 -- why a call is refused: the causes are those of an ownership conflict
-pub record Denial : Type 0 where
+pub record CallRefusal : Type 0 where
   pub reason : Reason
   pub message : List ℕ
   pub causes : Items
 
-abbrev pub denial_value : Denial → Data
-denial_value d = object (with_causes d.causes (status_members d.reason d.message))
+abbrev pub call_refusal_value : CallRefusal → Data
+call_refusal_value d = object (with_causes d.causes (status_members d.reason d.message))

@@ -27,15 +27,15 @@ use Rattle.verbs.specs.declared.reason.Reason.{Reason}
 use Rattle.verbs.specs.declared.reason.Reason.TheVariants.{BadRequest, NotFound, MethodNotAllowed, AlreadyExists, Invalid, ServiceUnavailable, Timeout}
 use Rattle.verbs.specs.declared.reason.Reason.TheVariants as reason
 use Rattle.verbs.specs.Reasons.{code_of}
-use Rattle.verbs.specs.Status.{Denial, denial_value}
-use Rattle.verbs.specs.Judged.{Judged, and_then, denied, unless}
+use Rattle.verbs.specs.Status.{CallRefusal, call_refusal_value}
+use Rattle.verbs.specs.Validated.{Validated, and_then, refused_for, require}
 use Rattle.verbs.specs.Machine.{after, identity_of, no_state, state_of_live, state_said}
 use Rattle.verbs.specs.Calls.{Call, Answer, Plan}
 use Rattle.verbs.specs.Envelope.{Expected, api_version_of, envelope_of, name_in}
-use Rattle.verbs.specs.Parameters.{parameters_judged}
-use Rattle.verbs.specs.Naming.{marks_judged, names_judged, required_name}
-use Rattle.verbs.specs.Options.{options_judged}
-use Rattle.verbs.specs.Size.{size_judged}
+use Rattle.verbs.specs.Parameters.{parameters_validated}
+use Rattle.verbs.specs.Naming.{marks_validated, names_validated, required_name}
+use Rattle.verbs.specs.Options.{options_validated}
+use Rattle.verbs.specs.Size.{size_validated}
 
 -- ---- shape
 
@@ -47,9 +47,9 @@ fault_reason DuplicateItem = Invalid
 fault_reason KeyFieldMissing = Invalid
 
 -- a fault in the shape, with its path
-abbrev pub shape_judged : Read Content → Judged Content
-shape_judged (Ok c) = Ok c
-shape_judged (Err e) = denied (fault_reason e.0) (e.1 ++ codes ": " ++ cause_text e.0)
+abbrev pub shape_validated : Read Content → Validated Content
+shape_validated (Ok c) = Ok c
+shape_validated (Err e) = refused_for (fault_reason e.0) (e.1 ++ codes ": " ++ cause_text e.0)
 
 -- ---- the object
 
@@ -69,10 +69,10 @@ abbrev pub other_version_message : ℕ → ℕ → List ℕ
 other_version_message given stored = codes "version " ++ decimal given ++ codes " is not the stored one, " ++ decimal stored
 
 -- the version that a body names is that of the object that stands
-abbrev pub version_checked : Option ℕ → Option Object → Judged (Unit {0})
+abbrev pub version_checked : Option ℕ → Option Object → Validated (Unit {0})
 version_checked None live = Ok tt
-version_checked (Some given) None = denied reason.Conflict (no_object_message given)
-version_checked (Some given) (Some o) = unless (given == o.revision) reason.Conflict (other_version_message given o.revision)
+version_checked (Some given) None = refused_for reason.Conflict (no_object_message given)
+version_checked (Some given) (Some o) = require (given == o.revision) reason.Conflict (other_version_message given o.revision)
 
 -- ---- ownership (Server-Side Apply, "Conflicts")
 
@@ -91,16 +91,16 @@ causes_of api_version (c ∷ cs) = item (cause_of api_version c) (causes_of api_
 abbrev pub count_message : ℕ → List ℕ
 count_message n = codes "Apply failed with " ++ decimal n ++ codes " conflict(s)"
 
-abbrev pub conflict_denial : List ℕ → List Conflict → Denial
-conflict_denial api_version cs = record {
+abbrev pub conflict_refusal : List ℕ → List Conflict → CallRefusal
+conflict_refusal api_version cs = record {
   reason = reason.Conflict;
   message = count_message (length cs);
   causes = causes_of api_version cs;
 }
 
-abbrev pub ownership_judged : List ℕ → State → Content → Manager → Bool → Judged State
-ownership_judged api_version live config m is_forced =
-    if is_refused (conflicts live config m) is_forced then Err (conflict_denial api_version (conflicts live config m)) else Ok (applied live config m)
+abbrev pub ownership_validated : List ℕ → State → Content → Manager → Bool → Validated State
+ownership_validated api_version live config m is_forced =
+    if is_refused (conflicts live config m) is_forced then Err (conflict_refusal api_version (conflicts live config m)) else Ok (applied live config m)
 
 -- ---- what a write intends
 
@@ -113,11 +113,11 @@ pub record Intent : Type 0 where
   pub rest : Data
 
 -- envelope, shape, parameters
-abbrev pub intent_of : Expected → Asked → List ℕ → Data → Judged Intent
+abbrev pub intent_of : Expected → Asked → List ℕ → Data → Validated Intent
 intent_of of asked query body =
     and_then (envelope_of of body) (λ e.
-    and_then (shape_judged (content_of of.served.shape e.rest)) (λ content.
-    and_then (parameters_judged asked query) (λ values.
+    and_then (shape_validated (content_of of.served.shape e.rest)) (λ content.
+    and_then (parameters_validated asked query) (λ values.
     Ok (record { version = e.version; content = content; manager = values.manager; is_forced = values.is_forced; rest = e.rest }))))
 
 -- a write to the path of an object names that object
@@ -126,13 +126,13 @@ at_path t k method = record { served = t; namespace = k.namespace; name = Some k
 
 -- ---- what is stored
 
-abbrev pub revisions_left : ℕ → Judged (Unit {0})
-revisions_left current = unless (nat_lt current last_revision) ServiceUnavailable (codes "revisions are used up")
+abbrev pub revisions_left : ℕ → Validated (Unit {0})
+revisions_left current = require (nat_lt current last_revision) ServiceUnavailable (codes "revisions are used up")
 
 -- the object of this value, unless it is too large or revisions are used up
-abbrev pub stored_as : Data → ℕ → Key → ℕ → Judged Plan
+abbrev pub stored_as : Data → ℕ → Key → ℕ → Validated Plan
 stored_as body current k status =
-    and_then (size_judged body) (λ u.
+    and_then (size_validated body) (λ u.
     and_then (revisions_left current) (λ u.
     Ok (record {
       answer = record { status = status; body = compact_text body };
@@ -140,31 +140,31 @@ stored_as body current k status =
     })))
 
 -- the object with the next revision
-abbrev pub stored : ServedShape → ℕ → Key → ℕ → State → Judged Plan
+abbrev pub stored : ServedShape → ℕ → Key → ℕ → State → Validated Plan
 stored t current k status s = stored_as (printed t k (suc current) s) current k status
 
 -- the object as it stands
-abbrev pub kept : Object → Plan
-kept o = record { answer = record { status = 200; body = o.body }; change = None }
+abbrev pub as_it_stands : Object → Plan
+as_it_stands o = record { answer = record { status = 200; body = o.body }; change = None }
 
 -- a creation, or a change of what stands, unless it changes nothing of what that says
-abbrev pub stored_over : ServedShape → ℕ → Key → Option Object → State → Judged Plan
+abbrev pub stored_over : ServedShape → ℕ → Key → Option Object → State → Validated Plan
 stored_over t current k None s = stored t current k 201 s
-stored_over t current k (Some o) s = if same_state s (state_said t.shape o.body) then Ok (kept o) else stored t current k 200 s
+stored_over t current k (Some o) s = if same_state s (state_said t.shape o.body) then Ok (as_it_stands o) else stored t current k 200 s
 
 -- ---- apply
 
 -- version, ownership, size
-abbrev pub applied_over : ServedShape → ℕ → Key → Option Object → Intent → Judged Plan
+abbrev pub applied_over : ServedShape → ℕ → Key → Option Object → Intent → Validated Plan
 applied_over t current k live intent =
     and_then (version_checked intent.version live) (λ u.
-    and_then (ownership_judged (api_version_of t) (state_of_live t live) intent.content (manager_of intent.manager apply_operation) intent.is_forced) (λ s.
+    and_then (ownership_validated (api_version_of t) (state_of_live t live) intent.content (manager_of intent.manager apply_operation) intent.is_forced) (λ s.
     stored_over t current k live s))
 
-abbrev pub apply_judged : ServedShape → ℕ → Option Object → Key → List ℕ → Data → Judged Plan
-apply_judged t current live k query body =
+abbrev pub apply_validated : ServedShape → ℕ → Option Object → Key → List ℕ → Data → Validated Plan
+apply_validated t current live k query body =
     and_then (intent_of (at_path t k Patch) asked.Apply query body) (λ intent.
-    and_then (names_judged k.namespace k.name intent.rest) (λ u.
+    and_then (names_validated k.namespace k.name intent.rest) (λ u.
     applied_over t current k live intent))
 
 -- ---- objects that are there, and that are not
@@ -173,13 +173,13 @@ apply_judged t current live k query body =
 abbrev pub object_named : ServedShape → List ℕ → List ℕ
 object_named t name = t.plural ++ codes "." ++ t.group ++ codes " \"" ++ name ++ codes "\""
 
-abbrev pub there : ServedShape → List ℕ → Option Object → Judged Object
-there t name None = denied NotFound (object_named t name ++ codes " not found")
+abbrev pub there : ServedShape → List ℕ → Option Object → Validated Object
+there t name None = refused_for NotFound (object_named t name ++ codes " not found")
 there t name (Some o) = Ok o
 
-abbrev pub not_there : ServedShape → List ℕ → Option Object → Judged (Unit {0})
+abbrev pub not_there : ServedShape → List ℕ → Option Object → Validated (Unit {0})
 not_there t name None = Ok tt
-not_there t name (Some o) = denied AlreadyExists (object_named t name ++ codes " already exists")
+not_there t name (Some o) = refused_for AlreadyExists (object_named t name ++ codes " already exists")
 
 -- ---- get
 
@@ -187,26 +187,26 @@ abbrev pub too_large_message : ℕ → ℕ → List ℕ
 too_large_message n current = codes "Too large resource version: " ++ decimal n ++ codes ", current: " ++ decimal current
 
 -- the version that is asked for has come
-abbrev pub version_come : Option ℕ → ℕ → Judged (Unit {0})
+abbrev pub version_come : Option ℕ → ℕ → Validated (Unit {0})
 version_come None current = Ok tt
-version_come (Some n) current = unless (nat_le n current) Timeout (too_large_message n current)
+version_come (Some n) current = require (nat_le n current) Timeout (too_large_message n current)
 
 -- parameters, object there or not, version
-abbrev pub get_judged : ServedShape → ℕ → Option Object → Key → List ℕ → Judged Plan
-get_judged t current live k query =
-    and_then (parameters_judged asked.Get query) (λ values.
+abbrev pub get_validated : ServedShape → ℕ → Option Object → Key → List ℕ → Validated Plan
+get_validated t current live k query =
+    and_then (parameters_validated asked.Get query) (λ values.
     and_then (there t k.name live) (λ o.
     and_then (version_come values.version current) (λ u.
-    Ok (kept o))))
+    Ok (as_it_stands o))))
 
 -- ---- creation and update ("Server-Side Apply", "Comparison with Client-Side Apply": they own what they change)
 
 abbrev pub updated_by : Intent → State → State
 updated_by intent s = updated s intent.content (manager_of intent.manager update_operation)
 
-abbrev pub created_as : ServedShape → ℕ → Option Object → Key → Intent → Judged Plan
+abbrev pub created_as : ServedShape → ℕ → Option Object → Key → Intent → Validated Plan
 created_as t current live k intent =
-    and_then (names_judged k.namespace k.name intent.rest) (λ u.
+    and_then (names_validated k.namespace k.name intent.rest) (λ u.
     and_then (not_there t k.name live) (λ u.
     stored t current k 201 (updated_by intent no_state)))
 
@@ -216,27 +216,27 @@ pub record Creation : Type 0 where
   pub intent : Intent
 
 -- the body names the object
-abbrev pub creation_judged : ServedShape → ℕ → List ℕ → List ℕ → Data → Judged Creation
-creation_judged t kind namespace query body =
+abbrev pub creation_validated : ServedShape → ℕ → List ℕ → List ℕ → Data → Validated Creation
+creation_validated t kind namespace query body =
     and_then (intent_of (record { served = t; namespace = namespace; name = None; method = Post }) asked.Post query body) (λ intent.
     and_then (required_name (name_in body)) (λ name.
     Ok (record { key = record { kind = kind; namespace = namespace; name = name }; intent = intent })))
 
-abbrev pub create_judged : ServedShape → ℕ → Objects → ℕ → List ℕ → List ℕ → Data → Judged Plan
-create_judged t current objects kind namespace query body =
-    and_then (creation_judged t kind namespace query body) (λ c. created_as t current (fin.get objects c.key) c.key c.intent)
+abbrev pub create_validated : ServedShape → ℕ → Objects → ℕ → List ℕ → List ℕ → Data → Validated Plan
+create_validated t current objects kind namespace query body =
+    and_then (creation_validated t kind namespace query body) (λ c. created_as t current (fin.get objects c.key) c.key c.intent)
 
 -- object there or not, version, size
-abbrev pub updated_over : ServedShape → ℕ → Key → Option Object → Intent → Judged Plan
+abbrev pub updated_over : ServedShape → ℕ → Key → Option Object → Intent → Validated Plan
 updated_over t current k live intent =
     and_then (there t k.name live) (λ o.
     and_then (version_checked intent.version live) (λ u.
     stored_over t current k live (updated_by intent (state_said t.shape o.body))))
 
-abbrev pub update_judged : ServedShape → ℕ → Option Object → Key → List ℕ → Data → Judged Plan
-update_judged t current live k query body =
+abbrev pub update_validated : ServedShape → ℕ → Option Object → Key → List ℕ → Data → Validated Plan
+update_validated t current live k query body =
     and_then (intent_of (at_path t k Put) asked.Put query body) (λ intent.
-    and_then (marks_judged intent.rest) (λ u.
+    and_then (marks_validated intent.rest) (λ u.
     updated_over t current k live intent))
 
 -- ---- deletion
@@ -248,8 +248,8 @@ deleted t current k o = record {
   change = Some (record { revision = suc current; key = k; body = None });
 }
 
--- object there or not, version; nothing is stored, so no size is judged
-abbrev pub deleted_over : ServedShape → ℕ → Key → Option Object → Option ℕ → Judged Plan
+-- object there or not, version; nothing is stored, so no size is validated
+abbrev pub deleted_over : ServedShape → ℕ → Key → Option Object → Option ℕ → Validated Plan
 deleted_over t current k live version =
     and_then (there t k.name live) (λ o.
     and_then (version_checked version live) (λ u.
@@ -257,70 +257,70 @@ deleted_over t current k live version =
     Ok (deleted t current k o))))
 
 -- the body's options, parameters
-abbrev pub delete_judged : ServedShape → ℕ → Option Object → Key → List ℕ → Option Data → Judged Plan
-delete_judged t current live k query body =
-    and_then (options_judged body) (λ version.
-    and_then (parameters_judged asked.Delete query) (λ values.
+abbrev pub delete_validated : ServedShape → ℕ → Option Object → Key → List ℕ → Option Data → Validated Plan
+delete_validated t current live k query body =
+    and_then (options_validated body) (λ version.
+    and_then (parameters_validated asked.Delete query) (λ values.
     deleted_over t current k live version))
 
 -- ---- calls
 
 -- a write has a body
-abbrev pub body_of : Option Data → Judged Data
-body_of None = denied BadRequest (codes "body is not JSON")
+abbrev pub body_of : Option Data → Validated Data
+body_of None = refused_for BadRequest (codes "body is not JSON")
 body_of (Some body) = Ok body
 
-abbrev pub not_served : Judged Plan
-not_served = denied MethodNotAllowed (codes "method not served here")
+abbrev pub not_served : Validated Plan
+not_served = refused_for MethodNotAllowed (codes "method not served here")
 
 -- on an object, by the method
-abbrev pub object_judged_by : Method → ServedShape → ℕ → Option Object → Key → List ℕ → Option Data → Judged Plan
-object_judged_by Get t current live k query body = get_judged t current live k query
-object_judged_by Post t current live k query body = not_served
-object_judged_by Put t current live k query body = and_then (body_of body) (update_judged t current live k query)
-object_judged_by Patch t current live k query body = and_then (body_of body) (apply_judged t current live k query)
-object_judged_by Delete t current live k query body = delete_judged t current live k query body
+abbrev pub object_validated_by : Method → ServedShape → ℕ → Option Object → Key → List ℕ → Option Data → Validated Plan
+object_validated_by Get t current live k query body = get_validated t current live k query
+object_validated_by Post t current live k query body = not_served
+object_validated_by Put t current live k query body = and_then (body_of body) (update_validated t current live k query)
+object_validated_by Patch t current live k query body = and_then (body_of body) (apply_validated t current live k query)
+object_validated_by Delete t current live k query body = delete_validated t current live k query body
 
 -- on all objects of a namespace
-abbrev pub collection_judged_by : Method → ServedShape → ℕ → Objects → ℕ → List ℕ → List ℕ → Option Data → Judged Plan
-collection_judged_by Post t current objects kind namespace query body = and_then (body_of body) (create_judged t current objects kind namespace query)
-collection_judged_by Get t current objects kind namespace query body = not_served
-collection_judged_by Put t current objects kind namespace query body = not_served
-collection_judged_by Patch t current objects kind namespace query body = not_served
-collection_judged_by Delete t current objects kind namespace query body = not_served
+abbrev pub collection_validated_by : Method → ServedShape → ℕ → Objects → ℕ → List ℕ → List ℕ → Option Data → Validated Plan
+collection_validated_by Post t current objects kind namespace query body = and_then (body_of body) (create_validated t current objects kind namespace query)
+collection_validated_by Get t current objects kind namespace query body = not_served
+collection_validated_by Put t current objects kind namespace query body = not_served
+collection_validated_by Patch t current objects kind namespace query body = not_served
+collection_validated_by Delete t current objects kind namespace query body = not_served
 
-abbrev pub no_path : Judged Plan
-no_path = denied NotFound (codes "no such path")
+abbrev pub no_path : Validated Plan
+no_path = refused_for NotFound (codes "no such path")
 
 abbrev pub key_at : Call → List ℕ → List ℕ → Key
 key_at call namespace name = record { kind = call.target.kind; namespace = namespace; name = name }
 
 -- by namespace and name: an object's path has both, a collection's no name
-abbrev pub judged_in : ServedShape → ℕ → Objects → Call → Option (List ℕ) → Option (List ℕ) → Judged Plan
-judged_in t current objects call None name = no_path
-judged_in t current objects call (Some namespace) None =
-    collection_judged_by call.target.method t current objects call.target.kind namespace call.query call.body
-judged_in t current objects call (Some namespace) (Some name) =
-    object_judged_by call.target.method t current (fin.get objects (key_at call namespace name)) (key_at call namespace name) call.query call.body
+abbrev pub validated_in : ServedShape → ℕ → Objects → Call → Option (List ℕ) → Option (List ℕ) → Validated Plan
+validated_in t current objects call None name = no_path
+validated_in t current objects call (Some namespace) None =
+    collection_validated_by call.target.method t current objects call.target.kind namespace call.query call.body
+validated_in t current objects call (Some namespace) (Some name) =
+    object_validated_by call.target.method t current (fin.get objects (key_at call namespace name)) (key_at call namespace name) call.query call.body
 
-abbrev pub judged_at : Option ServedShape → ℕ → Objects → Call → Judged Plan
-judged_at None current objects call = no_path
-judged_at (Some t) current objects call = judged_in t current objects call call.target.namespace call.target.name
+abbrev pub validated_at : Option ServedShape → ℕ → Objects → Call → Validated Plan
+validated_at None current objects call = no_path
+validated_at (Some t) current objects call = validated_in t current objects call call.target.namespace call.target.name
 
-abbrev pub judged_over : List ServedShape → ℕ → Objects → Call → Judged Plan
-judged_over types current objects call = judged_at (slice_get types call.target.kind) current objects call
+abbrev pub validated_over : List ServedShape → ℕ → Objects → Call → Validated Plan
+validated_over types current objects call = validated_at (slice_get types call.target.kind) current objects call
 
 -- a refusal is answered by its Status, and changes nothing
-abbrev pub refused : Denial → Plan
-refused d = record { answer = record { status = code_of d.reason; body = compact_text (denial_value d) }; change = None }
+abbrev pub refused : CallRefusal → Plan
+refused d = record { answer = record { status = code_of d.reason; body = compact_text (call_refusal_value d) }; change = None }
 
-abbrev pub told : Judged Plan → Plan
-told (Ok p) = p
-told (Err d) = refused d
+abbrev pub plan_for : Validated Plan → Plan
+plan_for (Ok p) = p
+plan_for (Err d) = refused d
 
 -- by the types, the current number, and the objects that stand
 abbrev pub planned_over : List ServedShape → ℕ → Objects → Call → Plan
-planned_over types current objects call = told (judged_over types current objects call)
+planned_over types current objects call = plan_for (validated_over types current objects call)
 
 -- the answer of a call, and the change that it makes
 abbrev pub planned : List ServedShape → History → Call → Plan

@@ -1,9 +1,9 @@
 ghost use Rattle.std.specs.Prelude.{◌≡◌, IfOk, Err, option_map, string_bytes};
-ghost use Rattle.verbs.specs.Admit.{denied_by, method_served, place_admitted, target_at};
+ghost use Rattle.verbs.specs.Admit.{not_admitted, method_served, place_admitted, target_at};
 ghost use Rattle.verbs.specs.Seen.{Admits, place_seen, target_of};
 
 use crate::calls::Target;
-use crate::media::takes;
+use crate::media::accepts_media;
 use crate::method::Method;
 use crate::place::Place;
 use crate::reason::Reason;
@@ -38,7 +38,7 @@ impl From<AllocError> for Refusal {
 }
 
 fn refused(reason: Reason, message: &'static str, allow: Option<&'static str>) -> Refusal
-    ensures { Admits (Err result) (denied_by reason message.now (option_map (λ s. s.now) allow.entry)) }
+    ensures { Admits (Err result) (not_admitted reason message.now (option_map (λ s. s.now) allow.entry)) }
 {
     Refusal::Denied(Denied {
         reason,
@@ -96,7 +96,7 @@ pub fn admitted(
             Some(allowed),
         ));
     };
-    if !takes(method, media) {
+    if !accepts_media(method, media) {
         return Err(refused(Reason::UnsupportedMediaType, "media type not served", None));
     }
     Ok(target_at(alloc, place, method)?)

@@ -1,8 +1,8 @@
 use crate::admitting::{Refusal, admitted};
 use crate::answering::refused;
 use crate::calls::{Call, Plan, Target};
-use crate::fault::{Fault, Stop};
-use crate::judging::judged;
+use crate::fault::{CallError, Fault};
+use crate::judging::validated;
 use crate::route::Routes;
 use crate::writing::written;
 use revstore::{CompactFault, Store};
@@ -53,7 +53,7 @@ impl Api {
         })
     }
 
-    /// What a request asks, by its method, its path and the value of its `Content-Type`: the route is judged first,
+    /// What a request asks, by its method, its path and the value of its `Content-Type`: the route is validated first,
     /// then the method, then the media type.
     pub fn admit(&self, method: &str, path: &str, media: Option<&[u8]>) -> Result<Target, Refusal>
         ensures { Admits result (admitted (types_of self.now) method.now path.now (option_map (λ b. b.now) media.entry)) }
@@ -71,12 +71,12 @@ impl Api {
         ensures comes { IfOk result (λ p. IfSome p.change (λ c. ComesAfter self.new.store (change_of c))) }
         ensures same { (types : List ServedShape) (m : History) → Stands self.old types m → Stands self.new types m }
     {
-        match judged(self.alloc, &self.types, &mut self.store, call) {
+        match validated(self.alloc, &self.types, &mut self.store, call) {
             Ok(plan) => Ok(plan),
-            Err(Stop::Denied(denial)) => Ok(refused(self.alloc, denial)?),
-            Err(Stop::Memory) => Err(Fault::Memory),
-            Err(Stop::Store) => Err(Fault::Store),
-            Err(Stop::Unreadable) => Err(Fault::Unreadable),
+            Err(CallError::Refused(call_refusal)) => Ok(refused(self.alloc, call_refusal)?),
+            Err(CallError::Memory) => Err(Fault::Memory),
+            Err(CallError::Store) => Err(Fault::Store),
+            Err(CallError::Unreadable) => Err(Fault::Unreadable),
         }
     }
 

@@ -9,15 +9,15 @@ ghost use Rattle.schema.specs.ObjectShape.{IsObjectShape};
 ghost use Rattle.verbs.specs.Json.{IsJson};
 ghost use Rattle.history.specs.Read.{key_of};
 ghost use Rattle.verbs.specs.Seen.{Gives, intent_seen, object_of, plan_of};
-ghost use Rattle.verbs.specs.Step.{applied_over, apply_judged};
+ghost use Rattle.verbs.specs.Step.{applied_over, apply_validated};
 
 use crate::calls::Plan;
 use crate::conflicts::applied;
-use crate::fault::Stop;
+use crate::fault::CallError;
 use crate::intent::{Intent, at_path, intent_of};
 use crate::live::read_live;
 use crate::method::Method;
-use crate::naming::judge_names;
+use crate::naming::validate_names;
 use crate::storing::{check_version, stored_over};
 use history::Key;
 use params::Asked;
@@ -34,7 +34,7 @@ fn applied_over(
     key: Key,
     live: Option<&Object>,
     intent: &Intent,
-) -> Result<Plan, Stop>
+) -> Result<Plan, CallError>
     requires numbered { current ≤ last_revision }
     requires shaped { IsObjectShape (types.served served.now).shape }
     requires content { IsContent (types.served served.now).shape intent.now.content }
@@ -54,7 +54,7 @@ fn applied_over(
 }
 
 /// An apply's body over what stands.
-pub(crate) fn judge_apply(
+pub(crate) fn validate_apply(
     alloc: Global,
     served: &Served,
     current: u64,
@@ -62,15 +62,15 @@ pub(crate) fn judge_apply(
     key: Key,
     query: &[u8],
     body: &Value,
-) -> Result<Plan, Stop>
+) -> Result<Plan, CallError>
     requires numbered { current ≤ last_revision }
     requires shaped { IsObjectShape (types.served served.now).shape }
     requires json { IsJson (view body.now) }
-    ensures { Gives plan_of result (apply_judged (types.served served.now) current (option_map (λ o. object_of o.now) live.entry) (key_of key) query.now (view body.now)) }
+    ensures { Gives plan_of result (apply_validated (types.served served.now) current (option_map (λ o. object_of o.now) live.entry) (key_of key) query.now (view body.now)) }
 {
     let expected = at_path(served, &key, Method::Patch);
     let intent = intent_of(alloc, expected, Asked::Apply, query, body)?;
-    judge_names(
+    validate_names(
         alloc,
         key.namespace.as_str(),
         key.name.as_str(),

@@ -8,12 +8,12 @@ ghost use Rattle.ownership.specs.Owners.{apply_operation, manager_of};
 ghost use Rattle.ownership.specs.Managers.{manager_view};
 ghost use Rattle.ownership.specs.Results.{conflict_of, state_of};
 ghost use Rattle.verbs.specs.Envelope.{api_version_of};
-ghost use Rattle.verbs.specs.Seen.{Gives, Refuses, denial_of};
-ghost use Rattle.verbs.specs.Step.{cause_of, causes_of, conflict_denial, conflict_message, count_message, ownership_judged};
+ghost use Rattle.verbs.specs.Seen.{Gives, Refuses, call_refusal_of};
+ghost use Rattle.verbs.specs.Step.{cause_of, causes_of, conflict_refusal, conflict_message, count_message, ownership_validated};
 
-use crate::denial::Denial;
+use crate::call_refusal::CallRefusal;
 use crate::envelope::api_version_of;
-use crate::fault::Stop;
+use crate::fault::CallError;
 use crate::reason::Reason;
 use crate::texts::joined;
 use ownership::{ApplyFault, Conflict, Manager, Owned, apply};
@@ -71,31 +71,31 @@ fn count_message(alloc: Global, count: usize) -> Result<String, AllocError>
     Ok(message)
 }
 
-fn conflict_denial(
+fn conflict_refusal(
     alloc: Global,
     api_version: &str,
     conflicts: &[Conflict],
-) -> Result<Denial, AllocError>
-    ensures { IfOk result (λ d. denial_of d ≡ conflict_denial api_version.now (map conflict_of conflicts.now)) }
+) -> Result<CallRefusal, AllocError>
+    ensures { IfOk result (λ d. call_refusal_of d ≡ conflict_refusal api_version.now (map conflict_of conflicts.now)) }
 {
     let causes = causes_of(alloc, api_version, conflicts)?;
     let message = count_message(alloc, conflicts.len())?;
-    Ok(Denial {
+    Ok(CallRefusal {
         reason: Reason::Conflict,
         message,
         causes,
     })
 }
 
-fn refused(alloc: Global, served: &Served, conflicts: &[Conflict]) -> Stop
-    ensures { Refuses result (conflict_denial (api_version_of (types.served served.now)) (map conflict_of conflicts.now)) }
+fn refused(alloc: Global, served: &Served, conflicts: &[Conflict]) -> CallError
+    ensures { Refuses result (conflict_refusal (api_version_of (types.served served.now)) (map conflict_of conflicts.now)) }
 {
     let Ok(api_version) = api_version_of(alloc, served) else {
-        return Stop::Memory;
+        return CallError::Memory;
     };
-    match conflict_denial(alloc, api_version.as_str(), conflicts) {
-        Ok(denial) => Stop::Denied(denial),
-        Err(_) => Stop::Memory,
+    match conflict_refusal(alloc, api_version.as_str(), conflicts) {
+        Ok(call_refusal) => CallError::Refused(call_refusal),
+        Err(_) => CallError::Memory,
     }
 }
 
@@ -107,13 +107,13 @@ pub fn applied(
     config: &Tree,
     manager: &str,
     force: bool,
-) -> Result<Owned, Stop>
-    ensures judged { Gives state_of result (ownership_judged (api_version_of (types.served served.now)) (state_of live.now) config.now (manager_of manager.now apply_operation) force) }
+) -> Result<Owned, CallError>
+    ensures validated { Gives state_of result (ownership_validated (api_version_of (types.served served.now)) (state_of live.now) config.now (manager_of manager.now apply_operation) force) }
     ensures placed { (s : Shape) → IsContent s config.now → IsPlacedState s (state_of live.now) → IfOk result (λ o. IsPlacedState s (state_of o)) }
 {
     match apply(alloc, live, manager, config, force) {
         Ok(owned) => Ok(owned),
         Err(ApplyFault::Conflicts(conflicts)) => Err(refused(alloc, served, &conflicts)),
-        Err(ApplyFault::Memory) => Err(Stop::Memory),
+        Err(ApplyFault::Memory) => Err(CallError::Memory),
     }
 }

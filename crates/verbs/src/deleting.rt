@@ -9,14 +9,14 @@ ghost use Rattle.ownership.specs.Results.{state_of};
 ghost use Rattle.verbs.specs.Machine.{state_said};
 ghost use Rattle.history.specs.Read.{key_of};
 ghost use Rattle.verbs.specs.Seen.{Gives, body_seen, object_of, plan_of};
-ghost use Rattle.verbs.specs.Step.{delete_judged, deleted, deleted_over};
+ghost use Rattle.verbs.specs.Step.{delete_validated, deleted, deleted_over};
 
 use crate::body::Body;
 use crate::calls::{Answer, Plan};
 use crate::change::Change;
-use crate::fault::Stop;
+use crate::fault::CallError;
 use crate::live::read_stored;
-use crate::options::judge_options;
+use crate::options::validate_options;
 use crate::parameters::read_parameters;
 use crate::presence::there;
 use crate::storing::{check_revisions, check_version, printed_text};
@@ -54,7 +54,7 @@ fn deleted(
     })
 }
 
-/// Object there or not, version; nothing is stored, so no size is judged.
+/// Object there or not, version; nothing is stored, so no size is validated.
 fn deleted_over(
     alloc: Global,
     served: &Served,
@@ -62,7 +62,7 @@ fn deleted_over(
     key: Key,
     live: Option<&Object>,
     version: Option<u64>,
-) -> Result<Plan, Stop>
+) -> Result<Plan, CallError>
     requires numbered { current ≤ last_revision }
     requires shaped { IsObjectShape (types.served served.now).shape }
     ensures { Gives plan_of result (deleted_over (types.served served.now) current (key_of key) (option_map (λ o. object_of o.now) live.entry) version) }
@@ -75,7 +75,7 @@ fn deleted_over(
 }
 
 /// The body's options, parameters.
-pub(crate) fn judge_delete(
+pub(crate) fn validate_delete(
     alloc: Global,
     served: &Served,
     current: u64,
@@ -83,12 +83,12 @@ pub(crate) fn judge_delete(
     key: Key,
     query: &[u8],
     body: Option<&Body>,
-) -> Result<Plan, Stop>
+) -> Result<Plan, CallError>
     requires numbered { current ≤ last_revision }
     requires shaped { IsObjectShape (types.served served.now).shape }
-    ensures { Gives plan_of result (delete_judged (types.served served.now) current (option_map (λ o. object_of o.now) live.entry) (key_of key) query.now (option_map (λ b. body_seen b.now) body.entry)) }
+    ensures { Gives plan_of result (delete_validated (types.served served.now) current (option_map (λ o. object_of o.now) live.entry) (key_of key) query.now (option_map (λ b. body_seen b.now) body.entry)) }
 {
-    let version = judge_options(alloc, body)?;
+    let version = validate_options(alloc, body)?;
     read_parameters(alloc, Asked::Delete, query)?;
     deleted_over(alloc, served, current, key, live, version)
 }

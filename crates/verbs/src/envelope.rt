@@ -3,12 +3,12 @@ ghost use Rattle.schema.specs.Keywords.{is_in};
 ghost use Rattle.serde_json.specs.Find.{get_member};
 ghost use Rattle.serde_json.specs.View.{items_view, members_view, view};
 ghost use Rattle.schema.specs.Served as types;
-ghost use Rattle.verbs.specs.Envelope.{api_version_of, entries_judged, envelope_of, given_judged, is_text, is_text_or_none, kind_judged, kind_message, managers_by, managers_judged, members_but, must_be, if_filled, filled_text, member_of, name_in, metadata_in, metadata_judged, object_judged, put_metadata, rest_of, text_in, text_of, version_allowed, version_judged, version_or_fault, version_read, wanted_judged, with_others};
+ghost use Rattle.verbs.specs.Envelope.{api_version_of, entries_validated, envelope_of, given_validated, is_text, is_text_or_none, kind_validated, kind_message, managers_by, managers_validated, members_but, must_be, if_filled, filled_text, member_of, name_in, metadata_in, metadata_validated, object_validated, put_metadata, rest_of, text_in, text_of, version_allowed, version_validated, version_or_fault, version_read, wanted_validated, with_others};
 ghost use Rattle.verbs.specs.declared.reason.Reason.TheVariants.{BadRequest};
-ghost use Rattle.verbs.specs.Judged.{denial, unless};
-ghost use Rattle.verbs.specs.Seen.{Denies, Gives, envelope_seen, expected_of};
+ghost use Rattle.verbs.specs.Validated.{call_refusal, require};
+ghost use Rattle.verbs.specs.Seen.{RefusesFor, Gives, envelope_seen, expected_of};
 
-use crate::fault::Stop;
+use crate::fault::CallError;
 use crate::method::Method;
 use crate::reason::Reason;
 use crate::texts::joined;
@@ -53,12 +53,12 @@ const METADATA: [&str; 8] = [
 ];
 
 /// A refusal whose message is a path and what is wrong there.
-fn fault_at(alloc: Global, path: &str, what: &str) -> Stop
-    ensures { Denies result BadRequest (path.now ++ what.now) }
+fn fault_at(alloc: Global, path: &str, what: &str) -> CallError
+    ensures { RefusesFor result BadRequest (path.now ++ what.now) }
 {
     match joined(alloc, path, what) {
-        Ok(message) => Stop::denied(alloc, Reason::BadRequest, message.as_str()),
-        Err(_) => Stop::Memory,
+        Ok(message) => CallError::refused_for(alloc, Reason::BadRequest, message.as_str()),
+        Err(_) => CallError::Memory,
     }
 }
 
@@ -77,14 +77,14 @@ fn if_filled(text: &str) -> Option<&str>
     if text.is_empty() { None } else { Some(text) }
 }
 
-fn wrong_type(alloc: Global, path: &str) -> Stop
-    ensures { Denies result BadRequest (path.now ++ codes ": wrong type") }
+fn wrong_type(alloc: Global, path: &str) -> CallError
+    ensures { RefusesFor result BadRequest (path.now ++ codes ": wrong type") }
 {
     fault_at(alloc, path, ": wrong type")
 }
 
 /// The text that a value is; null and the empty text are none.
-fn text_of<'a>(alloc: Global, value: &'a Value, path: &str) -> Result<Option<&'a str>, Stop>
+fn text_of<'a>(alloc: Global, value: &'a Value, path: &str) -> Result<Option<&'a str>, CallError>
     ensures { Gives (option_map (λ s. s.now)) result (text_of path.now (view value.now)) }
 {
     match value {
@@ -99,7 +99,7 @@ fn text_in<'a>(
     alloc: Global,
     member: Option<&'a Value>,
     path: &str,
-) -> Result<Option<&'a str>, Stop>
+) -> Result<Option<&'a str>, CallError>
     ensures { Gives (option_map (λ s. s.now)) result (text_in path.now (option_map (λ v. view v.now) member.entry)) }
 {
     match member {
@@ -135,8 +135,8 @@ fn kind_message(alloc: Global, api_version: &str, kind: &str) -> Result<String, 
     Ok(message)
 }
 
-fn judge_kind(alloc: Global, served: &Served, top: &Map<String, Value>) -> Result<(), Stop>
-    ensures { Gives (λ u. u) result (kind_judged (types.served served.now) (members_view top.now.entries)) }
+fn validate_kind(alloc: Global, served: &Served, top: &Map<String, Value>) -> Result<(), CallError>
+    ensures { Gives (λ u. u) result (kind_validated (types.served served.now) (members_view top.now.entries)) }
 {
     let given_version = text_in(alloc, member(top, "apiVersion"), ".apiVersion")?;
     let given_kind = text_in(alloc, member(top, "kind"), ".kind")?;
@@ -145,14 +145,14 @@ fn judge_kind(alloc: Global, served: &Served, top: &Map<String, Value>) -> Resul
         return Ok(());
     }
     let message = kind_message(alloc, wanted.as_str(), served.kind.as_str())?;
-    Err(Stop::denied(alloc, Reason::BadRequest, message.as_str()))
+    Err(CallError::refused_for(alloc, Reason::BadRequest, message.as_str()))
 }
 
 /// `metadata`, if it is there.
 fn metadata_in<'a>(
     alloc: Global,
     member: Option<&'a Value>,
-) -> Result<Option<&'a Map<String, Value>>, Stop>
+) -> Result<Option<&'a Map<String, Value>>, CallError>
     ensures { Gives (option_map (λ m. members_view m.now.entries)) result (metadata_in (option_map (λ v. view v.now) member.entry)) }
 {
     let Some(value) = member else {
@@ -192,13 +192,13 @@ fn must_be(alloc: Global, name: &str, wanted: &str) -> Result<String, AllocError
 }
 
 /// What is given is that of the path, where the path has one.
-fn judge_wanted(
+fn validate_wanted(
     alloc: Global,
     name: &str,
     wanted: Option<&str>,
     given: Option<&str>,
-) -> Result<(), Stop>
-    ensures { Gives (λ u. u) result (wanted_judged name.now (option_map (λ s. s.now) wanted.entry) (option_map (λ s. s.now) given.entry)) }
+) -> Result<(), CallError>
+    ensures { Gives (λ u. u) result (wanted_validated name.now (option_map (λ s. s.now) wanted.entry) (option_map (λ s. s.now) given.entry)) }
 {
     let Some(wanted) = wanted else {
         return Ok(());
@@ -207,24 +207,24 @@ fn judge_wanted(
         return Ok(());
     }
     let message = must_be(alloc, name, wanted)?;
-    Err(Stop::denied(alloc, Reason::BadRequest, message.as_str()))
+    Err(CallError::refused_for(alloc, Reason::BadRequest, message.as_str()))
 }
 
 /// A name that the body gives is that of the path.
-fn judge_given(
+fn validate_given(
     alloc: Global,
     metadata: Option<&Map<String, Value>>,
     name: &str,
     wanted: Option<&str>,
-) -> Result<(), Stop>
-    ensures { Gives (λ u. u) result (given_judged name.now (option_map (λ s. s.now) wanted.entry) (option_map (λ m. members_view m.now.entries) metadata.entry)) }
+) -> Result<(), CallError>
+    ensures { Gives (λ u. u) result (given_validated name.now (option_map (λ s. s.now) wanted.entry) (option_map (λ m. members_view m.now.entries) metadata.entry)) }
 {
     let path = joined(alloc, ".metadata.", name)?;
     let given = text_in(alloc, member_of(metadata, name), path.as_str())?;
-    judge_wanted(alloc, name, wanted, given)
+    validate_wanted(alloc, name, wanted, given)
 }
 
-fn read_version(alloc: Global, given: Option<&str>) -> Result<Option<u64>, Stop>
+fn read_version(alloc: Global, given: Option<&str>) -> Result<Option<u64>, CallError>
     ensures { Gives (λ v. v) result (version_read (option_map (λ s. s.now) given.entry)) }
 {
     let Some(text) = given else {
@@ -232,7 +232,7 @@ fn read_version(alloc: Global, given: Option<&str>) -> Result<Option<u64>, Stop>
     };
     match version_of(text) {
         Some(version) => Ok(Some(version)),
-        None => Err(Stop::denied(
+        None => Err(CallError::refused_for(
             alloc,
             Reason::BadRequest,
             "metadata.resourceVersion: bad version",
@@ -240,8 +240,11 @@ fn read_version(alloc: Global, given: Option<&str>) -> Result<Option<u64>, Stop>
     }
 }
 
-fn judge_version(alloc: Global, metadata: Option<&Map<String, Value>>) -> Result<Option<u64>, Stop>
-    ensures { Gives (λ v. v) result (version_judged (option_map (λ m. members_view m.now.entries) metadata.entry)) }
+fn validate_version(
+    alloc: Global,
+    metadata: Option<&Map<String, Value>>,
+) -> Result<Option<u64>, CallError>
+    ensures { Gives (λ v. v) result (version_validated (option_map (λ m. members_view m.now.entries) metadata.entry)) }
 {
     let given = text_in(
         alloc,
@@ -252,26 +255,26 @@ fn judge_version(alloc: Global, metadata: Option<&Map<String, Value>>) -> Result
 }
 
 /// A creation is of no version.
-fn allow_version(alloc: Global, method: Method, version: Option<u64>) -> Result<(), Stop>
+fn allow_version(alloc: Global, method: Method, version: Option<u64>) -> Result<(), CallError>
     ensures { Gives (λ u. u) result (version_allowed method version) }
 {
     if method != Method::Post || version.is_none() {
         return Ok(());
     }
-    Err(Stop::denied(
+    Err(CallError::refused_for(
         alloc,
         Reason::BadRequest,
         "metadata.resourceVersion must not be set",
     ))
 }
 
-fn judge_entries(alloc: Global, entries: &[Value]) -> Result<(), Stop>
-    ensures { Gives (λ u. u) result (entries_judged (items_view entries.now)) }
+fn validate_entries(alloc: Global, entries: &[Value]) -> Result<(), CallError>
+    ensures { Gives (λ u. u) result (entries_validated (items_view entries.now)) }
 {
     if entries.is_empty() {
         return Ok(());
     }
-    Err(Stop::denied(
+    Err(CallError::refused_for(
         alloc,
         Reason::BadRequest,
         "metadata.managedFields must be empty",
@@ -279,27 +282,31 @@ fn judge_entries(alloc: Global, entries: &[Value]) -> Result<(), Stop>
 }
 
 /// An apply's body may not say who owns what.
-fn judge_managers(alloc: Global, member: Option<&Value>) -> Result<(), Stop>
-    ensures { Gives (λ u. u) result (managers_judged (option_map (λ v. view v.now) member.entry)) }
+fn validate_managers(alloc: Global, member: Option<&Value>) -> Result<(), CallError>
+    ensures { Gives (λ u. u) result (managers_validated (option_map (λ v. view v.now) member.entry)) }
 {
     let Some(value) = member else {
         return Ok(());
     };
     match value {
         Value::Null => Ok(()),
-        Value::Array(entries) => judge_entries(alloc, entries),
+        Value::Array(entries) => validate_entries(alloc, entries),
         _ => Err(wrong_type(alloc, ".metadata.managedFields")),
     }
 }
 
 /// What any other write says of who owns what is ignored.
-fn judge_managers_by(alloc: Global, method: Method, member: Option<&Value>) -> Result<(), Stop>
+fn validate_managers_by(
+    alloc: Global,
+    method: Method,
+    member: Option<&Value>,
+) -> Result<(), CallError>
     ensures { Gives (λ u. u) result (managers_by method (option_map (λ v. view v.now) member.entry)) }
 {
     if method != Method::Patch {
         return Ok(());
     }
-    judge_managers(alloc, member)
+    validate_managers(alloc, member)
 }
 
 /// Whether the name is one of these.
@@ -353,34 +360,34 @@ fn rest_of(
     Ok(Value::Object(rest))
 }
 
-fn judge_metadata(
+fn validate_metadata(
     alloc: Global,
     expected: Expected<'_>,
     top: &Map<String, Value>,
     metadata: Option<&Map<String, Value>>,
-) -> Result<Envelope, Stop>
-    ensures { Gives envelope_seen result (metadata_judged (expected_of expected.entry) (members_view top.now.entries) (option_map (λ m. members_view m.now.entries) metadata.entry)) }
+) -> Result<Envelope, CallError>
+    ensures { Gives envelope_seen result (metadata_validated (expected_of expected.entry) (members_view top.now.entries) (option_map (λ m. members_view m.now.entries) metadata.entry)) }
 {
-    judge_given(alloc, metadata, "name", expected.name)?;
-    judge_given(alloc, metadata, "namespace", Some(expected.namespace))?;
-    let version = judge_version(alloc, metadata)?;
+    validate_given(alloc, metadata, "name", expected.name)?;
+    validate_given(alloc, metadata, "namespace", Some(expected.namespace))?;
+    let version = validate_version(alloc, metadata)?;
     allow_version(alloc, expected.method, version)?;
     let managers = member_of(metadata, "managedFields");
-    judge_managers_by(alloc, expected.method, managers)?;
+    validate_managers_by(alloc, expected.method, managers)?;
     let rest = rest_of(alloc, top, metadata)?;
     Ok(Envelope { version, rest })
 }
 
-fn judge_object(
+fn validate_object(
     alloc: Global,
     expected: Expected<'_>,
     top: &Map<String, Value>,
-) -> Result<Envelope, Stop>
-    ensures { Gives envelope_seen result (object_judged (expected_of expected.entry) (Some (members_view top.now.entries))) }
+) -> Result<Envelope, CallError>
+    ensures { Gives envelope_seen result (object_validated (expected_of expected.entry) (Some (members_view top.now.entries))) }
 {
-    judge_kind(alloc, expected.served, top)?;
+    validate_kind(alloc, expected.served, top)?;
     let metadata = metadata_in(alloc, member(top, "metadata"))?;
-    judge_metadata(alloc, expected, top, metadata)
+    validate_metadata(alloc, expected, top, metadata)
 }
 
 /// The name that a body gives its object.
@@ -390,13 +397,13 @@ pub fn name_in(body: &Value) -> Option<&str>
     if_filled(body.get("metadata")?.get("name")?.as_str()?)
 }
 
-/// Judges the envelope of a write's body, in order: the body is an object, `apiVersion` and `kind`,
+/// Validates the envelope of a write's body, in order: the body is an object, `apiVersion` and `kind`,
 /// `metadata`, `name`, `namespace`, `resourceVersion`, `managedFields`.
-pub fn judge(alloc: Global, body: &Value, expected: Expected<'_>) -> Result<Envelope, Stop>
+pub fn validate(alloc: Global, body: &Value, expected: Expected<'_>) -> Result<Envelope, CallError>
     ensures { Gives envelope_seen result (envelope_of (expected_of expected.entry) (view body.now)) }
 {
     match body {
-        Value::Object(top) => judge_object(alloc, expected, top),
+        Value::Object(top) => validate_object(alloc, expected, top),
         _ => Err(fault_at(alloc, ".", ": not an object")),
     }
 }

@@ -1,14 +1,14 @@
-ghost use Rattle.verbs.specs.Seen.{Denies};
+ghost use Rattle.verbs.specs.Seen.{RefusesFor};
 
-use crate::denial::Denial;
+use crate::call_refusal::CallRefusal;
 use crate::reason::Reason;
 use std::alloc::{AllocError, AllocFailed, Global};
 use thiserror::Error;
 
 /// Why a step has no object to answer.
 #[derive(Debug, Drop)]
-pub enum Stop {
-    Denied(Denial),
+pub enum CallError {
+    Refused(CallRefusal),
     Memory,
     /// The store refused a statement.
     Store,
@@ -16,37 +16,37 @@ pub enum Stop {
     Unreadable,
 }
 
-impl Stop {
+impl CallError {
     /// A refusal with this message.
-    pub fn denied(alloc: Global, reason: Reason, message: &str) -> Stop
-        ensures { Denies result reason message.now }
+    pub fn refused_for(alloc: Global, reason: Reason, message: &str) -> CallError
+        ensures { RefusesFor result reason message.now }
     {
-        match Denial::new(alloc, reason, message) {
-            Ok(denial) => Stop::Denied(denial),
-            Err(_) => Stop::Memory,
+        match CallRefusal::new(alloc, reason, message) {
+            Ok(call_refusal) => CallError::Refused(call_refusal),
+            Err(_) => CallError::Memory,
         }
     }
 }
 
-impl From<AllocError> for Stop {
+impl From<AllocError> for CallError {
     ghost use Rattle.std.specs.Prelude.{◌≡◌};
-    ghost use Rattle.verbs.specs.declared.fault.Stop.TheVariants.{Memory};
+    ghost use Rattle.verbs.specs.declared.fault.CallError.TheVariants.{Memory};
 
     ghost from_gives = { λ _ e. e ≡ Memory };
 
-    fn from(_: AllocError) -> Stop {
-        Stop::Memory
+    fn from(_: AllocError) -> CallError {
+        CallError::Memory
     }
 }
 
-impl<T: Drop> From<AllocFailed<T>> for Stop {
+impl<T: Drop> From<AllocFailed<T>> for CallError {
     ghost use Rattle.std.specs.Prelude.{◌≡◌};
-    ghost use Rattle.verbs.specs.declared.fault.Stop.TheVariants.{Memory};
+    ghost use Rattle.verbs.specs.declared.fault.CallError.TheVariants.{Memory};
 
     ghost from_gives = { λ _ e. e ≡ Memory };
 
-    fn from(_: AllocFailed<T>) -> Stop {
-        Stop::Memory
+    fn from(_: AllocFailed<T>) -> CallError {
+        CallError::Memory
     }
 }
 

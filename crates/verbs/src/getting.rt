@@ -4,14 +4,14 @@ ghost use Rattle.std.specs.Prelude.{◌≡◌, IfOk, option_map, string_bytes};
 ghost use Rattle.schema.specs.Served as types;
 ghost use Rattle.history.specs.Read.{key_of};
 ghost use Rattle.verbs.specs.Seen.{Gives, object_of, plan_of};
-ghost use Rattle.verbs.specs.Step.{get_judged, too_large_message, version_come};
+ghost use Rattle.verbs.specs.Step.{get_validated, too_large_message, version_come};
 
 use crate::calls::Plan;
-use crate::fault::Stop;
+use crate::fault::CallError;
 use crate::parameters::read_parameters;
 use crate::presence::there;
 use crate::reason::Reason;
-use crate::storing::kept;
+use crate::storing::as_it_stands;
 use crate::texts::joined;
 use history::Key;
 use params::Asked;
@@ -31,7 +31,7 @@ fn too_large_message(alloc: Global, asked: u64, current: u64) -> Result<String, 
 }
 
 /// The version that is asked for has come.
-fn check_come(alloc: Global, version: Option<u64>, current: u64) -> Result<(), Stop>
+fn check_come(alloc: Global, version: Option<u64>, current: u64) -> Result<(), CallError>
     ensures { Gives (λ u. u) result (version_come version current) }
 {
     let Some(asked) = version else {
@@ -41,22 +41,22 @@ fn check_come(alloc: Global, version: Option<u64>, current: u64) -> Result<(), S
         return Ok(());
     }
     let message = too_large_message(alloc, asked, current)?;
-    Err(Stop::denied(alloc, Reason::Timeout, message.as_str()))
+    Err(CallError::refused_for(alloc, Reason::Timeout, message.as_str()))
 }
 
 /// Parameters, object there or not, version.
-pub(crate) fn judge_get(
+pub(crate) fn validate_get(
     alloc: Global,
     served: &Served,
     current: u64,
     live: Option<&Object>,
     key: &Key,
     query: &[u8],
-) -> Result<Plan, Stop>
-    ensures { Gives plan_of result (get_judged (types.served served.now) current (option_map (λ o. object_of o.now) live.entry) (key_of key.now) query.now) }
+) -> Result<Plan, CallError>
+    ensures { Gives plan_of result (get_validated (types.served served.now) current (option_map (λ o. object_of o.now) live.entry) (key_of key.now) query.now) }
 {
     let params = read_parameters(alloc, Asked::Get, query)?;
     let stored = there(alloc, served, key.name.as_str(), live)?;
     check_come(alloc, params.version, current)?;
-    Ok(kept(stored)?)
+    Ok(as_it_stands(stored)?)
 }

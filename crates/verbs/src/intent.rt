@@ -7,8 +7,8 @@ ghost use Rattle.verbs.specs.Step.{at_path, intent_of};
 ghost use Rattle.history.specs.Read.{key_of};
 ghost use Rattle.verbs.specs.Seen.{Gives, expected_of, intent_seen};
 
-use crate::envelope::{Envelope, Expected, judge};
-use crate::fault::Stop;
+use crate::envelope::{Envelope, Expected, validate};
+use crate::fault::CallError;
 use crate::method::Method;
 use crate::parameters::read_parameters;
 use crate::reading::read_config;
@@ -25,7 +25,7 @@ pub struct Intent {
     pub content: Tree,
     pub manager: String,
     pub is_forced: bool,
-    /// The body's fields, whose labels and annotations are judged next.
+    /// The body's fields, whose labels and annotations are validated next.
     pub rest: Value,
 }
 
@@ -55,10 +55,10 @@ pub fn intent_of(
     asked: Asked,
     query: &[u8],
     body: &Value,
-) -> Result<Intent, Stop>
+) -> Result<Intent, CallError>
     ensures { Gives intent_seen result (intent_of (expected_of expected.entry) asked query.now (view body.now)) }
 {
-    let Envelope { version, rest } = judge(alloc, body, expected)?;
+    let Envelope { version, rest } = validate(alloc, body, expected)?;
     let content = read_config(alloc, expected.served, &rest)?;
     let params = read_parameters(alloc, asked, query)?;
     Ok(Intent {

@@ -6,12 +6,12 @@ ghost use Rattle.ownership.specs.Keeping.{IsPlacedState};
 ghost use Rattle.schema.specs.ObjectShape.{IsObjectShape};
 ghost use Rattle.ownership.specs.Results.{state_of};
 ghost use Rattle.verbs.specs.Calls.{Plan};
-ghost use Rattle.verbs.specs.Judged.{Judged};
+ghost use Rattle.verbs.specs.Validated.{Validated};
 ghost use Rattle.verbs.specs.Machine.{state_of_live, state_said};
 ghost use Rattle.verbs.specs.Seen.{Fails, object_of};
 
 use crate::envelope::api_version_of;
-use crate::fault::Stop;
+use crate::fault::CallError;
 use history::Key;
 use ownership::{Identity, ObjectFault, Owned};
 use revtable::Object;
@@ -24,11 +24,11 @@ pub(crate) fn read_stored(
     served: &Served,
     key: &Key,
     stored: &Object,
-) -> Result<Owned, Stop>
+) -> Result<Owned, CallError>
     requires { IsObjectShape (types.served served.now).shape }
     ensures state { IfOk result (λ o. state_of o ≡ state_said (types.served served.now).shape (object_of stored.now).body) }
     ensures placed { IfOk result (λ o. IsPlacedState (types.served served.now).shape (state_of o)) }
-    ensures faults { (judged : Judged Plan) → IfErr result (λ e. Fails e judged) }
+    ensures faults { (validated : Validated Plan) → IfErr result (λ e. Fails e validated) }
 {
     let api_version = api_version_of(alloc, served)?;
     let identity = Identity {
@@ -39,8 +39,8 @@ pub(crate) fn read_stored(
     };
     match Owned::from_object(alloc, &served.schema, identity, stored.body.as_str()) {
         Ok(read) => Ok(read.0),
-        Err(ObjectFault::NotCanonical) => Err(Stop::Unreadable),
-        Err(ObjectFault::Memory) => Err(Stop::Memory),
+        Err(ObjectFault::NotCanonical) => Err(CallError::Unreadable),
+        Err(ObjectFault::Memory) => Err(CallError::Memory),
     }
 }
 
@@ -50,11 +50,11 @@ pub(crate) fn read_live(
     served: &Served,
     key: &Key,
     live: Option<&Object>,
-) -> Result<Owned, Stop>
+) -> Result<Owned, CallError>
     requires { IsObjectShape (types.served served.now).shape }
     ensures state { IfOk result (λ o. state_of o ≡ state_of_live (types.served served.now) (option_map (λ o. object_of o.now) live.entry)) }
     ensures placed { IfOk result (λ o. IsPlacedState (types.served served.now).shape (state_of o)) }
-    ensures faults { (judged : Judged Plan) → IfErr result (λ e. Fails e judged) }
+    ensures faults { (validated : Validated Plan) → IfErr result (λ e. Fails e validated) }
 {
     match live {
         Some(stored) => read_stored(alloc, served, key, stored),

@@ -1,6 +1,6 @@
 ghost use Rattle.std.specs.Prelude.{◌≡◌, ◌==◌, option_map};
 ghost use Rattle.std.specs.List.{before_first};
-ghost use Rattle.verbs.specs.Admit.{is_apply, is_json, media_type, takes, without_leading, without_trailing, is_blank};
+ghost use Rattle.verbs.specs.Admit.{is_apply, is_json, media_type, accepts_media, without_leading, without_trailing, is_blank};
 
 use crate::method::Method;
 
@@ -71,8 +71,8 @@ fn is_json(field: Option<&[u8]>) -> bool
 }
 
 /// Whether a body of this media type is taken.
-pub fn takes(method: Method, field: Option<&[u8]>) -> bool
-    ensures { result ≡ takes method (option_map (λ b. b.now) field.entry) }
+pub fn accepts_media(method: Method, field: Option<&[u8]>) -> bool
+    ensures { result ≡ accepts_media method (option_map (λ b. b.now) field.entry) }
 {
     match method {
         Method::Get => true,

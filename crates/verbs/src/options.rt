@@ -3,21 +3,21 @@
 ghost use Rattle.std.specs.Prelude.{◌≡◌, codes, option_map};
 ghost use Rattle.serde_json.specs.View.{items_view, members_view, view};
 ghost use Rattle.verbs.specs.declared.reason.Reason.TheVariants.{BadRequest};
-ghost use Rattle.verbs.specs.Options.{is_blank, is_blank_text, is_blank_value, is_no_list, options_in, options_judged, preconditions_in, preconditions_read, version_asked, version_by};
-ghost use Rattle.verbs.specs.Seen.{Denies, Gives, body_seen};
+ghost use Rattle.verbs.specs.Options.{is_blank, is_blank_text, is_blank_value, is_no_list, options_in, options_validated, preconditions_in, preconditions_read, version_asked, version_by};
+ghost use Rattle.verbs.specs.Seen.{RefusesFor, Gives, body_seen};
 
 use crate::body::Body;
 use crate::envelope::member;
-use crate::fault::Stop;
+use crate::fault::CallError;
 use crate::reason::Reason;
 use names::version_of;
 use serde_json::{Map, Value};
 use std::alloc::Global;
 
-fn bad_options(alloc: Global) -> Stop
-    ensures { Denies result BadRequest (codes "bad delete options") }
+fn bad_options(alloc: Global) -> CallError
+    ensures { RefusesFor result BadRequest (codes "bad delete options") }
 {
-    Stop::denied(alloc, Reason::BadRequest, "bad delete options")
+    CallError::refused_for(alloc, Reason::BadRequest, "bad delete options")
 }
 
 fn is_no_list(items: &[Value]) -> bool
@@ -62,7 +62,7 @@ fn is_blank_text(member: Option<&Value>) -> bool
     }
 }
 
-fn version_by(alloc: Global, text: &str) -> Result<Option<u64>, Stop>
+fn version_by(alloc: Global, text: &str) -> Result<Option<u64>, CallError>
     ensures { Gives (λ v. v) result (version_by text.now) }
 {
     if text.is_empty() {
@@ -75,7 +75,7 @@ fn version_by(alloc: Global, text: &str) -> Result<Option<u64>, Stop>
 }
 
 /// The version that the object has to have.
-fn version_asked(alloc: Global, member: Option<&Value>) -> Result<Option<u64>, Stop>
+fn version_asked(alloc: Global, member: Option<&Value>) -> Result<Option<u64>, CallError>
     ensures { Gives (λ v. v) result (version_asked (option_map (λ v. view v.now) member.entry)) }
 {
     let Some(value) = member else {
@@ -88,7 +88,7 @@ fn version_asked(alloc: Global, member: Option<&Value>) -> Result<Option<u64>, S
     }
 }
 
-fn read_preconditions(alloc: Global, members: &Map<String, Value>) -> Result<Option<u64>, Stop>
+fn read_preconditions(alloc: Global, members: &Map<String, Value>) -> Result<Option<u64>, CallError>
     ensures { Gives (λ v. v) result (preconditions_read (members_view members.now.entries)) }
 {
     if !is_blank_text(member(members, "uid")) {
@@ -97,7 +97,7 @@ fn read_preconditions(alloc: Global, members: &Map<String, Value>) -> Result<Opt
     version_asked(alloc, member(members, "resourceVersion"))
 }
 
-fn preconditions_in(alloc: Global, member: Option<&Value>) -> Result<Option<u64>, Stop>
+fn preconditions_in(alloc: Global, member: Option<&Value>) -> Result<Option<u64>, CallError>
     ensures { Gives (λ v. v) result (preconditions_in (option_map (λ v. view v.now) member.entry)) }
 {
     let Some(value) = member else {
@@ -110,7 +110,7 @@ fn preconditions_in(alloc: Global, member: Option<&Value>) -> Result<Option<u64>
     }
 }
 
-fn options_in(alloc: Global, members: &Map<String, Value>) -> Result<Option<u64>, Stop>
+fn options_in(alloc: Global, members: &Map<String, Value>) -> Result<Option<u64>, CallError>
     ensures { Gives (λ v. v) result (options_in (Some (members_view members.now.entries))) }
 {
     if !is_blank(member(members, "dryRun")) {
@@ -120,8 +120,8 @@ fn options_in(alloc: Global, members: &Map<String, Value>) -> Result<Option<u64>
 }
 
 /// The version that a deletion's body asks for, if any.
-pub fn judge_options(alloc: Global, body: Option<&Body>) -> Result<Option<u64>, Stop>
-    ensures { Gives (λ v. v) result (options_judged (option_map (λ b. body_seen b.now) body.entry)) }
+pub fn validate_options(alloc: Global, body: Option<&Body>) -> Result<Option<u64>, CallError>
+    ensures { Gives (λ v. v) result (options_validated (option_map (λ b. body_seen b.now) body.entry)) }
 {
     let Some(body) = body else {
         return Ok(None);

@@ -1,39 +1,39 @@
 ghost use Rattle.std.specs.Prelude.{◌≡◌, ◌++◌, IfOk, codes, string_bytes};
 ghost use Rattle.params.specs.Parameters.{name_of};
 ghost use Rattle.params.specs.Views.{values_of};
-ghost use Rattle.verbs.specs.Parameters.{bad_parameter, parameters_judged};
+ghost use Rattle.verbs.specs.Parameters.{bad_parameter, parameters_validated};
 ghost use Rattle.verbs.specs.Seen.{Gives, Refuses};
 
-use crate::fault::Stop;
+use crate::fault::CallError;
 use crate::reason::Reason;
 use crate::texts::joined;
 use params::{Asked, Parameter, Params, ParamsFault};
 use std::alloc::Global;
 
 /// The refusal of a parameter at fault.
-fn bad_parameter(alloc: Global, parameter: Parameter) -> Stop
+fn bad_parameter(alloc: Global, parameter: Parameter) -> CallError
     ensures { Refuses result (bad_parameter parameter) }
 {
     match parameter {
-        Parameter::FieldManager => Stop::denied(
+        Parameter::FieldManager => CallError::refused_for(
             alloc,
             Reason::Invalid,
             "fieldManager: 1 to 128 printable characters",
         ),
         other => match joined(alloc, "bad parameter: ", other.name()) {
-            Ok(message) => Stop::denied(alloc, Reason::BadRequest, message.as_str()),
-            Err(_) => Stop::Memory,
+            Ok(message) => CallError::refused_for(alloc, Reason::BadRequest, message.as_str()),
+            Err(_) => CallError::Memory,
         },
     }
 }
 
 /// The parameters of a call.
-pub fn read_parameters(alloc: Global, asked: Asked, query: &[u8]) -> Result<Params, Stop>
-    ensures { Gives values_of result (parameters_judged asked query.now) }
+pub fn read_parameters(alloc: Global, asked: Asked, query: &[u8]) -> Result<Params, CallError>
+    ensures { Gives values_of result (parameters_validated asked query.now) }
 {
     match Params::read(alloc, asked, query) {
         Ok(params) => Ok(params),
         Err(ParamsFault::Bad(parameter)) => Err(bad_parameter(alloc, parameter)),
-        Err(ParamsFault::Memory) => Err(Stop::Memory),
+        Err(ParamsFault::Memory) => Err(CallError::Memory),
     }
 }

@@ -5,7 +5,7 @@ ghost use Rattle.schema.specs.Served as types;
 ghost use Rattle.verbs.specs.Seen.{Gives, object_of};
 ghost use Rattle.verbs.specs.Step.{not_there, object_named, there};
 
-use crate::fault::Stop;
+use crate::fault::CallError;
 use crate::reason::Reason;
 use crate::texts::joined;
 use revtable::Object;
@@ -30,13 +30,13 @@ pub fn there<'a>(
     served: &Served,
     name: &str,
     live: Option<&'a Object>,
-) -> Result<&'a Object, Stop>
+) -> Result<&'a Object, CallError>
     ensures { Gives (λ o. object_of o.now) result (there (types.served served.now) name.now (option_map (λ o. object_of o.now) live.entry)) }
 {
     let Some(stored) = live else {
         let mut message = object_named(alloc, served, name)?;
         message.push_str(" not found")?;
-        return Err(Stop::denied(alloc, Reason::NotFound, message.as_str()));
+        return Err(CallError::refused_for(alloc, Reason::NotFound, message.as_str()));
     };
     Ok(stored)
 }
@@ -47,7 +47,7 @@ pub fn not_there(
     served: &Served,
     name: &str,
     live: Option<&Object>,
-) -> Result<(), Stop>
+) -> Result<(), CallError>
     ensures { Gives (λ u. u) result (not_there (types.served served.now) name.now (option_map (λ o. object_of o.now) live.entry)) }
 {
     if live.is_none() {
@@ -55,5 +55,5 @@ pub fn not_there(
     }
     let mut message = object_named(alloc, served, name)?;
     message.push_str(" already exists")?;
-    Err(Stop::denied(alloc, Reason::AlreadyExists, message.as_str()))
+    Err(CallError::refused_for(alloc, Reason::AlreadyExists, message.as_str()))
 }

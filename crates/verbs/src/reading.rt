@@ -3,10 +3,10 @@ ghost use Rattle.serde_json.specs.View.{view};
 ghost use Rattle.schema.specs.Served as types;
 ghost use Rattle.typed.specs.Faults.{cause_text};
 ghost use Rattle.typed.specs.Reading.{content_of};
-ghost use Rattle.verbs.specs.Seen.{Denies, Gives};
-ghost use Rattle.verbs.specs.Step.{fault_reason, shape_judged};
+ghost use Rattle.verbs.specs.Seen.{RefusesFor, Gives};
+ghost use Rattle.verbs.specs.Step.{fault_reason, shape_validated};
 
-use crate::fault::Stop;
+use crate::fault::CallError;
 use crate::reason::Reason;
 use crate::texts::joined;
 use schema::Served;
@@ -31,22 +31,22 @@ fn fault_message(alloc: Global, cause: Cause, path: &str) -> Result<String, Allo
     Ok(message)
 }
 
-fn shape_fault(alloc: Global, cause: Cause, path: &str) -> Stop
-    ensures { Denies result (fault_reason cause) (path.now ++ codes ": " ++ cause_text cause) }
+fn shape_fault(alloc: Global, cause: Cause, path: &str) -> CallError
+    ensures { RefusesFor result (fault_reason cause) (path.now ++ codes ": " ++ cause_text cause) }
 {
     match fault_message(alloc, cause, path) {
-        Ok(message) => Stop::denied(alloc, fault_reason(cause), message.as_str()),
-        Err(_) => Stop::Memory,
+        Ok(message) => CallError::refused_for(alloc, fault_reason(cause), message.as_str()),
+        Err(_) => CallError::Memory,
     }
 }
 
 /// The content of a body under the type's schema, or the first fault in its shape.
-pub fn read_config(alloc: Global, served: &Served, rest: &Value) -> Result<Tree, Stop>
-    ensures { Gives (λ t. t) result (shape_judged (content_of (types.served served.now).shape (view rest.now))) }
+pub fn read_config(alloc: Global, served: &Served, rest: &Value) -> Result<Tree, CallError>
+    ensures { Gives (λ t. t) result (shape_validated (content_of (types.served served.now).shape (view rest.now))) }
 {
     match Tree::read(&served.schema, alloc, rest) {
         Ok(tree) => Ok(tree),
         Err(ReadFault::Shape(cause, path)) => Err(shape_fault(alloc, cause, path.as_str())),
-        Err(ReadFault::Memory) => Err(Stop::Memory),
+        Err(ReadFault::Memory) => Err(CallError::Memory),
     }
 }

@@ -3,10 +3,10 @@ ghost use Rattle.serde_json.specs.View.{view};
 ghost use Rattle.serde_json.specs.Written.{compact_text};
 ghost use Rattle.verbs.specs.Naming.{metadata_object};
 ghost use Rattle.verbs.specs.Seen.{Gives};
-ghost use Rattle.verbs.specs.Size.{count_if_there, size_judged};
+ghost use Rattle.verbs.specs.Size.{count_if_there, size_validated};
 
-use crate::fault::Stop;
-use crate::naming::{metadata_object, unless};
+use crate::fault::CallError;
+use crate::naming::{metadata_object, require};
 use serde_json::Value;
 use std::alloc::Global;
 
@@ -26,14 +26,14 @@ fn label_count(object: &Value) -> usize
 }
 
 /// The limits of an object of this value and text.
-pub fn judge_size(alloc: Global, object: &Value, text: &str) -> Result<(), Stop>
+pub fn validate_size(alloc: Global, object: &Value, text: &str) -> Result<(), CallError>
     requires { text.now ≡ compact_text (view object.now) }
-    ensures { Gives (λ u. u) result (size_judged (view object.now)) }
+    ensures { Gives (λ u. u) result (size_validated (view object.now)) }
 {
-    unless(
+    require(
         alloc,
         label_count(object) <= MAX_LABELS,
         "metadata.labels: more than 64",
     )?;
-    unless(alloc, text.len() <= MAX_BYTES, "object over 262144 bytes")
+    require(alloc, text.len() <= MAX_BYTES, "object over 262144 bytes")
 }

@@ -11,14 +11,14 @@ ghost use Rattle.ownership.specs.Results.{state_of};
 ghost use Rattle.verbs.specs.Machine.{state_of_live};
 ghost use Rattle.history.specs.Read.{key_of};
 ghost use Rattle.verbs.specs.Seen.{Gives, object_of, plan_of};
-ghost use Rattle.verbs.specs.Step.{kept, no_object_message, other_version_message, printed, revisions_left, stored, stored_as, stored_over, text_at, version_checked};
+ghost use Rattle.verbs.specs.Step.{as_it_stands, no_object_message, other_version_message, printed, revisions_left, stored, stored_as, stored_over, text_at, version_checked};
 
 use crate::calls::{Answer, Plan};
 use crate::change::Change;
 use crate::envelope::api_version_of;
-use crate::fault::Stop;
+use crate::fault::CallError;
 use crate::reason::Reason;
-use crate::size::judge_size;
+use crate::size::validate_size;
 use crate::texts::joined;
 use history::Key;
 use ownership::{Identity, Owned};
@@ -86,7 +86,11 @@ fn other_version_message(alloc: Global, given: u64, stored: u64) -> Result<Strin
 }
 
 /// The version that a body names is that of the object that stands.
-pub fn check_version(alloc: Global, version: Option<u64>, live: Option<&Object>) -> Result<(), Stop>
+pub fn check_version(
+    alloc: Global,
+    version: Option<u64>,
+    live: Option<&Object>,
+) -> Result<(), CallError>
     ensures { Gives (λ u. u) result (version_checked version (option_map (λ o. object_of o.now) live.entry)) }
 {
     let Some(given) = version else {
@@ -94,23 +98,23 @@ pub fn check_version(alloc: Global, version: Option<u64>, live: Option<&Object>)
     };
     let Some(stored) = live else {
         let message = no_object_message(alloc, given)?;
-        return Err(Stop::denied(alloc, Reason::Conflict, message.as_str()));
+        return Err(CallError::refused_for(alloc, Reason::Conflict, message.as_str()));
     };
     if given == stored.revision {
         return Ok(());
     }
     let message = other_version_message(alloc, given, stored.revision)?;
-    Err(Stop::denied(alloc, Reason::Conflict, message.as_str()))
+    Err(CallError::refused_for(alloc, Reason::Conflict, message.as_str()))
 }
 
-pub fn check_revisions(alloc: Global, current: u64) -> Result<(), Stop>
-    ensures judged { Gives (λ u. u) result (revisions_left current) }
+pub fn check_revisions(alloc: Global, current: u64) -> Result<(), CallError>
+    ensures validated { Gives (λ u. u) result (revisions_left current) }
     ensures left { OnOk result (current < last_revision) }
 {
     if current < LAST_REVISION {
         return Ok(());
     }
-    Err(Stop::denied(alloc, Reason::ServiceUnavailable, "revisions are used up"))
+    Err(CallError::refused_for(alloc, Reason::ServiceUnavailable, "revisions are used up"))
 }
 
 /// The object of this value, unless it is too large or revisions are used up.
@@ -120,13 +124,13 @@ fn stored_as(
     current: u64,
     key: Key,
     status: u16,
-) -> Result<Plan, Stop>
+) -> Result<Plan, CallError>
     requires numbered { current ≤ last_revision }
     requires textual { has_float (view value.now) ≡ false }
     ensures { Gives plan_of result (stored_as (view value.now) current (key_of key) status) }
 {
     let text = value.to_string(alloc)?;
-    judge_size(alloc, value, text.as_str())?;
+    validate_size(alloc, value, text.as_str())?;
     check_revisions(alloc, current)?;
     let body = text.clone()?;
     Ok(Plan {
@@ -147,7 +151,7 @@ pub fn stored(
     key: Key,
     status: u16,
     owned: &Owned,
-) -> Result<Plan, Stop>
+) -> Result<Plan, CallError>
     requires numbered { current ≤ last_revision }
     requires shaped { IsObjectShape (types.served served.now).shape }
     requires content { IsContent (types.served served.now).shape owned.now.tree }
@@ -158,8 +162,8 @@ pub fn stored(
 }
 
 /// The object as it stands.
-pub fn kept(live: &Object) -> Result<Plan, AllocError>
-    ensures { IfOk result (λ p. plan_of p ≡ kept (object_of live.now)) }
+pub fn as_it_stands(live: &Object) -> Result<Plan, AllocError>
+    ensures { IfOk result (λ p. plan_of p ≡ as_it_stands (object_of live.now)) }
 {
     let body = live.body.clone()?;
     Ok(Plan {
@@ -177,7 +181,7 @@ pub fn stored_over(
     live: Option<&Object>,
     before: &Owned,
     owned: &Owned,
-) -> Result<Plan, Stop>
+) -> Result<Plan, CallError>
     requires numbered { current ≤ last_revision }
     requires shaped { IsObjectShape (types.served served.now).shape }
     requires content { IsContent (types.served served.now).shape owned.now.tree }
@@ -188,7 +192,7 @@ pub fn stored_over(
         return stored(alloc, served, current, key, 201, owned);
     };
     if owned.is_same(alloc, before)? {
-        return Ok(kept(stored_before)?);
+        return Ok(as_it_stands(stored_before)?);
     }
     stored(alloc, served, current, key, 200, owned)
 }

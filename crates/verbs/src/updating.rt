@@ -10,15 +10,15 @@ ghost use Rattle.ownership.specs.Results.{state_of};
 ghost use Rattle.verbs.specs.Json.{IsJson};
 ghost use Rattle.history.specs.Read.{key_of};
 ghost use Rattle.verbs.specs.Seen.{Gives, creation_seen, intent_seen, object_of, plan_of};
-ghost use Rattle.verbs.specs.Step.{created_as, creation_judged, update_judged, updated_by, updated_over};
+ghost use Rattle.verbs.specs.Step.{created_as, creation_validated, update_validated, updated_by, updated_over};
 
 use crate::calls::Plan;
 use crate::envelope::{Expected, name_in};
-use crate::fault::Stop;
+use crate::fault::CallError;
 use crate::intent::{Creation, Intent, at_path, intent_of};
 use crate::live::read_live;
 use crate::method::Method;
-use crate::naming::{judge_marks, judge_names, require_name};
+use crate::naming::{require_name, validate_marks, validate_names};
 use crate::presence::{not_there, there};
 use crate::storing::{check_version, stored, stored_over};
 use history::Key;
@@ -49,13 +49,13 @@ pub(crate) fn created_as(
     live: Option<&Object>,
     key: Key,
     intent: Intent,
-) -> Result<Plan, Stop>
+) -> Result<Plan, CallError>
     requires numbered { current ≤ last_revision }
     requires shaped { IsObjectShape (types.served served.now).shape }
     requires content { IsContent (types.served served.now).shape intent.content }
     ensures { Gives plan_of result (created_as (types.served served.now) current (option_map (λ o. object_of o.now) live.entry) (key_of key) (intent_seen intent)) }
 {
-    judge_names(
+    validate_names(
         alloc,
         key.namespace.as_str(),
         key.name.as_str(),
@@ -78,17 +78,17 @@ fn key_in(kind: u32, namespace: &str, name: &str, alloc: Global) -> Result<Key, 
 }
 
 /// The object that a creation is of, and what it intends: the body names the object.
-pub(crate) fn judge_creation(
+pub(crate) fn validate_creation(
     alloc: Global,
     served: &Served,
     kind: u32,
     namespace: &str,
     query: &[u8],
     body: &Value,
-) -> Result<Creation, Stop>
+) -> Result<Creation, CallError>
     requires shaped { IsObjectShape (types.served served.now).shape }
     requires json { IsJson (view body.now) }
-    ensures judged { Gives creation_seen result (creation_judged (types.served served.now) kind namespace.now query.now (view body.now)) }
+    ensures validated { Gives creation_seen result (creation_validated (types.served served.now) kind namespace.now query.now (view body.now)) }
     ensures content { IfOk result (λ c. IsContent (types.served served.now).shape c.intent.content) }
 {
     let expected = Expected {
@@ -111,7 +111,7 @@ fn updated_over(
     key: Key,
     live: Option<&Object>,
     intent: Intent,
-) -> Result<Plan, Stop>
+) -> Result<Plan, CallError>
     requires numbered { current ≤ last_revision }
     requires shaped { IsObjectShape (types.served served.now).shape }
     requires content { IsContent (types.served served.now).shape intent.content }
@@ -125,7 +125,7 @@ fn updated_over(
 }
 
 /// An update of an object that is there.
-pub(crate) fn judge_update(
+pub(crate) fn validate_update(
     alloc: Global,
     served: &Served,
     current: u64,
@@ -133,14 +133,14 @@ pub(crate) fn judge_update(
     key: Key,
     query: &[u8],
     body: &Value,
-) -> Result<Plan, Stop>
+) -> Result<Plan, CallError>
     requires numbered { current ≤ last_revision }
     requires shaped { IsObjectShape (types.served served.now).shape }
     requires json { IsJson (view body.now) }
-    ensures { Gives plan_of result (update_judged (types.served served.now) current (option_map (λ o. object_of o.now) live.entry) (key_of key) query.now (view body.now)) }
+    ensures { Gives plan_of result (update_validated (types.served served.now) current (option_map (λ o. object_of o.now) live.entry) (key_of key) query.now (view body.now)) }
 {
     let expected = at_path(served, &key, Method::Put);
     let intent = intent_of(alloc, expected, Asked::Put, query, body)?;
-    judge_marks(alloc, &intent.rest)?;
+    validate_marks(alloc, &intent.rest)?;
     updated_over(alloc, served, current, key, live, intent)
 }

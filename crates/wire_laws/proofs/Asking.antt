@@ -7,7 +7,7 @@ use Rattle.std.specs.Str.{bytes_eq}
 use Rattle.serde_json.specs.Data.{Data}
 use Rattle.schema.specs.TypesFile.{ServedShape}
 use Rattle.verbs.specs.Admit.{admitted}
-use Rattle.httpedge.specs.Asks.{Asked, Asks}
+use Rattle.httpedge.specs.Asks.{CallDecision, Asks}
 use Rattle.httpedge.specs.Bodies.{body_in, checked_media, max_body, may_have_body, needs_body, query_of}
 use Rattle.httpedge.specs.Decision.{Decision, accepted, and_then, decided_by}
 use Rattle.httpedge.specs.Heads.{Request}
@@ -30,29 +30,29 @@ no_delete method needs = go (bytes_eq method (codes "POST")) (bytes_eq method (c
     go false false true is that other some = is_that (codes "PATCH") other refl
     go false false false is that other some = absurd cc
 
-media_checked : (method target media bytes : List ℕ) → needs_body method ≡ true → checked_media (said_of method target (Some (media, bytes))) ≡ Some media
-media_checked method target media bytes needs = go (may_have_body method) _ (no_delete method needs)
+media_checked : (method request_target media bytes : List ℕ) → needs_body method ≡ true → checked_media (said_of method request_target (Some (media, bytes))) ≡ Some media
+media_checked method request_target media bytes needs = go (may_have_body method) _ (no_delete method needs)
   where
     go : (t other : Bool) → t ≡ false → (if t && other then None else Some media) ≡ Some media
     go true other is = absurd cc
     go false other is = refl
 
 -- by its parts
-abbrev asked_in : List ServedShape → List ℕ → List ℕ → Option (List ℕ) → List ℕ → Decision (Option Data) → Asked
+abbrev asked_in : List ServedShape → List ℕ → List ℕ → Option (List ℕ) → List ℕ → Decision (Option Data) → CallDecision
 asked_in types method path media query body =
     and_then (decided_by (admitted types method path media)) (λ target. and_then body (λ value. accepted (record { target = target; query = query; body = value })))
 
 pub request_asks : (types : List ServedShape) (method path query media bytes : List ℕ) → list_any is_question path ≡ false → needs_body method ≡ true → length bytes ≤ max_body
     → IsPrinted method (path ++ 63 ∷ query) (Some (media, bytes)) → Asks types (request method (path ++ 63 ∷ query) (Some (media, bytes))) (asked_by types method path query media bytes)
 request_asks types method path query media bytes plain needs small printed =
-    let target = path ++ 63 ∷ query in
-    let said : Request = said_of method target (Some (media, bytes)) in (
+    let request_target = path ++ 63 ∷ query in
+    let said : Request = said_of method request_target (Some (media, bytes)) in (
       accepted (said, bytes),
-      request_says method target (Some (media, bytes)) printed,
+      request_says method request_target (Some (media, bytes)) printed,
       sym (
-          ap (λ (p : List ℕ). asked_in types method p (checked_media said) (query_of target) (body_in said bytes)) (path_back path query plain)
-          ∙ ap (λ (m : Option (List ℕ)). asked_in types method path m (query_of target) (body_in said bytes)) (media_checked method target media bytes needs)
+          ap (λ (p : List ℕ). asked_in types method p (checked_media said) (query_of request_target) (body_in said bytes)) (path_back path query plain)
+          ∙ ap (λ (m : Option (List ℕ)). asked_in types method path m (query_of request_target) (body_in said bytes)) (media_checked method request_target media bytes needs)
           ∙ ap (λ (q : List ℕ). asked_in types method path (Some media) q (body_in said bytes)) (query_back path query plain)
-          ∙ ap (λ (b : Decision (Option Data)). asked_in types method path (Some media) query b) (body_back method target media bytes needs small)
+          ∙ ap (λ (b : Decision (Option Data)). asked_in types method path (Some media) query b) (body_back method request_target media bytes needs small)
           ),
     )

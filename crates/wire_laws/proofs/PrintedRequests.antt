@@ -32,10 +32,10 @@ body_fields_of None = []
 body_fields_of (Some (media, bytes)) = field (codes "Content-Type") media ∷ field (codes "Content-Length") (decimal (length bytes)) ∷ []
 
 abbrev head_of : List ℕ → List ℕ → Option (List ℕ × List ℕ) → RequestHead
-head_of method target body = record {
+head_of method request_target body = record {
   blank = [];
   method = method;
-  target = target;
+  target = request_target;
   minor = 1;
   line_end = grammar.crlf;
   fields = field (codes "Host") (codes "localhost") ∷ body_fields_of body;
@@ -45,7 +45,7 @@ head_of method target body = record {
 -- ---- the same bytes, in lines
 
 abbrev first_line : List ℕ → List ℕ → List ℕ
-first_line method target = method ++ (32 ∷ (target ++ codes " HTTP/1.1"))
+first_line method request_target = method ++ (32 ∷ (request_target ++ codes " HTTP/1.1"))
 
 abbrev body_lines : Option (List ℕ × List ℕ) → List (List ℕ)
 body_lines None = []
@@ -56,23 +56,23 @@ other_lines body = codes "Host: localhost" ∷ body_lines body
 
 -- the head in lines, and what comes after it
 abbrev in_lines : List ℕ → List ℕ → Option (List ℕ × List ℕ) → List ℕ → List ℕ
-in_lines method target body more = first_line method target ++ (13 ∷ 10 ∷ (lines_text (other_lines body) ++ (13 ∷ 10 ∷ more)))
+in_lines method request_target body more = first_line method request_target ++ (13 ∷ 10 ∷ (lines_text (other_lines body) ++ (13 ∷ 10 ∷ more)))
 
 section_lines : (body : Option (List ℕ × List ℕ)) → print_section (field (codes "Host") (codes "localhost") ∷ body_fields_of body) grammar.crlf ≡ lines_text (other_lines body) ++ crlf
 section_lines None = refl
 section_lines (Some (media, bytes)) = refl
 
-head_in_lines : (method target : List ℕ) (body : Option (List ℕ × List ℕ)) → print_request (head_of method target body) ≡ in_lines method target body []
+head_in_lines : (method request_target : List ℕ) (body : Option (List ℕ × List ℕ)) → print_request (head_of method request_target body) ≡ in_lines method request_target body []
 unfolding print_request
-head_in_lines method target body =
-    ap (λ (s : List ℕ). (s ++ crlf) ++ print_section (field (codes "Host") (codes "localhost") ∷ body_fields_of body) grammar.crlf) (append_assoc method (32 ∷ target) (codes " HTTP/1.1"))
-    ∙ append_assoc (first_line method target) crlf (print_section (field (codes "Host") (codes "localhost") ∷ body_fields_of body) grammar.crlf)
-    ∙ ap (λ (s : List ℕ). first_line method target ++ (13 ∷ 10 ∷ s)) (section_lines body)
+head_in_lines method request_target body =
+    ap (λ (s : List ℕ). (s ++ crlf) ++ print_section (field (codes "Host") (codes "localhost") ∷ body_fields_of body) grammar.crlf) (append_assoc method (32 ∷ request_target) (codes " HTTP/1.1"))
+    ∙ append_assoc (first_line method request_target) crlf (print_section (field (codes "Host") (codes "localhost") ∷ body_fields_of body) grammar.crlf)
+    ∙ ap (λ (s : List ℕ). first_line method request_target ++ (13 ∷ 10 ∷ s)) (section_lines body)
 
-more_lines : (method target : List ℕ) (body : Option (List ℕ × List ℕ)) (more : List ℕ) → in_lines method target body [] ++ more ≡ in_lines method target body more
-more_lines method target body more =
-    append_assoc (first_line method target) (13 ∷ 10 ∷ (lines_text (other_lines body) ++ crlf)) more
-    ∙ ap (λ (s : List ℕ). first_line method target ++ (13 ∷ 10 ∷ s)) (append_assoc (lines_text (other_lines body)) crlf more)
+more_lines : (method request_target : List ℕ) (body : Option (List ℕ × List ℕ)) (more : List ℕ) → in_lines method request_target body [] ++ more ≡ in_lines method request_target body more
+more_lines method request_target body more =
+    append_assoc (first_line method request_target) (13 ∷ 10 ∷ (lines_text (other_lines body) ++ crlf)) more
+    ∙ ap (λ (s : List ℕ). first_line method request_target ++ (13 ∷ 10 ∷ s)) (append_assoc (lines_text (other_lines body)) crlf more)
 
 field_lines : (body : Option (List ℕ × List ℕ)) (more : List ℕ) → lines_text (other_lines body) ++ (13 ∷ 10 ∷ more) ≡ codes "Host: localhost" ++ (crlf ++ (body_fields body ++ (crlf ++ more)))
 field_lines None more = refl
@@ -81,14 +81,14 @@ field_lines (Some (media, bytes)) more =
     (append_assoc media crlf (codes "Content-Length: " ++ ((decimal (length bytes) ++ crlf) ++ []))
     ∙ ap (λ (s : List ℕ). media ++ (crlf ++ (codes "Content-Length: " ++ s))) (append-nil (decimal (length bytes) ++ crlf)))
 
-request_in_lines : (method target : List ℕ) (body : Option (List ℕ × List ℕ)) → request method target body ≡ in_lines method target body (body_bytes body)
-request_in_lines method target body =
-    ap (λ (s : List ℕ). method ++ (32 ∷ (target ++ (codes " HTTP/1.1" ++ (crlf ++ s))))) (sym (field_lines body (body_bytes body)))
-    ∙ ap (λ (s : List ℕ). method ++ (32 ∷ s)) (sym (append_assoc target (codes " HTTP/1.1") (13 ∷ 10 ∷ (lines_text (other_lines body) ++ (13 ∷ 10 ∷ body_bytes body)))))
-    ∙ sym (append_assoc method (32 ∷ (target ++ codes " HTTP/1.1")) (13 ∷ 10 ∷ (lines_text (other_lines body) ++ (13 ∷ 10 ∷ body_bytes body))))
+request_in_lines : (method request_target : List ℕ) (body : Option (List ℕ × List ℕ)) → request method request_target body ≡ in_lines method request_target body (body_bytes body)
+request_in_lines method request_target body =
+    ap (λ (s : List ℕ). method ++ (32 ∷ (request_target ++ (codes " HTTP/1.1" ++ (crlf ++ s))))) (sym (field_lines body (body_bytes body)))
+    ∙ ap (λ (s : List ℕ). method ++ (32 ∷ s)) (sym (append_assoc request_target (codes " HTTP/1.1") (13 ∷ 10 ∷ (lines_text (other_lines body) ++ (13 ∷ 10 ∷ body_bytes body)))))
+    ∙ sym (append_assoc method (32 ∷ (request_target ++ codes " HTTP/1.1")) (13 ∷ 10 ∷ (lines_text (other_lines body) ++ (13 ∷ 10 ∷ body_bytes body))))
 
-whole : (method target : List ℕ) (body : Option (List ℕ × List ℕ)) → request method target body ≡ print_request (head_of method target body) ++ body_bytes body
-whole method target body = request_in_lines method target body ∙ sym (ap (λ (s : List ℕ). s ++ body_bytes body) (head_in_lines method target body) ∙ more_lines method target body (body_bytes body))
+whole : (method request_target : List ℕ) (body : Option (List ℕ × List ℕ)) → request method request_target body ≡ print_request (head_of method request_target body) ++ body_bytes body
+whole method request_target body = request_in_lines method request_target body ∙ sym (ap (λ (s : List ℕ). s ++ body_bytes body) (head_in_lines method request_target body) ∙ more_lines method request_target body (body_bytes body))
 
 -- ---- lines
 
@@ -114,11 +114,11 @@ value_in_line bytes pass = all_in_line is_value_byte refl refl bytes pass
 text_in_line : (bytes : List ℕ) → list_all is_value_byte bytes ≡ true → All IsInLine bytes
 text_in_line bytes all = value_in_line bytes (passes_each is_value_byte bytes all)
 
-first_is_line : (method target : List ℕ) → AllPass is_token_byte method → AllPass is_uri_byte target → IsLine (first_line method target)
-first_is_line method target token visible = record {
-  some = let long = length-append method (32 ∷ (target ++ codes " HTTP/1.1")) in omega (arith, long);
-  bytes = All-append IsInLine method (32 ∷ (target ++ codes " HTTP/1.1")) (token_in_line method token)
-      (All-cons IsInLine 32 (target ++ codes " HTTP/1.1") (refl, refl) (All-append IsInLine target (codes " HTTP/1.1") (all_in_line is_uri_byte refl refl target visible) (text_in_line (codes " HTTP/1.1") refl)));
+first_is_line : (method request_target : List ℕ) → AllPass is_token_byte method → AllPass is_uri_byte request_target → IsLine (first_line method request_target)
+first_is_line method request_target token visible = record {
+  some = let long = length-append method (32 ∷ (request_target ++ codes " HTTP/1.1")) in omega (arith, long);
+  bytes = All-append IsInLine method (32 ∷ (request_target ++ codes " HTTP/1.1")) (token_in_line method token)
+      (All-cons IsInLine 32 (request_target ++ codes " HTTP/1.1") (refl, refl) (All-append IsInLine request_target (codes " HTTP/1.1") (all_in_line is_uri_byte refl refl request_target visible) (text_in_line (codes " HTTP/1.1") refl)));
 }
 
 host_is_line : IsLine (codes "Host: localhost")
@@ -154,14 +154,14 @@ body_are_fields (Some (media, bytes)) is =
     All-cons IsField (field (codes "Content-Type") media) (field (codes "Content-Length") (decimal (length bytes)) ∷ []) (is_content_type media is.0)
     (All-cons IsField (field (codes "Content-Length") (decimal (length bytes))) [] (is_content_length (decimal (length bytes)) (decimal_is_value (length bytes) is.2)) (All-nil IsField))
 
-some_target : (target : List ℕ) → starts_with nat_eq target (codes "/") ≡ true → 0 < length target
+some_target : (request_target : List ℕ) → starts_with nat_eq request_target (codes "/") ≡ true → 0 < length request_target
 some_target [] is = absurd cc
-some_target (b ∷ target) is = omega arith
+some_target (b ∷ request_target) is = omega arith
 
-is_head : (method target : List ℕ) (body : Option (List ℕ × List ℕ)) → IsPrinted method target body → IsRequestHead (head_of method target body)
-is_head method target body is = record {
+is_head : (method request_target : List ℕ) (body : Option (List ℕ × List ℕ)) → IsPrinted method request_target body → IsRequestHead (head_of method request_target body)
+is_head method request_target body is = record {
   method = is.token;
-  target = (some_target target is.path, is.visible);
+  target = (some_target request_target is.path, is.visible);
   target_text = is.text;
   minor = omega arith;
   fields = All-cons IsField (field (codes "Host") (codes "localhost")) (body_fields_of body) is_host (body_are_fields body is.media);
@@ -196,49 +196,49 @@ passed : (t : Bool) (front : Decision (Request × List ℕ)) → t ≡ true → 
 passed true front is = refl
 passed false front is = absurd cc
 
-judged_so : (method target : List ℕ) (body : Option (List ℕ × List ℕ)) (rest : List ℕ) → starts_with nat_eq target (codes "/") ≡ true → IsMedia body
-    → validated_head (head_of method target body) rest ≡ accepted (said_of method target body, rest)
-judged_so method target None rest path media = passed (starts_with nat_eq target (codes "/")) (accepted (said_of method target None, rest)) path
-judged_so method target (Some (media, bytes)) rest path is =
+validated_so : (method request_target : List ℕ) (body : Option (List ℕ × List ℕ)) (rest : List ℕ) → starts_with nat_eq request_target (codes "/") ≡ true → IsMedia body
+    → validated_head (head_of method request_target body) rest ≡ accepted (said_of method request_target body, rest)
+validated_so method request_target None rest path media = passed (starts_with nat_eq request_target (codes "/")) (accepted (said_of method request_target None, rest)) path
+validated_so method request_target (Some (media, bytes)) rest path is =
     let numeral = decimal_is_IsNumeral (length bytes) is.2 in
     let said : length_in (trim_ows (32 ∷ decimal (length bytes))) ≡ number (length bytes) =
     ap length_in (trimmed (length bytes) is.2) ∙ length_said (decimal (length bytes)) numeral.0.0 (all_digits (decimal (length bytes)) numeral.0.1)
     ∙ ap (λ (n : ℕ). number n) (counted (length bytes) is.2) in
-    passed (starts_with nat_eq target (codes "/")) _ path
-    ∙ ap₂ (λ (m : List ℕ) (l : Length). accepted (record { method = method; request_target = target; media = Some m; transfer_encoded = false; length = l }, rest)) is.1 said
+    passed (starts_with nat_eq request_target (codes "/")) _ path
+    ∙ ap₂ (λ (m : List ℕ) (l : Length). accepted (record { method = method; request_target = request_target; media = Some m; transfer_encoded = false; length = l }, rest)) is.1 said
 
-ends_so : (method target : List ℕ) (body : Option (List ℕ × List ℕ)) → IsPrinted method target body
-    → head_end (take max_head (request method target body)) ≡ Some (length (print_request (head_of method target body)))
-ends_so method target body is =
-    let long : length (request method target body) ≡ length (print_request (head_of method target body)) + length (body_bytes body) = ap (λ (xs : List ℕ). length xs) (whole method target body) ∙ length-append (print_request (head_of method target body)) (body_bytes body) in
+ends_so : (method request_target : List ℕ) (body : Option (List ℕ × List ℕ)) → IsPrinted method request_target body
+    → head_end (take max_head (request method request_target body)) ≡ Some (length (print_request (head_of method request_target body)))
+ends_so method request_target body is =
+    let long : length (request method request_target body) ≡ length (print_request (head_of method request_target body)) + length (body_bytes body) = ap (λ (xs : List ℕ). length xs) (whole method request_target body) ∙ length-append (print_request (head_of method request_target body)) (body_bytes body) in
     let fits = is.fits in
-    let room : length (print_request (head_of method target body)) + (max_head - length (print_request (head_of method target body))) ≡ max_head = omega (arith, long, fits) in
-    let front : take max_head (request method target body) ≡ print_request (head_of method target body) ++ take (max_head - length (print_request (head_of method target body))) (body_bytes body) =
-    ap (λ (n : ℕ). take n (request method target body)) (sym room) ∙ ap (take _) (whole method target body) ∙ take-append-add (print_request (head_of method target body)) (body_bytes body) (max_head - length (print_request (head_of method target body))) in
-    let lines : print_request (head_of method target body) ++ take (max_head - length (print_request (head_of method target body))) (body_bytes body) ≡ in_lines method target body (take (max_head - length (print_request (head_of method target body))) (body_bytes body)) =
-    ap (λ (s : List ℕ). s ++ take (max_head - length (print_request (head_of method target body))) (body_bytes body)) (head_in_lines method target body) ∙ more_lines method target body _ in
-    let counted : length (print_request (head_of method target body)) ≡ length (first_line method target) + length (lines_text (other_lines body)) + 4 = count_lines method target body in
+    let room : length (print_request (head_of method request_target body)) + (max_head - length (print_request (head_of method request_target body))) ≡ max_head = omega (arith, long, fits) in
+    let front : take max_head (request method request_target body) ≡ print_request (head_of method request_target body) ++ take (max_head - length (print_request (head_of method request_target body))) (body_bytes body) =
+    ap (λ (n : ℕ). take n (request method request_target body)) (sym room) ∙ ap (take _) (whole method request_target body) ∙ take-append-add (print_request (head_of method request_target body)) (body_bytes body) (max_head - length (print_request (head_of method request_target body))) in
+    let lines : print_request (head_of method request_target body) ++ take (max_head - length (print_request (head_of method request_target body))) (body_bytes body) ≡ in_lines method request_target body (take (max_head - length (print_request (head_of method request_target body))) (body_bytes body)) =
+    ap (λ (s : List ℕ). s ++ take (max_head - length (print_request (head_of method request_target body))) (body_bytes body)) (head_in_lines method request_target body) ∙ more_lines method request_target body _ in
+    let counted : length (print_request (head_of method request_target body)) ≡ length (first_line method request_target) + length (lines_text (other_lines body)) + 4 = count_lines method request_target body in
     ap head_end (front ∙ lines)
-    ∙ head_ends (first_line method target) (other_lines body) _ (first_is_line method target is.token.1 is.visible) (All-cons IsLine (codes "Host: localhost") (body_lines body) host_is_line (body_are_lines body is.media))
+    ∙ head_ends (first_line method request_target) (other_lines body) _ (first_is_line method request_target is.token.1 is.visible) (All-cons IsLine (codes "Host: localhost") (body_lines body) host_is_line (body_are_lines body is.media))
     ∙ ap (λ (n : ℕ). Some n) (sym counted)
   where
-    count_lines : (method target : List ℕ) (body : Option (List ℕ × List ℕ)) → length (print_request (head_of method target body)) ≡ length (first_line method target) + length (lines_text (other_lines body)) + 4
-    count_lines method target body =
-        let outer = length-append (first_line method target) (13 ∷ 10 ∷ (lines_text (other_lines body) ++ crlf)) in
+    count_lines : (method request_target : List ℕ) (body : Option (List ℕ × List ℕ)) → length (print_request (head_of method request_target body)) ≡ length (first_line method request_target) + length (lines_text (other_lines body)) + 4
+    count_lines method request_target body =
+        let outer = length-append (first_line method request_target) (13 ∷ 10 ∷ (lines_text (other_lines body) ++ crlf)) in
         let inner = length-append (lines_text (other_lines body)) crlf in
-        ap (λ (xs : List ℕ). length xs) (head_in_lines method target body) ∙ omega (arith, outer, inner)
+        ap (λ (xs : List ℕ). length xs) (head_in_lines method request_target body) ∙ omega (arith, outer, inner)
 
-pub request_says : (method target : List ℕ) (body : Option (List ℕ × List ℕ)) → IsPrinted method target body → ReadsHead (request method target body) (accepted (said_of method target body, body_bytes body))
-request_says method target body is =
-    let same = whole method target body in
-    let front : take (length (print_request (head_of method target body))) (request method target body) ≡ print_request (head_of method target body) ++ [] =
-    ap (take _) same ∙ take-append_seam (print_request (head_of method target body)) (body_bytes body) ∙ sym (append-nil _) in
-    let rest : drop (length (print_request (head_of method target body))) (request method target body) ≡ body_bytes body =
-    ap (drop _) same ∙ drop-append_seam (print_request (head_of method target body)) (body_bytes body) in
-    let said : accepted (said_of method target body, body_bytes body) ≡ validated_head (head_of method target body) (drop (length (print_request (head_of method target body))) (request method target body)) =
-    sym (ap (validated_head (head_of method target body)) rest ∙ judged_so method target body (body_bytes body) is.path is.media) in
-    subst (λ (o : Option ℕ). ReadsHeadAt (request method target body) o (accepted (said_of method target body, body_bytes body))) (sym (ends_so method target body is))
-    (inl (head_of method target body, (is_head method target body is, front), said))
+pub request_says : (method request_target : List ℕ) (body : Option (List ℕ × List ℕ)) → IsPrinted method request_target body → ReadsHead (request method request_target body) (accepted (said_of method request_target body, body_bytes body))
+request_says method request_target body is =
+    let same = whole method request_target body in
+    let front : take (length (print_request (head_of method request_target body))) (request method request_target body) ≡ print_request (head_of method request_target body) ++ [] =
+    ap (take _) same ∙ take-append_seam (print_request (head_of method request_target body)) (body_bytes body) ∙ sym (append-nil _) in
+    let rest : drop (length (print_request (head_of method request_target body))) (request method request_target body) ≡ body_bytes body =
+    ap (drop _) same ∙ drop-append_seam (print_request (head_of method request_target body)) (body_bytes body) in
+    let said : accepted (said_of method request_target body, body_bytes body) ≡ validated_head (head_of method request_target body) (drop (length (print_request (head_of method request_target body))) (request method request_target body)) =
+    sym (ap (validated_head (head_of method request_target body)) rest ∙ validated_so method request_target body (body_bytes body) is.path is.media) in
+    subst (λ (o : Option ℕ). ReadsHeadAt (request method request_target body) o (accepted (said_of method request_target body, body_bytes body))) (sym (ends_so method request_target body is))
+    (inl (head_of method request_target body, (is_head method request_target body is, front), said))
 
 -- ---- its body
 
@@ -262,8 +262,8 @@ body_whole bytes = go (ltb (length bytes) (length bytes)) (le-ltb _ _ (omega ari
 abbrev by_length : List ℕ → Result (Option ℕ) Denied → Decision (Option Data)
 by_length bytes r = and_then (decided_by r) (λ (n : Option ℕ). declared_body n bytes)
 
-pub body_back : (method target media bytes : List ℕ) → needs_body method ≡ true → length bytes ≤ max_body → body_in (said_of method target (Some (media, bytes))) bytes ≡ some_json (json_in bytes)
-body_back method target media bytes needs small = go (needs_body method) needs _
+pub body_back : (method request_target media bytes : List ℕ) → needs_body method ≡ true → length bytes ≤ max_body → body_in (said_of method request_target (Some (media, bytes))) bytes ≡ some_json (json_in bytes)
+body_back method request_target media bytes needs small = go (needs_body method) needs _
   where
     go : (t : Bool) → t ≡ true → (other : Result (Option ℕ) Denied) → by_length bytes (if t then sized (length bytes) else other) ≡ some_json (json_in bytes)
     go true is other = ap (λ (r : Result (Option ℕ) Denied). by_length bytes r) (sized_small (length bytes) small) ∙ body_whole bytes

@@ -19,22 +19,22 @@ use Rattle.verbs.specs.declared.reason.Reason.{Reason}
 use Rattle.verbs.specs.declared.reason.Reason.TheVariants as reason
 use Rattle.verbs.specs.declared.resource.Resource.{Resource}
 use Rattle.verbs.specs.declared.resource.Resource.TheVariants as resource
-use Rattle.verbs.specs.Admit.{Place, admitted, allowed, denied_by, method_admitted, method_named, method_served, place_admitted, place_of, takes, target_at}
+use Rattle.verbs.specs.Admit.{Place, admitted, allowed, not_admitted, method_admitted, method_named, method_served, place_admitted, place_of, accepts_media, target_at}
 use Rattle.verbs.specs.Calls.{Call, Denied, Plan, Target}
 use Rattle.params.specs.declared.params.Asked.TheVariants as asked
 use Rattle.verbs.specs.Envelope.{api_version_of, name_in}
-use Rattle.verbs.specs.Judged as judged
-use Rattle.verbs.specs.Judged.{Judged}
+use Rattle.verbs.specs.Validated as validated
+use Rattle.verbs.specs.Validated.{Validated}
 use Rattle.history.specs.History.{History, Key, Object, Objects, standing}
 use Rattle.verbs.specs.Machine.{no_state, state_of_live, state_said}
-use Rattle.verbs.specs.Naming.{marks_judged, names_judged, required_name}
-use Rattle.verbs.specs.Options.{options_judged}
-use Rattle.verbs.specs.Parameters.{parameters_judged}
+use Rattle.verbs.specs.Naming.{marks_validated, names_validated, required_name}
+use Rattle.verbs.specs.Options.{options_validated}
+use Rattle.verbs.specs.Parameters.{parameters_validated}
 use Rattle.verbs.specs.Reasons.{code_of}
-use Rattle.verbs.specs.Status.{Denial, status_value}
-use Rattle.verbs.specs.Size.{size_judged}
+use Rattle.verbs.specs.Status.{CallRefusal, status_value}
+use Rattle.verbs.specs.Size.{size_validated}
 use Rattle.verbs.specs.Step as step
-use Rattle.httpedge.specs.Asks.{Asked, Asks, call_in, call_with}
+use Rattle.httpedge.specs.Asks.{CallDecision, Asks, call_in, call_with}
 use Rattle.httpedge.specs.Bodies.{body_in, checked_media, declared_body, declared_length, json_in, max_body, may_have_body, needed_length, needs_body, optional_length, path_of, sized, some_json}
 use Rattle.httpedge.specs.Decision.{Decision, undecided, refused, accepted, and_then, decided_by}
 use Rattle.httpedge.specs.Heads.{HeadDecision, Length, ReadsHeadAt, Request, number, head_end, malformed, max_head, missing, validated_head}
@@ -172,7 +172,7 @@ at_readable bytes (Some n) head (inr (none, is)) = subst (λ (x : HeadDecision).
 method_readable : (place : Place) (m : Option Method) (media : Option (List ℕ)) → ReadableResult Target (method_admitted place m media)
 method_readable place None media = err _ (record { allow = allowed_readable place.resource; short = method_short })
 method_readable place (Some m) media =
-    if_result (takes m media) (Ok (target_at place m)) (denied_by reason.UnsupportedMediaType (codes "media type not served") None) (ok (target_at place m)) (err _ media_readable)
+    if_result (accepts_media m media) (Ok (target_at place m)) (not_admitted reason.UnsupportedMediaType (codes "media type not served") None) (ok (target_at place m)) (err _ media_readable)
 
 place_readable : (o : Option Place) (method : List ℕ) (media : Option (List ℕ)) → ReadableResult Target (place_admitted o method media)
 place_readable None method media = err _ no_path_readable
@@ -234,26 +234,26 @@ call_readable types r rest =
 pub asked_readable : (types : List ServedShape) (bytes : List ℕ) (d : Denied) → Asks types bytes (refused d) → IsReadable d
 asked_readable types bytes d (head, reads, is) =
     let all = then_readable head (λ r. call_in types r.0 r.1) (at_readable bytes (head_end (take max_head bytes)) head reads) (λ r. call_readable types r.0 r.1) in
-    (subst (λ (x : Asked). Readable Call x) (sym is) all).is
+    (subst (λ (x : CallDecision). Readable Call x) (sym is) all).is
 
 -- ---- answers
 
-abbrev WhenDone : Judged Plan → Type 0
+abbrev WhenDone : Validated Plan → Type 0
 WhenDone (Ok p) = IsStatusCode p.answer.status
 WhenDone (Err d) = ⊤
 
 -- where it is done, the answer's status is a status code
-pub record IsFine (j : Judged Plan) : Type 0 where
+pub record IsFine (j : Validated Plan) : Type 0 where
   pub is : WhenDone j
 
-denied : (d : Denial) → IsFine (Err d)
+denied : (d : CallRefusal) → IsFine (Err d)
 denied d = record { is = tt {0} }
 
-checked : {X : Type 0} (x : Judged X) (f : X → Judged Plan) → ((a : X) → IsFine (f a)) → IsFine (judged.and_then x f)
+checked : {X : Type 0} (x : Validated X) (f : X → Validated Plan) → ((a : X) → IsFine (f a)) → IsFine (validated.and_then x f)
 checked (Ok a) f is = is a
 checked (Err d) f is = denied d
 
-if_fine : (b : Bool) (x y : Judged Plan) → IsFine x → IsFine y → IsFine (if b then x else y)
+if_fine : (b : Bool) (x y : Validated Plan) → IsFine x → IsFine y → IsFine (if b then x else y)
 if_fine true x y is other = is
 if_fine false x y is other = other
 
@@ -263,112 +263,112 @@ stored_fine body current k status is =
       answer = record { status = status; body = compact_text body };
       change = Some (record { revision = suc current; key = k; body = Some (compact_text body) });
     } in
-    let left : Unit {0} → Judged Plan = λ u. judged.and_then (step.revisions_left current) (λ v. Ok plan) in
-    checked (size_judged body) left (λ u. checked (step.revisions_left current) (λ v. Ok plan) (λ v. record { is = is }))
+    let left : Unit {0} → Validated Plan = λ u. validated.and_then (step.revisions_left current) (λ v. Ok plan) in
+    checked (size_validated body) left (λ u. checked (step.revisions_left current) (λ v. Ok plan) (λ v. record { is = is }))
 
 over_fine : (t : ServedShape) (current : ℕ) (k : Key) (o : Option Object) (s : State) → IsFine (step.stored_over t current k o s)
 over_fine t current k None s = stored_fine (step.printed t k (suc current) s) current k 201 (omega arith, omega arith)
 over_fine t current k (Some o) s =
-    if_fine (same_state s (state_said t.shape o.body)) (Ok (step.kept o)) (step.stored t current k 200 s) (record { is = (omega arith, omega arith) })
+    if_fine (same_state s (state_said t.shape o.body)) (Ok (step.as_it_stands o)) (step.stored t current k 200 s) (record { is = (omega arith, omega arith) })
     (stored_fine (step.printed t k (suc current) s) current k 200 (omega arith, omega arith))
 
 applied_fine : (t : ServedShape) (current : ℕ) (k : Key) (live : Option Object) (intent : step.Intent) → IsFine (step.applied_over t current k live intent)
 applied_fine t current k live intent =
-    let owned = step.ownership_judged (api_version_of t) (state_of_live t live) intent.content (manager_of intent.manager apply_operation) intent.is_forced in
-    checked (step.version_checked intent.version live) (λ u. judged.and_then owned (step.stored_over t current k live))
+    let owned = step.ownership_validated (api_version_of t) (state_of_live t live) intent.content (manager_of intent.manager apply_operation) intent.is_forced in
+    checked (step.version_checked intent.version live) (λ u. validated.and_then owned (step.stored_over t current k live))
     (λ u. checked owned (step.stored_over t current k live) (λ s. over_fine t current k live s))
 
 fine : (p : Plan) → IsStatusCode p.answer.status → IsFine (Ok p)
 fine p is = record { is = is }
 
-apply_fine : (t : ServedShape) (current : ℕ) (live : Option Object) (k : Key) (query : List ℕ) (body : Data) → IsFine (step.apply_judged t current live k query body)
+apply_fine : (t : ServedShape) (current : ℕ) (live : Option Object) (k : Key) (query : List ℕ) (body : Data) → IsFine (step.apply_validated t current live k query body)
 apply_fine t current live k query body =
     checked (step.intent_of (step.at_path t k method.Patch) asked.Apply query body)
-    (λ intent. judged.and_then (names_judged k.namespace k.name intent.rest) (λ u. step.applied_over t current k live intent))
-    (λ intent. checked (names_judged k.namespace k.name intent.rest) (λ u. step.applied_over t current k live intent)
+    (λ intent. validated.and_then (names_validated k.namespace k.name intent.rest) (λ u. step.applied_over t current k live intent))
+    (λ intent. checked (names_validated k.namespace k.name intent.rest) (λ u. step.applied_over t current k live intent)
     (λ u. applied_fine t current k live intent))
 
-get_fine : (t : ServedShape) (current : ℕ) (live : Option Object) (k : Key) (query : List ℕ) → IsFine (step.get_judged t current live k query)
+get_fine : (t : ServedShape) (current : ℕ) (live : Option Object) (k : Key) (query : List ℕ) → IsFine (step.get_validated t current live k query)
 get_fine t current live k query =
-    checked (parameters_judged asked.Get query)
-    (λ values. judged.and_then (step.there t k.name live) (λ o. judged.and_then (step.version_come values.version current) (λ u. Ok (step.kept o))))
-    (λ values. checked (step.there t k.name live) (λ o. judged.and_then (step.version_come values.version current) (λ u. Ok (step.kept o)))
-    (λ o. checked (step.version_come values.version current) (λ u. Ok (step.kept o)) (λ u. fine (step.kept o) (omega arith, omega arith))))
+    checked (parameters_validated asked.Get query)
+    (λ values. validated.and_then (step.there t k.name live) (λ o. validated.and_then (step.version_come values.version current) (λ u. Ok (step.as_it_stands o))))
+    (λ values. checked (step.there t k.name live) (λ o. validated.and_then (step.version_come values.version current) (λ u. Ok (step.as_it_stands o)))
+    (λ o. checked (step.version_come values.version current) (λ u. Ok (step.as_it_stands o)) (λ u. fine (step.as_it_stands o) (omega arith, omega arith))))
 
 created_fine : (t : ServedShape) (current : ℕ) (live : Option Object) (k : Key) (intent : step.Intent) → IsFine (step.created_as t current live k intent)
 created_fine t current live k intent =
     let new = step.updated_by intent no_state in
-    checked (names_judged k.namespace k.name intent.rest)
-    (λ u. judged.and_then (step.not_there t k.name live) (λ v. step.stored t current k 201 new))
+    checked (names_validated k.namespace k.name intent.rest)
+    (λ u. validated.and_then (step.not_there t k.name live) (λ v. step.stored t current k 201 new))
     (λ u. checked (step.not_there t k.name live) (λ v. step.stored t current k 201 new)
     (λ v. stored_fine (step.printed t k (suc current) new) current k 201 (omega arith, omega arith)))
 
-create_fine : (t : ServedShape) (current : ℕ) (objects : Objects) (kind : ℕ) (namespace query : List ℕ) (body : Data) → IsFine (step.create_judged t current objects kind namespace query body)
+create_fine : (t : ServedShape) (current : ℕ) (objects : Objects) (kind : ℕ) (namespace query : List ℕ) (body : Data) → IsFine (step.create_validated t current objects kind namespace query body)
 create_fine t current objects kind namespace query body =
     checked (step.intent_of (record { served = t; namespace = namespace; name = None; method = method.Post }) asked.Post query body)
-    (λ intent. judged.and_then (required_name (name_in body)) (λ name. step.created_in t current objects (record { kind = kind; namespace = namespace; name = name }) intent))
+    (λ intent. validated.and_then (required_name (name_in body)) (λ name. step.created_in t current objects (record { kind = kind; namespace = namespace; name = name }) intent))
     (λ intent. checked (required_name (name_in body)) (λ name. step.created_in t current objects (record { kind = kind; namespace = namespace; name = name }) intent)
     (λ name. created_fine t current (fin.get objects (record { kind = kind; namespace = namespace; name = name })) (record { kind = kind; namespace = namespace; name = name }) intent))
 
 updated_fine : (t : ServedShape) (current : ℕ) (k : Key) (live : Option Object) (intent : step.Intent) → IsFine (step.updated_over t current k live intent)
 updated_fine t current k live intent =
     checked (step.there t k.name live)
-    (λ o. judged.and_then (step.version_checked intent.version live) (λ u. step.stored_over t current k live (step.updated_by intent (state_said t.shape o.body))))
+    (λ o. validated.and_then (step.version_checked intent.version live) (λ u. step.stored_over t current k live (step.updated_by intent (state_said t.shape o.body))))
     (λ o. checked (step.version_checked intent.version live) (λ u. step.stored_over t current k live (step.updated_by intent (state_said t.shape o.body)))
     (λ u. over_fine t current k live (step.updated_by intent (state_said t.shape o.body))))
 
-update_fine : (t : ServedShape) (current : ℕ) (live : Option Object) (k : Key) (query : List ℕ) (body : Data) → IsFine (step.update_judged t current live k query body)
+update_fine : (t : ServedShape) (current : ℕ) (live : Option Object) (k : Key) (query : List ℕ) (body : Data) → IsFine (step.update_validated t current live k query body)
 update_fine t current live k query body =
     checked (step.intent_of (step.at_path t k method.Put) asked.Put query body)
-    (λ intent. judged.and_then (marks_judged intent.rest) (λ u. step.updated_over t current k live intent))
-    (λ intent. checked (marks_judged intent.rest) (λ u. step.updated_over t current k live intent)
+    (λ intent. validated.and_then (marks_validated intent.rest) (λ u. step.updated_over t current k live intent))
+    (λ intent. checked (marks_validated intent.rest) (λ u. step.updated_over t current k live intent)
     (λ u. updated_fine t current k live intent))
 
 deleted_fine : (t : ServedShape) (current : ℕ) (k : Key) (live : Option Object) (version : Option ℕ) → IsFine (step.deleted_over t current k live version)
 deleted_fine t current k live version =
     checked (step.there t k.name live)
-    (λ o. judged.and_then (step.version_checked version live) (λ u. judged.and_then (step.revisions_left current) (λ v. Ok (step.deleted t current k o))))
-    (λ o. checked (step.version_checked version live) (λ u. judged.and_then (step.revisions_left current) (λ v. Ok (step.deleted t current k o)))
+    (λ o. validated.and_then (step.version_checked version live) (λ u. validated.and_then (step.revisions_left current) (λ v. Ok (step.deleted t current k o))))
+    (λ o. checked (step.version_checked version live) (λ u. validated.and_then (step.revisions_left current) (λ v. Ok (step.deleted t current k o)))
     (λ u. checked (step.revisions_left current) (λ v. Ok (step.deleted t current k o)) (λ v. fine (step.deleted t current k o) (omega arith, omega arith))))
 
-delete_fine : (t : ServedShape) (current : ℕ) (live : Option Object) (k : Key) (query : List ℕ) (body : Option Data) → IsFine (step.delete_judged t current live k query body)
+delete_fine : (t : ServedShape) (current : ℕ) (live : Option Object) (k : Key) (query : List ℕ) (body : Option Data) → IsFine (step.delete_validated t current live k query body)
 delete_fine t current live k query body =
-    checked (options_judged body) (λ version. judged.and_then (parameters_judged asked.Delete query) (λ values. step.deleted_over t current k live version))
-    (λ version. checked (parameters_judged asked.Delete query) (λ values. step.deleted_over t current k live version)
+    checked (options_validated body) (λ version. validated.and_then (parameters_validated asked.Delete query) (λ values. step.deleted_over t current k live version))
+    (λ version. checked (parameters_validated asked.Delete query) (λ values. step.deleted_over t current k live version)
     (λ values. deleted_fine t current k live version))
 
-with_body : (o : Option Data) (judge : Data → Judged Plan) → ((body : Data) → IsFine (judge body)) → IsFine (judged.and_then (step.body_of o) judge)
-with_body o judge is = checked (step.body_of o) judge is
+with_body : (o : Option Data) (validate : Data → Validated Plan) → ((body : Data) → IsFine (validate body)) → IsFine (validated.and_then (step.body_of o) validate)
+with_body o validate is = checked (step.body_of o) validate is
 
-object_fine : (m : Method) (t : ServedShape) (current : ℕ) (live : Option Object) (k : Key) (query : List ℕ) (o : Option Data) → IsFine (step.object_judged_by m t current live k query o)
+object_fine : (m : Method) (t : ServedShape) (current : ℕ) (live : Option Object) (k : Key) (query : List ℕ) (o : Option Data) → IsFine (step.object_validated_by m t current live k query o)
 object_fine method.Get t current live k query o = get_fine t current live k query
 object_fine method.Post t current live k query o = denied _
-object_fine method.Put t current live k query o = with_body o (step.update_judged t current live k query) (update_fine t current live k query)
-object_fine method.Patch t current live k query o = with_body o (step.apply_judged t current live k query) (apply_fine t current live k query)
+object_fine method.Put t current live k query o = with_body o (step.update_validated t current live k query) (update_fine t current live k query)
+object_fine method.Patch t current live k query o = with_body o (step.apply_validated t current live k query) (apply_fine t current live k query)
 object_fine method.Delete t current live k query o = delete_fine t current live k query o
 
 collection_fine : (m : Method) (t : ServedShape) (current : ℕ) (objects : Objects) (kind : ℕ) (namespace query : List ℕ) (o : Option Data)
-    → IsFine (step.collection_judged_by m t current objects kind namespace query o)
-collection_fine method.Post t current objects kind namespace query o = with_body o (step.create_judged t current objects kind namespace query) (create_fine t current objects kind namespace query)
+    → IsFine (step.collection_validated_by m t current objects kind namespace query o)
+collection_fine method.Post t current objects kind namespace query o = with_body o (step.create_validated t current objects kind namespace query) (create_fine t current objects kind namespace query)
 collection_fine method.Get t current objects kind namespace query o = denied _
 collection_fine method.Put t current objects kind namespace query o = denied _
 collection_fine method.Patch t current objects kind namespace query o = denied _
 collection_fine method.Delete t current objects kind namespace query o = denied _
 
-in_fine : (t : ServedShape) (current : ℕ) (objects : Objects) (call : Call) (namespace name : Option (List ℕ)) → IsFine (step.judged_in t current objects call namespace name)
+in_fine : (t : ServedShape) (current : ℕ) (objects : Objects) (call : Call) (namespace name : Option (List ℕ)) → IsFine (step.validated_in t current objects call namespace name)
 in_fine t current objects call None name = denied _
 in_fine t current objects call (Some namespace) None = collection_fine call.target.method t current objects call.target.kind namespace call.query call.body
 in_fine t current objects call (Some namespace) (Some name) =
     object_fine call.target.method t current (fin.get objects (step.key_at call namespace name)) (step.key_at call namespace name) call.query call.body
 
-at_fine : (o : Option ServedShape) (current : ℕ) (objects : Objects) (call : Call) → IsFine (step.judged_at o current objects call)
+at_fine : (o : Option ServedShape) (current : ℕ) (objects : Objects) (call : Call) → IsFine (step.validated_at o current objects call)
 at_fine None current objects call = denied _
 at_fine (Some t) current objects call = in_fine t current objects call call.target.namespace call.target.name
 
-told_fine : (j : Judged Plan) → IsFine j → IsStatusCode (step.told j).answer.status
-told_fine (Ok p) is = is.is
-told_fine (Err d) is = code_is d.reason
+plan_fine : (j : Validated Plan) → IsFine j → IsStatusCode (step.plan_for j).answer.status
+plan_fine (Ok p) is = is.is
+plan_fine (Err d) is = code_is d.reason
 
 pub status_is : (types : List ServedShape) (m : History) (call : Call) → IsStatusCode (step.planned types m call).answer.status
 status_is types m call =
-    told_fine (step.judged_over types m.current (standing m) call) (at_fine (slice_get types call.target.kind) m.current (standing m) call)
+    plan_fine (step.validated_over types m.current (standing m) call) (at_fine (slice_get types call.target.kind) m.current (standing m) call)

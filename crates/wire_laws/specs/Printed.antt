@@ -4,7 +4,7 @@ use Rattle.std.specs.List.{All, starts_with}
 use Rattle.httparse.specs.Grammar.{AllPass, IsToken, is_uri_byte, is_value_byte, trim_ows}
 use Rattle.schema.specs.TypesFile.{ServedShape}
 use Rattle.verbs.specs.Admit.{admitted}
-use Rattle.httpedge.specs.Asks.{Asked}
+use Rattle.httpedge.specs.Asks.{CallDecision}
 use Rattle.httpedge.specs.Bodies.{json_in, some_json}
 use Rattle.httpedge.specs.Decision.{accepted, and_then, decided_by}
 use Rattle.httpedge.specs.Heads.{Length, missing, number, Request, max_head}
@@ -21,13 +21,13 @@ IsMedia None = Unit {0}
 IsMedia (Some (media, bytes)) = AllPass is_value_byte media × (trim_ows (32 ∷ media) ≡ media) × (length bytes < 2 ^ 64)
 
 -- a method of the grammar, a target that is a path with or without a query, and a head that is not too long
-pub record IsPrinted (method target : List ℕ) (body : Option (List ℕ × List ℕ)) : Type 0 where
+pub record IsPrinted (method request_target : List ℕ) (body : Option (List ℕ × List ℕ)) : Type 0 where
   pub token : IsToken method
-  pub path : starts_with nat_eq target (codes "/") ≡ true
-  pub visible : AllPass is_uri_byte target
-  pub text : IsUtf8 target
+  pub path : starts_with nat_eq request_target (codes "/") ≡ true
+  pub visible : AllPass is_uri_byte request_target
+  pub text : IsUtf8 request_target
   pub media : IsMedia body
-  pub fits : length (request method target body) ≤ max_head + length (body_bytes body)
+  pub fits : length (request method request_target body) ≤ max_head + length (body_bytes body)
 
 abbrev pub media_of : Option (List ℕ × List ℕ) → Option (List ℕ)
 media_of None = None
@@ -39,10 +39,10 @@ length_of (Some (media, bytes)) = number (length bytes)
 
 -- what the server takes from the head of such a request
 abbrev pub said_of : List ℕ → List ℕ → Option (List ℕ × List ℕ) → Request
-said_of method target body = record { method = method; request_target = target; media = media_of body; transfer_encoded = false; length = length_of body }
+said_of method request_target body = record { method = method; request_target = request_target; media = media_of body; transfer_encoded = false; length = length_of body }
 
 -- what such a request asks by these types, its target a path and a query: its route, its method and its media type are checked, then its body
-abbrev pub asked_by : List ServedShape → List ℕ → List ℕ → List ℕ → List ℕ → List ℕ → Asked
+abbrev pub asked_by : List ServedShape → List ℕ → List ℕ → List ℕ → List ℕ → List ℕ → CallDecision
 asked_by types method path query media bytes =
     and_then (decided_by (admitted types method path (Some media)))
     (λ target. and_then (some_json (json_in bytes)) (λ body. accepted (record { target = target; query = query; body = body })))

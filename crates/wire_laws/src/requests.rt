@@ -15,14 +15,14 @@ ghost use Rattle.wire_laws.specs.Printed.{IsPrinted, IsTextPair, asked_by, is_qu
 /// A request that the client prints (RFC 9112, section 3) says on the server this method, this target and this media
 /// type, and its body stands after the head.
 pub fn requests_are_read()
-    ensures { (method target : List ℕ) (body : Option (List ℕ × List ℕ)) → IsPrinted method target body
-        → ReadsHead (request method target body) (accepted (said_of method target body, body_bytes body)) }
+    ensures { (method request_target : List ℕ) (body : Option (List ℕ × List ℕ)) → IsPrinted method request_target body
+        → ReadsHead (request method request_target body) (accepted (said_of method request_target body, body_bytes body)) }
 {}
 
 /// The body of such a request, where its method needs one, is read as what these bytes are as JSON.
 pub fn bodies_are_read()
-    ensures { (method target media bytes : List ℕ) → needs_body method ≡ true → length bytes ≤ max_body
-        → body_in (said_of method target (Some (media, bytes))) bytes ≡ some_json (json_in bytes) }
+    ensures { (method request_target media bytes : List ℕ) → needs_body method ≡ true → length bytes ≤ max_body
+        → body_in (said_of method request_target (Some (media, bytes))) bytes ≡ some_json (json_in bytes) }
 {}
 
 /// A request that the client prints asks what its path, its method and its media type lead to, with its query and with

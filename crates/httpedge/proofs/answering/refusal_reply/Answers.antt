@@ -8,7 +8,7 @@ use Rattle.httpedge.proofs.answering.refusal_reply.Goals as goal
 
 pub returns : goal.returns
 returns c =
-    let told = c.in_ok-status.ensures in
-    let plain = ap has_float told ∙ status_plain c.args.denied.reason c.args.denied.message.now in
+    let stated = c.in_ok-status.ensures in
+    let plain = ap has_float stated ∙ status_plain c.args.denied.reason c.args.denied.message.now in
     IfOk-weaker c.reply_bytes.result _ _ (λ v e. e ∙ ap₂ (λ (code : ℕ) (text : List ℕ). reply code (option_map (λ s. s.now) c.args.denied.allow) text) c.code.ensures
-    (c.as_str.ensures.value ∙ c.in_ok-text.ensures.text plain ∙ ap compact_text told)) c.reply_bytes.ensures
+    (c.as_str.ensures.value ∙ c.in_ok-text.ensures.text plain ∙ ap compact_text stated)) c.reply_bytes.ensures

@@ -6,5 +6,5 @@ use Rattle.httpedge.proofs.body.decimal_value.Given as goal
 abbrev pub invariant-loop-digit : goal.invariant-loop-digit
 invariant-loop-digit l = record {
   small : l.number ≤ max_body;
-  told : number_after l.number (drop l.digit-index l.digits) ≡ number_after 0 l.digits;
+  stated : number_after l.number (drop l.digit-index l.digits) ≡ number_after 0 l.digits;
 }

@@ -1,4 +1,4 @@
-use Rattle.httpedge.proofs.Targets.{method_text, path_text}
+use Rattle.httpedge.proofs.RequestTargets.{method_text, path_text}
 use Rattle.httpedge.proofs.head.validate.Goals as goal
 
 pub validated-requires-clause-method_text : goal.validated-requires-clause-method_text

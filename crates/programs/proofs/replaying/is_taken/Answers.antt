@@ -44,17 +44,17 @@ returns-in-Ok c = λ s stands. (
 pub returns-in-Err-IdNotAbove : goal.returns-in-Err-IdNotAbove
 returns-in-Err-IdNotAbove c = λ s stands.
     let e = event_of c.args.event.now in
-    let told = c.in-Err-IdNotAbove.ensures in (
-      ap is_none (refused_as s e _ _ c.in-Err-IdNotAbove.field-0-is (told.refused s stands.0)),
+    let stated = c.in-Err-IdNotAbove.ensures in (
+      ap is_none (refused_as s e _ _ c.in-Err-IdNotAbove.field-0-is (stated.refused s stands.0)),
       leads_on c.on.new.self s c.args.event.now c.all_is_out.ensures.stays stands.1
-          (follows_as c.on.new.self s e _ _ c.in-Err-IdNotAbove.field-0-is (told.follows s stands.0)),
+          (follows_as c.on.new.self s e _ _ c.in-Err-IdNotAbove.field-0-is (stated.follows s stands.0)),
     )
 
 pub returns-in-Err-UnknownId : goal.returns-in-Err-UnknownId
 returns-in-Err-UnknownId c = λ s stands.
     let e = event_of c.args.event.now in
-    let told = c.in-Err-UnknownId.ensures in (
-      ap is_none (refused_as s e _ _ c.in-Err-UnknownId.field-0-is (told.refused s stands.0)),
+    let stated = c.in-Err-UnknownId.ensures in (
+      ap is_none (refused_as s e _ _ c.in-Err-UnknownId.field-0-is (stated.refused s stands.0)),
       leads_on c.on.new.self s c.args.event.now c.all_is_out.ensures.stays stands.1
-          (follows_as c.on.new.self s e _ _ c.in-Err-UnknownId.field-0-is (told.follows s stands.0)),
+          (follows_as c.on.new.self s e _ _ c.in-Err-UnknownId.field-0-is (stated.follows s stands.0)),
     )

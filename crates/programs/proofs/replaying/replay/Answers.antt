@@ -14,10 +14,10 @@ use Rattle.programs.proofs.replaying.replay.Goals as goal
 pub returns-clause-ok : goal.returns-clause-ok
 returns-clause-ok g c =
     let all = c.in_ok-take_all.ensures.ok (start (types_view c.args.types)) c.in_ok-run.ensures in
-    let told = connections_text all.0.hub all.0.others in
+    let stated = connections_text all.0.hub all.0.others in
     let written = subst (λ ids. OnOk c.write_connections.result (Appends (g.W.Write.contents c.take_all.new.writer) (g.W.Write.contents c.write_connections.new.writer) (connections_text all.0.hub ids)))
     (c.deref.ensures.value ∙ all.3.2) (c.write_connections.ensures.ok all.0.hub all.3.0) in
-    on_ok_weaker c.write_connections.result (λ more. (all.1 ++ told, (all.0, all.1, all.2, refl), Appends-trans _ _ _ _ _ all.4 more)) written
+    on_ok_weaker c.write_connections.result (λ more. (all.1 ++ stated, (all.0, all.1, all.2, refl), Appends-trans _ _ _ _ _ all.4 more)) written
 
 pub returns-in_err-run-clause-memory : goal.returns-in_err-run-clause-memory
 returns-in_err-run-clause-memory g c = λ e.
