@@ -48,7 +48,7 @@ fn answers(alloc: Global, lines: &str) -> Result<String, Fail> {
     Ok(all)
 }
 
-/// No content; `first_apply`; `item_kept_for_other_owner`; two managers of one name and labels; a subresource; no owners.
+/// No content; `first_apply`; `item_kept_for_other_owner`; two managers of one name and labels; no owners.
 #[test]
 fn objects_are_read_back(rt: HostRuntime) -> Result<(), Fail> {
     let lines =
@@ -56,11 +56,10 @@ fn objects_are_read_back(rt: HostRuntime) -> Result<(), Fail> {
 {"apiVersion":"demo.example/v1","kind":"Widget","metadata":{"managedFields":[{"apiVersion":"demo.example/v1","fieldsType":"FieldsV1","fieldsV1":{"f:spec":{"f:image":{},"f:replicas":{}}},"manager":"alice","operation":"Apply"}],"name":"w1","namespace":"default","resourceVersion":"2"},"spec":{"image":"a","replicas":3}}
 {"apiVersion":"demo.example/v1","kind":"Widget","metadata":{"managedFields":[{"apiVersion":"demo.example/v1","fieldsType":"FieldsV1","fieldsV1":{"f:spec":{"f:ports":{"k:{\"name\":\"web\"}":{"f:note":{}}}}},"manager":"carol","operation":"Update"}],"name":"w1","namespace":"default","resourceVersion":"4"},"spec":{"ports":[{"name":"web","note":"x"}]}}
 {"apiVersion":"demo.example/v1","kind":"Widget","metadata":{"labels":{"tier":"web"},"managedFields":[{"apiVersion":"demo.example/v1","fieldsType":"FieldsV1","fieldsV1":{"f:metadata":{"f:labels":{"f:tier":{}}}},"manager":"alice","operation":"Apply"},{"apiVersion":"demo.example/v1","fieldsType":"FieldsV1","fieldsV1":{"f:spec":{"f:tags":{"v:\"a\"":{},"v:\"b\"":{}}}},"manager":"alice","operation":"Update"}],"name":"w1","namespace":"default","resourceVersion":"9223372036854775807"},"spec":{"tags":["a","b"]}}
-{"apiVersion":"demo.example/v1","kind":"Widget","metadata":{"managedFields":[{"apiVersion":"demo.example/v1","fieldsType":"FieldsV1","fieldsV1":{"f:spec":{"f:replicas":{}}},"manager":"dave","operation":"Update","subresource":"status"}],"name":"w1","namespace":"default","resourceVersion":"3"},"spec":{"replicas":3}}
 {"apiVersion":"demo.example/v1","kind":"Widget","metadata":{"annotations":{"a":""},"name":"w1","namespace":"default","resourceVersion":"3"},"spec":{"args":["x","y"]}}"#;
     assert_eq!(rt;
         answers(rt.alloc(), lines)?.as_str(),
-        "same\nsame\nsame\nsame\nsame\nsame\n"
+        "same\nsame\nsame\nsame\nsame\n"
     );
     Ok(())
 }
@@ -89,7 +88,7 @@ fn other_texts_are_refused(rt: HostRuntime) -> Result<(), Fail> {
 }
 
 /// No entries in the list; an entry without paths; entries out of order; a path that the content lacks;
-/// another `apiVersion` in an entry; no manager; an operation that is none; an empty subresource; items out of order.
+/// another `apiVersion` in an entry; no manager; an operation that is none; an empty subresource; a subresource; items out of order.
 #[test]
 fn other_owners_are_refused(rt: HostRuntime) -> Result<(), Fail> {
     let lines =
@@ -101,10 +100,11 @@ fn other_owners_are_refused(rt: HostRuntime) -> Result<(), Fail> {
 {"apiVersion":"demo.example/v1","kind":"Widget","metadata":{"managedFields":[{"apiVersion":"demo.example/v1","fieldsType":"FieldsV1","fieldsV1":{"f:spec":{"f:replicas":{}}},"operation":"Apply"}],"name":"w1","namespace":"default","resourceVersion":"2"},"spec":{"replicas":3}}
 {"apiVersion":"demo.example/v1","kind":"Widget","metadata":{"managedFields":[{"apiVersion":"demo.example/v1","fieldsType":"FieldsV1","fieldsV1":{"f:spec":{"f:replicas":{}}},"manager":"alice","operation":"apply"}],"name":"w1","namespace":"default","resourceVersion":"2"},"spec":{"replicas":3}}
 {"apiVersion":"demo.example/v1","kind":"Widget","metadata":{"managedFields":[{"apiVersion":"demo.example/v1","fieldsType":"FieldsV1","fieldsV1":{"f:spec":{"f:replicas":{}}},"manager":"alice","operation":"Apply","subresource":""}],"name":"w1","namespace":"default","resourceVersion":"2"},"spec":{"replicas":3}}
+{"apiVersion":"demo.example/v1","kind":"Widget","metadata":{"managedFields":[{"apiVersion":"demo.example/v1","fieldsType":"FieldsV1","fieldsV1":{"f:spec":{"f:replicas":{}}},"manager":"dave","operation":"Update","subresource":"status"}],"name":"w1","namespace":"default","resourceVersion":"3"},"spec":{"replicas":3}}
 {"apiVersion":"demo.example/v1","kind":"Widget","metadata":{"name":"w1","namespace":"default","resourceVersion":"2"},"spec":{"tags":["b","a"]}}"#;
     assert_eq!(rt;
         answers(rt.alloc(), lines)?.as_str(),
-        "1\n1\n1\n1\n1\n1\n1\n1\n1\n"
+        "1\n1\n1\n1\n1\n1\n1\n1\n1\n1\n"
     );
     Ok(())
 }

@@ -8,7 +8,7 @@ use Rattle.std.specs.List.{AllByRecursion, IsAllAdjacentAnswer}
 use Rattle.std.specs.Ordering.{eq_by_cmp, is_lt}
 use Rattle.pathmap.specs.Contents.{PathSet}
 use Rattle.ownership.specs.Managers.{pair, pairs, manager_view}
-use Rattle.ownership.specs.Owners.{Manager, HavePaths, is_empty, manager_cmp}
+use Rattle.ownership.specs.Owners.{Manager, HavePaths, WroteByNone, is_empty, manager_cmp}
 use Rattle.ownership.specs.Ranks.{have_paths, rising, rising_from}
 use Rattle.ownership.specs.declared.managers.Entry.{Entry}
 use Rattle.ownership.proofs.Entries.{Pairs, fst, snd, next, empty_is}
@@ -77,25 +77,25 @@ rising_sorted (e ∷ es) h = sorted_from e.0 e.1 es h
 
 -- ---- what holds of each entry
 
-pub all_found : (P : PathSet → Type 0) (es : Pairs) → T (is_sorted manager_cmp es) → ((q : Manager) (paths : PathSet) → find manager_cmp q es ≡ Some paths → P paths) → AllByRecursion (λ e. P e.1) es
+pub all_found : (P : Manager → PathSet → Type 0) (es : Pairs) → T (is_sorted manager_cmp es) → ((q : Manager) (paths : PathSet) → find manager_cmp q es ≡ Some paths → P q paths) → AllByRecursion (λ e. P e.0 e.1) es
 all_found P [] up each = tt
 all_found P (e ∷ es) up each = (each e.0 e.1 (ap (λ b. cond b (Some e.1) (find manager_cmp e.0 es)) (same_manager-itself e.0)), all_found P es (snd _ _ up) later)
   where
-    later : (q : Manager) (paths : PathSet) → find manager_cmp q es ≡ Some paths → P paths
+    later : (q : Manager) (paths : PathSet) → find manager_cmp q es ≡ Some paths → P q paths
     later q paths is = by_test (eq_by_cmp manager_cmp q e.0) refl
       where
-        by_test : (b : Bool) → eq_by_cmp manager_cmp q e.0 ≡ b → P paths
+        by_test : (b : Bool) → eq_by_cmp manager_cmp q e.0 ≡ b → P q paths
         by_test true same =
             no_some paths (sym is ∙ none_above q es (subst (λ k. T (below_all manager_cmp k es)) (sym (same_manager-is q e.0 same)) (fst _ _ up)))
         by_test false other = each q paths (ap (λ b. cond b (Some e.1) (find manager_cmp q es)) other ∙ is)
 
-pub found_of_all : (P : PathSet → Type 0) (es : Pairs) → AllByRecursion (λ e. P e.1) es → (q : Manager) (paths : PathSet) → find manager_cmp q es ≡ Some paths → P paths
+pub found_of_all : (P : Manager → PathSet → Type 0) (es : Pairs) → AllByRecursion (λ e. P e.0 e.1) es → (q : Manager) (paths : PathSet) → find manager_cmp q es ≡ Some paths → P q paths
 found_of_all P [] all q paths is = no_some paths (sym is)
-found_of_all P (e ∷ es) all q paths is = by_test (eq_by_cmp manager_cmp q e.0) (found_of_all P es all.1 q paths) is
+found_of_all P (e ∷ es) all q paths is = by_test (eq_by_cmp manager_cmp q e.0) refl (found_of_all P es all.1 q paths) is
   where
-    by_test : (b : Bool) → (find manager_cmp q es ≡ Some paths → P paths) → cond b (Some e.1) (find manager_cmp q es) ≡ Some paths → P paths
-    by_test true later there = subst P (same_some e.1 paths there) all.0
-    by_test false later there = later there
+    by_test : (b : Bool) → eq_by_cmp manager_cmp q e.0 ≡ b → (find manager_cmp q es ≡ Some paths → P q paths) → cond b (Some e.1) (find manager_cmp q es) ≡ Some paths → P q paths
+    by_test true same later there = subst (λ k. P k paths) (sym (same_manager-is q e.0 same)) (subst (P e.0) (same_some e.1 paths there) all.0)
+    by_test false other later there = later there
 
 -- entries that each have a path
 pub all_nonempty : (es : Pairs) → have_paths es ≡ true → AllByRecursion (λ e. is_empty e.1 ≡ false) es
@@ -107,7 +107,10 @@ all_nonempty (e ∷ es) h = (turned (is_empty e.1) (left_true (not (is_empty e.1
     turned false e = refl
 
 pub owners_have_paths : (es : Pairs) → have_paths es ≡ true → HavePaths (fin.from_entries {R = manager_cmp} es)
-owners_have_paths es h m paths is = found_of_all (λ s. is_empty s ≡ false) es (all_nonempty es h) m paths (sym (fin.get-from_entries manager_total es m) ∙ is)
+owners_have_paths es h m paths is = found_of_all (λ k s. is_empty s ≡ false) es (all_nonempty es h) m paths (sym (fin.get-from_entries manager_total es m) ∙ is)
+
+pub owners_by_none : (es : Pairs) → AllByRecursion (λ e. e.0.subresource ≡ []) es → WroteByNone (fin.from_entries {R = manager_cmp} es)
+owners_by_none es all m paths is = found_of_all (λ k s. k.subresource ≡ []) es all m paths (sym (fin.get-from_entries manager_total es m) ∙ is)
 
 pub first_decides : (es : List Entry) (i : ℕ) (e : Entry) (b : Bool) → i < length es → e ≡ get_or es i e → (IsTrue b ↔ (e.paths ≡ set.empty)) → have_paths (pairs (drop i es)) ≡ (not b && have_paths (pairs (drop (i + 1) es)))
 first_decides es i e b lt is h = ap have_paths (next es i e lt is) ∙ ap (λ x. not x && have_paths (pairs (drop (i + 1) es))) (empty_is e.paths b h)

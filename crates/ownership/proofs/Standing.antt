@@ -52,12 +52,12 @@ module _ (state : State) where
       by_entry : (o : Option PathSet) → fin.get state.owners k ≡ o → set.contains (unwrap_or o set.empty) p ≡ true → Stands state.content p
       by_entry None is there = absurd (true≢false (sym there ∙ set.contains-empty path_cmp p))
       by_entry (Some s) is there =
-          let inside = found_of_all (λ t. is_within t (dom state.content) ≡ true) (fin.entries state.owners) (each_within (dom state.content) (fin.entries state.owners) h) k s (sym (fin.get-entries state.owners k) ∙ is) in
+          let inside = found_of_all (λ k t. is_within t (dom state.content) ≡ true) (fin.entries state.owners) (each_within (dom state.content) (fin.entries state.owners) h) k s (sym (fin.get-entries state.owners k) ∙ is) in
           sym (contains-dom state.content p) ∙ within_has s (dom state.content) p inside there
 
   stand_within : OwnedStand state → all_within (dom state.content) (fin.entries state.owners) ≡ true
   stand_within stand =
-      all_are (dom state.content) (fin.entries state.owners) (all_found (λ t. is_within t (dom state.content) ≡ true) (fin.entries state.owners) (fin.entries_sorted state.owners)
+      all_are (dom state.content) (fin.entries state.owners) (all_found (λ k t. is_within t (dom state.content) ≡ true) (fin.entries state.owners) (fin.entries_sorted state.owners)
       (λ k paths is. all_have paths (dom state.content) (λ p there. contains-dom state.content p ∙ entries_stand state stand k paths (fin.get-entries state.owners k ∙ is) p there)))
 
   -- the test is true exactly where owned paths stand

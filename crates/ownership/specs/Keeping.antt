@@ -9,7 +9,7 @@ use Rattle.schema.specs.Shape.{Shape}
 use Rattle.schema.specs.declared.place.Place.{Place}
 use Rattle.schema.specs.declared.place.Place.TheVariants.{Leaf, SetItem, MapItem}
 use Rattle.typed.specs.Fitting.{IsContent}
-use Rattle.ownership.specs.Owners.{Manager, HavePaths, owned_by}
+use Rattle.ownership.specs.Owners.{Manager, HavePaths, WroteByNone, owned_by}
 use Rattle.ownership.specs.Apply.{State, conflicts, applied}
 
 abbrev pub Stands : Content → PathTexts → Type 0
@@ -26,9 +26,9 @@ OthersKeep old new m = (k : Manager) (p : PathTexts) → ¬ (k ≡ m) → Owns o
 abbrev pub OwnedStand : State → Type 0
 OwnedStand state = (k : Manager) (p : PathTexts) → Owns state k p → Stands state.content p
 
--- each manager with an entry owns a path, and each owned path is in the content
+-- each manager with an entry owns a path, and each owned path is in the content; no subresource is served, so nobody wrote by one
 abbrev pub OwnersWithin : State → Type 0
-OwnersWithin state = HavePaths state.owners × OwnedStand state
+OwnersWithin state = HavePaths state.owners × OwnedStand state × WroteByNone state.owners
 
 -- a content of the schema, and owners of its paths
 abbrev pub IsPlacedState : Shape → State → Type 0

@@ -57,6 +57,10 @@ is_empty s = set.len s == 0
 abbrev pub HavePaths : Owners → Type 0
 HavePaths w = (m : Manager) (paths : PathSet) → fin.get w m ≡ Some paths → is_empty paths ≡ false
 
+-- nobody who has an entry wrote by a subresource
+abbrev pub WroteByNone : Owners → Type 0
+WroteByNone w = (m : Manager) (paths : PathSet) → fin.get w m ≡ Some paths → m.subresource ≡ []
+
 -- each entry less these paths; what is empty then vanishes
 abbrev pub less : PathSet → List (Manager × PathSet) → List (Manager × PathSet)
 less s es = filter (λ e. not (is_empty e.1)) (map (λ e. (e.0, set.difference e.1 s)) es)

@@ -1,5 +1,5 @@
 -- For private clauses: the parts of an object's value.
-use Rattle.std.specs.Prelude.{◌≡◌, ℕ, Bool, ◌&&◌, List, [], ◌∷◌, Option, Some, None, option_map, option_and_then, unwrap_or, if◌then◌else◌, codes}
+use Rattle.std.specs.Prelude.{◌≡◌, ℕ, Bool, ◌&&◌, List, [], ◌∷◌, Option, Some, None, option_map, option_and_then, if◌then◌else◌, codes}
 use Rattle.std.specs.declared.result.Result.{Result}
 use Rattle.std.specs.declared.result.Result.TheVariants.{Ok, Err}
 use Rattle.std.specs.FinMap as fin
@@ -20,7 +20,7 @@ use Rattle.ownership.specs.declared.manager.Operation.{Operation}
 use Rattle.ownership.specs.declared.manager.Operation.TheVariants.{Apply, Update}
 use Rattle.ownership.specs.Apply.{State}
 use Rattle.fieldset.specs.Reading.{Refusal, read_fields_v1}
-use Rattle.ownership.specs.Owners.{Manager, Owners}
+use Rattle.ownership.specs.Owners.{Manager, Owners, manager_of}
 use Rattle.ownership.specs.Ranks.{have_paths, rising}
 use Rattle.ownership.specs.Sameness.{is_within}
 
@@ -77,15 +77,9 @@ put_labels (member k d labels) ms = put (codes "metadata") (object (member k d l
 abbrev pub operation_named : List ℕ → Option Operation
 operation_named s = if bytes_eq s (codes "Apply") then Some Apply else if bytes_eq s (codes "Update") then Some Update else None
 
-abbrev pub manager_named : List ℕ → List ℕ → Operation → Manager
-manager_named name subresource operation = record { name = name; operation = operation; subresource = subresource }
-
-abbrev pub subresource_in : Members → List ℕ
-subresource_in ms = unwrap_or (text_at (codes "subresource") ms) []
-
+-- by no subresource; an entry that names one is printed otherwise
 abbrev pub manager_in : Members → Option Manager
-manager_in ms =
-    option_and_then (λ name. option_map (manager_named name (subresource_in ms)) (option_and_then operation_named (text_at (codes "operation") ms))) (text_at (codes "manager") ms)
+manager_in ms = option_and_then (λ name. option_map (manager_of name) (option_and_then operation_named (text_at (codes "operation") ms))) (text_at (codes "manager") ms)
 
 abbrev pub set_in : Shape → Members → Option PathSet
 set_in s ms = option_and_then (λ d. if_ok (read_fields_v1 s d)) (get_member (codes "fieldsV1") ms)

@@ -2,7 +2,7 @@ ghost use Rattle.std.specs.Prelude.{◌≡◌, IfOk, false, map};
 ghost use Rattle.schema.specs.Shape.{Shape};
 ghost use Rattle.pathmap.specs.Contents.{Content, dom};
 ghost use Rattle.typed.specs.Fitting.{IsContent};
-ghost use Rattle.ownership.specs.Owners.{apply_operation, manager_of};
+ghost use Rattle.ownership.specs.Owners.{WroteByNone, apply_operation, manager_of};
 ghost use Rattle.ownership.specs.Apply.{dropped, is_refused};
 ghost use Rattle.ownership.specs.Keeping.{HasPlaces, IsPlacedState, IsSettled, LeavesOwned, OthersKeep, OwnedStand};
 ghost use Rattle.ownership.specs.Managers.{manager_view};
@@ -54,6 +54,7 @@ pub fn apply(
     ensures stand { OwnedStand (state_of live.now) → IfOk result (λ o. OwnedStand (state_of o)) }
     ensures leaves { (s : Shape) → HasPlaces s live.now.tree → HasPlaces s config.now → OwnedStand (state_of live.now) → LeavesOwned s (state_of live.now) → IfOk result (λ o. LeavesOwned s (state_of o)) }
     ensures placed { (s : Shape) → IsContent s config.now → IsPlacedState s (state_of live.now) → IfOk result (λ o. IsPlacedState s (state_of o)) }
+    ensures by_none { WroteByNone live.now.managers → IfOk result (λ o. WroteByNone o.managers) }
     ensures again { IfOk result (λ o. IsSettled (state_of o) config.now (manager_of manager.now apply_operation)) }
 {
     let manager = Manager::new(alloc, manager, Operation::Apply)?;

@@ -5,7 +5,7 @@ ghost use Rattle.serde_json.specs.View.{items_view, members_view, view};
 ghost use Rattle.schema.specs.Shape.{shape};
 ghost use Rattle.fieldset.specs.Reading.{read_fields_v1};
 ghost use Rattle.ownership.specs.Managers.{manager_view, pair, pairs};
-ghost use Rattle.ownership.specs.Parts.{Gives, entries_in, entry_in, if_ok, items_or_none, manager_in, operation_named, owners_in, set_in, subresource_in, text_at};
+ghost use Rattle.ownership.specs.Parts.{Gives, entries_in, entry_in, if_ok, items_or_none, manager_in, operation_named, owners_in, set_in, text_at};
 
 use crate::envelope::{member, text_at};
 use crate::fault::ObjectFault;
@@ -25,15 +25,7 @@ fn operation_in(members: &Map<String, Value>) -> Option<Operation>
     }
 }
 
-fn subresource_in(members: &Map<String, Value>) -> &str
-    ensures { result.now ≡ subresource_in (members_view members.now.entries) }
-{
-    match text_at(members, "subresource") {
-        Some(text) => text,
-        None => "",
-    }
-}
-
+/// Who wrote, by no subresource: none is served, and an entry that names one is printed otherwise.
 fn read_manager(alloc: Global, members: &Map<String, Value>) -> Result<Manager, ObjectFault>
     ensures { Gives manager_view result (manager_in (members_view members.now.entries)) }
 {
@@ -43,11 +35,7 @@ fn read_manager(alloc: Global, members: &Map<String, Value>) -> Result<Manager, 
     let Some(operation) = operation_in(members) else {
         return Err(ObjectFault::NotCanonical);
     };
-    Ok(Manager {
-        name: String::from_str(alloc, name)?,
-        operation,
-        subresource: String::from_str(alloc, subresource_in(members))?,
-    })
+    Ok(Manager::new(alloc, name, operation)?)
 }
 
 /// The set of paths that a FieldsV1 value says.

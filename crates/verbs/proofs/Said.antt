@@ -55,6 +55,7 @@ nothing_placed s = (
   (
     λ m paths there. no_some paths (sym there ∙ fin.get-empty manager_cmp m),
     λ k p owns. absurd (true≢false (sym owns ∙ nobody_owns k p)),
+    λ m paths there. no_some paths (sym there ∙ fin.get-empty manager_cmp m),
   ),
 )
 

@@ -1,12 +1,12 @@
-use Rattle.std.proofs.Common.{◌≡◌, sym, subst}
+use Rattle.std.proofs.Common.{◌≡◌, refl, sym, subst}
 use Rattle.ownership.specs.Apply.{State}
 use Rattle.ownership.specs.Managers.{manager_view}
-use Rattle.ownership.specs.Owners.{manager_of, update_operation}
+use Rattle.ownership.specs.Owners.{WroteByNone, manager_of, update_operation}
 use Rattle.ownership.specs.Results.{state_of}
 use Rattle.ownership.specs.Update.{updated}
 use Rattle.ownership.proofs.Changing.{updated_is, update_stands, update_leaves}
 use Rattle.ownership.specs.Keeping.{IsPlacedState}
-use Rattle.ownership.proofs.Placed.{updated_placed}
+use Rattle.ownership.proofs.Placed.{updated_by_none, updated_placed}
 use Rattle.ownership.proofs.updating.update.Goals as goal
 
 pub returns : goal.returns
@@ -20,6 +20,7 @@ returns c =
     record {
       updates = is;
       stand = update_stands live c.args.new m after is;
-      placed = λ s content placed. subst (IsPlacedState s) (sym is) (updated_placed live c.args.new m s content placed);
+      placed = λ s content placed. subst (IsPlacedState s) (sym is) (updated_placed live c.args.new m s refl content placed);
+      by_none = λ before. subst (λ (x : State). WroteByNone x.owners) (sym is) (updated_by_none live c.args.new m refl before);
       leaves = update_leaves live c.args.new m after is;
     }
