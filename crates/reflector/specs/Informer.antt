@@ -1,6 +1,6 @@
 -- An informer, beside a client and the reply that it has read.
 use Rattle.std.specs.Prelude.{◌≡◌, ℕ, Bool, if◌then◌else◌, List, Option, Some, None, is_some}
-use Rattle.indexer.specs.Indexer.{indexes_of}
+use Rattle.indexer.specs.Indexer.{indexes_of, names_of}
 use Rattle.indexer.specs.Objects.{Stored}
 use Rattle.wireclient.specs.Reply.{Told}
 use Rattle.reflector.specs.declared.informer.Informer.{Informer}
@@ -15,6 +15,10 @@ settings_in i = settings_of i.settings
 
 abbrev pub indexes_in : {I : Type 0} → Informer I → List I
 indexes_in i = indexes_of i.mirror.indexer
+
+-- the names of its indexes
+abbrev pub names_in : {I : Type 0} → Informer I → List (List ℕ)
+names_in i = names_of i.mirror.indexer
 
 -- it is this client; of the reply to what it asks, if it asks, these bytes came, and they hold these items
 pub record Runs {I : Type 0} (keys : I → Stored → List (List ℕ)) (i : Informer I) (c : Client) (bytes : List ℕ) (told : List Told) : Type 0 where

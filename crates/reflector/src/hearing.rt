@@ -1,7 +1,7 @@
 //! What the items of a reply make of what is kept, and of what is asked.
 
 ghost use Rattle.std.specs.Prelude.{◌≡◌, [], map, true, false, IfOk, OnErr};
-ghost use Rattle.indexer.specs.Indexer.{indexes_of};
+ghost use Rattle.indexer.specs.Indexer.{indexes_of, names_of};
 ghost use Rattle.wireclient.specs.Views.{told_of};
 ghost use Rattle.decoder.specs.Seen.{page_seen, wanted_of};
 ghost use Rattle.reflector.specs.Aside.{aside_of};
@@ -59,6 +59,7 @@ fn hear_first<I: IndexBy>(
         → IfOk result (λ t. Keeps (λ b s. I.keys b s) mirror.new t.asks t.is_asking (with_list c (with_page c []) (news_of news))) }
     ensures refused { (c : Client) → Stands (λ b s. I.keys b s) mirror.old c → OnErr result (Stands (λ b s. I.keys b s) mirror.new c) }
     ensures indexes { indexes_of mirror.new.indexer ≡ indexes_of mirror.old.indexer }
+    ensures names { names_of mirror.new.indexer ≡ names_of mirror.old.indexer }
 {
     match news {
         News::Begun => Ok(still(Asks::First)),
@@ -81,6 +82,7 @@ fn take_next<I: IndexBy>(
         → IfOk result (λ a. Keeps (λ b s. I.keys b s) mirror.new a false (with_next c revision (aside_of aside) (page_seen page))) }
     ensures refused { (c : Client) → Stands (λ b s. I.keys b s) mirror.old c → OnErr result (Stands (λ b s. I.keys b s) mirror.new c) }
     ensures indexes { indexes_of mirror.new.indexer ≡ indexes_of mirror.old.indexer }
+    ensures names { names_of mirror.new.indexer ≡ names_of mirror.old.indexer }
 {
     if page.revision == revision {
         take_page(alloc, mirror, aside, page)
@@ -101,6 +103,7 @@ fn hear_next<I: IndexBy>(
         → IfOk result (λ t. Keeps (λ b s. I.keys b s) mirror.new t.asks t.is_asking (with_list c (with_next c revision (aside_of aside)) (news_of news))) }
     ensures refused { (c : Client) → Stands (λ b s. I.keys b s) mirror.old c → OnErr result (Stands (λ b s. I.keys b s) mirror.new c) }
     ensures indexes { indexes_of mirror.new.indexer ≡ indexes_of mirror.old.indexer }
+    ensures names { names_of mirror.new.indexer ≡ names_of mirror.old.indexer }
 {
     match news {
         News::Begun => Ok(still(Asks::Next(revision, token, aside))),
@@ -116,6 +119,7 @@ fn hear_watch<I: IndexBy>(mirror: &mut Mirror<I>, news: News) -> Result<Turn, Al
         → IfOk result (λ t. Keeps (λ b s. I.keys b s) mirror.new t.asks t.is_asking (with_watch c c.cache (news_of news))) }
     ensures refused { (c : Client) → Stands (λ b s. I.keys b s) mirror.old c → OnErr result (Stands (λ b s. I.keys b s) mirror.new c) }
     ensures indexes { indexes_of mirror.new.indexer ≡ indexes_of mirror.old.indexer }
+    ensures names { names_of mirror.new.indexer ≡ names_of mirror.old.indexer }
 {
     match news {
         News::Begun => Ok(still(Asks::Follow)),
@@ -144,6 +148,7 @@ fn hear_asking<I: IndexBy>(
         → IfOk result (λ t. Keeps (λ b s. I.keys b s) mirror.new t.asks t.is_asking (with_item (wanted_of wanted.now) c c.asks (told_of item.now))) }
     ensures refused { (c : Client) → Stands (λ b s. I.keys b s) mirror.old c → OnErr result (Stands (λ b s. I.keys b s) mirror.new c) }
     ensures indexes { indexes_of mirror.new.indexer ≡ indexes_of mirror.old.indexer }
+    ensures names { names_of mirror.new.indexer ≡ names_of mirror.old.indexer }
 {
     match asks {
         Asks::First => hear_first(alloc, mirror, list_news(alloc, wanted, item)?),
@@ -167,6 +172,7 @@ fn hear<I: IndexBy>(
         → IfOk result (λ t. Keeps (λ b s. I.keys b s) mirror.new t.asks t.is_asking (hears (wanted_of wanted.now) c (told_of item.now))) }
     ensures refused { (c : Client) → Stands (λ b s. I.keys b s) mirror.old c → OnErr result (Stands (λ b s. I.keys b s) mirror.new c) }
     ensures indexes { indexes_of mirror.new.indexer ≡ indexes_of mirror.old.indexer }
+    ensures names { names_of mirror.new.indexer ≡ names_of mirror.old.indexer }
 {
     let Turn { asks, is_asking } = turn;
     if is_asking {
@@ -188,6 +194,7 @@ pub(crate) fn hear_all<I: IndexBy>(
         → IfOk result (λ t. Keeps (λ b s. I.keys b s) mirror.new t.asks t.is_asking (hears_all (wanted_of wanted.now) c (map told_of items.now))) }
     ensures some { (c : Client) → Keeps (λ b s. I.keys b s) mirror.old asks true c → OnErr result (HeardSome (λ b s. I.keys b s) (wanted_of wanted.now) mirror.new c (map told_of items.now)) }
     ensures indexes { indexes_of mirror.new.indexer ≡ indexes_of mirror.old.indexer }
+    ensures names { names_of mirror.new.indexer ≡ names_of mirror.old.indexer }
 {
     let mut turn = still(asks);
     for item in items {

@@ -1,7 +1,7 @@
 //! A client that mirrors a server's objects.
 
 ghost use Rattle.std.specs.Prelude.{◌≡◌};
-ghost use Rattle.indexer.specs.Indexer.{indexes_of};
+ghost use Rattle.indexer.specs.Indexer.{indexes_of, names_of};
 ghost use Rattle.reflector.specs.Client.{fresh};
 ghost use Rattle.reflector.specs.Standing.{Stands};
 
@@ -31,6 +31,7 @@ pub struct Informer<I: Drop> {
 fn forget<I: IndexBy>(alloc: Global, mirror: &mut Mirror<I>)
     ensures fresh { Stands (λ b s. I.keys b s) mirror.new fresh }
     ensures indexes { indexes_of mirror.new.indexer ≡ indexes_of mirror.old.indexer }
+    ensures names { names_of mirror.new.indexer ≡ names_of mirror.old.indexer }
 {
     mirror.indexer.clear();
     mirror.revision = None;
@@ -41,6 +42,7 @@ fn forget<I: IndexBy>(alloc: Global, mirror: &mut Mirror<I>)
 fn empty<I: IndexBy>(alloc: Global, indexer: Indexer<I>) -> Mirror<I>
     ensures fresh { Stands (λ b s. I.keys b s) result fresh }
     ensures indexes { indexes_of result.indexer ≡ indexes_of indexer }
+    ensures names { names_of result.indexer ≡ names_of indexer }
 {
     let mut indexer = indexer;
     indexer.clear();
@@ -53,12 +55,12 @@ fn empty<I: IndexBy>(alloc: Global, indexer: Indexer<I>) -> Mirror<I>
 
 impl<I: IndexBy> Informer<I> {
     ghost use Rattle.std.specs.Prelude.{◌≡◌, ◌++◌, ℕ, List, [], Ok, true, false, map, option_map, string_bytes, IfErr, IfOk, OnErr, OnOk, None, Some};
-    ghost use Rattle.indexer.specs.Indexer.{held_of, indexes_of};
+    ghost use Rattle.indexer.specs.Indexer.{held_of, indexes_of, names_of};
     ghost use Rattle.wireclient.specs.Reads.{Items};
     ghost use Rattle.wireclient.specs.Reply.{Told};
     ghost use Rattle.reflector.specs.Client.{Client, fresh, kept};
     ghost use Rattle.reflector.specs.Faults.{fault_in};
-    ghost use Rattle.reflector.specs.Informer.{Runs, due, indexes_in, settings_in};
+    ghost use Rattle.reflector.specs.Informer.{Runs, due, indexes_in, names_in, settings_in};
     ghost use Rattle.reflector.specs.Mirrors.{keyed};
     ghost use Rattle.reflector.specs.Reading.{AreHeard};
     ghost use Rattle.reflector.specs.Run.{again, asked, closed, hears_all, taken};
@@ -74,6 +76,7 @@ impl<I: IndexBy> Informer<I> {
         ensures fresh { IfOk result (λ i. Runs (λ b s. I.keys b s) i fresh [] []) }
         ensures settings { IfOk result (λ i. settings_in i ≡ settings_of settings) }
         ensures indexes { IfOk result (λ i. indexes_in i ≡ indexes_of indexer) }
+        ensures names { IfOk result (λ i. names_in i ≡ names_of indexer) }
         ensures lawful { OnOk result (fault_in (settings_of settings) ≡ None) }
         ensures fault { IfErr result (λ f. fault_in (settings_of settings) ≡ Some f) }
     {
@@ -97,6 +100,7 @@ impl<I: IndexBy> Informer<I> {
         ensures refused { OnErr result (self.new ≡ self.old) }
         ensures settings { settings_in self.new ≡ settings_in self.old }
         ensures indexes { indexes_in self.new ≡ indexes_in self.old }
+        ensures names { names_in self.new ≡ names_in self.old }
     {
         if self.reader.is_some() {
             return Ok(None);
@@ -117,6 +121,7 @@ impl<I: IndexBy> Informer<I> {
             → OnErr result ((heard : List Told) × AreHeard bytes told piece.now heard × Runs (λ b s. I.keys b s) self.new (again (hears_all (settings_in self.old).wanted c heard)) [] []) }
         ensures settings { settings_in self.new ≡ settings_in self.old }
         ensures indexes { indexes_in self.new ≡ indexes_in self.old }
+        ensures names { names_in self.new ≡ names_in self.old }
     {
         let Some(reader) = self.reader.take() else {
             return Ok(());
@@ -142,6 +147,7 @@ impl<I: IndexBy> Informer<I> {
         ensures closed { (c : Client) (bytes : List ℕ) (told : List Told) → Runs (λ b s. I.keys b s) self.old c bytes told → Runs (λ b s. I.keys b s) self.new (closed c) bytes told }
         ensures settings { settings_in self.new ≡ settings_in self.old }
         ensures indexes { indexes_in self.new ≡ indexes_in self.old }
+        ensures names { names_in self.new ≡ names_in self.old }
     {
         if self.reader.is_some() {
             self.reader = None;
@@ -156,6 +162,7 @@ impl<I: IndexBy> Informer<I> {
         ensures restarted { Runs (λ b s. I.keys b s) self.new fresh [] [] }
         ensures settings { settings_in self.new ≡ settings_in self.old }
         ensures indexes { indexes_in self.new ≡ indexes_in self.old }
+        ensures names { names_in self.new ≡ names_in self.old }
     {
         forget(self.alloc, &mut self.mirror);
         self.asks = Asks::First;
@@ -175,6 +182,7 @@ impl<I: IndexBy> Informer<I> {
         ensures taken { (c : Client) (bytes : List ℕ) (told : List Told) → Runs (λ b s. I.keys b s) self.old c bytes told → Runs (λ b s. I.keys b s) self.new (taken c) bytes told }
         ensures settings { settings_in self.new ≡ settings_in self.old }
         ensures indexes { indexes_in self.new ≡ indexes_in self.old }
+        ensures names { names_in self.new ≡ names_in self.old }
     {
         mem::replace(&mut self.mirror.notices, Vec::new(self.alloc))
     }
@@ -183,6 +191,7 @@ impl<I: IndexBy> Informer<I> {
     pub fn indexer(&self) -> &Indexer<I>
         ensures objects { (c : Client) (bytes : List ℕ) (told : List Told) → Runs (λ b s. I.keys b s) self.now c bytes told → held_of result.now ≡ keyed (keys_in (λ b s. I.keys b s) (indexes_of result.now)) (kept c.cache) }
         ensures indexes { indexes_of result.now ≡ indexes_in self.now }
+        ensures names { names_of result.now ≡ names_in self.now }
     {
         &self.mirror.indexer
     }

@@ -2,7 +2,7 @@
 
 ghost use Rattle.std.specs.Prelude.{◌≡◌, ◌++◌, ◌<◌, None, Some, IfOk, OnOk, OnErr, map, option_map, vec_capacity, vec_len};
 ghost use Rattle.std.specs.FinMap as fin;
-ghost use Rattle.indexer.specs.Indexer.{held_of, indexes_of};
+ghost use Rattle.indexer.specs.Indexer.{held_of, indexes_of, names_of};
 ghost use Rattle.indexer.specs.Kept.{objects_in};
 ghost use Rattle.indexer.specs.Objects.{place_of, place_of_object, stored_of};
 ghost use Rattle.indexer.specs.PutAll.{put_all};
@@ -38,6 +38,7 @@ pub(crate) fn put_noted<I: IndexBy>(
     ensures kept { OnErr result (held_of indexer.new ≡ held_of indexer.old) }
     ensures untold { OnErr result (notices.new.items ≡ notices.old.items) }
     ensures indexes { indexes_of indexer.new ≡ indexes_of indexer.old }
+    ensures names { names_of indexer.new ≡ names_of indexer.old }
 {
     let copy = object.try_copy()?;
     notices.reserve(1)?;
@@ -57,6 +58,7 @@ pub(crate) fn remove_noted<I: IndexBy>(
     ensures kept { OnErr result (held_of indexer.new ≡ held_of indexer.old) }
     ensures untold { OnErr result (notices.new.items ≡ notices.old.items) }
     ensures indexes { indexes_of indexer.new ≡ indexes_of indexer.old }
+    ensures names { names_of indexer.new ≡ names_of indexer.old }
 {
     notices.reserve(1)?;
     tell(notices, removed_notice(indexer.remove(key)));
@@ -87,6 +89,7 @@ pub(crate) fn replace_noted<I: IndexBy>(
     ensures kept { OnErr result (held_of indexer.new ≡ held_of indexer.old) }
     ensures untold { OnErr result (notices.new.items ≡ notices.old.items) }
     ensures indexes { indexes_of indexer.new ≡ indexes_of indexer.old }
+    ensures names { names_of indexer.new ≡ names_of indexer.old }
 {
     let mut told = differences_to(alloc, indexer, &all)?;
     let before = notices.len();

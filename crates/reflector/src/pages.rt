@@ -2,7 +2,7 @@
 
 ghost use Rattle.std.specs.Prelude.{◌≡◌, false, map, option_map, string_bytes, IfOk, OnErr, OnOk};
 ghost use Rattle.std.specs.FinMap as fin;
-ghost use Rattle.indexer.specs.Indexer.{indexes_of};
+ghost use Rattle.indexer.specs.Indexer.{indexes_of, names_of};
 ghost use Rattle.decoder.specs.Seen.{page_seen};
 ghost use Rattle.reflector.specs.Aside.{aside_of};
 ghost use Rattle.reflector.specs.Client.{by_place, Client};
@@ -27,6 +27,7 @@ fn keep_list<I: IndexBy>(
     ensures taken { (c : Client) → Stands (λ b s. I.keys b s) mirror.old c → OnOk result (Stands (λ b s. I.keys b s) mirror.new (listed c revision (fin.from_sorted (by_place (aside_of all))))) }
     ensures refused { (c : Client) → Stands (λ b s. I.keys b s) mirror.old c → OnErr result (Stands (λ b s. I.keys b s) mirror.new c) }
     ensures indexes { indexes_of mirror.new.indexer ≡ indexes_of mirror.old.indexer }
+    ensures names { names_of mirror.new.indexer ≡ names_of mirror.old.indexer }
 {
     replace_noted(alloc, &mut mirror.indexer, &mut mirror.notices, all)?;
     mirror.revision = Some(revision);
@@ -45,6 +46,7 @@ fn set_aside<I: IndexBy>(
         → IfOk result (λ a. Keeps (λ b s. I.keys b s) mirror.new a false (set_aside c revision (aside_of all) (option_map string_bytes token))) }
     ensures refused { (c : Client) → Stands (λ b s. I.keys b s) mirror.old c → OnErr result (Stands (λ b s. I.keys b s) mirror.new c) }
     ensures indexes { indexes_of mirror.new.indexer ≡ indexes_of mirror.old.indexer }
+    ensures names { names_of mirror.new.indexer ≡ names_of mirror.old.indexer }
 {
     match token {
         Some(token) => Ok(Asks::Next(revision, token, all)),
@@ -66,6 +68,7 @@ pub(crate) fn take_page<I: IndexBy>(
         → IfOk result (λ a. Keeps (λ b s. I.keys b s) mirror.new a false (with_page c (aside_of aside) (page_seen page))) }
     ensures refused { (c : Client) → Stands (λ b s. I.keys b s) mirror.old c → OnErr result (Stands (λ b s. I.keys b s) mirror.new c) }
     ensures indexes { indexes_of mirror.new.indexer ≡ indexes_of mirror.old.indexer }
+    ensures names { names_of mirror.new.indexer ≡ names_of mirror.old.indexer }
 {
     let Page {
         revision,

@@ -1,7 +1,7 @@
 //! What a piece of an open reply makes of what is kept, and of what is asked.
 
 ghost use Rattle.std.specs.Prelude.{◌≡◌, ℕ, List, ◌++◌, Some, true, is_some, map, IfOk, OnErr};
-ghost use Rattle.indexer.specs.Indexer.{indexes_of};
+ghost use Rattle.indexer.specs.Indexer.{indexes_of, names_of};
 ghost use Rattle.wireclient.specs.Reads.{Items};
 ghost use Rattle.wireclient.specs.Reply.{Told};
 ghost use Rattle.wireclient.specs.Views.{told_of};
@@ -43,6 +43,7 @@ fn hear_piece<I: IndexBy>(
     ensures given_up { (c : Client) (bytes : List ℕ) (told : List Told) → Keeps (λ b s. I.keys b s) mirror.old asks true c → IsRead (Some reader.old) bytes told
         → OnErr result ((heard : List Told) × AreHeard bytes told piece.now heard × Stands (λ b s. I.keys b s) mirror.new (hears_all (wanted_of wanted.now) c heard)) }
     ensures indexes { indexes_of mirror.new.indexer ≡ indexes_of mirror.old.indexer }
+    ensures names { names_of mirror.new.indexer ≡ names_of mirror.old.indexer }
 {
     let items = read(reader, piece)?;
     hear_all(alloc, wanted, mirror, asks, &items)
@@ -85,6 +86,7 @@ pub(crate) fn hear_open<I: IndexBy>(
     ensures given_up { (c : Client) (bytes : List ℕ) (told : List Told) → Keeps (λ b s. I.keys b s) mirror.old asks true c → IsRead (Some reader) bytes told
         → OnErr result ((heard : List Told) × AreHeard bytes told piece.now heard × Stands (λ b s. I.keys b s) mirror.new (hears_all (wanted_of wanted.now) c heard)) }
     ensures indexes { indexes_of mirror.new.indexer ≡ indexes_of mirror.old.indexer }
+    ensures names { names_of mirror.new.indexer ≡ names_of mirror.old.indexer }
 {
     let mut reader = reader;
     let turn = hear_piece(alloc, wanted, mirror, asks, &mut reader, piece)?;

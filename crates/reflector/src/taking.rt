@@ -1,7 +1,7 @@
 //! What a watch's line makes of what is kept.
 
 ghost use Rattle.std.specs.Prelude.{◌≡◌, ◌+◌, ◌&&◌, None, Some, IfOk, OnErr, cond, nat_le, nat_lt};
-ghost use Rattle.indexer.specs.Indexer.{held_of, indexes_of};
+ghost use Rattle.indexer.specs.Indexer.{held_of, indexes_of, names_of};
 ghost use Rattle.indexer.specs.Objects.{place_of_object, stored_of};
 ghost use Rattle.decoder.specs.Seen.{line_seen};
 ghost use Rattle.reflector.specs.Client.{Cache, Client, max_objects};
@@ -58,6 +58,7 @@ fn take_put<I: IndexBy>(
         → IfOk result (λ fits. Stands (λ b s. I.keys b s) mirror.new (with_put c cache (stored_of object)) × (fits ≡ (with_put c cache (stored_of object)).is_asking)) }
     ensures refused { (c : Client) → Stands (λ b s. I.keys b s) mirror.old c → OnErr result (Stands (λ b s. I.keys b s) mirror.new c) }
     ensures indexes { indexes_of mirror.new.indexer ≡ indexes_of mirror.old.indexer }
+    ensures names { names_of mirror.new.indexer ≡ names_of mirror.old.indexer }
 {
     if !may_put(&mirror.indexer, now, &object)? {
         return Ok(false);
@@ -78,6 +79,7 @@ fn take_deleted<I: IndexBy>(
         → IfOk result (λ fits. Stands (λ b s. I.keys b s) mirror.new (with_deleted c cache (stored_of object)) × (fits ≡ (with_deleted c cache (stored_of object)).is_asking)) }
     ensures refused { (c : Client) → Stands (λ b s. I.keys b s) mirror.old c → OnErr result (Stands (λ b s. I.keys b s) mirror.new c) }
     ensures indexes { indexes_of mirror.new.indexer ≡ indexes_of mirror.old.indexer }
+    ensures names { names_of mirror.new.indexer ≡ names_of mirror.old.indexer }
 {
     if !is_above(object.revision, now) {
         return Ok(false);
@@ -93,6 +95,7 @@ fn take_bookmark<I: IndexBy>(mirror: &mut Mirror<I>, now: u64, revision: u64) ->
     ensures taken { (c : Client) (cache : Cache) → Stands (λ b s. I.keys b s) mirror.old c → c.cache ≡ Some cache → now ≡ cache.revision
         → Stands (λ b s. I.keys b s) mirror.new (with_bookmark c cache revision) × (result ≡ (with_bookmark c cache revision).is_asking) }
     ensures indexes { indexes_of mirror.new.indexer ≡ indexes_of mirror.old.indexer }
+    ensures names { names_of mirror.new.indexer ≡ names_of mirror.old.indexer }
 {
     if is_above(now, revision) {
         return false;
@@ -110,6 +113,7 @@ fn take_line_at<I: IndexBy>(
         → IfOk result (λ fits. Stands (λ b s. I.keys b s) mirror.new (with_line c cache (line_seen line)) × (fits ≡ (with_line c cache (line_seen line)).is_asking)) }
     ensures refused { (c : Client) → Stands (λ b s. I.keys b s) mirror.old c → OnErr result (Stands (λ b s. I.keys b s) mirror.new c) }
     ensures indexes { indexes_of mirror.new.indexer ≡ indexes_of mirror.old.indexer }
+    ensures names { names_of mirror.new.indexer ≡ names_of mirror.old.indexer }
 {
     match line {
         Line::Put(object) => take_put(mirror, now, object),
@@ -125,6 +129,7 @@ pub(crate) fn take_line<I: IndexBy>(mirror: &mut Mirror<I>, line: Line) -> Resul
         → IfOk result (λ fits. Stands (λ b s. I.keys b s) mirror.new (with_watch c c.cache (items.line (line_seen line))) × (fits ≡ (with_watch c c.cache (items.line (line_seen line))).is_asking)) }
     ensures refused { (c : Client) → Stands (λ b s. I.keys b s) mirror.old c → OnErr result (Stands (λ b s. I.keys b s) mirror.new c) }
     ensures indexes { indexes_of mirror.new.indexer ≡ indexes_of mirror.old.indexer }
+    ensures names { names_of mirror.new.indexer ≡ names_of mirror.old.indexer }
 {
     match mirror.revision {
         Some(now) => take_line_at(mirror, now, line),

@@ -17,6 +17,7 @@ loop-item-preserved g c = record {
       subst (λ d. Keeps (λ b s. g.I.IndexBy.keys b s) c.hear.new.mirror c.in_ok-turn.turn.asks c.in_ok-turn.turn.is_asking d) (sym (next_heard told_of wanted cl items i c.item-item.result c.loop-item-test.true c.item-item.is))
       (c.in_ok-turn.ensures.heard (hears_all wanted cl (map told_of (take i items))) (c.loop-item.invariant.heard cl k));
   indexes = c.in_ok-turn.ensures.indexes ∙ c.loop-item.invariant.indexes;
+  names = c.in_ok-turn.ensures.names ∙ c.loop-item.invariant.names;
 }
 
 pub returns-in_err-turn-clause-some : goal.returns-in_err-turn-clause-some
