@@ -1,6 +1,6 @@
 //! A list of requirements, all of which have to be met.
 
-ghost use Rattle.std.specs.Prelude.{◌≡◌, []};
+ghost use Rattle.std.specs.Prelude.{◌≡◌, ◌↔◌, [], true};
 ghost use Rattle.selector.specs.Grammar.{Gives, parse_selector};
 ghost use Rattle.selector.specs.Requirement.{selects};
 ghost use Rattle.selector.specs.Views.{labels_of};
@@ -55,6 +55,13 @@ impl Selector {
         }
         let requirements = parts_of(alloc, text)?;
         Ok(Selector { requirements })
+    }
+
+    /// Whether nothing is asked, so that every object is selected.
+    pub fn is_all(&self) -> bool
+        ensures { (result ≡ true) ↔ (self.now ≡ []) }
+    {
+        self.requirements.is_empty()
     }
 
     /// Whether an object with these labels is selected. Takes no memory.

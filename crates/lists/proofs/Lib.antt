@@ -1,0 +1,4 @@
+pub mod Bounds
+pub mod Joining
+pub mod Labelled
+pub mod Reading

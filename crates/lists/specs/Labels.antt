@@ -1,0 +1,26 @@
+-- The labels that an object's text gives, and which objects a list is of by them (Kubernetes documentation, "Labels and Selectors").
+use Rattle.std.specs.Prelude.{ℕ, ◌&&◌, codes, List, [], ◌∷◌, Option, Some, None, option_map, option_and_then, unwrap_or}
+use Rattle.serde_json.specs.Data.{Data, Members, no_members, member}
+use Rattle.serde_json.specs.Find.{as_object, as_str, get}
+use Rattle.serde_json.specs.Read.{read}
+use Rattle.selector.specs.Labels.{Labels}
+use Rattle.selector.specs.Requirement.{Requirement, selects}
+use Rattle.history.specs.Page.{is_within}
+use Rattle.history.specs.Seen.{Selection}
+
+-- the members of `metadata.labels`
+abbrev pub label_members : Data → Option Members
+label_members d = option_and_then as_object (option_and_then (get (codes "labels")) (get (codes "metadata") d))
+
+-- names and texts, where each member is a text
+abbrev pub texts_of : Members → Option Labels
+texts_of no_members = Some []
+texts_of (member k d ms) = option_and_then (λ v. option_map (λ more. (k, v) ∷ more) (texts_of ms)) (as_str d)
+
+-- without such members there are no labels
+abbrev pub labels_of : List ℕ → Labels
+labels_of text = unwrap_or (option_and_then texts_of (option_and_then label_members (read text))) []
+
+-- of the type, in the namespace if one is named, and with labels that meet the requirements
+abbrev pub selection_of : ℕ → Option (List ℕ) → List Requirement → Selection
+selection_of kind namespace requirements = λ k body. is_within kind namespace k && selects requirements (labels_of body)

@@ -1,0 +1,6 @@
+pub mod Labels
+pub mod Revision
+pub mod Body
+pub mod Lists
+pub mod Rows
+pub mod Views

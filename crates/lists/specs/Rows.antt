@@ -1,0 +1,32 @@
+-- How the rows of a list are read: a few at a time, until there are enough or none are left.
+use Rattle.std.specs.Prelude.{◌≡◌, ◌<◌, ℕ, suc, List, [], length, filter, Option, Some, None, nat_lt, Bool, false}
+use Rattle.selector.specs.Requirement.{Requirement, selects}
+use Rattle.history.specs.History.{Key, Object, Objects}
+use Rattle.history.specs.Page.{listed}
+use Rattle.lists.specs.Labels.{labels_of}
+
+-- those whose labels meet the requirements
+abbrev pub matching : List Requirement → List (Key × Object) → List (Key × Object)
+matching requirements = filter (λ e. selects requirements (labels_of e.1.body))
+
+-- a namespace and a name, after which rows are read, or none
+abbrev pub Start : Type 0
+Start = Option (List ℕ × List ℕ)
+
+abbrev pub place_of : Key → Start
+place_of k = Some (k.namespace, k.name)
+
+-- the rows from a start on; none where nothing is left to be read
+abbrev pub rows_left : ℕ → Option (List ℕ) → Objects → Option Start → List (Key × Object)
+rows_left kind namespace s None = []
+rows_left kind namespace s (Some start) = listed kind namespace start s
+
+-- what is left falls with each reading, the last one included
+abbrev pub to_read : ℕ → Option (List ℕ) → Objects → Option Start → ℕ
+to_read kind namespace s None = 0
+to_read kind namespace s (Some start) = suc (length (listed kind namespace start s))
+
+-- more than a page holds, so that it can be told whether one is left
+abbrev pub is_over : Option ℕ → ℕ → Bool
+is_over None n = false
+is_over (Some limit) n = nat_lt limit n

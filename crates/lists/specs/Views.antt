@@ -1,0 +1,43 @@
+-- What the crate's values represent.
+use Rattle.std.specs.Prelude.{◌≡◌, ℕ, List, map, Option, Some, None, if◌then◌else◌, option_map, string_bytes}
+use Rattle.std.specs.declared.result.Result.{Result}
+use Rattle.std.specs.declared.result.Result.TheVariants.{Ok, Err}
+use Rattle.history.specs.History.{Key, Object}
+use Rattle.history.specs.Page.{last_key}
+use Rattle.history.specs.Seen.{SeenPage}
+use Rattle.revtable.specs.Read.{entry_of}
+use Rattle.lists.specs.declared.collection.Collection.{Collection as TheCollection}
+use Rattle.lists.specs.declared.page.Page.{Page as ThePage}
+use Rattle.lists.specs.declared.refusal.Refusal.{Refusal}
+use Rattle.lists.specs.declared.fault.ListFault.{ListFault}
+use Rattle.lists.specs.declared.fault.ListFault.TheVariants as fault
+use Rattle.lists.specs.declared.rows.Start.{Start as TheStart}
+use Rattle.lists.specs.declared.rows.Start.TheVariants as start
+use Rattle.lists.specs.Body.{Collection}
+use Rattle.lists.specs.Rows.{Start}
+use Rattle.lists.specs.declared.revision.Wanted.{Wanted as TheWanted}
+use Rattle.lists.specs.declared.revision.Wanted.TheVariants as wanted
+use Rattle.lists.specs.Revision.{Wanted, not_older_than, exactly}
+
+abbrev pub collection_of : TheCollection → Collection
+collection_of c = record { kind = c.kind; namespace = option_map (λ s. s.now) c.namespace; api_version = c.api_version.now; item_kind = c.item_kind.now }
+
+abbrev pub wanted_seen : TheWanted → Wanted
+wanted_seen (wanted.NotOlderThan v) = not_older_than v
+wanted_seen (wanted.Exactly v) = exactly v
+
+abbrev pub start_of : TheStart → Start
+start_of start.First = None
+start_of (start.After namespace name) = Some (string_bytes namespace, string_bytes name)
+
+abbrev pub page_seen : ThePage → SeenPage
+page_seen p = record { found = map entry_of p.found.items; next = if p.has_more then last_key (map entry_of p.found.items) else None }
+
+-- what was answered, seen by view, is the definition's answer, unless memory ran out or the store failed
+abbrev pub Fails : {B : Type 0} → ListFault → Result B Refusal → Type 0
+Fails (fault.Refused r) answer = answer ≡ Err r
+Fails (fault.Failed f) answer = Unit {0}
+
+abbrev pub Gives : {A B : Type 0} → (A → B) → Result A ListFault → Result B Refusal → Type 0
+Gives view (Ok x) answer = answer ≡ Ok (view x)
+Gives view (Err e) answer = Fails e answer

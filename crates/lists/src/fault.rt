@@ -1,0 +1,47 @@
+//! Why there is no list. Nothing has changed.
+
+use crate::refusal::Refusal;
+use revtable::Fault;
+use std::alloc::AllocError;
+
+/// Why there is no list.
+#[derive(Debug, Drop)]
+pub enum ListFault {
+    Refused(Refusal),
+    /// Memory ran out, or the store refused a statement.
+    Failed(Fault),
+}
+
+impl From<Refusal> for ListFault {
+    ghost use Rattle.std.specs.Prelude.{◌≡◌};
+    ghost use Rattle.lists.specs.declared.fault.ListFault.TheVariants.{Refused};
+
+    ghost from_gives = { λ refusal e. e ≡ Refused refusal };
+
+    fn from(refusal: Refusal) -> ListFault {
+        ListFault::Refused(refusal)
+    }
+}
+
+impl From<Fault> for ListFault {
+    ghost use Rattle.std.specs.Prelude.{◌≡◌};
+    ghost use Rattle.lists.specs.declared.fault.ListFault.TheVariants.{Failed};
+
+    ghost from_gives = { λ fault e. e ≡ Failed fault };
+
+    fn from(fault: Fault) -> ListFault {
+        ListFault::Failed(fault)
+    }
+}
+
+impl From<AllocError> for ListFault {
+    ghost use Rattle.std.specs.Prelude.{◌≡◌};
+    ghost use Rattle.lists.specs.declared.fault.ListFault.TheVariants.{Failed};
+    ghost use Rattle.revtable.specs.declared.fault.Fault.TheVariants.{Memory};
+
+    ghost from_gives = { λ _ e. e ≡ Failed Memory };
+
+    fn from(_: AllocError) -> ListFault {
+        ListFault::Failed(Fault::Memory)
+    }
+}

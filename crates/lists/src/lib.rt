@@ -1,0 +1,24 @@
+//! Lists of objects: page by page, of a revision, by label selectors (Kubernetes documentation, "Kubernetes API
+//! Concepts", "Retrieving large results sets in chunks").
+//!
+//! The answer to a list is the text of the page that is asked for: of the objects that are seen at the list's
+//! revision, in the order of keys, those after a key, as many as a page holds; it names a next page exactly where
+//! an object that is seen is left. Refused is exactly a revision that is compacted or past the current one.
+//!
+//! Stands on `history` for what is seen, `revstore` for the rows, `selector` and `params` for what is asked.
+#![tactic(auto)]
+
+mod collection;
+mod fault;
+mod labels;
+mod listing;
+mod page;
+mod refusal;
+mod revision;
+mod rows;
+mod text;
+
+pub use collection::Collection;
+pub use fault::ListFault;
+pub use listing::list;
+pub use refusal::Refusal;

@@ -1,0 +1,140 @@
+//! The page that is asked for.
+
+ghost use Rattle.std.specs.Prelude.{◌≡◌, ◌<◌, ◌≤◌, ◌++◌, IfOk, map, option_map};
+ghost use Rattle.history.specs.Page.{listed};
+ghost use Rattle.history.specs.Seen.{IsLimit, limited};
+ghost use Rattle.history.specs.View.{state_in};
+ghost use Rattle.params.specs.Views.{token_view, values_of};
+ghost use Rattle.revtable.specs.Read.{entry_of};
+ghost use Rattle.lists.specs.Lists.{page_limit, page_of};
+ghost use Rattle.lists.specs.Rows.{is_over, matching};
+ghost use Rattle.lists.specs.Views.{collection_of, page_seen, start_of};
+
+use crate::collection::Collection;
+use crate::rows::{Start, matching, next_rows};
+use params::{Params, Token};
+use revstore::Store;
+use revtable::{Entry, Fault};
+use selector::Selector;
+use std::alloc::{AllocError, Global};
+
+/// How many items a page has at most.
+const MAX_PAGE: u64 = 500;
+
+/// How many rows are read at once at most: those of the largest page, and one to tell whether more are left.
+const MAX_ROWS: u64 = 501;
+
+/// A page of a list.
+#[derive(Debug, Drop)]
+pub(crate) struct Page {
+    pub(crate) found: Vec<Entry>,
+    /// Whether an object is left after these.
+    pub(crate) has_more: bool,
+}
+
+/// How many items the page has at most; None where the list is whole.
+fn page_limit(limit: u64) -> Option<usize>
+    ensures { result ≡ page_limit limit }
+{
+    if limit == 0 {
+        None
+    } else {
+        Some(limit.min(MAX_PAGE) as usize)
+    }
+}
+
+/// Whether these are more than a page holds.
+fn is_over(limit: Option<usize>, count: usize) -> bool
+    ensures { result ≡ is_over limit count }
+{
+    match limit {
+        None => false,
+        Some(limit) => limit < count,
+    }
+}
+
+/// How many rows are read at first: as many as the page may have, and one more.
+fn first_rows(limit: Option<usize>) -> u64
+    ensures { 0 < result }
+{
+    match limit {
+        None => MAX_ROWS,
+        Some(limit) => (limit as u64).min(MAX_PAGE) + 1,
+    }
+}
+
+/// The first items of these, as many as the page has at most.
+fn cut(limit: Option<usize>, mut found: Vec<Entry>) -> Page
+    ensures { page_seen result ≡ limited limit (map entry_of found.items) }
+{
+    let Some(limit) = limit else {
+        return Page {
+            found,
+            has_more: false,
+        };
+    };
+    let has_more = limit < found.len();
+    found.truncate(limit);
+    Page { found, has_more }
+}
+
+/// What is selected from a start on, until it is more than the page has or nothing is left.
+fn found_from(
+    alloc: Global,
+    store: &mut Store,
+    of: Collection<'_>,
+    revision: u64,
+    selector: &Selector,
+    start: Start,
+    limit: Option<usize>,
+) -> Result<Vec<Entry>, Fault>
+    requires low { store.old.compacted ≤ revision }
+    requires high { revision ≤ store.old.current }
+    ensures found { IfOk result (λ v. limited limit (map entry_of v.items)
+        ≡ limited limit (matching selector.now (listed (collection_of of.entry).kind (collection_of of.entry).namespace (start_of start) (state_in store.old revision)))) }
+    ensures same { store.new ≡ store.old }
+{
+    let mut found = Vec::new(alloc);
+    let mut left = Some(start);
+    let mut max = first_rows(limit);
+    while let Some(start) = left {
+        let (rows, next) = next_rows(store, of, revision, &start, max)?;
+        let mut more = matching(alloc, selector, rows)?;
+        found.append(&mut more)?;
+        if is_over(limit, found.len()) {
+            return Ok(found);
+        }
+        left = next;
+        max = max.saturating_mul(2).min(MAX_ROWS);
+    }
+    Ok(found)
+}
+
+/// Where a list goes on: after its token's object, or from the first one on.
+fn start_at(token: &Option<Token>) -> Result<Start, AllocError>
+    ensures { IfOk result (λ s. start_of s ≡ option_map (λ t. (t.namespace, t.name)) (option_map token_view token.now)) }
+{
+    match token {
+        Some(token) => Ok(Start::After(token.namespace.clone()?, token.name.clone()?)),
+        None => Ok(Start::First),
+    }
+}
+
+/// The page that is asked for, at a revision.
+pub(crate) fn page_of(
+    alloc: Global,
+    store: &mut Store,
+    of: Collection<'_>,
+    revision: u64,
+    params: &Params,
+) -> Result<Page, Fault>
+    requires low { store.old.compacted ≤ revision }
+    requires high { revision ≤ store.old.current }
+    ensures page { IfOk result (λ p. page_seen p ≡ page_of (collection_of of.entry) (values_of params.now) (state_in store.old revision)) }
+    ensures same { store.new ≡ store.old }
+{
+    let limit = page_limit(params.limit);
+    let start = start_at(&params.token)?;
+    let found = found_from(alloc, store, of, revision, &params.selector, start, limit)?;
+    Ok(cut(limit, found))
+}
