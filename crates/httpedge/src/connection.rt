@@ -11,7 +11,7 @@ ghost use Rattle.httpedge.specs.Pendings.{Awaits, Finds};
 ghost use Rattle.httpedge.specs.Steps.{opening};
 
 use crate::answering::{refusal_reply, serve};
-use crate::asking::{Progress, Pending, ask, ask_on};
+use crate::asking::{Pending, Progress, ask, ask_on};
 use crate::front::Front;
 use crate::out::Out;
 use crate::refusal::Refusal;

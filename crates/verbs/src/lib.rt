@@ -19,7 +19,6 @@ mod envelope;
 mod fault;
 mod getting;
 mod intent;
-mod judging;
 mod laws;
 mod live;
 mod media;
@@ -38,6 +37,7 @@ mod status;
 mod storing;
 mod texts;
 mod updating;
+mod validating;
 mod writing;
 
 pub use admitting::{Denied, Refusal};

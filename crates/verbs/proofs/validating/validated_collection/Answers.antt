@@ -10,7 +10,7 @@ use Rattle.verbs.specs.Validated.{Validated, and_then}
 use Rattle.verbs.specs.Seen.{Gives, body_seen, objects_in, plan_of}
 use Rattle.verbs.specs.Step.{Creation, collection_validated_by, create_validated, created_as, creation_validated}
 use Rattle.verbs.proofs.Checks.{post_left}
-use Rattle.verbs.proofs.judging.validated_collection.Goals as goal
+use Rattle.verbs.proofs.validating.validated_collection.Goals as goal
 
 pub returns-clause-validated : goal.returns-clause-validated
 returns-clause-validated c =
