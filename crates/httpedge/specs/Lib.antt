@@ -13,3 +13,4 @@ pub mod Views
 pub mod Pendings
 pub mod Held
 pub mod HubSeen
+pub mod Faults

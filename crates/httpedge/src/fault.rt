@@ -1,17 +1,19 @@
-//! Why an event is refused.
+//! Why an event is refused, or what failed.
 
 use std::alloc::{AllocError, AllocFailed};
+use thiserror::Error;
 
-/// Why the hub refuses an event, or what it wanted.
-#[derive(Clone, Copy, Debug, PartialEq, Eq)]
+/// Why the hub refuses an event, or what failed in the machine.
+#[derive(Clone, Copy, Debug, PartialEq, Eq, Error)]
 pub enum HubFault {
-    /// The id isn't above all earlier ones.
+    #[error("the id is not above all earlier ones")]
     IdNotAbove,
-    /// There is no connection of this id.
+    #[error("there is no connection of this id")]
     UnknownId,
-    /// There was no memory.
+    #[error("out of memory")]
     Memory,
-    /// The store refused a statement for memory or size.
+    /// The store refused a statement for memory or size, or what is stored is no object's text.
+    #[error("the store failed")]
     Store,
 }
 
@@ -39,11 +41,14 @@ impl<T: Drop> From<AllocFailed<T>> for HubFault {
 
 impl From<verbs::Fault> for HubFault {
     ghost use Rattle.std.specs.Prelude.{◌≡◌};
-    ghost use Rattle.httpedge.specs.declared.fault.HubFault.TheVariants.{Memory};
+    ghost use Rattle.httpedge.specs.Faults.{hub_fault_of};
 
-    ghost from_gives = { λ _ e. e ≡ Memory };
+    ghost from_gives = { λ f e. e ≡ hub_fault_of f };
 
-    fn from(_: verbs::Fault) -> HubFault {
-        HubFault::Memory
+    fn from(fault: verbs::Fault) -> HubFault {
+        match fault {
+            verbs::Fault::Memory => HubFault::Memory,
+            verbs::Fault::Store => HubFault::Store,
+        }
     }
 }

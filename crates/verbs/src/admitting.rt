@@ -9,6 +9,7 @@ use crate::place::Place;
 use crate::reason::Reason;
 use crate::resource::Resource;
 use std::alloc::{AllocError, Global};
+use thiserror::Error;
 
 /// Why a request is refused by its route, method or media type.
 #[derive(Clone, Copy, Debug, PartialEq, Eq)]
@@ -20,9 +21,11 @@ pub struct Denied {
 }
 
 /// Why a request was not admitted.
-#[derive(Clone, Copy, Debug, PartialEq, Eq)]
+#[derive(Clone, Copy, Debug, PartialEq, Eq, Error)]
 pub enum Refusal {
+    #[error("the request is refused: {}", .0.message)]
     Denied(Denied),
+    #[error("out of memory")]
     Memory,
 }
 

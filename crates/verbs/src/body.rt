@@ -28,4 +28,11 @@ impl Body {
         let value = Value::from_slice(alloc, bytes)?;
         Ok(Body { value })
     }
+
+    /// The value that the text is of.
+    pub fn value(&self) -> &Value
+        ensures { view result.now ≡ body_seen self.now }
+    {
+        &self.value
+    }
 }
