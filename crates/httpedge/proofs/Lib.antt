@@ -13,4 +13,5 @@ pub mod Staying
 pub mod Taking
 pub mod RequestTargets
 pub mod Untaken
+pub mod Growing
 pub mod Whole

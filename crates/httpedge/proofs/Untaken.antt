@@ -1,19 +1,19 @@
--- While nothing is taken and no peer goes, all that was written is out.
-use Rattle.std.proofs.Common.{◌≡◌, ℕ, Bool, true, false, cond, List, drop, Option, Some, None, refl, sym, ap, subst}
-use Rattle.std.specs.Prelude.{option_map, unwrap_or}
+-- While nothing is taken of a connection and its peer doesn't go, all that was written on it is out.
+use Rattle.std.proofs.Common.{◌≡◌, ℕ, Bool, true, false, cond, List, drop, Option, Some, None, refl, sym, ap, subst, ◌∙◌}
+use Rattle.std.specs.Prelude.{◌&&◌, option_map, unwrap_or}
 use Rattle.std.specs.Cmp.{nat_cmp_total}
 use Rattle.std.specs.FinMap as fin
 use Rattle.std.specs.Ordering.{nat_cmp, eq_by_cmp}
 use Rattle.schema.specs.TypesFile.{ServedShape}
 use Rattle.history.specs.History.{History}
 use Rattle.httpedge.specs.Asks.{CallDecision}
-use Rattle.httpedge.specs.Connections.{AllIsOut, Connection, Connections, IsUntaken, Standing, waiting, watching, ended, gone, each, has_gone, left_out, opened, out_of, out_on, with_written, written_on}
+use Rattle.httpedge.specs.Connections.{AllIsOut, Connection, Connections, IsUntaken, Standing, waiting, watching, ended, gone, each, has_gone, is_open, is_watching, left_out, opened, out_of, out_on, with_standing, with_written, written_on}
 use Rattle.httpedge.specs.Decision.{undecided, refused, accepted}
 use Rattle.httpedge.specs.Refusals.{as_denied, too_many_connections}
-use Rattle.httpedge.specs.Runs.{Steps, peer_goes}
-use Rattle.httpedge.specs.Steps.{Event, State, opens, comes, goes, pumps, ticks, compacts, after_turn, by_connection, connection_after, opening, received_by, refusal, refusal_reply, standing_after, start, carried_out, unless_refused, with_turn}
+use Rattle.httpedge.specs.Runs.{Follows, Happening, IsNoGoing, LeavesOut, Steps, happens, peer_goes, starves, takes}
+use Rattle.httpedge.specs.Steps.{Event, State, opens, comes, goes, pumps, ticks, compacts, after_turn, by_connection, connection_after, dead, dead_or_ticked, opening, received_by, refusal, refusal_reply, standing_after, start, starved, carried_out, unless_refused, with_turn}
 use Rattle.httpedge.specs.Watches.{Turn, Watch, pumped, ticked}
-use Rattle.httpedge.proofs.Connected.{got_each}
+use Rattle.httpedge.proofs.Connected.{got_each, tied_same}
 
 -- ---- one connection
 
@@ -26,9 +26,6 @@ written_by (gone had_ended) taken written none stays = absurd cc
 out_is_written : (o : Option Connection) (none : List ℕ) → IsUntaken o → unwrap_or (option_map out_of o) none ≡ unwrap_or (option_map (λ c. c.written) o) none
 out_is_written None none is = refl
 out_is_written (Some c) none is = written_by c.standing c.taken c.written is.0 is.1
-
-pub all_written : (all : Connections) (id : ℕ) → AllIsOut all → out_on all id ≡ written_on all id
-all_written all id is = out_is_written (fin.get all id) _ (is id)
 
 opened_untaken : (full : Bool) (bytes : List ℕ) → IsUntaken (Some (cond full (with_written opened bytes ended) opened))
 opened_untaken true bytes = (refl, refl)
@@ -49,52 +46,99 @@ turn_untaken turn c (watching w) is = (is.0, stays_here (turn w).next)
 turn_untaken turn c ended is = is
 turn_untaken turn c (gone had_ended) is = is
 
--- ---- all connections
+-- ---- one of all connections
 
-put_by : (b : Bool) (c : Connection) (o : Option Connection) → IsUntaken (Some c) → IsUntaken o → IsUntaken (cond b (Some c) o)
-put_by true c o is other = is
-put_by false c o is other = other
+-- a connection that is put, seen under an id
+put_one : (all : Connections) (id q : ℕ) (c : Connection) → (q ≡ id → IsUntaken (Some c)) → IsUntaken (fin.get all q) → IsUntaken (fin.get (fin.insert all id c) q)
+put_one all id q c here out = subst IsUntaken (sym (fin.get-insert nat_cmp_total all id c q)) (go (eq_by_cmp nat_cmp q id) refl)
+  where
+    go : (b : Bool) → eq_by_cmp nat_cmp q id ≡ b → IsUntaken (cond b (Some c) (fin.get all q))
+    go true e = here (tied_same q id e)
+    go false e = out
 
-put_untaken : (all : Connections) (id : ℕ) (c : Connection) → AllIsOut all → IsUntaken (Some c) → AllIsOut (fin.insert all id c)
-put_untaken all id c out is = λ q. subst IsUntaken (sym (fin.get-insert nat_cmp_total all id c q)) (put_by (eq_by_cmp nat_cmp q id) c (fin.get all q) is (out q))
+-- the connection of an id, where that is this one
+this_one : (all : Connections) (id q : ℕ) (c : Connection) → fin.get all id ≡ Some c → IsUntaken (fin.get all q) → q ≡ id → IsUntaken (Some c)
+this_one all id q c got out same = subst IsUntaken (ap (fin.get all) same ∙ got) out
 
-by_untaken : (s : State) (o : Option Connection) (f : Connection → State) → AllIsOut s.connections → IsUntaken o
-    → ((c : Connection) → IsUntaken (Some c) → AllIsOut (f c).connections) → AllIsOut (by_connection s o f).connections
-by_untaken s None f out is then = out
-by_untaken s (Some c) f out is then = then c is
+by_one : (s : State) (q : ℕ) (o : Option Connection) (f : Connection → State) → IsUntaken (fin.get s.connections q)
+    → ((c : Connection) → o ≡ Some c → IsUntaken (fin.get (f c).connections q)) → IsUntaken (fin.get (by_connection s o f).connections q)
+by_one s q None f out then = out
+by_one s q (Some c) f out then = then c refl
 
 each_by : (f : ℕ → Connection → Connection) (id : ℕ) (o : Option Connection) → ((c : Connection) → IsUntaken (Some c) → IsUntaken (Some (f id c))) → IsUntaken o → IsUntaken (option_map (f id) o)
 each_by f id None stays is = is
 each_by f id (Some c) stays is = stays c is
 
-each_untaken : (f : ℕ → Connection → Connection) (all : Connections) → ((id : ℕ) (c : Connection) → IsUntaken (Some c) → IsUntaken (Some (f id c))) → AllIsOut all → AllIsOut (each f all)
-each_untaken f all stays out = λ q. subst IsUntaken (sym (got_each f all q)) (each_by f q (fin.get all q) (stays q) (out q))
+each_one : (f : ℕ → Connection → Connection) (all : Connections) (q : ℕ) → ((c : Connection) → IsUntaken (Some c) → IsUntaken (Some (f q c))) → IsUntaken (fin.get all q)
+    → IsUntaken (fin.get (each f all) q)
+each_one f all q stays out = subst IsUntaken (sym (got_each f all q)) (each_by f q (fin.get all q) stays out)
 
-received_untaken : (s : State) (id : ℕ) (c : Connection) (st : Standing) (bytes : List ℕ) (asked : CallDecision) → AllIsOut s.connections → IsUntaken (Some c)
-    → AllIsOut (received_by s id c st bytes asked).connections
-received_untaken s id c (waiting front) bytes asked out is = put_untaken s.connections id _ out (after_untaken s.types s.machine c _ asked is)
-received_untaken s id c (watching w) bytes asked out is = out
-received_untaken s id c ended bytes asked out is = out
-received_untaken s id c (gone had_ended) bytes asked out is = out
+received_one : (s : State) (id q : ℕ) (c : Connection) (st : Standing) (bytes : List ℕ) (asked : CallDecision) → fin.get s.connections id ≡ Some c → IsUntaken (fin.get s.connections q)
+    → IsUntaken (fin.get (received_by s id c st bytes asked).connections q)
+received_one s id q c (waiting front) bytes asked got out =
+    put_one s.connections id q _ (λ same. after_untaken s.types s.machine c _ asked (this_one s.connections id q c got out same)) out
+received_one s id q c (watching w) bytes asked got out = out
+received_one s id q c ended bytes asked got out = out
+received_one s id q c (gone had_ended) bytes asked got out = out
 
-carried_untaken : (s : State) (e : Event) (asked : CallDecision) → peer_goes e ≡ false → AllIsOut s.connections → AllIsOut (carried_out s e asked).connections
-carried_untaken s (opens id) asked stays out = put_untaken s.connections id (opening s.connections) out (opened_untaken _ (refusal_reply (as_denied too_many_connections)))
-carried_untaken s (comes id bytes) asked stays out =
-    by_untaken s (fin.get s.connections id) _ out (out id) (λ c is. received_untaken s id c c.standing bytes asked out is)
-carried_untaken s (goes id) asked stays out = absurd cc
-carried_untaken s (pumps id max) asked stays out =
+carried_one : (s : State) (e : Event) (asked : CallDecision) (q : ℕ) → IsNoGoing e q → IsUntaken (fin.get s.connections q) → IsUntaken (fin.get (carried_out s e asked).connections q)
+carried_one s (opens id) asked q stays out = put_one s.connections id q (opening s.connections) (λ same. opened_untaken _ (refusal_reply (as_denied too_many_connections))) out
+carried_one s (comes id bytes) asked q stays out = by_one s q (fin.get s.connections id) _ out (λ c got. received_one s id q c c.standing bytes asked got out)
+carried_one s (goes id) asked q stays out = by_one s q (fin.get s.connections id) _ out (λ c got. put_one s.connections id q _ (λ same. absurd (stays same)) out)
+carried_one s (pumps id max) asked q stays out =
     let turn = pumped s.types s.machine max in
-    by_untaken s (fin.get s.connections id) _ out (out id) (λ c is. put_untaken s.connections id (with_turn turn c) out (turn_untaken turn c c.standing is))
-carried_untaken s (ticks ms) asked stays out = each_untaken (λ id c. with_turn (ticked ms) c) s.connections (λ id c is. turn_untaken (ticked ms) c c.standing is) out
-carried_untaken s (compacts c) asked stays out = out
+    by_one s q (fin.get s.connections id) _ out (λ c got. put_one s.connections id q (with_turn turn c) (λ same. turn_untaken turn c c.standing (this_one s.connections id q c got out same)) out)
+carried_one s (ticks ms) asked q stays out = each_one (λ id c. with_turn (ticked ms) c) s.connections q (λ c is. turn_untaken (ticked ms) c c.standing is) out
+carried_one s (compacts c) asked q stays out = out
 
-unless_untaken : (s t : State) (o : Option ℕ) → AllIsOut t.connections → AllIsOut s.connections → AllIsOut (unless_refused o s t).connections
-unless_untaken s t None then out = then
-unless_untaken s t (Some n) then out = out
+unless_one : (s t : State) (o : Option ℕ) (q : ℕ) → IsUntaken (fin.get t.connections q) → IsUntaken (fin.get s.connections q) → IsUntaken (fin.get (unless_refused o s t).connections q)
+unless_one s t None q then out = then
+unless_one s t (Some n) q then out = out
+
+dead_by : (b : Bool) (c : Connection) → IsUntaken (Some c) → IsUntaken (Some (cond b (with_standing c ended) c))
+dead_by true c is = (is.0, refl)
+dead_by false c is = is
+
+dead_or : (ms : ℕ) (b : Bool) (c : Connection) → IsUntaken (Some c) → IsUntaken (Some (cond b (dead c) (with_turn (ticked ms) c)))
+dead_or ms true c is = dead_by (is_open c.standing) c is
+dead_or ms false c is = turn_untaken (ticked ms) c c.standing is
+
+starved_one : (s : State) (e : Event) (which : ℕ → Bool) (q : ℕ) → IsUntaken (fin.get s.connections q) → IsUntaken (fin.get (starved s e which).connections q)
+starved_one s (opens id) which q out = out
+starved_one s (comes id bytes) which q out =
+    by_one s q (fin.get s.connections id) _ out (λ c got. put_one s.connections id q _ (λ same. dead_by (is_open c.standing) c (this_one s.connections id q c got out same)) out)
+starved_one s (goes id) which q out = out
+starved_one s (pumps id max) which q out =
+    by_one s q (fin.get s.connections id) _ out (λ c got. put_one s.connections id q _ (λ same. dead_by (is_open c.standing) c (this_one s.connections id q c got out same)) out)
+starved_one s (ticks ms) which q out = each_one (λ id c. dead_or_ticked ms (which id) c) s.connections q (λ c is. dead_or ms (which q && is_watching c.standing) c is) out
+starved_one s (compacts c) which q out = out
+
+pub one_out : (s t : State) (h : Happening) (q : ℕ) → LeavesOut h q → IsUntaken (fin.get s.connections q) → Follows s h t → IsUntaken (fin.get t.connections q)
+one_out s t (happens e) q stays out (asked, asks, is) =
+    subst (λ (x : State). IsUntaken (fin.get x.connections q)) (sym is) (unless_one s (carried_out s e asked) (refusal s e) q (carried_one s e asked q stays out) out)
+one_out s t (starves e which) q stays out (unrefused, memory, is) = subst (λ (x : State). IsUntaken (fin.get x.connections q)) (sym is) (starved_one s e which q out)
+one_out s t (takes id n) q stays out is =
+    subst (λ (x : State). IsUntaken (fin.get x.connections q)) (sym is)
+    (by_one s q (fin.get s.connections id) _ out (λ c got. put_one s.connections id q _ (λ same. absurd (stays same)) out))
+
+pub one_written : (all : Connections) (id : ℕ) → IsUntaken (fin.get all id) → out_on all id ≡ written_on all id
+one_written all id is = out_is_written (fin.get all id) _ is
+
+-- ---- all connections
+
+no_going : (e : Event) (q : ℕ) → peer_goes e ≡ false → IsNoGoing e q
+no_going (opens id) q stays = tt
+no_going (comes id bytes) q stays = tt
+no_going (goes id) q stays = absurd cc
+no_going (pumps id max) q stays = tt
+no_going (ticks ms) q stays = tt
+no_going (compacts c) q stays = tt
+
+pub all_written : (all : Connections) (id : ℕ) → AllIsOut all → out_on all id ≡ written_on all id
+all_written all id is = one_written all id (is id)
 
 pub all_out : (s t : State) (e : Event) → peer_goes e ≡ false → AllIsOut s.connections → Steps s e t → AllIsOut t.connections
-all_out s t e stays out (asked, asks, is) =
-    subst (λ (x : State). AllIsOut x.connections) (sym is) (unless_untaken s (carried_out s e asked) (refusal s e) (carried_untaken s e asked stays out) out)
+all_out s t e stays out steps = λ q. one_out s t (happens e) q (no_going e q stays) (out q) steps
 
 pub none_out : (types : List ServedShape) (m : History) → AllIsOut (start types m).connections
 none_out types m = λ q. subst IsUntaken (sym (fin.get-empty nat_cmp q)) (tt {0})

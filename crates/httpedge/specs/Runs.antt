@@ -82,6 +82,23 @@ HappensElsewhere (happens e) other = IsElsewhere e other
 HappensElsewhere (starves e found_none) other = IsElsewhere e other
 HappensElsewhere (takes id n) other = other ≢ id
 
+-- ---- what is out of a connection
+
+-- the event isn't that the peer of this connection goes
+abbrev pub IsNoGoing : Event → ℕ → Type 0
+IsNoGoing (opens id) q = ⊤
+IsNoGoing (comes id bytes) q = ⊤
+IsNoGoing (goes id) q = q ≢ id
+IsNoGoing (pumps id max) q = ⊤
+IsNoGoing (ticks ms) q = ⊤
+IsNoGoing (compacts c) q = ⊤
+
+-- no bytes are taken of this connection, and its peer doesn't go
+abbrev pub LeavesOut : Happening → ℕ → Type 0
+LeavesOut (happens e) q = IsNoGoing e q
+LeavesOut (starves e found_none) q = ⊤
+LeavesOut (takes id n) q = q ≢ id
+
 abbrev pub peer_goes : Event → Bool
 peer_goes (opens id) = false
 peer_goes (comes id bytes) = false

@@ -1,13 +1,13 @@
 //! Laws of what a hub does, which crates above build on. Each function does nothing of use; what it promises is the law.
 
-ghost use Rattle.std.specs.Prelude.{◌≡◌, ◌≢◌, ◌++◌, ℕ, Bool, true, false, List, Some, None, drop, option_map};
+ghost use Rattle.std.specs.Prelude.{◌≡◌, ◌≢◌, ◌++◌, ℕ, Bool, true, false, List, Some, None, drop, option_map, take};
 ghost use Rattle.std.specs.FinMap as fin;
 ghost use Rattle.schema.specs.TypesFile.{ServedShape};
 ghost use Rattle.history.specs.History.{History};
 ghost use Rattle.httpedge.specs.Asks.{CallDecision, Asks};
-ghost use Rattle.httpedge.specs.Connections.{AllIsOut, Connection, Connections, each, ended_on, out_on, watching_on, written_on};
+ghost use Rattle.httpedge.specs.Connections.{AllIsOut, Connection, Connections, IsUntaken, each, ended_on, has_gone, out_on, watching_on, written_on};
 ghost use Rattle.httpedge.specs.Decision.{undecided};
-ghost use Rattle.httpedge.specs.Runs.{Follows, Happening, HappensElsewhere, Runs, Starves, Steps, bytes_at, peer_goes};
+ghost use Rattle.httpedge.specs.Runs.{Follows, Happening, HappensElsewhere, LeavesOut, Runs, Starves, Steps, bytes_at, peer_goes};
 ghost use Rattle.httpedge.specs.Steps.{Event, State, comes, start, ticks, with_bytes_taken};
 
 use crate::head::read_head;
@@ -63,9 +63,19 @@ pub fn ticks_are_for_watches()
     ensures without_memory { (s t : State) (ms id : ℕ) (found_none : ℕ → Bool) → watching_on s.connections id ≡ false → Starves s (ticks ms) found_none t → fin.get t.connections id ≡ fin.get s.connections id }
 {}
 
-/// While nothing is taken and no peer goes, what is out on a connection is all that was written on it.
+/// While nothing is taken and no peer goes, what is out on a connection is all that was written on it; the same of one
+/// connection, whatever happens on the others.
 pub fn all_is_out()
     ensures start { (types : List ServedShape) (m : History) → AllIsOut (start types m).connections }
     ensures stays { (s t : State) (e : Event) → peer_goes e ≡ false → AllIsOut s.connections → Steps s e t → AllIsOut t.connections }
     ensures written { (all : Connections) (id : ℕ) → AllIsOut all → out_on all id ≡ written_on all id }
+    ensures one_stays { (s t : State) (h : Happening) (id : ℕ) → LeavesOut h id → IsUntaken (fin.get s.connections id) → Follows s h t → IsUntaken (fin.get t.connections id) }
+    ensures one_written { (all : Connections) (id : ℕ) → IsUntaken (fin.get all id) → out_on all id ≡ written_on all id }
+{}
+
+/// What was written on a connection stays, and more may follow; while its peer hasn't gone it is what was taken of it
+/// and then what is out.
+pub fn written_stays()
+    ensures grows { (s t : State) (h : Happening) (id : ℕ) → Follows s h t → (more : List ℕ) × (written_on t.connections id ≡ written_on s.connections id ++ more) }
+    ensures parts { (all : Connections) (id : ℕ) (c : Connection) → fin.get all id ≡ Some c → has_gone c.standing ≡ false → written_on all id ≡ take c.taken c.written ++ out_on all id }
 {}

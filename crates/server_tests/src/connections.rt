@@ -12,10 +12,10 @@ use std::test::Fail;
 const APPLY: &str =
     "PATCH /apis/demo.example/v1/namespaces/default/widgets/w1?fieldManager=alice HTTP/1.1\r\nHost: localhost\r\nContent-Type: application/apply-patch+yaml\r\nContent-Length: 107\r\n\r\n{\"apiVersion\":\"demo.example/v1\",\"kind\":\"Widget\",\"metadata\":{\"name\":\"w1\"},\"spec\":{\"image\":\"a\",\"replicas\":3}}";
 
-/// Whether a request has a body.
-fn body_told(alloc: Global, head: &Head<'_>) -> Result<&'static str, Fail> {
+/// The text of a request's body.
+fn body_text(alloc: Global, head: &Head<'_>) -> Result<String, Fail> {
     match read_body(alloc, head)? {
-        Decision::Accepted(Some(_)) => Ok("a body"),
+        Decision::Accepted(Some(body)) => Ok(body.value().to_string(alloc)?),
         _ => Err("no body".into()),
     }
 }
@@ -24,12 +24,12 @@ fn media_told<'b>(head: &Head<'b>) -> Result<&'b str, Fail> {
     Ok(str::from_utf8(checked_media(head).ok_or("no media type")?)?)
 }
 
-/// The path, the query, the media type and whether there is a body.
+/// The path, the query, the media type and the body.
 fn head_told(alloc: Global, head: &Head<'_>) -> Result<String, Fail> {
     let path = path_of(head.request_target);
     let query = query_of(head.request_target);
     let media = media_told(head)?;
-    let body = body_told(alloc, head)?;
+    let body = body_text(alloc, head)?;
     Ok(format!(in alloc; "{path} {query} {media} {body}")?)
 }
 
@@ -46,7 +46,7 @@ fn request_is_read(rt: HostRuntime) -> Result<(), Fail> {
         "\r\nDELETE /a?b=c HTTP/1.1\nHOST: x\r\ncontent-type: t/u\r\nContent-Length: 02\r\ncontent-length: 2\r\n\r\n{}more";
     assert_eq!(rt;
         request_told(rt.alloc(), request)?.as_str(),
-        "/a b=c t/u a body"
+        "/a b=c t/u {}"
     );
     Ok(())
 }

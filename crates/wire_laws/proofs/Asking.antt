@@ -1,5 +1,5 @@
 -- What a request that the client prints asks.
-use Rattle.std.proofs.Common.{◌≡◌, ℕ, ◌≤◌, Bool, true, false, List, ◌∷◌, ◌++◌, length, Option, None, Some, refl, sym, ap, ◌∙◌}
+use Rattle.std.proofs.Common.{◌≡◌, ℕ, ◌≤◌, Bool, true, false, List, [], ◌∷◌, ◌++◌, length, Option, None, Some, refl, sym, ap, ◌∙◌}
 use Rattle.std.proofs.lemmas.Slice.Eq.{bytes_eq-Decides}
 use Rattle.std.specs.Prelude.{◌&&◌, ◌||◌, codes, if◌then◌else◌}
 use Rattle.std.specs.List.{list_any}
@@ -8,13 +8,14 @@ use Rattle.serde_json.specs.Data.{Data}
 use Rattle.schema.specs.TypesFile.{ServedShape}
 use Rattle.verbs.specs.Admit.{admitted}
 use Rattle.httpedge.specs.Asks.{CallDecision, Asks}
-use Rattle.httpedge.specs.Bodies.{body_in, checked_media, max_body, may_have_body, needs_body, query_of}
+use Rattle.httpedge.specs.Bodies.{body_in, checked_media, declared_body, max_body, may_have_body, needed_length, needs_body, optional_length, path_of, query_of}
 use Rattle.httpedge.specs.Decision.{Decision, accepted, and_then, decided_by}
-use Rattle.httpedge.specs.Heads.{Request}
+use Rattle.httpedge.specs.Heads.{missing, Request}
+use Rattle.std.specs.declared.result.Result.TheVariants.{Ok}
 use Rattle.wireclient.specs.Request.{request}
-use Rattle.wire_laws.specs.Printed.{IsPrinted, asked_by, is_question, said_of}
+use Rattle.wire_laws.specs.Printed.{IsPrinted, asked_by, asked_without, is_question, said_of}
 use Rattle.wire_laws.proofs.PrintedRequests.{body_back, request_says}
-use Rattle.wire_laws.proofs.Queries.{path_back, query_back}
+use Rattle.wire_laws.proofs.Queries.{path_alone, path_back, query_alone, query_back}
 
 -- a method that needs a body is not DELETE
 no_delete : (method : List ℕ) → needs_body method ≡ true → may_have_body method ≡ false
@@ -56,3 +57,49 @@ request_asks types method path query media bytes plain needs small printed =
           ∙ ap (λ (b : Decision (Option Data)). asked_in types method path (Some media) query b) (body_back method request_target media bytes needs small)
           ),
     )
+
+-- ---- without a body
+
+abbrev nothing : Option (List ℕ)
+nothing = None
+
+none_checked : (method request_target : List ℕ) → checked_media (said_of method request_target None) ≡ None
+none_checked method request_target = go (may_have_body method) true
+  where
+    go : (t other : Bool) → (if t && other then nothing else nothing) ≡ nothing
+    go true true = refl
+    go true false = refl
+    go false other = refl
+
+no_body : (method request_target : List ℕ) → needs_body method ≡ false → body_in (said_of method request_target None) [] ≡ accepted None
+no_body method request_target needs = go (needs_body method) (may_have_body method) needs
+  where
+    go : (needs may : Bool) → needs ≡ false
+        → and_then (decided_by (if needs then needed_length missing else if may then optional_length missing else Ok None)) (λ n. declared_body n []) ≡ accepted None
+    go true may is = absurd cc
+    go false true is = refl
+    go false false is = refl
+
+-- a target whose path and query are these
+asks_at : (types : List ServedShape) (method path query request_target : List ℕ) → path_of request_target ≡ path → query_of request_target ≡ query → needs_body method ≡ false
+    → IsPrinted method request_target None → Asks types (request method request_target None) (asked_without types method path query)
+asks_at types method path query request_target path_is query_is needs printed =
+    let said : Request = said_of method request_target None in (
+      accepted (said, []),
+      request_says method request_target None printed,
+      sym (
+          ap (λ (p : List ℕ). asked_in types method p (checked_media said) (query_of request_target) (body_in said [])) path_is
+          ∙ ap (λ (m : Option (List ℕ)). asked_in types method path m (query_of request_target) (body_in said [])) (none_checked method request_target)
+          ∙ ap (λ (q : List ℕ). asked_in types method path None q (body_in said [])) query_is
+          ∙ ap (λ (b : Decision (Option Data)). asked_in types method path None query b) (no_body method request_target needs)
+          ),
+    )
+
+pub bodiless_asks : (types : List ServedShape) (method path query : List ℕ) → list_any is_question path ≡ false → needs_body method ≡ false → IsPrinted method (path ++ 63 ∷ query) None
+    → Asks types (request method (path ++ 63 ∷ query) None) (asked_without types method path query)
+bodiless_asks types method path query plain needs printed =
+    asks_at types method path query (path ++ 63 ∷ query) (path_back path query plain) (query_back path query plain) needs printed
+
+pub path_asks : (types : List ServedShape) (method path : List ℕ) → list_any is_question path ≡ false → needs_body method ≡ false → IsPrinted method path None
+    → Asks types (request method path None) (asked_without types method path [])
+path_asks types method path plain needs printed = asks_at types method path [] path (path_alone path plain) (query_alone path plain) needs printed

@@ -1,5 +1,5 @@
 -- A query's pairs come back.
-use Rattle.std.proofs.Common.{arith, ◌≡◌, ℕ, ◌+◌, Bool, true, false, cond, not, List, [], ◌∷◌, ◌++◌, length, map, take, drop, refl, ap, ap₂, ◌∙◌}
+use Rattle.std.proofs.Common.{arith, ◌≡◌, ℕ, ◌+◌, Bool, true, false, cond, not, List, [], ◌∷◌, ◌++◌, length, map, take, drop, refl, sym, ap, ap₂, ◌∙◌}
 use Rattle.std.proofs.Math.Seq.{drop-append-add, take-append_seam}
 use Rattle.std.proofs.lemmas.List.Elements.{All-cons, All-head, All-nil, All-tail}
 use Rattle.std.proofs.lemmas.Str.{utf8_lossy-IsUtf8}
@@ -10,6 +10,7 @@ use Rattle.form_urlencoded.specs.Form.{decode, extend_pairs, raw_pairs}
 use Rattle.form_urlencoded.proofs.FormLemmas.{IsBytePair, round_trip}
 use Rattle.params.specs.Query.{pair_in, pairs_in, text_of}
 use Rattle.httpedge.specs.Bodies.{path_of, query_of}
+use Rattle.httpedge.proofs.RequestTargets.{nothing_after, whole_before}
 use Rattle.wire_laws.specs.Printed.{IsTextPair, is_question}
 
 abbrev asked : ℕ → Bool
@@ -29,6 +30,23 @@ path_back path query none = ap (λ (n : ℕ). take n (path ++ 63 ∷ query)) (pl
 
 pub query_back : (path query : List ℕ) → list_any is_question path ≡ false → query_of (path ++ 63 ∷ query) ≡ query
 query_back path query none = ap (λ (n : ℕ). drop (n + 1) (path ++ 63 ∷ query)) (place_of_mark path query none) ∙ drop-append-add path (63 ∷ query) 1
+
+-- ---- without a question mark
+
+no_mark : (path : List ℕ) → list_any is_question path ≡ false → position_or_len asked path ≡ length path
+no_mark [] none = refl
+no_mark (b ∷ path) none = go (λ rest. no_mark path rest) (b == 63) refl none
+  where
+    go : (list_any is_question path ≡ false → position_or_len asked path ≡ length path) → (t : Bool) → (b == 63) ≡ t → (t || list_any is_question path) ≡ false
+        → cond (not t) (1 + position_or_len asked path) 0 ≡ length (b ∷ path)
+    go later true is rest = absurd cc
+    go later false is rest = let same = later rest in omega (arith, same)
+
+pub path_alone : (path : List ℕ) → list_any is_question path ≡ false → path_of path ≡ path
+path_alone path none = sym (whole_before path (no_mark path none))
+
+pub query_alone : (path : List ℕ) → list_any is_question path ≡ false → query_of path ≡ []
+query_alone path none = sym (nothing_after path (no_mark path none))
 
 -- ---- the pairs
 

@@ -47,6 +47,11 @@ asked_by types method path query media bytes =
     and_then (decided_by (admitted types method path (Some media)))
     (λ target. and_then (some_json (json_in bytes)) (λ body. accepted (record { target = target; query = query; body = body })))
 
+-- the same of a request without a body
+abbrev pub asked_without : List ServedShape → List ℕ → List ℕ → List ℕ → CallDecision
+asked_without types method path query =
+    and_then (decided_by (admitted types method path None)) (λ target. accepted (record { target = target; query = query; body = None }))
+
 -- a question mark, which ends the path
 abbrev pub is_question : ℕ → Bool
 is_question b = b == 63

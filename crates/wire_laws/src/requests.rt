@@ -1,6 +1,6 @@
 //! What the client prints, the server reads.
 
-ghost use Rattle.std.specs.Prelude.{◌≡◌, ◌≤◌, ℕ, List, [], ◌∷◌, ◌++◌, length, true, false, Option, Some};
+ghost use Rattle.std.specs.Prelude.{◌≡◌, ◌≤◌, ℕ, List, [], ◌∷◌, ◌++◌, length, true, false, Option, Some, None};
 ghost use Rattle.std.specs.List.{All, list_any};
 ghost use Rattle.form_urlencoded.specs.Form.{extend_pairs};
 ghost use Rattle.params.specs.Query.{pairs_in};
@@ -10,7 +10,7 @@ ghost use Rattle.httpedge.specs.Bodies.{body_in, max_body, needs_body, path_of, 
 ghost use Rattle.httpedge.specs.Heads.{ReadsHead};
 ghost use Rattle.httpedge.specs.Decision.{accepted};
 ghost use Rattle.wireclient.specs.Request.{body_bytes, request};
-ghost use Rattle.wire_laws.specs.Printed.{IsPrinted, IsTextPair, asked_by, is_question, said_of};
+ghost use Rattle.wire_laws.specs.Printed.{IsPrinted, IsTextPair, asked_by, asked_without, is_question, said_of};
 
 /// A request that the client prints (RFC 9112, section 3) says on the server this method, this target and this media
 /// type, and its body stands after the head.
@@ -26,11 +26,16 @@ pub fn bodies_are_read()
 {}
 
 /// A request that the client prints asks what its path, its method and its media type lead to, with its query and with
-/// what its body is as JSON, where its method needs a body and the body isn't too long.
+/// what its body is as JSON, where its method needs a body and the body isn't too long. Without a body, where its method
+/// needs none, it asks the same of its path and its method, with its query or with none.
 pub fn requests_ask()
-    ensures { (types : List ServedShape) (method path query media bytes : List ℕ) → list_any is_question path ≡ false → needs_body method ≡ true → length bytes ≤ max_body
+    ensures with_body { (types : List ServedShape) (method path query media bytes : List ℕ) → list_any is_question path ≡ false → needs_body method ≡ true → length bytes ≤ max_body
         → IsPrinted method (path ++ 63 ∷ query) (Some (media, bytes))
         → Asks types (request method (path ++ 63 ∷ query) (Some (media, bytes))) (asked_by types method path query media bytes) }
+    ensures without_body { (types : List ServedShape) (method path query : List ℕ) → list_any is_question path ≡ false → needs_body method ≡ false
+        → IsPrinted method (path ++ 63 ∷ query) None → Asks types (request method (path ++ 63 ∷ query) None) (asked_without types method path query) }
+    ensures without_query { (types : List ServedShape) (method path : List ℕ) → list_any is_question path ≡ false → needs_body method ≡ false
+        → IsPrinted method path None → Asks types (request method path None) (asked_without types method path []) }
 {}
 
 /// A path and a form of pairs after a question mark: the path and the pairs come back.

@@ -1,5 +1,5 @@
-use Rattle.httpedge.proofs.Untaken.{all_out, all_written, none_out}
+use Rattle.httpedge.proofs.Untaken.{all_out, all_written, none_out, one_out, one_written}
 use Rattle.httpedge.proofs.laws.all_is_out.Goals as goal
 
 pub returns : goal.returns
-returns c = record { start = none_out; stays = all_out; written = all_written }
+returns c = record { start = none_out; stays = all_out; written = all_written; one_stays = one_out; one_written = one_written }

@@ -1,0 +1,131 @@
+-- What was written on a connection stays.
+use Rattle.std.proofs.Common.{◌≡◌, ℕ, Bool, true, false, cond, List, [], ◌∷◌, ◌++◌, drop, take, Option, Some, None, refl, sym, ap, subst, ◌∙◌, append-nil}
+use Rattle.std.specs.Prelude.{◌&&◌, option_map, unwrap_or}
+use Rattle.std.specs.Cmp.{nat_cmp_total}
+use Rattle.std.specs.FinMap as fin
+use Rattle.std.specs.Ordering.{nat_cmp, eq_by_cmp}
+use Rattle.std.proofs.lemmas.List.{take-append-drop}
+use Rattle.schema.specs.TypesFile.{ServedShape}
+use Rattle.history.specs.History.{History}
+use Rattle.httpedge.specs.Asks.{CallDecision}
+use Rattle.httpedge.specs.Connections.{Connection, Connections, Standing, waiting, watching, ended, gone, each, has_gone, is_new, is_open, is_watching, left_out, out_of, out_on, with_standing, written_on}
+use Rattle.httpedge.specs.Decision.{undecided, refused, accepted}
+use Rattle.httpedge.specs.Runs.{Follows, Happening, happens, starves, takes}
+use Rattle.httpedge.specs.Steps.{Event, State, opens, comes, goes, pumps, ticks, compacts, after_turn, answer_reply, by_connection, connection_after, dead, dead_or_ticked, opening, received_by, refusal, refusal_reply, carried_out, starved, unless_refused, with_connection, with_turn}
+use Rattle.httpedge.specs.Watches.{Turn, Watch, pumped, ticked}
+use Rattle.verbs.specs.Step.{planned}
+use Rattle.httpedge.proofs.Connected.{got_each, tied_same, unknown}
+
+-- ---- one connection
+
+abbrev written_in : Option Connection → List ℕ
+written_in o = unwrap_or (option_map (λ c. c.written) o) []
+
+-- the bytes of the latter begin with those of the former
+abbrev Grows : Option Connection → Option Connection → Type 0
+Grows o p = (more : List ℕ) × (written_in p ≡ written_in o ++ more)
+
+same : (o : Option Connection) → Grows o o
+same o = ([], sym (append-nil (written_in o)))
+
+after_grows : (types : List ServedShape) (m : History) (c : Connection) (bytes : List ℕ) (asked : CallDecision) → Grows (Some c) (Some (connection_after types m c bytes asked))
+after_grows types m c bytes undecided = same (Some c)
+after_grows types m c bytes (refused d) = (refusal_reply d, refl)
+after_grows types m c bytes (accepted call) = (answer_reply (planned types m call).answer, refl)
+
+turn_grows : (turn : Watch → Turn) (c : Connection) (st : Standing) → Grows (Some c) (Some (after_turn turn c st))
+turn_grows turn c (waiting front) = same (Some c)
+turn_grows turn c (watching w) = ((turn w).bytes, refl)
+turn_grows turn c ended = same (Some c)
+turn_grows turn c (gone had_ended) = same (Some c)
+
+dead_grows : (b : Bool) (c : Connection) → Grows (Some c) (Some (cond b (with_standing c ended) c))
+dead_grows true c = same (Some c)
+dead_grows false c = same (Some c)
+
+dead_or : (ms : ℕ) (b : Bool) (c : Connection) → Grows (Some c) (Some (cond b (dead c) (with_turn (ticked ms) c)))
+dead_or ms true c = dead_grows (is_open c.standing) c
+dead_or ms false c = turn_grows (ticked ms) c c.standing
+
+-- ---- one of all connections
+
+put_grows : (all : Connections) (id q : ℕ) (c : Connection) → Grows (fin.get all id) (Some c) → Grows (fin.get all q) (fin.get (fin.insert all id c) q)
+put_grows all id q c here = subst (Grows (fin.get all q)) (sym (fin.get-insert nat_cmp_total all id c q)) (go (eq_by_cmp nat_cmp q id) refl)
+  where
+    go : (b : Bool) → eq_by_cmp nat_cmp q id ≡ b → Grows (fin.get all q) (cond b (Some c) (fin.get all q))
+    go true e = subst (λ (k : ℕ). Grows (fin.get all k) (Some c)) (sym (tied_same q id e)) here
+    go false e = same (fin.get all q)
+
+by_grows : (s : State) (q : ℕ) (o : Option Connection) (f : Connection → State) → ((c : Connection) → o ≡ Some c → Grows (fin.get s.connections q) (fin.get (f c).connections q))
+    → Grows (fin.get s.connections q) (fin.get (by_connection s o f).connections q)
+by_grows s q None f then = same (fin.get s.connections q)
+by_grows s q (Some c) f then = then c refl
+
+-- by what becomes of the connection that is there
+there_grows : (s : State) (id q : ℕ) (f : Connection → Connection) → ((c : Connection) → Grows (Some c) (Some (f c)))
+    → Grows (fin.get s.connections q) (fin.get (by_connection s (fin.get s.connections id) (λ c. with_connection s id (f c))).connections q)
+there_grows s id q f grows = by_grows s q (fin.get s.connections id) _ (λ c got. put_grows s.connections id q (f c) (subst (λ (o : Option Connection). Grows o (Some (f c))) (sym got) (grows c)))
+
+received_grows : (s : State) (id q : ℕ) (c : Connection) (st : Standing) (bytes : List ℕ) (asked : CallDecision) → fin.get s.connections id ≡ Some c
+    → Grows (fin.get s.connections q) (fin.get (received_by s id c st bytes asked).connections q)
+received_grows s id q c (waiting front) bytes asked got =
+    put_grows s.connections id q _ (subst (λ (o : Option Connection). Grows o (Some (connection_after s.types s.machine c (front ++ bytes) asked))) (sym got) (after_grows s.types s.machine c (front ++ bytes) asked))
+received_grows s id q c (watching w) bytes asked got = same (fin.get s.connections q)
+received_grows s id q c ended bytes asked got = same (fin.get s.connections q)
+received_grows s id q c (gone had_ended) bytes asked got = same (fin.get s.connections q)
+
+each_by : (f : ℕ → Connection → Connection) (id : ℕ) (o : Option Connection) → ((c : Connection) → Grows (Some c) (Some (f id c))) → Grows o (option_map (f id) o)
+each_by f id None grows = same None
+each_by f id (Some c) grows = grows c
+
+each_grows : (f : ℕ → Connection → Connection) (all : Connections) (q : ℕ) → ((c : Connection) → Grows (Some c) (Some (f q c))) → Grows (fin.get all q) (fin.get (each f all) q)
+each_grows f all q grows = subst (Grows (fin.get all q)) (sym (got_each f all q)) (each_by f q (fin.get all q) grows)
+
+-- nothing was written on a connection that is not there
+opens_grows : (s : State) (id q : ℕ) (b : Bool) → is_new s.connections id ≡ b
+    → Grows (fin.get s.connections q) (fin.get (unless_refused (cond b None (Some 1)) s (with_connection s id (opening s.connections))).connections q)
+opens_grows s id q true isnew =
+    put_grows s.connections id q (opening s.connections)
+    (subst (λ (o : Option Connection). Grows o (Some (opening s.connections))) (sym (unknown s.connections id (fin.get s.connections id) refl isnew)) ((opening s.connections).written, refl))
+opens_grows s id q false isnew = same (fin.get s.connections q)
+
+unless_grows : (s t : State) (o : Option ℕ) (q : ℕ) → Grows (fin.get s.connections q) (fin.get t.connections q) → Grows (fin.get s.connections q) (fin.get (unless_refused o s t).connections q)
+unless_grows s t None q then = then
+unless_grows s t (Some n) q then = same (fin.get s.connections q)
+
+stepped_grows : (s : State) (e : Event) (asked : CallDecision) (q : ℕ) → Grows (fin.get s.connections q) (fin.get (unless_refused (refusal s e) s (carried_out s e asked)).connections q)
+stepped_grows s (opens id) asked q = opens_grows s id q (is_new s.connections id) refl
+stepped_grows s (comes id bytes) asked q = unless_grows s _ (refusal s (comes id bytes)) q (by_grows s q (fin.get s.connections id) _ (λ c got. received_grows s id q c c.standing bytes asked got))
+stepped_grows s (goes id) asked q = unless_grows s _ (refusal s (goes id)) q (there_grows s id q _ (λ c. same (Some c)))
+stepped_grows s (pumps id max) asked q =
+    unless_grows s _ (refusal s (pumps id max)) q (there_grows s id q (with_turn (pumped s.types s.machine max)) (λ c. turn_grows (pumped s.types s.machine max) c c.standing))
+stepped_grows s (ticks ms) asked q =
+    unless_grows s _ (refusal s (ticks ms)) q (each_grows (λ id c. with_turn (ticked ms) c) s.connections q (λ c. turn_grows (ticked ms) c c.standing))
+stepped_grows s (compacts c) asked q = unless_grows s _ (refusal s (compacts c)) q (same (fin.get s.connections q))
+
+starved_grows : (s : State) (e : Event) (which : ℕ → Bool) (q : ℕ) → Grows (fin.get s.connections q) (fin.get (starved s e which).connections q)
+starved_grows s (opens id) which q = same (fin.get s.connections q)
+starved_grows s (comes id bytes) which q = there_grows s id q dead (λ c. dead_grows (is_open c.standing) c)
+starved_grows s (goes id) which q = same (fin.get s.connections q)
+starved_grows s (pumps id max) which q = there_grows s id q dead (λ c. dead_grows (is_open c.standing) c)
+starved_grows s (ticks ms) which q = each_grows (λ id c. dead_or_ticked ms (which id) c) s.connections q (λ c. dead_or ms (which q && is_watching c.standing) c)
+starved_grows s (compacts c) which q = same (fin.get s.connections q)
+
+pub grows : (s t : State) (h : Happening) (q : ℕ) → Follows s h t → (more : List ℕ) × (written_on t.connections q ≡ written_on s.connections q ++ more)
+grows s t (happens e) q (asked, asks, is) = subst (λ (x : State). Grows (fin.get s.connections q) (fin.get x.connections q)) (sym is) (stepped_grows s e asked q)
+grows s t (starves e which) q (unrefused, memory, is) = subst (λ (x : State). Grows (fin.get s.connections q) (fin.get x.connections q)) (sym is) (starved_grows s e which q)
+grows s t (takes id n) q is = subst (λ (x : State). Grows (fin.get s.connections q) (fin.get x.connections q)) (sym is) (there_grows s id q _ (λ c. same (Some c)))
+
+-- ---- what was taken, and what is out
+
+all_out : (st : Standing) (bytes : List ℕ) → has_gone st ≡ false → left_out st bytes ≡ bytes
+all_out (waiting front) bytes is = refl
+all_out (watching w) bytes is = refl
+all_out ended bytes is = refl
+all_out (gone had_ended) bytes is = absurd cc
+
+pub parts : (all : Connections) (id : ℕ) (c : Connection) → fin.get all id ≡ Some c → has_gone c.standing ≡ false → written_on all id ≡ take c.taken c.written ++ out_on all id
+parts all id c got here =
+    ap written_in got ∙ sym (take-append-drop c.taken c.written)
+    ∙ ap (λ (rest : List ℕ). take c.taken c.written ++ rest) (sym (all_out c.standing (drop c.taken c.written) here))
+    ∙ ap (λ (o : Option Connection). take c.taken c.written ++ unwrap_or (option_map out_of o) []) (sym got)
