@@ -1,5 +1,5 @@
 -- Lists of objects whose places ascend.
-use Rattle.std.proofs.Common.{◌≡◌, ℕ, ◌+◌, ◌-◌, ◌≤◌, ◌<◌, zero, suc, Bool, true, false, ◌&&◌, T, List, [], ◌∷◌, ◌++◌, map, drop, length, get_or, Option, Some, None, Less, refl, sym, ap, ap₂, subst, ◌∙◌, arith, drop-cons}
+use Rattle.std.proofs.Common.{◌≡◌, ℕ, ◌+◌, ◌-◌, ◌≤◌, ◌<◌, zero, suc, Bool, true, false, ◌&&◌, T, List, [], ◌∷◌, ◌++◌, map, drop, length, get_or, Some, Less, refl, sym, ap, ap₂, subst, ◌∙◌, arith, drop-cons}
 use Rattle.std.proofs.lemmas.List.{map-append, length-drop}
 use Rattle.std.specs.List.{slice_get}
 use Rattle.std.specs.Cmp.{both_ways}

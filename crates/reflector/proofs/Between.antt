@@ -1,5 +1,5 @@
 -- The notices between two lists in the order of places, one place after the other.
-use Rattle.std.proofs.Common.{◌≡◌, ℕ, Bool, true, false, cond, ◌&&◌, ◌||◌, T, List, [], ◌∷◌, ◌++◌, map, Option, Some, None, is_some, is_eq, Ordering, Less, Equal, Greater, refl, sym, ap, ap₂, subst, ◌∙◌, flat_map, append_assoc, arith}
+use Rattle.std.proofs.Common.{◌≡◌, Bool, true, false, cond, ◌&&◌, ◌||◌, T, List, [], ◌∷◌, ◌++◌, map, Option, Some, None, is_some, is_eq, Ordering, Less, Equal, Greater, refl, sym, ap, ap₂, subst, ◌∙◌, flat_map}
 use Rattle.std.specs.Prelude.{length}
 use Rattle.std.specs.Ordering.{eq_by_cmp, is_lt, ordering_reverse}
 use Rattle.std.specs.Cmp.{tied_itself}

@@ -1,5 +1,5 @@
 -- What is kept and asked after an item, beside the client that hears it.
-use Rattle.std.proofs.Common.{◌≡◌, ℕ, ◌+◌, ◌<◌, suc, Bool, true, false, cond, ◌&&◌, List, [], ◌∷◌, ◌++◌, map, take, drop, length, get_or, Option, Some, None, refl, sym, ap, ap₂, subst, ◌∙◌}
+use Rattle.std.proofs.Common.{◌≡◌, ℕ, ◌+◌, ◌<◌, Bool, true, false, cond, ◌&&◌, List, [], ◌∷◌, ◌++◌, map, take, length, get_or, Option, Some, None, refl, sym, ap, subst, ◌∙◌}
 use Rattle.std.proofs.lemmas.List.{map-append, take_more}
 use Rattle.std.specs.Prelude.{nat_eq, nat_lt, nat_le, OnErr}
 use Rattle.std.specs.FinMap as fin
@@ -10,7 +10,7 @@ use Rattle.wireclient.specs.Reply.{Told}
 use Rattle.decoder.specs.Wanted.{Wanted}
 use Rattle.decoder.specs.Pages.{Page}
 use Rattle.decoder.specs.Lines.{Line, put, deleted, bookmark, error}
-use Rattle.reflector.specs.Client.{place_in, max_objects, Asks, first, next, follow, Cache, Client, notice_of}
+use Rattle.reflector.specs.Client.{place_in, max_objects, first, next, follow, Cache, Client, notice_of}
 use Rattle.reflector.specs.Items.{News, line, said_of_list, said_of_watch}
 use Rattle.reflector.specs.Run.{again, moved, with_line, with_list, with_next, with_page, with_watch, with_item, hears, hears_all}
 

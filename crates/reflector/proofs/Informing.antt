@@ -1,5 +1,5 @@
 -- An informer's calls, beside the client.
-use Rattle.std.proofs.Common.{◌≡◌, ℕ, Bool, true, false, cond, List, [], ◌++◌, map, Option, Some, None, is_some, refl, sym, ap, ap₂, subst, ◌∙◌, append-nil, length, take_all, arith}
+use Rattle.std.proofs.Common.{◌≡◌, ℕ, Bool, true, false, List, [], ◌++◌, Option, Some, None, is_some, refl, sym, subst, ◌∙◌, append-nil, length, take_all, arith}
 use Rattle.std.specs.Prelude.{OnErr}
 use Rattle.std.specs.declared.result.Result.{Result}
 use Rattle.std.specs.declared.result.Result.TheVariants.{Ok, Err}
@@ -8,11 +8,10 @@ use Rattle.indexer.specs.Kept.{Held}
 use Rattle.indexer.specs.Objects.{Stored}
 use Rattle.wireclient.specs.Reads.{Items}
 use Rattle.wireclient.specs.Reply.{State, Told}
-use Rattle.decoder.specs.Wanted.{Wanted}
-use Rattle.reflector.specs.Client.{Asks, first, next, follow, Cache, Client, Notice, fresh, kept}
+use Rattle.reflector.specs.Client.{first, Client, Notice, fresh}
 use Rattle.reflector.specs.Reading.{AreHeard, IsRead}
-use Rattle.reflector.specs.Mirrors.{Keys, keyed, Mirrors}
-use Rattle.reflector.specs.Run.{after_cut, again, asked, closed, hears_all, taken}
+use Rattle.reflector.specs.Mirrors.{Keys, Mirrors}
+use Rattle.reflector.specs.Run.{again}
 use Rattle.reflector.specs.declared.asks.Asks as asks
 use Rattle.reflector.specs.declared.mirror.Mirror.{Mirror}
 use Rattle.reflector.specs.Seen.{asks_of}

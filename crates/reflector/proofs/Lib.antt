@@ -13,4 +13,4 @@ pub mod Ascending
 pub mod Relisted
 pub mod HeardItems
 pub mod Informing
-pub mod Passing
+pub mod Eventful

@@ -1,6 +1,6 @@
 -- The cache as a whole list has it, beside the client that takes the list.
-use Rattle.std.proofs.Common.{◌≡◌, ℕ, Bool, true, false, cond, ◌&&◌, T, List, [], ◌∷◌, ◌++◌, map, Option, Some, None, is_some, refl, sym, ap, ap₂, subst, ◌∙◌}
-use Rattle.std.specs.Prelude.{option_map, IfOk, IfSome}
+use Rattle.std.proofs.Common.{◌≡◌, ℕ, Bool, true, false, cond, ◌&&◌, T, List, [], ◌∷◌, ◌++◌, map, Option, Some, None, refl, sym, ap, ap₂, subst, ◌∙◌}
+use Rattle.std.specs.Prelude.{option_map}
 use Rattle.std.specs.Ordering.{eq_by_cmp, is_lt}
 use Rattle.std.specs.FinMap as fin
 use Rattle.std.specs.FinMap.Entries.{find, below_all, is_sorted}
@@ -8,7 +8,7 @@ use Rattle.indexer.specs.Kept.{Held, objects_in}
 use Rattle.indexer.specs.Objects.{Place, place_cmp, Stored}
 use Rattle.indexer.specs.PutAll.{put_all}
 use Rattle.reflector.specs.Between.{between}
-use Rattle.reflector.specs.Client.{Objects, place_in, by_place, Notice, Cache, Client, kept, differences}
+use Rattle.reflector.specs.Client.{Objects, place_in, by_place, Notice, Client, kept}
 use Rattle.reflector.specs.Mirrors.{Keys, with_keys, keyed, Mirrors}
 use Rattle.reflector.specs.Run.{again, is_list, listed, set_aside, with_page}
 use Rattle.reflector.specs.Standing.{keys_in}

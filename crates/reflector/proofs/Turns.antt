@@ -1,5 +1,5 @@
 -- One turn of the merge of two lists, and its end.
-use Rattle.std.proofs.Common.{◌≡◌, ℕ, ◌+◌, ◌≤◌, ◌<◌, zero, suc, T, true, List, [], ◌∷◌, ◌++◌, map, drop, length, get_or, Ordering, refl, sym, ap, ap₂, subst, ◌∙◌, add-one, append-nil, append_assoc, ◌⊎◌, inl, inr, drop-cons, drop_of_length-le, take, ◌-◌, take_all, arith}
+use Rattle.std.proofs.Common.{◌≡◌, ℕ, ◌+◌, ◌≤◌, ◌<◌, zero, suc, T, List, [], ◌∷◌, ◌++◌, map, drop, length, get_or, Ordering, refl, sym, ap, ap₂, subst, ◌∙◌, add-one, append-nil, append_assoc, ◌⊎◌, inl, inr, drop-cons, drop_of_length-le, take, ◌-◌, take_all, arith}
 use Rattle.std.proofs.lemmas.List.{length-drop}
 use Rattle.std.specs.FinMap.Entries.{by_order, is_sorted}
 use Rattle.indexer.specs.Objects.{Place, place_cmp, Stored}

@@ -1,12 +1,10 @@
 -- Two lists of objects in the order of places, as the cache is replaced.
-use Rattle.std.specs.Prelude.{ℕ, List, ◌++◌, map, Some, None}
+use Rattle.std.specs.Prelude.{List, ◌++◌, Some, None}
 use Rattle.std.specs.declared.cmp.Ordering.{Ordering}
 use Rattle.std.specs.List.{flat_map}
 use Rattle.std.specs.FinMap as fin
 use Rattle.std.specs.FinMap.Entries.{by_order, find}
-use Rattle.indexer.specs.declared.object.Object.{Object}
-use Rattle.indexer.specs.declared.object.ObjectKey.{ObjectKey}
-use Rattle.indexer.specs.Objects.{Place, place_cmp, place_of, Stored, stored_of}
+use Rattle.indexer.specs.Objects.{Place, place_cmp, Stored}
 use Rattle.reflector.specs.Client.{Notice, notice_of}
 
 -- one notice for each place whose text differs, in the order of places

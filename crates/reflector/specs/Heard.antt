@@ -1,5 +1,5 @@
 -- What an item said, and what it leaves to ask.
-use Rattle.std.specs.Prelude.{◌≡◌, ℕ, ◌==◌, Bool, List, ◌++◌, if◌then◌else◌}
+use Rattle.std.specs.Prelude.{◌≡◌, ℕ, ◌==◌, List, ◌++◌, if◌then◌else◌}
 use Rattle.wireclient.specs.Reply.{Told}
 use Rattle.decoder.specs.Seen.{line_seen, page_seen}
 use Rattle.decoder.specs.Wanted.{Wanted}

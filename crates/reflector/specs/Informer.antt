@@ -1,5 +1,5 @@
 -- An informer, beside a client and the reply that it has read.
-use Rattle.std.specs.Prelude.{◌≡◌, ℕ, Bool, if◌then◌else◌, List, Option, Some, None, is_some}
+use Rattle.std.specs.Prelude.{ℕ, if◌then◌else◌, List, Option, Some, None, is_some}
 use Rattle.indexer.specs.Indexer.{indexes_of, names_of}
 use Rattle.indexer.specs.Objects.{Stored}
 use Rattle.wireclient.specs.Reply.{Told}

@@ -14,4 +14,4 @@ pub mod Heard
 pub mod Faults
 pub mod Reading
 pub mod Informer
-pub mod Passes
+pub mod Events

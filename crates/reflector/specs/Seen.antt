@@ -1,5 +1,5 @@
 -- What the crate's values say, without where they lie in memory.
-use Rattle.std.specs.Prelude.{ℕ, List, [], ◌∷◌, map, Option, Some, None, option_map, string_bytes}
+use Rattle.std.specs.Prelude.{ℕ, List, [], ◌∷◌, Option, Some, None, option_map, string_bytes}
 use Rattle.std.specs.FinMap as fin
 use Rattle.indexer.specs.Kept.{Held}
 use Rattle.indexer.specs.Objects.{Place, Stored, stored_of}

@@ -8,7 +8,7 @@ ghost use Rattle.reflector.specs.Client.{Client, Objects, first, follow, fresh, 
 ghost use Rattle.reflector.specs.Run.{again, asked, closed, hears_all, restarted, taken};
 ghost use Rattle.reflector.specs.Follows.{Server, Comes, Follows, GoesOn, IsLater, Watches};
 ghost use Rattle.reflector.specs.Lists.{ArePages, answered};
-ghost use Rattle.reflector.specs.Passes.{AreAnswered, AreRight, Pass};
+ghost use Rattle.reflector.specs.Events.{AreLawful, AreRight, Event, start};
 ghost use Rattle.reflector.specs.Replays.{ArePlaced, Tells};
 
 /// Whatever comes of what a server answers, and whatever else happens, the client's objects are the server's at the
@@ -28,11 +28,12 @@ pub fn follows_the_server()
     ensures reached { (server : Server) (wanted : Wanted) (m : ℕ) (c : Client) (xs : List Told) (p : ℕ) → Follows server wanted m c xs p → c.asks ≡ follow → (hears_all wanted c xs).is_asking ≡ true → kept (hears_all wanted c xs).cache ≡ server.at p }
 {}
 
-/// Over any run, request after request, each answered by the server as it is then, of which any front is heard before
-/// the connection ends, the reply is given up or the client restarts: what the client keeps is the server's objects
-/// at the revision that it reports, and that revision is not below any that it reported before, also over restarts.
+/// Over any run of events, where the server answers what is asked and keeps what it had (requests, items heard, more of
+/// a watch, cuts, want of memory, restarts, notices taken, a server that changes): after each of them what the client
+/// keeps is the server's objects at the revision that it reports, which the server has, and which is not below any that
+/// it reported before, also over restarts.
 pub fn mirrors_the_server()
-    ensures { (wanted : Wanted) (server : Server) (passes : List Pass) → AreAnswered wanted server 0 fresh passes → AreRight wanted 0 fresh passes }
+    ensures { (wanted : Wanted) (server : Server) (events : List Event) → AreLawful wanted (start server) events → AreRight wanted (start server) events }
 {}
 
 /// The pages of a list of these objects at r, each the answer to a request of its own, leave a client with the

@@ -1,4 +1,4 @@
-use Rattle.std.proofs.Common.{◌≡◌, ◌-◌, ◌≤◌, map, drop}
+use Rattle.std.proofs.Common.{◌≡◌, ◌-◌, map, drop}
 use Rattle.std.specs.FinMap as fin
 use Rattle.indexer.specs.Objects.{place_cmp, stored_of}
 use Rattle.reflector.specs.Client.{by_place}

@@ -1,4 +1,4 @@
-use Rattle.std.proofs.Common.{◌≡◌, ◌++◌, ◌∙◌, map, subst, sym, T, true, refl, ap, arith, List, Less, Equal, Greater, inl, inr, Bor, drop}
+use Rattle.std.proofs.Common.{◌≡◌, ◌++◌, ◌∙◌, map, subst, sym, T, refl, ap, arith, List, Less, Equal, Greater, inl, inr, Bor, drop}
 use Rattle.indexer.specs.declared.object.Object.{Object}
 use Rattle.indexer.specs.declared.object.ObjectKey.{ObjectKey}
 use Rattle.indexer.specs.Objects.{Place, place_cmp, Stored, place_of, stored_of}

@@ -1,4 +1,4 @@
-use Rattle.std.proofs.Common.{◌≡◌, ◌++◌, ◌∙◌, sym, ap, refl, subst, map, is_some}
+use Rattle.std.proofs.Common.{◌≡◌, ◌++◌, ap, subst, map, is_some}
 use Rattle.std.specs.Prelude.{IfOk, IfSome, false}
 use Rattle.indexer.specs.Objects.{stored_of}
 use Rattle.decoder.specs.Seen.{page_seen}

@@ -1,4 +1,4 @@
-use Rattle.std.proofs.Common.{◌≡◌, ◌++◌, List, true, is_some}
+use Rattle.std.proofs.Common.{◌++◌, List, is_some}
 use Rattle.wireclient.specs.Reply.{Told}
 use Rattle.decoder.specs.Seen.{wanted_of}
 use Rattle.reflector.specs.Reading.{AreHeard}

@@ -1,4 +1,4 @@
-use Rattle.std.proofs.Common.{◌≡◌, ◌∙◌, ◌++◌, List, [], sym, ap, subst, is_some, Some}
+use Rattle.std.proofs.Common.{◌∙◌, List, [], sym, ap, subst, is_some}
 use Rattle.wireclient.specs.Reply.{Told}
 use Rattle.decoder.specs.Seen.{wanted_of}
 use Rattle.reflector.specs.Reading.{AreHeard, IsRead}

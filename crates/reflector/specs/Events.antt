@@ -1,0 +1,68 @@
+-- A client beside a server, over a run of events.
+use Rattle.std.specs.Prelude.{◌≡◌, ℕ, ◌≤◌, List, [], ◌∷◌, ◌++◌, take, drop, Option, Some, None, ⊤}
+use Rattle.wireclient.specs.Reply.{Told}
+use Rattle.decoder.specs.Wanted.{Wanted}
+use Rattle.reflector.specs.Client.{Cache, follow, Client, fresh}
+use Rattle.reflector.specs.Run.{again, asked, closed, hears_all, restarted, taken}
+use Rattle.reflector.specs.Follows.{Server, Comes, IsLater, Watches}
+
+pub data Event : Type 0 where
+  asks : (items : List Told) → (to : ℕ) → Event  -- a request, and the items that answer it; of a watch, they lead to a revision
+  writes : (items : List Told) → (to : ℕ) → Event  -- more items of the watch under way
+  hears : ℕ → Event  -- so many of the items that are still to come
+  cut lost restart takes : Event  -- the connection ends, the reply is given up, the client restarts, its notices are taken
+  grows : Server → Event  -- the server changes
+
+-- coming: the items of the reply under way that are still to come; they lead, of a watch, to a revision. highest: the
+-- highest revision that the client reported so far
+pub record Beside : Type 0 where
+  pub server : Server
+  pub client : Client
+  pub coming : List Told
+  pub to : ℕ
+  pub highest : ℕ
+
+abbrev pub start : Server → Beside
+start server = record { server = server; client = fresh; coming = []; to = 0; highest = 0 }
+
+-- what a server that has what it had before, and answers what is asked, lets happen
+abbrev pub IsLawful : Wanted → Beside → Event → Type 0
+IsLawful wanted b (asks items to) = Comes b.server wanted b.highest b.client.asks b.client.cache items to
+IsLawful wanted b (writes items to) = (b.client.asks ≡ follow) × Watches b.server wanted b.to items to
+IsLawful wanted b (hears n) = ⊤
+IsLawful wanted b cut = ⊤
+IsLawful wanted b lost = ⊤
+IsLawful wanted b restart = ⊤
+IsLawful wanted b takes = ⊤
+IsLawful wanted b (grows later) = IsLater b.server later
+
+abbrev pub highest_with : ℕ → Option Cache → ℕ
+highest_with m None = m
+highest_with m (Some now) = now.revision
+
+abbrev pub reached : ℕ → Server → Client → List Told → ℕ → Beside
+reached m server client coming to = record { server = server; client = client; coming = coming; to = to; highest = highest_with m client.cache }
+
+abbrev pub after : Wanted → Beside → Event → Beside
+after wanted b (asks items to) = reached b.highest b.server (asked b.client) items to
+after wanted b (writes items to) = reached b.highest b.server b.client (b.coming ++ items) to
+after wanted b (hears n) = reached b.highest b.server (hears_all wanted b.client (take n b.coming)) (drop n b.coming) b.to
+after wanted b cut = reached b.highest b.server (closed b.client) [] 0
+after wanted b lost = reached b.highest b.server (again b.client) [] 0
+after wanted b restart = reached b.highest b.server (restarted b.client) [] 0
+after wanted b takes = reached b.highest b.server (taken b.client) b.coming b.to
+after wanted b (grows later) = reached b.highest later b.client b.coming b.to
+
+abbrev pub AreLawful : Wanted → Beside → List Event → Type 0
+AreLawful wanted b [] = ⊤
+AreLawful wanted b (e ∷ es) = IsLawful wanted b e × AreLawful wanted (after wanted b e) es
+
+-- the server's objects at a revision that it has, which is not below any reported before
+abbrev pub IsRight : Server → ℕ → Option Cache → Type 0
+IsRight server m None = ⊤
+IsRight server m (Some now) = (m ≤ now.revision) × (now.revision ≤ server.top) × (now.objects ≡ server.at now.revision)
+
+-- what is kept is right after each event
+abbrev pub AreRight : Wanted → Beside → List Event → Type 0
+AreRight wanted b [] = ⊤
+AreRight wanted b (e ∷ es) = IsRight (after wanted b e).server b.highest (after wanted b e).client.cache × AreRight wanted (after wanted b e) es
