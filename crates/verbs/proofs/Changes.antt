@@ -8,7 +8,7 @@ use Rattle.history.proofs.Keys.{get-put_or_remove, tied}
 use Rattle.history.proofs.Revisions.{changed-append, up_to-all}
 use Rattle.history.proofs.Wholes.{whole_is, whole_writes}
 use Rattle.ownership.proofs.Taken.{no_some, same_some}
-use Rattle.verbs.specs.Machine.{IsBodyAt, IsMachine, IsNext, IsOfTypes, IsTextAt}
+use Rattle.verbs.specs.Machine.{AreTexts, IsBodyAt, IsMachine, IsNext, IsOfTypes, IsTextAt}
 
 -- ---- what stands
 
@@ -41,9 +41,6 @@ standing_next types m c is next =
     ∙ ap (λ s. put_or_remove s c.key (object_by (suc m.current) c.body)) (sym (standing_is m (is_history types m is)))
 
 -- ---- each text that stands is an object's
-
-abbrev pub AreTexts : List ServedShape → Objects → Type 0
-AreTexts types s = (k : Key) (o : Object) → fin.get s k ≡ Some o → IsTextAt types k o.revision o.body
 
 left_text : (types : List ServedShape) (k : Key) (r : ℕ) (body : Option (List ℕ)) (o : Object) → IsBodyAt types k r body → object_by r body ≡ Some o → IsTextAt types k o.revision o.body
 left_text types k r None o is e = no_some o (sym e)

@@ -1,9 +1,5 @@
 -- Checks that were passed.
-use Rattle.std.proofs.Common.{◌≡◌, ℕ, Bool, true, false, List, Option, None, Ok, Err, refl, sym, ap, not, true≢false}
-use denote.Enum.Bare.{sameb}
-use Rattle.verbs.specs.contracts.method.Method.{the_type}
-use Rattle.verbs.specs.declared.method.Method.{Method}
-use Rattle.verbs.specs.declared.method.Method.TheVariants.{Delete, Get, Patch, Post, Put}
+use Rattle.std.proofs.Common.{◌≡◌, ℕ, Bool, true, false, List, Option, None, Ok, Err, refl, sym, ap, true≢false}
 use Rattle.history.specs.History.{Change}
 use Rattle.verbs.specs.declared.reason.Reason.{Reason}
 use Rattle.verbs.specs.Calls.{Plan}
@@ -35,11 +31,3 @@ held false r message u e = absurd (true≢false (sym (ap is_ok e)))
 abbrev pub change_in : Validated Plan → Option Change
 change_in (Ok p) = p.change
 change_in (Err d) = None
-
--- a method that doesn't differ from POST
-pub post_left : (w : Method) → not (sameb the_type w Post) ≡ false → w ≡ Post
-post_left Get e = absurd (true≢false e)
-post_left Post e = refl
-post_left Put e = absurd (true≢false e)
-post_left Patch e = absurd (true≢false e)
-post_left Delete e = absurd (true≢false e)

@@ -1,5 +1,5 @@
 -- What is planned may come after what is seen of the store.
-use Rattle.std.proofs.Common.{◌≡◌, ℕ, suc, Bool, true, false, cond, List, Option, Some, None, Ok, refl, ap, subst, is_some}
+use Rattle.std.proofs.Common.{◌≡◌, ℕ, suc, Bool, true, false, cond, List, Option, Some, None, Ok, Err, refl, ap, subst, is_some}
 use Rattle.std.specs.Prelude.{IfSome, slice_get}
 use Rattle.std.specs.FinMap as fin
 use Rattle.serde_json.specs.Data.{Data}
@@ -22,7 +22,7 @@ use Rattle.verbs.specs.Options.{options_validated}
 use Rattle.verbs.specs.Parameters.{parameters_validated}
 use Rattle.verbs.specs.Seen.{objects_in}
 use Rattle.verbs.specs.Size.{size_validated}
-use Rattle.verbs.specs.Step.{Intent, apply_validated, at_path, body_of, collection_validated_by, create_validated, creation_validated, delete_validated, deleted_over, get_validated, intent_of, validated_at, validated_in, validated_over, as_it_stands, key_at, not_there, object_validated_by, ownership_validated, printed, revisions_left, stored, stored_over, there, update_validated, updated_by, updated_over, version_checked, version_come}
+use Rattle.verbs.specs.Step.{Intent, apply_validated, at_path, body_of, collection_validated_by, create_validated, creation_validated, delete_validated, deleted_over, get_validated, intent_of, validated_at, validated_in, validated_over, as_it_stands, key_at, not_there, object_validated_by, plan_for, planned_over, ownership_validated, printed, revisions_left, stored, stored_over, there, update_validated, updated_by, updated_over, version_checked, version_come}
 use Rattle.verbs.proofs.Checks.{change_in, no_err, passed}
 
 abbrev Fits : ℕ → Objects → Option Change → Type 0
@@ -129,5 +129,9 @@ if_comes : (v : View) (change : Option Change) → Fits v.current (objects_in v)
 if_comes v None is = tt
 if_comes v (Some c) is = record { next = is.0; there = is.1 }
 
-pub planned_comes : (types : List ServedShape) (v : View) (call : Call) (p : Plan) → validated_over types v.current (objects_in v) call ≡ Ok p → IfSome p.change (ComesAfter v)
-planned_comes types v call p e = if_comes v p.change (at_fits v.current (objects_in v) call (slice_get types call.target.kind) p e)
+over_comes : (types : List ServedShape) (v : View) (call : Call) (j : Validated Plan) → validated_over types v.current (objects_in v) call ≡ j → IfSome (plan_for j).change (ComesAfter v)
+over_comes types v call (Err d) e = tt
+over_comes types v call (Ok p) e = if_comes v p.change (at_fits v.current (objects_in v) call (slice_get types call.target.kind) p e)
+
+pub planned_comes : (types : List ServedShape) (v : View) (call : Call) → IfSome (planned_over types v.current (objects_in v) call).change (ComesAfter v)
+planned_comes types v call = over_comes types v call (validated_over types v.current (objects_in v) call) refl

@@ -1,11 +1,14 @@
 -- What a call comes to at a machine.
 use Rattle.std.proofs.Common.{◌≡◌, Ok, Err, Bool, true, false, Option, Some, None, refl, sym, ap, subst, ◌∙◌, List, ℕ, true≢false, ltb-true, ltb-false}
-use Rattle.std.specs.Prelude.{◌↔◌, ◌<◌, ◌≤◌, IfSome, OnOk, nat_lt, option_map}
+use Rattle.std.specs.Prelude.{◌↔◌, ◌<◌, ◌≤◌, IfSome, OnOk, nat_lt, option_map, slice_get}
 use Rattle.std.specs.declared.result.Result.{Result}
+use Rattle.std.specs.FinMap as fin
 use Rattle.schema.specs.TypesFile.{ServedShape}
-use Rattle.history.specs.History.{Change, History, compacted_to, standing}
+use Rattle.history.specs.History.{Change, History, Key, Object, Objects, compacted_to, standing}
 use Rattle.history.specs.View.{View, compacted_in, written_in}
 use Rattle.history.proofs.Seen.{view_compacts, view_writes}
+use Rattle.ownership.specs.ReadBack.{IsObjectText}
+use Rattle.ownership.proofs.Taken.{same_some}
 use Rattle.verbs.specs.declared.api.Api.{Api}
 use Rattle.verbs.specs.declared.body.Body.{Body}
 use Rattle.verbs.specs.declared.calls.Call.{Call as TheCall}
@@ -13,13 +16,12 @@ use Rattle.verbs.specs.declared.calls.Plan.{Plan as ThePlan}
 use Rattle.verbs.specs.declared.change.Change.{Change as TheChange}
 use Rattle.verbs.specs.Json.{IsJsonBody}
 use Rattle.verbs.specs.Calls.{Call, Plan}
-use Rattle.verbs.specs.Machine.{IsMachine, IsNext, after}
-use Rattle.verbs.specs.Status.{CallRefusal}
-use Rattle.verbs.proofs.Changes.{is_history, machine_next}
+use Rattle.verbs.specs.Machine.{AreTexts, IsMachine, IsNext, IsReadable, after, identity_of}
+use Rattle.verbs.proofs.Changes.{is_history, machine_next, standing_texts}
 use Rattle.verbs.proofs.Machines.{compactions_keep_machines, standing_seen}
 use Rattle.verbs.proofs.Promise.{plans_come_next}
 use Rattle.verbs.specs.Seen.{Stands, body_seen, call_of, change_of, plan_of, types_of, objects_in}
-use Rattle.verbs.specs.Step.{validated_over, planned, refused, plan_for}
+use Rattle.verbs.specs.Step.{plan_for, planned, planned_over, validated_over}
 
 module _ (api : Api) (types : List ServedShape) (m : History) (call : Call) (stands : Stands api types m) where
   validated_is : validated_over (types_of api) api.store.current (objects_in api.store) call ≡ validated_over types m.current (standing m) call
@@ -28,11 +30,22 @@ module _ (api : Api) (types : List ServedShape) (m : History) (call : Call) (sta
       ∙ ap (λ (v : View). validated_over types v.current (objects_in v) call) stands.store
       ∙ ap (λ os. validated_over types m.current os call) (standing_seen types m stands.is_machine)
 
-  pub planned_ok : (p : Plan) → validated_over (types_of api) api.store.current (objects_in api.store) call ≡ Ok p → p ≡ planned types m call
-  planned_ok p e = sym (ap plan_for (sym validated_is ∙ e))
+  pub planned_is : planned_over (types_of api) api.store.current (objects_in api.store) call ≡ planned types m call
+  planned_is = ap plan_for validated_is
 
-  pub planned_refused : (d : CallRefusal) → validated_over (types_of api) api.store.current (objects_in api.store) call ≡ Err d → refused d ≡ planned types m call
-  planned_refused d e = sym (ap plan_for (sym validated_is ∙ e))
+  -- each text that stands in the store is an object's
+  pub stands_texts : AreTexts (types_of api) (objects_in api.store)
+  stands_texts =
+      subst (λ ts. AreTexts ts (objects_in api.store)) (sym stands.serves)
+      (subst (AreTexts types) (sym (ap objects_in stands.store ∙ standing_seen types m stands.is_machine)) (standing_texts types m stands.is_machine))
+
+-- what stands under a key of the type is readable
+pub readable_at : (types : List ServedShape) (t : ServedShape) (k : Key) (objects : Objects) (found : Option Object) → fin.get objects k ≡ found → slice_get types k.kind ≡ Some t
+    → AreTexts types objects → IsReadable t k found
+readable_at types t k objects None is serves texts = tt
+readable_at types t k objects (Some o) is serves texts =
+    let x = texts k o is in
+    (o.revision, x.state, subst (λ (u : ServedShape). IsObjectText u.shape (identity_of u k) o.revision x.state o.body) (same_some x.t t (sym x.served ∙ serves)) x.says)
 
 -- ---- what is planned may come next
 
@@ -60,9 +73,6 @@ stands_next api new types m c stands next serves store = record {
 pub on_ok : {X E A B : Type 0} (r : Result X E) → (A → B) → OnOk r A → OnOk r B
 on_ok (Ok x) f a = f a
 on_ok (Err e) f a = a
-
-pub stands_same : (api new : Api) (types : List ServedShape) (m : History) → types_of new ≡ types_of api → new.store ≡ api.store → Stands api types m → Stands new types m
-stands_same api new types m serves store stands = record { is_machine = stands.is_machine; serves = serves ∙ stands.serves; store = store ∙ stands.store }
 
 pub stands_compacted : (api new : Api) (types : List ServedShape) (m : History) (c : ℕ) → Stands api types m → types_of new ≡ types_of api → m.compacted ≤ c → c ≤ m.current
     → new.store ≡ compacted_in c api.store → Stands new types (compacted_to c m)

@@ -34,14 +34,14 @@ use Rattle.verbs.specs.Calls.{Call, Plan}
 use Rattle.verbs.specs.Json.{IsJson, IsJsonBody}
 use Rattle.verbs.specs.Envelope.{Expected, api_version_of, envelope_of, name_in}
 use Rattle.verbs.specs.Validated.{Validated, and_then}
-use Rattle.verbs.specs.Machine.{IsBodyAt, IsMachine, IsNext, after, identity_of, no_state, state_by, state_of_live, state_said, state_under}
+use Rattle.verbs.specs.Machine.{AreTexts, IsBodyAt, IsMachine, IsNext, after, identity_of, no_state, state_by, state_of_live, state_said, state_under}
 use Rattle.verbs.specs.Naming.{marks_validated, names_validated, required_name}
 use Rattle.verbs.specs.Options.{options_validated}
 use Rattle.verbs.specs.Parameters.{parameters_validated}
 use Rattle.verbs.specs.Promise.{AppliesKeepOthers, OthersKeepUnchanged, PlansComeNext, StepsKeepMachines, TextsSayStates, UpdatesTakeChanges}
 use Rattle.verbs.specs.Size.{size_validated}
 use Rattle.verbs.specs.Step.{Intent, applied_over, apply_validated, at_path, body_of, collection_validated_by, conflict_refusal, Creation, create_validated, created_as, creation_validated, delete_validated, deleted_over, get_validated, intent_of, validated_at, validated_in, validated_over, as_it_stands, key_at, not_there, object_validated_by, ownership_validated, planned, printed, revisions_left, shape_validated, stored, stored_over, text_at, there, plan_for, update_validated, updated_by, updated_over, version_checked, version_come}
-use Rattle.verbs.proofs.Changes.{AreTexts, machine_next, standing_next, standing_texts}
+use Rattle.verbs.proofs.Changes.{machine_next, standing_next, standing_texts}
 use Rattle.verbs.proofs.Checks.{change_in, held, no_err, ok_is, passed}
 use Rattle.verbs.proofs.Contents.{intended_content}
 use Rattle.verbs.proofs.Said.{Shapes, nothing_placed, printed_is_text, said_back, shapes_of}

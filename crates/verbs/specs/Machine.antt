@@ -57,6 +57,15 @@ pub record IsTextAt (types : List ServedShape) (k : Key) (revision : ℕ) (text 
   pub state : State
   pub says : IsObjectText t.shape (identity_of t k) revision state text
 
+-- each text is that of an object of its key and its type
+abbrev pub AreTexts : List ServedShape → Objects → Type 0
+AreTexts types s = (k : Key) (o : Object) → fin.get s k ≡ Some o → IsTextAt types k o.revision o.body
+
+-- the text that stands, if any, is that of an object of the key and the type
+abbrev pub IsReadable : ServedShape → Key → Option Object → Type 0
+IsReadable t k None = Unit {0}
+IsReadable t k (Some o) = (revision : ℕ) × (state : State) × IsObjectText t.shape (identity_of t k) revision state o.body
+
 -- a deletion has no text
 abbrev pub IsBodyAt : List ServedShape → Key → ℕ → Option (List ℕ) → Type 0
 IsBodyAt types k revision None = Unit {0}

@@ -67,19 +67,15 @@ call_refusal_of d = record { reason = d.reason; message = string_bytes d.message
 
 abbrev pub Refuses : CallError → CallRefusal → Type 0
 Refuses call_error.Memory d = Unit {0}
-Refuses call_error.Store d = Unit {0}
-Refuses call_error.Unreadable d = Unit {0}
 Refuses (call_error.Refused e) d = call_refusal_of e ≡ d
 
--- the refusal is of this reason and message, without causes, unless it is none but a fault
+-- the refusal is of this reason and message, without causes, unless memory ran out
 abbrev pub RefusesFor : CallError → Reason → List ℕ → Type 0
 RefusesFor e r message = Refuses e (call_refusal r message)
 
--- what a check answered, seen by see, is what is validated, unless a fault stands in its place
+-- what a check answered, seen by see, is what is validated, unless memory ran out
 abbrev pub Fails : {Y : Type 0} → CallError → Validated Y → Type 0
 Fails call_error.Memory validated = Unit {0}
-Fails call_error.Store validated = Unit {0}
-Fails call_error.Unreadable validated = Unit {0}
 Fails (call_error.Refused d) validated = validated ≡ Err (call_refusal_of d)
 
 abbrev pub Gives : {X Y : Type 0} → (X → Y) → Result X CallError → Validated Y → Type 0

@@ -1,9 +1,8 @@
 use crate::admitting::{Refusal, admitted};
-use crate::answering::refused;
 use crate::calls::{Call, Plan, Target};
-use crate::fault::{CallError, Fault};
+use crate::fault::Fault;
+use crate::plans::planned;
 use crate::route::Routes;
-use crate::validating::validated;
 use crate::writing::written;
 use revstore::{CompactFault, Store};
 use revtable::Table;
@@ -20,7 +19,7 @@ pub struct Api {
 }
 
 impl Api {
-    ghost use Rattle.std.specs.Prelude.{◌≡◌, ◌↔◌, ◌<◌, ◌≤◌, List, Ok, Err, IfOk, IfSome, OnOk, OnErr, option_map};
+    ghost use Rattle.std.specs.Prelude.{◌≡◌, ◌≢◌, ◌↔◌, ◌<◌, ◌≤◌, List, Ok, Err, IfOk, IfSome, OnOk, OnErr, option_map};
     ghost use Rattle.schema.specs.Served as types;
     ghost use Rattle.schema.specs.Served.{types_view};
     ghost use Rattle.schema.specs.TypesFile.{ServedShape};
@@ -69,15 +68,10 @@ impl Api {
         ensures next { (types : List ServedShape) (m : History) → Stands self.old types m
             → IfOk result (λ p. IfSome p.change (λ c. IsNext types m (change_of c))) }
         ensures comes { IfOk result (λ p. IfSome p.change (λ c. ComesAfter self.new.store (change_of c))) }
+        ensures readable { (types : List ServedShape) (m : History) → Stands self.old types m → result ≢ Err Fault.Unreadable }
         ensures same { (types : List ServedShape) (m : History) → Stands self.old types m → Stands self.new types m }
     {
-        match validated(self.alloc, &self.types, &mut self.store, call) {
-            Ok(plan) => Ok(plan),
-            Err(CallError::Refused(call_refusal)) => Ok(refused(self.alloc, call_refusal)?),
-            Err(CallError::Memory) => Err(Fault::Memory),
-            Err(CallError::Store) => Err(Fault::Store),
-            Err(CallError::Unreadable) => Err(Fault::Unreadable),
-        }
+        planned(self.alloc, &self.types, &mut self.store, call)
     }
 
     /// Makes the change of a plan, if it has one: a plan of what stands now. Refused, it changes nothing.

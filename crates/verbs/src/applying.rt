@@ -1,11 +1,14 @@
 //! Applies (Kubernetes docs, "Server-Side Apply").
 
-ghost use Rattle.std.specs.Prelude.{◌≤◌, option_map};
+ghost use Rattle.std.specs.Prelude.{◌≡◌, ◌≤◌, option_map};
 ghost use Rattle.serde_json.specs.View.{view};
 ghost use Rattle.schema.specs.Served as types;
 ghost use Rattle.typed.specs.Fitting.{IsContent};
 ghost use Rattle.history.specs.History.{last_revision};
 ghost use Rattle.schema.specs.ObjectShape.{IsObjectShape};
+ghost use Rattle.ownership.specs.Keeping.{IsPlacedState};
+ghost use Rattle.ownership.specs.Results.{state_of};
+ghost use Rattle.verbs.specs.Machine.{state_of_live};
 ghost use Rattle.verbs.specs.Json.{IsJson};
 ghost use Rattle.history.specs.Read.{key_of};
 ghost use Rattle.verbs.specs.Seen.{Gives, intent_seen, object_of, plan_of};
@@ -15,13 +18,12 @@ use crate::calls::Plan;
 use crate::conflicts::applied;
 use crate::fault::CallError;
 use crate::intent::{Intent, at_path, intent_of};
-use crate::live::read_live;
+use crate::live::Live;
 use crate::method::Method;
 use crate::naming::validate_names;
 use crate::storing::{check_version, stored_over};
 use history::Key;
 use params::Asked;
-use revtable::Object;
 use schema::Served;
 use serde_json::Value;
 use std::alloc::Global;
@@ -32,25 +34,26 @@ fn applied_over(
     served: &Served,
     current: u64,
     key: Key,
-    live: Option<&Object>,
+    live: &Live,
     intent: &Intent,
 ) -> Result<Plan, CallError>
     requires numbered { current ≤ last_revision }
     requires shaped { IsObjectShape (types.served served.now).shape }
     requires content { IsContent (types.served served.now).shape intent.now.content }
-    ensures { Gives plan_of result (applied_over (types.served served.now) current (key_of key) (option_map (λ o. object_of o.now) live.entry) (intent_seen intent.now)) }
+    requires said { state_of live.now.state ≡ state_of_live (types.served served.now) (option_map object_of live.now.object) }
+    requires placed { IsPlacedState (types.served served.now).shape (state_of live.now.state) }
+    ensures { Gives plan_of result (applied_over (types.served served.now) current (key_of key) (option_map object_of live.now.object) (intent_seen intent.now)) }
 {
-    check_version(alloc, intent.version, live)?;
-    let before = read_live(alloc, served, &key, live)?;
+    check_version(alloc, intent.version, live.object.as_ref())?;
     let owned = applied(
         alloc,
         served,
-        &before,
+        &live.state,
         &intent.content,
         intent.manager.as_str(),
         intent.is_forced,
     )?;
-    stored_over(alloc, served, current, key, live, &before, &owned)
+    stored_over(alloc, served, current, key, live, &owned)
 }
 
 /// An apply's body over what stands.
@@ -58,7 +61,7 @@ pub(crate) fn validate_apply(
     alloc: Global,
     served: &Served,
     current: u64,
-    live: Option<&Object>,
+    live: &Live,
     key: Key,
     query: &[u8],
     body: &Value,
@@ -66,7 +69,9 @@ pub(crate) fn validate_apply(
     requires numbered { current ≤ last_revision }
     requires shaped { IsObjectShape (types.served served.now).shape }
     requires json { IsJson (view body.now) }
-    ensures { Gives plan_of result (apply_validated (types.served served.now) current (option_map (λ o. object_of o.now) live.entry) (key_of key) query.now (view body.now)) }
+    requires said { state_of live.now.state ≡ state_of_live (types.served served.now) (option_map object_of live.now.object) }
+    requires placed { IsPlacedState (types.served served.now).shape (state_of live.now.state) }
+    ensures { Gives plan_of result (apply_validated (types.served served.now) current (option_map object_of live.now.object) (key_of key) query.now (view body.now)) }
 {
     let expected = at_path(served, &key, Method::Patch);
     let intent = intent_of(alloc, expected, Asked::Apply, query, body)?;

@@ -5,8 +5,9 @@ ghost use Rattle.schema.specs.Served as types;
 ghost use Rattle.typed.specs.Fitting.{IsContent};
 ghost use Rattle.history.specs.History.{last_revision};
 ghost use Rattle.schema.specs.ObjectShape.{IsObjectShape};
+ghost use Rattle.ownership.specs.Keeping.{IsPlacedState};
 ghost use Rattle.ownership.specs.Results.{state_of};
-ghost use Rattle.verbs.specs.Machine.{state_said};
+ghost use Rattle.verbs.specs.Machine.{state_of_live, state_said};
 ghost use Rattle.history.specs.Read.{key_of};
 ghost use Rattle.verbs.specs.Seen.{Gives, body_seen, object_of, plan_of};
 ghost use Rattle.verbs.specs.Step.{delete_validated, deleted, deleted_over};
@@ -15,7 +16,7 @@ use crate::body::Body;
 use crate::calls::{Answer, Plan};
 use crate::change::Change;
 use crate::fault::CallError;
-use crate::live::read_stored;
+use crate::live::Live;
 use crate::options::validate_options;
 use crate::parameters::read_parameters;
 use crate::presence::there;
@@ -60,18 +61,20 @@ fn deleted_over(
     served: &Served,
     current: u64,
     key: Key,
-    live: Option<&Object>,
+    live: &Live,
     version: Option<u64>,
 ) -> Result<Plan, CallError>
     requires numbered { current ≤ last_revision }
     requires shaped { IsObjectShape (types.served served.now).shape }
-    ensures { Gives plan_of result (deleted_over (types.served served.now) current (key_of key) (option_map (λ o. object_of o.now) live.entry) version) }
+    requires said { state_of live.now.state ≡ state_of_live (types.served served.now) (option_map object_of live.now.object) }
+    requires placed { IsPlacedState (types.served served.now).shape (state_of live.now.state) }
+    ensures { Gives plan_of result (deleted_over (types.served served.now) current (key_of key) (option_map object_of live.now.object) version) }
 {
-    let stored = there(alloc, served, key.name.as_str(), live)?;
-    check_version(alloc, version, live)?;
+    let object = live.object.as_ref();
+    let stored = there(alloc, served, key.name.as_str(), object)?;
+    check_version(alloc, version, object)?;
     check_revisions(alloc, current)?;
-    let state = read_stored(alloc, served, &key, stored)?;
-    Ok(deleted(alloc, served, current, key, stored, &state)?)
+    Ok(deleted(alloc, served, current, key, stored, &live.state)?)
 }
 
 /// The body's options, parameters.
@@ -79,14 +82,16 @@ pub(crate) fn validate_delete(
     alloc: Global,
     served: &Served,
     current: u64,
-    live: Option<&Object>,
+    live: &Live,
     key: Key,
     query: &[u8],
     body: Option<&Body>,
 ) -> Result<Plan, CallError>
     requires numbered { current ≤ last_revision }
     requires shaped { IsObjectShape (types.served served.now).shape }
-    ensures { Gives plan_of result (delete_validated (types.served served.now) current (option_map (λ o. object_of o.now) live.entry) (key_of key) query.now (option_map (λ b. body_seen b.now) body.entry)) }
+    requires said { state_of live.now.state ≡ state_of_live (types.served served.now) (option_map object_of live.now.object) }
+    requires placed { IsPlacedState (types.served served.now).shape (state_of live.now.state) }
+    ensures { Gives plan_of result (delete_validated (types.served served.now) current (option_map object_of live.now.object) (key_of key) query.now (option_map (λ b. body_seen b.now) body.entry)) }
 {
     let version = validate_options(alloc, body)?;
     read_parameters(alloc, Asked::Delete, query)?;

@@ -10,10 +10,6 @@ use thiserror::Error;
 pub enum CallError {
     Refused(CallRefusal),
     Memory,
-    /// The store refused a statement.
-    Store,
-    /// What is stored is no object's text.
-    Unreadable,
 }
 
 impl CallError {

@@ -1,63 +1,77 @@
-//! What a call starts from: the state that the text of the object says.
+//! What a write starts from: the object that stands, and the state that its text says.
 
-ghost use Rattle.std.specs.Prelude.{◌≡◌, IfErr, IfOk, option_map};
+ghost use Rattle.std.specs.Prelude.{◌≡◌, ◌≢◌, Err, IfOk, Some, option_map};
 ghost use Rattle.schema.specs.Served as types;
 ghost use Rattle.ownership.specs.Keeping.{IsPlacedState};
-ghost use Rattle.schema.specs.ObjectShape.{IsObjectShape};
 ghost use Rattle.ownership.specs.Results.{state_of};
-ghost use Rattle.verbs.specs.Calls.{Plan};
-ghost use Rattle.verbs.specs.Validated.{Validated};
-ghost use Rattle.verbs.specs.Machine.{state_of_live, state_said};
-ghost use Rattle.verbs.specs.Seen.{Fails, object_of};
+ghost use Rattle.schema.specs.ObjectShape.{IsObjectShape};
+ghost use Rattle.history.specs.Read.{key_of};
+ghost use Rattle.verbs.specs.Machine.{IsReadable, state_of_live, state_said};
+ghost use Rattle.verbs.specs.Seen.{object_of};
 
 use crate::envelope::api_version_of;
-use crate::fault::CallError;
+use crate::fault::Fault;
+use crate::identity::identity_of;
 use history::Key;
-use ownership::{Identity, ObjectFault, Owned};
+use ownership::{ObjectFault, Owned};
 use revtable::Object;
 use schema::Served;
 use std::alloc::Global;
 
+/// What stands under a key, and the state that its text says: an empty one where nothing stands.
+#[derive(Drop)]
+pub struct Live {
+    pub object: Option<Object>,
+    pub state: Owned,
+}
+
 /// The state that an object's text says.
-pub(crate) fn read_stored(
-    alloc: Global,
-    served: &Served,
-    key: &Key,
-    stored: &Object,
-) -> Result<Owned, CallError>
+fn read_stored(alloc: Global, served: &Served, key: &Key, stored: &Object) -> Result<Owned, Fault>
     requires { IsObjectShape (types.served served.now).shape }
     ensures state { IfOk result (λ o. state_of o ≡ state_said (types.served served.now).shape (object_of stored.now).body) }
     ensures placed { IfOk result (λ o. IsPlacedState (types.served served.now).shape (state_of o)) }
-    ensures faults { (validated : Validated Plan) → IfErr result (λ e. Fails e validated) }
+    ensures readable { IsReadable (types.served served.now) (key_of key.now) (Some (object_of stored.now)) → result ≢ Err Fault.Unreadable }
 {
     let api_version = api_version_of(alloc, served)?;
-    let identity = Identity {
-        api_version: api_version.as_str(),
-        kind: served.kind.as_str(),
-        namespace: key.namespace.as_str(),
-        name: key.name.as_str(),
-    };
+    let identity = identity_of(served, key, api_version.as_str());
     match Owned::from_object(alloc, &served.schema, identity, stored.body.as_str()) {
         Ok(read) => Ok(read.0),
-        Err(ObjectFault::NotCanonical) => Err(CallError::Unreadable),
-        Err(ObjectFault::Memory) => Err(CallError::Memory),
+        Err(ObjectFault::NotCanonical) => Err(Fault::Unreadable),
+        Err(ObjectFault::Memory) => Err(Fault::Memory),
     }
 }
 
 /// The state of the object that stands, or nothing.
+fn read_state(
+    alloc: Global,
+    served: &Served,
+    key: &Key,
+    object: Option<&Object>,
+) -> Result<Owned, Fault>
+    requires { IsObjectShape (types.served served.now).shape }
+    ensures state { IfOk result (λ o. state_of o ≡ state_of_live (types.served served.now) (option_map (λ o. object_of o.now) object.entry)) }
+    ensures placed { IfOk result (λ o. IsPlacedState (types.served served.now).shape (state_of o)) }
+    ensures readable { IsReadable (types.served served.now) (key_of key.now) (option_map (λ o. object_of o.now) object.entry) → result ≢ Err Fault.Unreadable }
+{
+    match object {
+        Some(stored) => read_stored(alloc, served, key, stored),
+        None => Ok(Owned::empty(alloc)),
+    }
+}
+
+/// What stands under the key, with its state.
 pub(crate) fn read_live(
     alloc: Global,
     served: &Served,
     key: &Key,
-    live: Option<&Object>,
-) -> Result<Owned, CallError>
+    object: Option<Object>,
+) -> Result<Live, Fault>
     requires { IsObjectShape (types.served served.now).shape }
-    ensures state { IfOk result (λ o. state_of o ≡ state_of_live (types.served served.now) (option_map (λ o. object_of o.now) live.entry)) }
-    ensures placed { IfOk result (λ o. IsPlacedState (types.served served.now).shape (state_of o)) }
-    ensures faults { (validated : Validated Plan) → IfErr result (λ e. Fails e validated) }
+    ensures object { IfOk result (λ l. option_map object_of l.object ≡ option_map object_of object) }
+    ensures state { IfOk result (λ l. state_of l.state ≡ state_of_live (types.served served.now) (option_map object_of object)) }
+    ensures placed { IfOk result (λ l. IsPlacedState (types.served served.now).shape (state_of l.state)) }
+    ensures readable { IsReadable (types.served served.now) (key_of key.now) (option_map object_of object) → result ≢ Err Fault.Unreadable }
 {
-    match live {
-        Some(stored) => read_stored(alloc, served, key, stored),
-        None => Ok(Owned::empty(alloc)),
-    }
+    let state = read_state(alloc, served, key, object.as_ref())?;
+    Ok(Live { object, state })
 }

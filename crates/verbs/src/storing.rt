@@ -17,11 +17,13 @@ use crate::calls::{Answer, Plan};
 use crate::change::Change;
 use crate::envelope::api_version_of;
 use crate::fault::CallError;
+use crate::identity::identity_of;
+use crate::live::Live;
 use crate::reason::Reason;
 use crate::size::validate_size;
 use crate::texts::joined;
 use history::Key;
-use ownership::{Identity, Owned};
+use ownership::Owned;
 use revtable::Object;
 use schema::Served;
 use serde_json::Value;
@@ -41,12 +43,7 @@ pub fn printed(
     ensures { IfOk result (λ v. view v ≡ printed (types.served served.now) (key_of key.now) revision (state_of owned.now)) }
 {
     let api_version = api_version_of(alloc, served)?;
-    let identity = Identity {
-        api_version: api_version.as_str(),
-        kind: served.kind.as_str(),
-        namespace: key.namespace.as_str(),
-        name: key.name.as_str(),
-    };
+    let identity = identity_of(served, key, api_version.as_str());
     owned.to_value(alloc, &served.schema, identity, revision)
 }
 
@@ -178,20 +175,19 @@ pub fn stored_over(
     served: &Served,
     current: u64,
     key: Key,
-    live: Option<&Object>,
-    before: &Owned,
+    live: &Live,
     owned: &Owned,
 ) -> Result<Plan, CallError>
     requires numbered { current ≤ last_revision }
     requires shaped { IsObjectShape (types.served served.now).shape }
     requires content { IsContent (types.served served.now).shape owned.now.tree }
-    requires before { state_of before.now ≡ state_of_live (types.served served.now) (option_map (λ o. object_of o.now) live) }
-    ensures { Gives plan_of result (stored_over (types.served served.now) current (key_of key) (option_map (λ o. object_of o.now) live.entry) (state_of owned.now)) }
+    requires said { state_of live.now.state ≡ state_of_live (types.served served.now) (option_map object_of live.now.object) }
+    ensures { Gives plan_of result (stored_over (types.served served.now) current (key_of key) (option_map object_of live.now.object) (state_of owned.now)) }
 {
-    let Some(stored_before) = live else {
+    let Some(stored_before) = &live.object else {
         return stored(alloc, served, current, key, 201, owned);
     };
-    if owned.is_same(alloc, before)? {
+    if owned.is_same(alloc, &live.state)? {
         return Ok(as_it_stands(stored_before)?);
     }
     stored(alloc, served, current, key, 200, owned)

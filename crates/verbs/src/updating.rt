@@ -6,7 +6,9 @@ ghost use Rattle.schema.specs.Served as types;
 ghost use Rattle.typed.specs.Fitting.{IsContent};
 ghost use Rattle.history.specs.History.{last_revision};
 ghost use Rattle.schema.specs.ObjectShape.{IsObjectShape};
+ghost use Rattle.ownership.specs.Keeping.{IsPlacedState};
 ghost use Rattle.ownership.specs.Results.{state_of};
+ghost use Rattle.verbs.specs.Machine.{state_of_live};
 ghost use Rattle.verbs.specs.Json.{IsJson};
 ghost use Rattle.history.specs.Read.{key_of};
 ghost use Rattle.verbs.specs.Seen.{Gives, creation_seen, intent_seen, object_of, plan_of};
@@ -16,7 +18,7 @@ use crate::calls::Plan;
 use crate::envelope::{Expected, name_in};
 use crate::fault::CallError;
 use crate::intent::{Creation, Intent, at_path, intent_of};
-use crate::live::read_live;
+use crate::live::Live;
 use crate::method::Method;
 use crate::naming::{require_name, validate_marks, validate_names};
 use crate::presence::{not_there, there};
@@ -109,19 +111,21 @@ fn updated_over(
     served: &Served,
     current: u64,
     key: Key,
-    live: Option<&Object>,
+    live: &Live,
     intent: Intent,
 ) -> Result<Plan, CallError>
     requires numbered { current ≤ last_revision }
     requires shaped { IsObjectShape (types.served served.now).shape }
     requires content { IsContent (types.served served.now).shape intent.content }
-    ensures { Gives plan_of result (updated_over (types.served served.now) current (key_of key) (option_map (λ o. object_of o.now) live.entry) (intent_seen intent)) }
+    requires said { state_of live.now.state ≡ state_of_live (types.served served.now) (option_map object_of live.now.object) }
+    requires placed { IsPlacedState (types.served served.now).shape (state_of live.now.state) }
+    ensures { Gives plan_of result (updated_over (types.served served.now) current (key_of key) (option_map object_of live.now.object) (intent_seen intent)) }
 {
-    there(alloc, served, key.name.as_str(), live)?;
-    check_version(alloc, intent.version, live)?;
-    let before = read_live(alloc, served, &key, live)?;
-    let owned = updated_by(alloc, intent, &before)?;
-    stored_over(alloc, served, current, key, live, &before, &owned)
+    let object = live.object.as_ref();
+    there(alloc, served, key.name.as_str(), object)?;
+    check_version(alloc, intent.version, object)?;
+    let owned = updated_by(alloc, intent, &live.state)?;
+    stored_over(alloc, served, current, key, live, &owned)
 }
 
 /// An update of an object that is there.
@@ -129,7 +133,7 @@ pub(crate) fn validate_update(
     alloc: Global,
     served: &Served,
     current: u64,
-    live: Option<&Object>,
+    live: &Live,
     key: Key,
     query: &[u8],
     body: &Value,
@@ -137,7 +141,9 @@ pub(crate) fn validate_update(
     requires numbered { current ≤ last_revision }
     requires shaped { IsObjectShape (types.served served.now).shape }
     requires json { IsJson (view body.now) }
-    ensures { Gives plan_of result (update_validated (types.served served.now) current (option_map (λ o. object_of o.now) live.entry) (key_of key) query.now (view body.now)) }
+    requires said { state_of live.now.state ≡ state_of_live (types.served served.now) (option_map object_of live.now.object) }
+    requires placed { IsPlacedState (types.served served.now).shape (state_of live.now.state) }
+    ensures { Gives plan_of result (update_validated (types.served served.now) current (option_map object_of live.now.object) (key_of key) query.now (view body.now)) }
 {
     let expected = at_path(served, &key, Method::Put);
     let intent = intent_of(alloc, expected, Asked::Put, query, body)?;

@@ -2,4 +2,4 @@ use Rattle.schema.specs.Served.{served}
 use Rattle.verbs.proofs.applying.applied_over.Goals as goal
 
 pub stored_over-requires-clause-content : goal.stored_over-requires-clause-content
-stored_over-requires-clause-content c = (c.in_ok-owned.ensures.placed (served c.args.served.now).shape c.requires.content c.in_ok-before.ensures.placed).0
+stored_over-requires-clause-content c = (c.in_ok-owned.ensures.placed (served c.args.served.now).shape c.requires.content c.requires.placed).0

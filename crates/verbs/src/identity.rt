@@ -1,0 +1,24 @@
+//! What an object is of.
+
+ghost use Rattle.std.specs.Prelude.{◌≡◌};
+ghost use Rattle.schema.specs.Served as types;
+ghost use Rattle.ownership.specs.Results as objects;
+ghost use Rattle.history.specs.Read.{key_of};
+ghost use Rattle.verbs.specs.Envelope.{api_version_of};
+ghost use Rattle.verbs.specs.Machine.{identity_of};
+
+use history::Key;
+use ownership::Identity;
+use schema::Served;
+
+/// What an object of the type and the key is of; the text of its `group/version` is given.
+pub fn identity_of<'a>(served: &'a Served, key: &'a Key, api_version: &'a str) -> Identity<'a>
+    ensures { api_version.now ≡ api_version_of (types.served served.now) → objects.identity_of result ≡ identity_of (types.served served.now) (key_of key.now) }
+{
+    Identity {
+        api_version,
+        kind: served.kind.as_str(),
+        namespace: key.namespace.as_str(),
+        name: key.name.as_str(),
+    }
+}

@@ -1,0 +1,263 @@
+//! What a call comes to, by what stands in the store.
+
+ghost use Rattle.std.specs.Prelude.{◌≡◌, ◌≢◌, ◌≤◌, Err, IfOk, List, Some, option_map, slice_get};
+ghost use Rattle.std.specs.FinMap as fin;
+ghost use Rattle.schema.specs.ObjectShape.{IsObjectShape};
+ghost use Rattle.schema.specs.Served as types;
+ghost use Rattle.schema.specs.Served.{types_view};
+ghost use Rattle.schema.specs.TypesFile.{ServedShape};
+ghost use Rattle.typed.specs.Fitting.{IsContent};
+ghost use Rattle.ownership.specs.Keeping.{IsPlacedState};
+ghost use Rattle.ownership.specs.Results.{state_of};
+ghost use Rattle.history.specs.History.{last_revision};
+ghost use Rattle.history.specs.Read.{key_of};
+ghost use Rattle.verbs.specs.Calls as calls;
+ghost use Rattle.verbs.specs.Validated.{Validated, and_then};
+ghost use Rattle.verbs.specs.Machine.{AreTexts, IsReadable, state_of_live};
+ghost use Rattle.verbs.specs.Seen.{Gives, call_of, creation_seen, object_of, objects_in, plan_of};
+ghost use Rattle.verbs.specs.Step.{apply_validated, body_of, collection_validated_by, created_as, creation_validated, object_validated_by, plan_for, planned_over, update_validated, validated_in};
+
+use crate::answering::{body_of, no_path, not_served, refused};
+use crate::applying::validate_apply;
+use crate::calls::{Call, Plan};
+use crate::deleting::validate_delete;
+use crate::fault::{CallError, Fault};
+use crate::getting::validate_get;
+use crate::intent::Creation;
+use crate::live::{Live, read_live};
+use crate::method::Method;
+use crate::updating::{created_as, validate_creation, validate_update};
+use history::Key;
+use revstore::Store;
+use revtable::Object;
+use schema::{Served, Types};
+use std::alloc::Global;
+
+/// The plan of what was validated: a refusal is answered too.
+fn plan_for(alloc: Global, validated: Result<Plan, CallError>) -> Result<Plan, Fault>
+    ensures plan_for { (answer : Validated calls.Plan) → Gives plan_of validated answer → IfOk result (λ p. plan_of p ≡ plan_for answer) }
+    ensures readable { result ≢ Err Fault.Unreadable }
+{
+    match validated {
+        Ok(plan) => Ok(plan),
+        Err(CallError::Refused(call_refusal)) => Ok(refused(alloc, call_refusal)?),
+        Err(CallError::Memory) => Err(Fault::Memory),
+    }
+}
+
+fn validate_put(
+    alloc: Global,
+    served: &Served,
+    current: u64,
+    live: &Live,
+    key: Key,
+    call: &Call,
+) -> Result<Plan, CallError>
+    requires numbered { current ≤ last_revision }
+    requires shaped { IsObjectShape (types.served served.now).shape }
+    requires said { state_of live.now.state ≡ state_of_live (types.served served.now) (option_map object_of live.now.object) }
+    requires placed { IsPlacedState (types.served served.now).shape (state_of live.now.state) }
+    ensures { let c = call_of call.now in
+        Gives plan_of result (and_then (body_of c.body) (update_validated (types.served served.now) current (option_map object_of live.now.object) (key_of key) c.query)) }
+{
+    let body = body_of(alloc, call)?;
+    validate_update(alloc, served, current, live, key, &call.query, body)
+}
+
+fn validate_patch(
+    alloc: Global,
+    served: &Served,
+    current: u64,
+    live: &Live,
+    key: Key,
+    call: &Call,
+) -> Result<Plan, CallError>
+    requires numbered { current ≤ last_revision }
+    requires shaped { IsObjectShape (types.served served.now).shape }
+    requires said { state_of live.now.state ≡ state_of_live (types.served served.now) (option_map object_of live.now.object) }
+    requires placed { IsPlacedState (types.served served.now).shape (state_of live.now.state) }
+    ensures { let c = call_of call.now in
+        Gives plan_of result (and_then (body_of c.body) (apply_validated (types.served served.now) current (option_map object_of live.now.object) (key_of key) c.query)) }
+{
+    let body = body_of(alloc, call)?;
+    validate_apply(alloc, served, current, live, key, &call.query, body)
+}
+
+/// By the method, over the object under the key: where a write starts from its state, that is read first.
+fn planned_by(
+    alloc: Global,
+    served: &Served,
+    current: u64,
+    object: Option<Object>,
+    key: Key,
+    call: &Call,
+) -> Result<Plan, Fault>
+    requires numbered { current ≤ last_revision }
+    requires shaped { IsObjectShape (types.served served.now).shape }
+    ensures planned { let c = call_of call.now in
+        IfOk result (λ p. plan_of p ≡ plan_for (object_validated_by c.target.method (types.served served.now) current (option_map object_of object) (key_of key) c.query c.body)) }
+    ensures readable { IsReadable (types.served served.now) (key_of key) (option_map object_of object) → result ≢ Err Fault.Unreadable }
+{
+    match call.target.method {
+        Method::Get => {
+            let query = call.query.as_slice();
+            plan_for(
+                alloc,
+                validate_get(alloc, served, current, object.as_ref(), &key, query),
+            )
+        }
+        Method::Post => plan_for(alloc, Err(not_served(alloc))),
+        Method::Put => {
+            let live = read_live(alloc, served, &key, object)?;
+            plan_for(
+                alloc,
+                validate_put(alloc, served, current, &live, key, call),
+            )
+        }
+        Method::Patch => {
+            let live = read_live(alloc, served, &key, object)?;
+            plan_for(
+                alloc,
+                validate_patch(alloc, served, current, &live, key, call),
+            )
+        }
+        Method::Delete => {
+            let live = read_live(alloc, served, &key, object)?;
+            let query = call.query.as_slice();
+            plan_for(
+                alloc,
+                validate_delete(
+                    alloc,
+                    served,
+                    current,
+                    &live,
+                    key,
+                    query,
+                    call.body.as_ref(),
+                ),
+            )
+        }
+    }
+}
+
+fn planned_object(
+    alloc: Global,
+    served: &Served,
+    store: &mut Store,
+    key: Key,
+    call: &Call,
+) -> Result<Plan, Fault>
+    requires { IsObjectShape (types.served served.now).shape }
+    ensures planned { let c = call_of call.now in
+        IfOk result (λ p. plan_of p ≡ plan_for (object_validated_by c.target.method (types.served served.now) store.old.current (fin.get (objects_in store.old) (key_of key)) (key_of key) c.query c.body)) }
+    ensures readable { IsReadable (types.served served.now) (key_of key) (fin.get (objects_in store.old) (key_of key)) → result ≢ Err Fault.Unreadable }
+    ensures same { store.new ≡ store.old }
+{
+    let object = store.get(&key)?;
+    planned_by(alloc, served, store.current(), object, key, call)
+}
+
+/// What a creation's body says.
+fn validate_collection(
+    alloc: Global,
+    served: &Served,
+    namespace: &str,
+    call: &Call,
+) -> Result<Creation, CallError>
+    requires { IsObjectShape (types.served served.now).shape }
+    ensures validated { let c = call_of call.now in
+        Gives creation_seen result (and_then (body_of c.body) (creation_validated (types.served served.now) c.target.kind namespace.now c.query)) }
+    ensures content { IfOk result (λ c. IsContent (types.served served.now).shape c.intent.content) }
+{
+    let body = body_of(alloc, call)?;
+    validate_creation(
+        alloc,
+        served,
+        call.target.kind,
+        namespace,
+        &call.query,
+        body,
+    )
+}
+
+fn planned_creation(
+    alloc: Global,
+    served: &Served,
+    store: &mut Store,
+    creation: Creation,
+) -> Result<Plan, Fault>
+    requires shaped { IsObjectShape (types.served served.now).shape }
+    requires content { IsContent (types.served served.now).shape creation.intent.content }
+    ensures planned { let c = creation_seen creation in
+        IfOk result (λ p. plan_of p ≡ plan_for (created_as (types.served served.now) store.old.current (fin.get (objects_in store.old) c.key) c.key c.intent)) }
+    ensures readable { result ≢ Err Fault.Unreadable }
+    ensures same { store.new ≡ store.old }
+{
+    let Creation { key, intent } = creation;
+    let standing = store.get(&key)?;
+    let current = store.current();
+    plan_for(
+        alloc,
+        created_as(alloc, served, current, standing.as_ref(), key, intent),
+    )
+}
+
+fn planned_collection(
+    alloc: Global,
+    served: &Served,
+    store: &mut Store,
+    namespace: &str,
+    call: &Call,
+) -> Result<Plan, Fault>
+    requires { IsObjectShape (types.served served.now).shape }
+    ensures planned { let c = call_of call.now in
+        IfOk result (λ p. plan_of p ≡ plan_for (collection_validated_by c.target.method (types.served served.now) store.old.current (objects_in store.old) c.target.kind namespace.now c.query c.body)) }
+    ensures readable { result ≢ Err Fault.Unreadable }
+    ensures same { store.new ≡ store.old }
+{
+    if call.target.method != Method::Post {
+        return plan_for(alloc, Err(not_served(alloc)));
+    }
+    match validate_collection(alloc, served, namespace, call) {
+        Ok(creation) => planned_creation(alloc, served, store, creation),
+        Err(call_error) => plan_for(alloc, Err(call_error)),
+    }
+}
+
+fn planned_in(alloc: Global, served: &Served, store: &mut Store, call: &Call) -> Result<Plan, Fault>
+    requires { IsObjectShape (types.served served.now).shape }
+    ensures planned { let c = call_of call.now in
+        IfOk result (λ p. plan_of p ≡ plan_for (validated_in (types.served served.now) store.old.current (objects_in store.old) c c.target.namespace c.target.name)) }
+    ensures readable { (all : List ServedShape) → slice_get all call.now.target.kind ≡ Some (types.served served.now) → AreTexts all (objects_in store.old) → result ≢ Err Fault.Unreadable }
+    ensures same { store.new ≡ store.old }
+{
+    let Some(namespace) = &call.target.namespace else {
+        return plan_for(alloc, Err(no_path(alloc)));
+    };
+    let Some(name) = &call.target.name else {
+        return planned_collection(alloc, served, store, namespace.as_str(), call);
+    };
+    let key = Key {
+        kind: call.target.kind,
+        namespace: namespace.clone()?,
+        name: name.clone()?,
+    };
+    planned_object(alloc, served, store, key, call)
+}
+
+/// What a call comes to.
+pub(crate) fn planned(
+    alloc: Global,
+    all: &Types,
+    store: &mut Store,
+    call: &Call,
+) -> Result<Plan, Fault>
+    ensures planned { IfOk result (λ p. plan_of p ≡ planned_over (types_view all.now) store.old.current (objects_in store.old) (call_of call.now)) }
+    ensures readable { AreTexts (types_view all.now) (objects_in store.old) → result ≢ Err Fault.Unreadable }
+    ensures same { store.new ≡ store.old }
+{
+    let Some(served) = all.get(call.target.kind) else {
+        return plan_for(alloc, Err(no_path(alloc)));
+    };
+    planned_in(alloc, served, store, call)
+}
