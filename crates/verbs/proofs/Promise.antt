@@ -1,9 +1,11 @@
 -- What a call plans may come next; an apply without force changes no field that another manager owns, and an update takes from others only what it changes.
-use Rattle.std.proofs.Common.{◌≡◌, ℕ, suc, ◌<◌, ◌≤◌, Bool, true, false, cond, List, [], Option, Some, None, Ok, Err, refl, sym, ap, subst, ◌∙◌, is_some, not, ◌&&◌, ◌||◌, ap₂, true≢false, ltb-true}
-use Rattle.std.specs.Prelude.{nat_lt, slice_get, IfSome}
+use Rattle.std.proofs.Common.{◌≡◌, ℕ, suc, ◌<◌, ◌≤◌, Bool, true, false, cond, List, [], Option, Some, None, Ok, Err, refl, sym, ap, subst, ◌∙◌, is_some, not, ◌&&◌, ◌||◌, ap₂, true≢false, ltb-true, ltb-false}
+use Rattle.std.specs.Prelude.{codes, length, nat_le, nat_lt, slice_get, IfSome}
 use Rattle.std.specs.FinMap as fin
 use Rattle.std.specs.FinSet as set
 use Rattle.serde_json.specs.Data.{Data}
+use Rattle.serde_json.specs.Written.{compact_text}
+use Rattle.names.specs.Names.{is_dns_label, is_dns_subdomain}
 use Rattle.params.specs.Values.{Values}
 use Rattle.params.specs.declared.params.Asked.{Asked}
 use Rattle.params.specs.declared.params.Asked.TheVariants as asked
@@ -33,13 +35,14 @@ use Rattle.verbs.specs.declared.method.Method.TheVariants.{Get, Post, Put, Patch
 use Rattle.verbs.specs.Calls.{Call, Plan}
 use Rattle.verbs.specs.Json.{IsJson, IsJsonBody}
 use Rattle.verbs.specs.Envelope.{Expected, api_version_of, envelope_of, name_in}
-use Rattle.verbs.specs.Validated.{Validated, and_then}
-use Rattle.verbs.specs.Machine.{AreTexts, IsBodyAt, IsMachine, IsNext, after, identity_of, no_state, state_by, state_of_live, state_said, state_under}
-use Rattle.verbs.specs.Naming.{marks_validated, names_validated, required_name}
+use Rattle.verbs.specs.declared.reason.Reason.TheVariants.{Invalid}
+use Rattle.verbs.specs.Validated.{Validated, and_then, require}
+use Rattle.verbs.specs.Machine.{AreTexts, IsBodyAt, IsMachine, IsNamed, IsNext, after, identity_of, no_state, state_by, state_of_live, state_said, state_under}
+use Rattle.verbs.specs.Naming.{marks_validated, metadata_object, names_validated, path_validated, required_name}
 use Rattle.verbs.specs.Options.{options_validated}
 use Rattle.verbs.specs.Parameters.{parameters_validated}
 use Rattle.verbs.specs.Promise.{AppliesKeepOthers, OthersKeepUnchanged, PlansComeNext, StepsKeepMachines, TextsSayStates, UpdatesTakeChanges}
-use Rattle.verbs.specs.Size.{size_validated}
+use Rattle.verbs.specs.Size.{count_if_there, is_over, max_bytes, max_labels, size_validated}
 use Rattle.verbs.specs.Step.{Intent, applied_over, apply_validated, at_path, body_of, collection_validated_by, conflict_refusal, Creation, create_validated, created_as, creation_validated, delete_validated, deleted_over, get_validated, intent_of, validated_at, validated_in, validated_over, as_it_stands, key_at, not_there, object_validated_by, ownership_validated, planned, printed, revisions_left, shape_validated, stored, stored_over, text_at, there, plan_for, update_validated, updated_by, updated_over, version_checked, version_come}
 use Rattle.verbs.proofs.Changes.{machine_next, standing_next, standing_texts}
 use Rattle.verbs.proofs.Checks.{change_in, held, no_err, ok_is, passed}
@@ -51,11 +54,27 @@ use Rattle.verbs.proofs.Said.{Shapes, nothing_placed, printed_is_text, said_back
 abbrev BodyBy : List ServedShape → Objects → Type 0 → (State → State → Type 0) → Change → Option (List ℕ) → Type 0
 BodyBy types objects D R c None = D × (fin.contains_key objects c.key ≡ true)
 BodyBy types objects D R c (Some text) =
-    (t : ServedShape) × (slice_get types c.key.kind ≡ Some t) × (s : State) × IsPlacedState t.shape s × (text ≡ text_at t c.key c.revision s) × R (state_under types objects c.key) s
+    (t : ServedShape) × (slice_get types c.key.kind ≡ Some t) × (s : State) × IsPlacedState t.shape s × (text ≡ text_at t c.key c.revision s) × R (state_under types objects c.key) s × (length text ≤ max_bytes) × IsNamed c.key
 
 abbrev WritesBy : List ServedShape → ℕ → Objects → Type 0 → (State → State → Type 0) → Option Change → Type 0
 WritesBy types current objects D R None = Unit {0}
 WritesBy types current objects D R (Some c) = (c.revision ≡ suc current) × (c.revision ≤ last_revision) × BodyBy types objects D R c c.body
+
+-- the checks of size and names say so
+short_enough : (d : Data) (u : Unit {0}) → size_validated d ≡ Ok u → length (compact_text d) ≤ max_bytes
+short_enough d u e =
+    let few = passed (require (nat_le (count_if_there (metadata_object (codes "labels") d)) max_labels) Invalid (codes "metadata.labels: more than 64")) _ u e in
+    by_test (is_over d) refl (held (not (is_over d)) _ _ u few.2)
+  where
+    by_test : (b : Bool) → is_over d ≡ b → not b ≡ true → length (compact_text d) ≤ max_bytes
+    by_test true is h = absurd (true≢false (sym h))
+    by_test false is h = ltb-false _ _ is
+
+is_named : (k : Key) (body : Data) (u : Unit {0}) → names_validated k.namespace k.name body ≡ Ok u → IsNamed k
+is_named k body u e =
+    let path = passed (path_validated k.namespace k.name) _ u e in
+    let first = passed (require (is_dns_subdomain k.name) Invalid (codes "metadata.name: bad name")) _ path.0 path.1 in
+    record { namespace = held (is_dns_label k.namespace) _ _ path.0 first.2; name = held (is_dns_subdomain k.name) _ _ first.0 first.1 }
 
 next_left : (n : ℕ) → n < last_revision → suc n ≤ last_revision
 next_left n lt = lt
@@ -65,20 +84,20 @@ module _ (types : List ServedShape) (current : ℕ) (objects : Objects) (t : Ser
   under : state_under types objects k ≡ state_of_live t (fin.get objects k)
   under = ap (λ o. state_by o (fin.get objects k)) serves
 
-  stored_writes : (status : ℕ) (s : State) (p : Plan) → IsPlacedState t.shape s → R (state_of_live t (fin.get objects k)) s → stored t current k status s ≡ Ok p → WritesBy types current objects D R p.change
-  stored_writes status s p placed keeps e =
+  stored_writes : (status : ℕ) (s : State) (p : Plan) → IsPlacedState t.shape s → R (state_of_live t (fin.get objects k)) s → IsNamed k → stored t current k status s ≡ Ok p → WritesBy types current objects D R p.change
+  stored_writes status s p placed keeps named e =
       let sized = passed (size_validated (printed t k (suc current) s)) _ p e in
       let left = passed (revisions_left current) _ p sized.2 in
       subst (WritesBy types current objects D R) (ap change_in left.2)
-      (refl, next_left current (ltb-true _ _ (held (nat_lt current last_revision) _ _ left.0 left.1)), (t, serves, s, placed, refl, subst (λ x. R x s) (sym under) keeps))
+      (refl, next_left current (ltb-true _ _ (held (nat_lt current last_revision) _ _ left.0 left.1)), (t, serves, s, placed, refl, subst (λ x. R x s) (sym under) keeps, short_enough (printed t k (suc current) s) sized.0 sized.1, named))
 
-  over_writes : (found : Option Object) (s : State) (p : Plan) → IsPlacedState t.shape s → R (state_of_live t (fin.get objects k)) s → stored_over t current k found s ≡ Ok p → WritesBy types current objects D R p.change
-  over_writes None s p placed keeps e = stored_writes 201 s p placed keeps e
-  over_writes (Some o) s p placed keeps e = go (same_state s (state_said t.shape o.body)) e
+  over_writes : (found : Option Object) (s : State) (p : Plan) → IsPlacedState t.shape s → R (state_of_live t (fin.get objects k)) s → IsNamed k → stored_over t current k found s ≡ Ok p → WritesBy types current objects D R p.change
+  over_writes None s p placed keeps named e = stored_writes 201 s p placed keeps named e
+  over_writes (Some o) s p placed keeps named e = go (same_state s (state_said t.shape o.body)) e
     where
       go : (b : Bool) → cond b (Ok (as_it_stands o)) (stored t current k 200 s) ≡ Ok p → WritesBy types current objects D R p.change
       go true f = subst (WritesBy types current objects D R) (ap change_in f) tt
-      go false f = stored_writes 200 s p placed keeps f
+      go false f = stored_writes 200 s p placed keeps named f
 
 -- ---- what the parameters say is what is intended
 
@@ -172,15 +191,15 @@ module _ (types : List ServedShape) (current : ℕ) (objects : Objects) (shapes 
     shaped : IsObjectShape t.shape
     shaped = shapes k.kind t serves
 
-    applied_writes : (intent : Intent) (p : Plan) → IsContent t.shape intent.content
+    applied_writes : (intent : Intent) (p : Plan) → IsContent t.shape intent.content → IsNamed k
         → ((before s : State) → ownership_validated (api_version_of t) before intent.content (manager_of intent.manager apply_operation) intent.is_forced ≡ Ok s → R before s)
         → applied_over t current k (fin.get objects k) intent ≡ Ok p → WritesBy types current objects D R p.change
-    applied_writes intent p content keeps e =
+    applied_writes intent p content named keeps e =
         let version = passed (version_checked intent.version (fin.get objects k)) _ p e in
         let before = state_of_live t (fin.get objects k) in
         let owned = passed (ownership_validated (api_version_of t) before intent.content (manager_of intent.manager apply_operation) intent.is_forced) _ p version.2 in
         over_writes types current objects t k serves D R (fin.get objects k) owned.0 p
-        (owned_placed t _ before intent.content _ intent.is_forced owned.0 (live_placed t k serves (fin.get objects k) refl) content owned.1) (keeps before owned.0 owned.1) owned.2
+        (owned_placed t _ before intent.content _ intent.is_forced owned.0 (live_placed t k serves (fin.get objects k) refl) content owned.1) (keeps before owned.0 owned.1) named owned.2
 
     apply_writes : (query : List ℕ) (body : Data) (p : Plan) → IsJson body
         → ((i : Intent) → intent_of (at_path t k Patch) asked.Apply query body ≡ Ok i → (before s : State)
@@ -189,7 +208,7 @@ module _ (types : List ServedShape) (current : ℕ) (objects : Objects) (shapes 
     apply_writes query body p json keeps e =
         let intent = passed (intent_of (at_path t k Patch) asked.Apply query body) _ p e in
         let named = passed (names_validated k.namespace k.name intent.0.rest) _ p intent.2 in
-        applied_writes intent.0 p (intended_content (at_path t k Patch) asked.Apply query body intent.0 shaped json intent.1) (keeps intent.0 intent.1) named.2
+        applied_writes intent.0 p (intended_content (at_path t k Patch) asked.Apply query body intent.0 shaped json intent.1) (is_named k intent.0.rest named.0 named.1) (keeps intent.0 intent.1) named.2
 
     updated_writes : (intent : Intent) (p : Plan) → IsContent t.shape intent.content → ((before : State) → R before (updated_by intent before))
         → (found : Option Object) → fin.get objects k ≡ found → updated_over t current k found intent ≡ Ok p → WritesBy types current objects D R p.change
@@ -199,7 +218,7 @@ module _ (types : List ServedShape) (current : ℕ) (objects : Objects) (shapes 
         let before = state_said t.shape o.body in
         over_writes types current objects t k serves D R (Some o) (updated_by intent before) p
         (updated_placed before intent.content _ t.shape content (live_placed t k serves (Some o) is))
-        (subst (λ found. R (state_of_live t found) (updated_by intent before)) (sym is) (keeps before)) version.2
+        (subst (λ found. R (state_of_live t found) (updated_by intent before)) (sym is) (keeps before)) (texts k o is).named version.2
 
     update_writes : (query : List ℕ) (body : Data) (p : Plan) → IsJson body
         → ((i : Intent) → intent_of (at_path t k Put) asked.Put query body ≡ Ok i → (before : State) → R before (updated_by i before))
@@ -231,11 +250,11 @@ module _ (types : List ServedShape) (current : ℕ) (objects : Objects) (shapes 
         subst (WritesBy types current objects D R) (ap change_in come.2) tt
 
   -- a creation: nothing stands under its key
-  created_writes : (t : ServedShape) (k : Key) → slice_get types k.kind ≡ Some t → (intent : Intent) (p : Plan) → IsContent t.shape intent.content
+  created_writes : (t : ServedShape) (k : Key) → slice_get types k.kind ≡ Some t → (intent : Intent) (p : Plan) → IsContent t.shape intent.content → IsNamed k
       → (found : Option Object) → fin.get objects k ≡ found → and_then (not_there t k.name found) (λ u. stored t current k 201 (updated_by intent no_state)) ≡ Ok p → WritesBy types current objects (Unit {0}) (λ old new. Unit {0}) p.change
-  created_writes t k serves intent p content (Some o) is e = no_err _ p e
-  created_writes t k serves intent p content None is e =
-      stored_writes types current objects t k serves (Unit {0}) (λ old new. Unit {0}) 201 (updated_by intent no_state) p (updated_placed no_state intent.content _ t.shape content (nothing_placed t.shape)) tt e
+  created_writes t k serves intent p content named (Some o) is e = no_err _ p e
+  created_writes t k serves intent p content named None is e =
+      stored_writes types current objects t k serves (Unit {0}) (λ old new. Unit {0}) 201 (updated_by intent no_state) p (updated_placed no_state intent.content _ t.shape content (nothing_placed t.shape)) tt named e
 
   create_writes : (t : ServedShape) (kind : ℕ) → slice_get types kind ≡ Some t → (namespace query : List ℕ) (body : Data) (p : Plan) → IsJson body
       → create_validated t current objects kind namespace query body ≡ Ok p → WritesBy types current objects (Unit {0}) (λ old new. Unit {0}) p.change
@@ -249,7 +268,7 @@ module _ (types : List ServedShape) (current : ℕ) (objects : Objects) (shapes 
       let same : made ≡ creation.0 = ok_is made creation.0 name.2 in
       let f = subst (λ (c : Creation). created_as t current (fin.get objects c.key) c.key c.intent ≡ Ok p) (sym same) creation.2 in
       let named = passed (names_validated k.namespace k.name intent.0.rest) _ p f in
-      created_writes t k serves intent.0 p (intended_content of asked.Post query body intent.0 (shapes kind t serves) json intent.1) (fin.get objects k) refl named.2
+      created_writes t k serves intent.0 p (intended_content of asked.Post query body intent.0 (shapes kind t serves) json intent.1) (is_named k intent.0.rest named.0 named.1) (fin.get objects k) refl named.2
 
 -- ---- each call
 
@@ -302,6 +321,8 @@ written_text types objects D R c (Some text) low is = record {
   served = is.1;
   state = is.2;
   says = subst (λ x. IsObjectText is.0.shape (identity_of is.0 c.key) c.revision is.2 x) (sym is.4) (printed_is_text is.0 c.key c.revision is.2 is.3 low);
+  short = is.6;
+  named = is.7;
 }
 
 gone_there : (types : List ServedShape) (objects : Objects) (D : Type 0) (R : State → State → Type 0) (c : Change) (body : Option (List ℕ)) → BodyBy types objects D R c body → body ≡ None → fin.contains_key objects c.key ≡ true

@@ -1,6 +1,6 @@
 -- The machine: a history whose bodies are texts of objects, each of the type and key of its change
 -- (resourceVersion and its order: Kubernetes "API Concepts", "Resource versions").
-use Rattle.std.specs.Prelude.{◌≡◌, ℕ, suc, ◌≤◌, true, List, Option, Some, None, option_and_then, slice_get}
+use Rattle.std.specs.Prelude.{◌≡◌, ℕ, suc, ◌≤◌, true, List, length, Option, Some, None, option_and_then, slice_get}
 use Rattle.std.specs.FinMap as fin
 use Rattle.std.specs.List.{All, AllByRecursion}
 use Rattle.serde_json.specs.Read.{read}
@@ -15,7 +15,9 @@ use Rattle.ownership.specs.ObjectText.{Identity}
 use Rattle.ownership.specs.Parts.{parts_in}
 use Rattle.schema.specs.ObjectShape.{IsObjectShape}
 use Rattle.ownership.specs.ReadBack.{IsObjectText}
+use Rattle.names.specs.Names.{is_dns_label, is_dns_subdomain}
 use Rattle.verbs.specs.Envelope.{api_version_of}
+use Rattle.verbs.specs.Size.{max_bytes}
 
 -- ---- what stands
 
@@ -50,12 +52,20 @@ state_under types s k = state_by (slice_get types k.kind) (fin.get s k)
 abbrev pub identity_of : ServedShape → Key → Identity
 identity_of t k = record { api_version = api_version_of t; kind = t.kind; namespace = k.namespace; name = k.name }
 
--- the text is that of an object of the key and its type, at the revision: of a content of the type, with owners of its paths
+-- the namespace and the name are ones that an object may have
+pub record IsNamed (k : Key) : Type 0 where
+  pub namespace : is_dns_label k.namespace ≡ true
+  pub name : is_dns_subdomain k.name ≡ true
+
+-- the text is that of an object of the key and its type, at the revision: of a content of the type, with owners of its paths;
+-- it is no longer than an object may be, and the key has a namespace and a name that an object may have
 pub record IsTextAt (types : List ServedShape) (k : Key) (revision : ℕ) (text : List ℕ) : Type 0 where
   pub t : ServedShape
   pub served : slice_get types k.kind ≡ Some t
   pub state : State
   pub says : IsObjectText t.shape (identity_of t k) revision state text
+  pub short : length text ≤ max_bytes
+  pub named : IsNamed k
 
 -- each text is that of an object of its key and its type
 abbrev pub AreTexts : List ServedShape → Objects → Type 0
