@@ -124,8 +124,12 @@ objects_in v = state_in v v.current
 abbrev pub types_of : Api → List ServedShape
 types_of api = types_view api.types
 
+-- what may be seen of its store
+abbrev pub seen_of : Api → View
+seen_of api = api.store
+
 -- the API serves these types, and of its store is seen what is seen of the machine
 pub record Stands (api : Api) (types : List ServedShape) (m : History) : Type 0 where
   pub is_machine : IsMachine types m
   pub serves : types_of api ≡ types
-  pub store : api.store ≡ view_of m
+  pub store : seen_of api ≡ view_of m
