@@ -2,8 +2,7 @@
 use Rattle.std.proofs.Common.{◌≡◌, ℕ, zero, suc, List, [], ◌∷◌, ◌++◌, map, Bool, true, false, cond, T, ◌&&◌, ◌||◌, Option, Some, None, is_some, unwrap_or, refl, sym, ap, ap₂, subst, option_map, ◌∙◌, take, length, ◌-◌, Less, Equal, Greater, Ordering, filter, ◌==◌, is_eq, is_lt, arith}
 use Rattle.std.proofs.Common.{eqb-true}
 use Rattle.std.proofs.lemmas.List.{map-append, length-map}
-use Rattle.std.specs.Ordering.{is_gt, is_ge, nat_cmp, ordering_then}
-use Rattle.std.proofs.lemmas.Bool.Decides.{nat_tests}
+use Rattle.std.specs.Ordering.{is_gt, ordering_then}
 use Rattle.std.specs.List.{AllByRecursion}
 use Rattle.std.specs.FinMap as fin
 use Rattle.sqlite.specs.Tree.{IsAscending}
@@ -14,6 +13,7 @@ use Rattle.history.specs.Page.{is_within, is_past, listed, page}
 use Rattle.revtable.proofs.Entries.{Entry, entries_ascend}
 use Rattle.history.proofs.Keys.{is_equal, text_cmp_antisymmetric}
 use Rattle.revtable.proofs.Pages.{and_left, same_kind}
+use Rattle.revtable.proofs.Where.{next_text}
 
 and_right : (a b : Bool) → (a && b) ≡ true → b ≡ true
 and_right true b e = e
@@ -157,29 +157,6 @@ begins_none kind None after s e = absurd (subst (λ (o : Option (List ℕ × Opt
 begins_none kind (Some ns) after s e = listed_one kind ns after s ∙ ap (λ b. from_one b kind s) e
 
 -- ---- the text after a namespace
-
-never_less : (y : ℕ) → is_ge (nat_cmp y 0) ≡ true
-never_less y = grind (arith, nat_tests)
-
-from_nothing : (n : List ℕ) → is_ge (text_cmp n []) ≡ true
-from_nothing [] = refl
-from_nothing (x ∷ n) = refl
-
-not_less : (o : Ordering) (n : List ℕ) → is_ge o ≡ true → is_ge (ordering_then o (text_cmp n [])) ≡ true
-not_less Less n e = e
-not_less Equal n e = from_nothing n
-not_less Greater n e = refl
-
-pub next_text : (n ns : List ℕ) → is_ge (text_cmp n (ns ++ 0 ∷ [])) ≡ is_gt (text_cmp n ns)
-next_text [] [] = refl
-next_text [] (x ∷ ns) = refl
-next_text (y ∷ n) [] = not_less (nat_cmp y 0) n (never_less y)
-next_text (y ∷ n) (x ∷ ns) = go (nat_cmp y x) (next_text n ns)
-  where
-    go : (o : Ordering) → is_ge (text_cmp n (ns ++ 0 ∷ [])) ≡ is_gt (text_cmp n ns) → is_ge (ordering_then o (text_cmp n (ns ++ 0 ∷ []))) ≡ is_gt (ordering_then o (text_cmp n ns))
-    go Less e = refl
-    go Equal e = e
-    go Greater e = refl
 
 pub from_next : (kind : ℕ) (ns : List ℕ) (s : Objects) → in_from kind (ns ++ 0 ∷ []) s ≡ in_later kind ns s
 from_next kind ns s = filter_same _ _ (λ (e : Entry). ap (λ b. (e.0.kind == kind) && b) (next_text e.0.namespace ns)) (fin.entries s)

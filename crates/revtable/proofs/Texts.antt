@@ -120,11 +120,10 @@ standing_tests = op2 (Compare Le Binary) (col 1 0) (col 0 0) ∷ op1 Not (op2 (I
 
 -- of a type, in one namespace, perhaps after a name
 abbrev pub in_text : List ℕ
-in_text = codes "SELECT revision, kind, namespace, name, body FROM change WHERE kind = ?3 AND namespace = ?4 AND name >= ?5 AND (?6 IS NULL OR name > ?6) AND revision <= ?1 AND body IS NOT NULL AND NOT EXISTS (SELECT 1 FROM change AS later WHERE change.kind = later.kind AND change.namespace = later.namespace AND change.name = later.name AND later.revision > change.revision AND NOT later.revision > ?1) ORDER BY namespace, name LIMIT ?2"
+in_text = codes "SELECT revision, kind, namespace, name, body FROM change WHERE kind = ?3 AND namespace = ?4 AND name >= ?5 AND revision <= ?1 AND body IS NOT NULL AND NOT EXISTS (SELECT 1 FROM change AS later WHERE change.kind = later.kind AND change.namespace = later.namespace AND change.name = later.name AND later.revision > change.revision AND NOT later.revision > ?1) ORDER BY namespace, name LIMIT ?2"
 
 abbrev pub in_tests : List Term
-in_tests = op2 (Compare Eq Binary) (col 1 2) (col 0 2) ∷ op2 (Compare Eq Binary) (col 1 3) (col 0 3) ∷ op2 (Compare Ge Binary) (col 1 4) (col 0 4)
-    ∷ op2 Or (op2 (Is Binary) (col 0 5) (lit Null)) (op2 (Compare Gt Binary) (col 1 4) (col 0 5)) ∷ standing_tests
+in_tests = op2 (Compare Eq Binary) (col 1 2) (col 0 2) ∷ op2 (Compare Eq Binary) (col 1 3) (col 0 3) ∷ op2 (Compare Ge Binary) (col 1 4) (col 0 4) ∷ standing_tests
 
 pub in_is : (command_of (understood change_schema in_text) ≡ Select (record { lets = []; body = page_query in_tests }) names) × (reads_listing change_schema in_text ≡ false)
 unfolding understood everything

@@ -1,5 +1,5 @@
 -- What the tests of WHERE say of a change.
-use Rattle.std.proofs.Common.{◌≡◌, ℕ, pos, List, [], ◌∷◌, Bool, true, false, not, ◌&&◌, ◌||◌, refl, ap, ◌∙◌, arith, Option, Some, None, is_some, unwrap_or, is_eq, min, int_cmp, Ordering, Less, Equal, Greater, cond, length, suc, zero, filter, ◌==◌}
+use Rattle.std.proofs.Common.{◌≡◌, ℕ, pos, List, [], ◌∷◌, ◌++◌, Bool, true, false, not, ◌&&◌, ◌||◌, refl, ap, ◌∙◌, arith, Option, Some, None, is_some, unwrap_or, is_eq, min, int_cmp, Ordering, Less, Equal, Greater, cond, length, suc, zero, filter, ◌==◌}
 use Rattle.std.specs.Prelude.{nat_lt, nat_le, is_none}
 use Rattle.std.specs.Ordering.{int_eq, is_gt, is_ge, is_le, is_lt, nat_cmp, ordering_then}
 use Rattle.std.specs.List.{list_any, list_all}
@@ -10,7 +10,7 @@ use Rattle.std.proofs.lemmas.Cmp.{tied_itself}
 use Rattle.sqlite.specs.declared.types.Value.{Value}
 use Rattle.sqlite.specs.declared.types.Value.TheVariants.{Null, Int, Text as Words}
 use Rattle.sqlite.specs.Collation.TheVariants.{Binary}
-use Rattle.sqlite_sql.specs.declared.ops.CompareOp.TheVariants.{Eq, Gt, Ge, Le, Lt}
+use Rattle.sqlite_sql.specs.declared.ops.CompareOp.TheVariants.{Eq, Ge, Le, Lt}
 use Rattle.sqlite_sql.specs.declared.ops.BinaryOp.TheVariants.{Compare, Or, Is}
 use Rattle.sqlite_sql.specs.declared.ops.UnaryOp.TheVariants.{Not}
 use Rattle.sqlite_sql.specs.Term.{holds}
@@ -167,7 +167,7 @@ abbrev pub bound_page : ℕ → ℕ → Row → Row
 bound_page r max rest = Int (pos r) ∷ Int (pos max) ∷ rest
 
 abbrev pub bound_in : ℕ → List ℕ → Option (List ℕ) → Row
-bound_in kind ns name = Int (pos kind) ∷ Words ns ∷ Words (low_of name) ∷ body_value name ∷ []
+bound_in kind ns name = Int (pos kind) ∷ Words ns ∷ Words (low_of name) ∷ []
 
 abbrev pub bound_from : ℕ → List ℕ → Row
 bound_from kind ns = Int (pos kind) ∷ Words ns ∷ []
@@ -192,11 +192,6 @@ same_text : (a b : List ℕ) → passes (binary (Compare Eq Binary) (Words a) (W
 unfolding binary
 same_text a b = rw (value_cmp-Text a b) (truth_back (is_eq (text_cmp a b)))
 
-after_name : (name : Option (List ℕ)) (n : List ℕ) → passes (binary Or (binary (Is Binary) (body_value name) Null) (binary (Compare Gt Binary) (Words n) (body_value name))) ≡ is_past_name name n
-unfolding binary
-after_name None n = rw null_null refl
-after_name (Some name) n = rw (value_cmp-Text n name, null_text name) (or_both false (is_gt (text_cmp n name)))
-
 not_is : (b : Bool) → passes (from_truth (not3 (truth (from_truth (Some b))))) ≡ not b
 not_is true = refl
 not_is false = refl
@@ -219,22 +214,34 @@ not_counted n = not_number (not (int_eq (pos (min 1 n)) (pos 0))) ∙ ap not (no
 
 -- ---- the place of a page
 
-from_empty : (n : List ℕ) → is_ge (text_cmp n []) ≡ true
-from_empty [] = refl
-from_empty (x ∷ n) = refl
+-- ---- the text after another
 
-from_name : (name : Option (List ℕ)) (n : List ℕ) → (is_ge (text_cmp n (low_of name)) && is_past_name name n) ≡ is_past_name name n
-from_name None n = rw (from_empty n) refl
-from_name (Some name) n = go (text_cmp n name)
+never_less : (y : ℕ) → is_ge (nat_cmp y 0) ≡ true
+never_less y = grind (arith, nat_tests)
+
+from_nothing : (n : List ℕ) → is_ge (text_cmp n []) ≡ true
+from_nothing [] = refl
+from_nothing (x ∷ n) = refl
+
+not_less : (o : Ordering) (n : List ℕ) → is_ge o ≡ true → is_ge (ordering_then o (text_cmp n [])) ≡ true
+not_less Less n e = e
+not_less Equal n e = from_nothing n
+not_less Greater n e = refl
+
+pub next_text : (n ns : List ℕ) → is_ge (text_cmp n (ns ++ 0 ∷ [])) ≡ is_gt (text_cmp n ns)
+next_text [] [] = refl
+next_text [] (x ∷ ns) = refl
+next_text (y ∷ n) [] = not_less (nat_cmp y 0) n (never_less y)
+next_text (y ∷ n) (x ∷ ns) = go (nat_cmp y x) (next_text n ns)
   where
-    go : (o : Ordering) → (is_ge o && is_gt o) ≡ is_gt o
-    go Less = refl
-    go Equal = refl
-    go Greater = refl
+    go : (o : Ordering) → is_ge (text_cmp n (ns ++ 0 ∷ [])) ≡ is_gt (text_cmp n ns) → is_ge (ordering_then o (text_cmp n (ns ++ 0 ∷ []))) ≡ is_gt (ordering_then o (text_cmp n ns))
+    go Less e = refl
+    go Equal e = e
+    go Greater e = refl
 
-grouped : (k n g p s : Bool) → (k && (n && (g && (p && s)))) ≡ (k && (n && ((g && p) && s)))
-grouped k n true p s = refl
-grouped k n false p s = refl
+from_name : (name : Option (List ℕ)) (n : List ℕ) → is_ge (text_cmp n (low_of name)) ≡ is_past_name name n
+from_name None n = from_nothing n
+from_name (Some name) n = next_text n name
 
 in_turn : (k n a s : Bool) → (k && (n && (a && s))) ≡ (s && ((k && n) && a))
 in_turn true true true true = refl
@@ -265,9 +272,8 @@ in_tests_are kind ns name r max all it =
     let same = it.key.kind == kind in
     let here = is_eq (text_cmp it.key.namespace ns) in
     let past = is_past_name name it.key.name in
-    rw (of_kind it.key.kind kind, same_text it.key.namespace ns, from_low it.key.name (low_of name), after_name name it.key.name, up_to_revision it.revision r, has_body it.body, not_counted n, with_true (not (nat_lt 0 n)), some_counted (replaces r it) all)
-    (grouped same here (is_ge (text_cmp it.key.name (low_of name))) past (stands r all it)
-    ∙ ap (λ b. same && (here && (b && stands r all it))) (from_name name it.key.name)
+    rw (of_kind it.key.kind kind, same_text it.key.namespace ns, from_low it.key.name (low_of name), up_to_revision it.revision r, has_body it.body, not_counted n, with_true (not (nat_lt 0 n)), some_counted (replaces r it) all)
+    (ap (λ b. same && (here && (b && stands r all it))) (from_name name it.key.name)
     ∙ in_turn same here past (stands r all it))
 
 pub from_tests_are : (kind : ℕ) (low : List ℕ) (r max : ℕ) (all : List Change) (it : Change)

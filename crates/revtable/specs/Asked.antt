@@ -1,5 +1,5 @@
 -- What the statements find among the changes that the rows keep.
-use Rattle.std.specs.Prelude.{ℕ, Bool, true, List, [], Option, Some, None, ◌&&◌, ◌||◌, ◌==◌, not, nat_le, nat_lt, is_none, filter, reverse, slice_get}
+use Rattle.std.specs.Prelude.{ℕ, Bool, true, List, [], ◌∷◌, ◌++◌, Option, Some, None, ◌&&◌, ◌||◌, ◌==◌, not, nat_le, nat_lt, is_none, filter, reverse, slice_get}
 use Rattle.std.specs.Ordering.{is_ge, is_gt}
 use Rattle.std.specs.declared.cmp.Ordering.{Ordering}
 use Rattle.std.specs.declared.cmp.Ordering.TheVariants.{Less, Equal, Greater}
@@ -56,10 +56,10 @@ in_later kind ns s = filter (λ e. is_in_later kind ns e.0) (fin.entries s)
 abbrev pub in_from : ℕ → List ℕ → Objects → List (Key × Object)
 in_from kind low s = filter (λ e. is_from kind low e.0) (fin.entries s)
 
--- the text that the names of a page begin from
+-- the text that the names of a page begin from: the next after a name is the name and a zero byte
 abbrev pub low_of : Option (List ℕ) → List ℕ
 low_of None = []
-low_of (Some name) = name
+low_of (Some name) = name ++ 0 ∷ []
 
 -- the namespace that a page begins in, and the name there after which it does; a place past the asked namespace leaves nothing
 abbrev pub begins_by : Ordering → List ℕ → List ℕ → Option (List ℕ × Option (List ℕ))

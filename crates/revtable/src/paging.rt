@@ -1,7 +1,7 @@
 //! Pages of objects: what is left of one namespace, and then what the namespaces after it have.
 
 ghost use Rattle.std.specs.Prelude.{◌≡◌, [], ◌∷◌, ◌++◌, ℕ, ◌^◌, ◌<◌, List, Option, map, take, IfOk, option_map, string_bytes};
-ghost use Rattle.revtable.specs.Asked.{as_change, begins as place_of, in_later, in_one};
+ghost use Rattle.revtable.specs.Asked.{as_change, begins as place_of, in_later, in_one, low_of};
 ghost use Rattle.history.specs.History.{state_at};
 ghost use Rattle.history.specs.Page.{page};
 ghost use Rattle.revtable.specs.Rows.{shown};
@@ -42,6 +42,36 @@ fn next_after(alloc: Global, text: &str) -> Result<String, AllocError>
     Ok(next)
 }
 
+/// The text that the names after this one begin from, or all of them.
+fn lowest(alloc: Global, after: Option<&str>) -> Result<String, AllocError>
+    ensures { IfOk result (λ s. string_bytes s ≡ low_of (option_map (λ b. b.now) after.entry)) }
+{
+    match after {
+        Some(name) => next_after(alloc, name),
+        None => Ok(String::new(alloc)),
+    }
+}
+
+/// The first objects of a type in one namespace at a revision, after a name if one is given.
+fn listed_after(
+    alloc: Global,
+    table: &mut Table,
+    kind: u32,
+    namespace: &str,
+    after: Option<&str>,
+    revision: u64,
+    max: u64,
+) -> Result<Vec<Row>, Fault>
+    requires fits { revision < 2 ^ 63 }
+    requires max { max < 2 ^ 63 }
+    ensures same { table.new ≡ table.old }
+    ensures ok { IfOk result (λ rows. rows.items ≡ map (λ e. shown (as_change e))
+        (take max (in_one kind namespace.now (option_map (λ b. b.now) after.entry) (state_at table.old.changes revision)))) }
+{
+    let low = lowest(alloc, after)?;
+    table.listed_in(kind, namespace, low.as_str(), revision, max)
+}
+
 /// The first objects of a type at a revision: what is left of a namespace, and then of those after it.
 fn listed_on(
     alloc: Global,
@@ -59,7 +89,7 @@ fn listed_on(
         (take max (in_one kind first.now (option_map (λ b. b.now) name.entry) (state_at table.old.changes revision)
         ++ in_later kind first.now (state_at table.old.changes revision)))) }
 {
-    let mut rows = table.listed_in(kind, first, name, revision, max)?;
+    let mut rows = listed_after(alloc, table, kind, first, name, revision, max)?;
     let left = max.saturating_sub(rows.len() as u64);
     let next = next_after(alloc, first)?;
     let mut more = table.listed_from(kind, next.as_str(), revision, left)?;
@@ -87,7 +117,7 @@ pub(crate) fn listed(
         return Ok(Vec::new(alloc));
     };
     if namespace.is_some() {
-        table.listed_in(kind, first, name, revision, max)
+        listed_after(alloc, table, kind, first, name, revision, max)
     } else {
         listed_on(alloc, table, kind, first, name, revision, max)
     }

@@ -1,6 +1,6 @@
 //! What the table asks of its rows.
 
-ghost use Rattle.std.specs.Prelude.{◌≡◌, [], ◌∷◌, ◌^◌, ◌<◌, pos, min, length, map, take, IfOk, option_map};
+ghost use Rattle.std.specs.Prelude.{◌≡◌, [], ◌∷◌, ℕ, ◌^◌, ◌<◌, List, Option, pos, min, length, map, take, IfOk, option_map};
 ghost use Rattle.history.specs.Read.{key_of};
 ghost use Rattle.std.specs.Option.{option_to_list};
 ghost use Rattle.revtable.specs.Asked.{as_change, in_from, in_one, last_change, low_of};
@@ -14,16 +14,6 @@ use crate::fault::Fault;
 use crate::table::Table;
 use history::Key;
 use sqlite::{Row, params};
-
-/// The text that the names of a page begin from.
-fn lowest(after: Option<&str>) -> &str
-    ensures { result.now ≡ low_of (option_map (λ b. b.now) after.entry) }
-{
-    match after {
-        Some(name) => name,
-        None => "",
-    }
-}
 
 impl Table {
     /// The last change of a key up to a revision, if there is one.
@@ -59,28 +49,27 @@ impl Table {
         )
     }
 
-    /// The first objects of a type in one namespace at a revision, after a name if one is given. The index by key
-    /// begins at the name and ends with the namespace, or where there are enough. `NOT later.revision > ?1` says `<=`,
-    /// but as two bounds of the rowid would be preferred to the index by key, which finds the next change of the key
-    /// at once, it is kept from being one.
+    /// The first objects of a type in one namespace at a revision, from a text on that their names begin from. The
+    /// index by key begins there and ends with the namespace, or where there are enough. `NOT later.revision > ?1` says
+    /// `<=`, but as two bounds of the rowid would be preferred to the index by key, which finds the next change of the
+    /// key at once, it is kept from being one.
     pub(crate) fn listed_in(
         &mut self,
         kind: u32,
         namespace: &str,
-        after: Option<&str>,
+        low: &str,
         revision: u64,
         max: u64,
     ) -> Result<Vec<Row>, Fault>
         requires fits { revision < 2 ^ 63 }
         requires max { max < 2 ^ 63 }
-        ensures ok { IfOk result (λ rows. rows.items ≡ map (λ e. shown (as_change e))
-            (take max (in_one kind namespace.now (option_map (λ b. b.now) after.entry) (state_at self.old.changes revision)))) }
+        ensures ok { (name : Option (List ℕ)) → low.now ≡ low_of name → IfOk result (λ rows. rows.items ≡ map (λ e. shown (as_change e))
+            (take max (in_one kind namespace.now name (state_at self.old.changes revision)))) }
         ensures same { self.new ≡ self.old }
     {
-        let low = lowest(after);
         self.ask(
-            "SELECT revision, kind, namespace, name, body FROM change WHERE kind = ?3 AND namespace = ?4 AND name >= ?5 AND (?6 IS NULL OR name > ?6) AND revision <= ?1 AND body IS NOT NULL AND NOT EXISTS (SELECT 1 FROM change AS later WHERE change.kind = later.kind AND change.namespace = later.namespace AND change.name = later.name AND later.revision > change.revision AND NOT later.revision > ?1) ORDER BY namespace, name LIMIT ?2",
-            params![revision as i64, max as i64, kind, namespace, low, after],
+            "SELECT revision, kind, namespace, name, body FROM change WHERE kind = ?3 AND namespace = ?4 AND name >= ?5 AND revision <= ?1 AND body IS NOT NULL AND NOT EXISTS (SELECT 1 FROM change AS later WHERE change.kind = later.kind AND change.namespace = later.namespace AND change.name = later.name AND later.revision > change.revision AND NOT later.revision > ?1) ORDER BY namespace, name LIMIT ?2",
+            params![revision as i64, max as i64, kind, namespace, low],
         )
     }
 

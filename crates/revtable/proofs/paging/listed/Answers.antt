@@ -22,8 +22,8 @@ returns-then-is_some-clause-ok c =
     let objects = state_at c.args.table.now.changes c.args.revision in
     let named : Option (List ℕ) = option_map (λ b. b.now) c.args.namespace in
     let place : Option (List ℕ × List ℕ) = option_map (λ p. (p.0.now, p.1.now)) c.args.after in
-    when_ok c.listed_in.result _ _ (λ v h.
-    h ∙ sym (ap show (page_one c.args.kind named place c.args.max objects _ _ (still_some _ c.args.namespace ∙ sym c.is_some.ensures ∙ c.if-is_some.true) (sym c.in-Some.ensures)))) c.listed_in.ensures.ok
+    when_ok c.listed_after.result _ _ (λ v h.
+    h ∙ sym (ap show (page_one c.args.kind named place c.args.max objects _ _ (still_some _ c.args.namespace ∙ sym c.is_some.ensures ∙ c.if-is_some.true) (sym c.in-Some.ensures)))) c.listed_after.ensures.ok
 
 pub returns-else-is_some-clause-ok : goal.returns-else-is_some-clause-ok
 returns-else-is_some-clause-ok c =

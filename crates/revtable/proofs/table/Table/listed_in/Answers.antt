@@ -1,19 +1,14 @@
-use Rattle.std.proofs.Common.{◌≡◌, refl, map, take, IfOk, subst, option_map, Option, List, ℕ, to_z, w64, pos, [], ◌∷◌}
+use Rattle.std.proofs.Common.{◌≡◌, map, take, IfOk, subst, to_z, w64, pos, [], ◌∷◌, refl}
 use Rattle.std.proofs.lemmas.Int.{to_z_pos}
 use Rattle.sqlite.specs.declared.types.Value.TheVariants.{Int, Text as Words}
-use Rattle.sqlite.specs.Values.{bound_value, or_null}
 use Rattle.history.specs.History.{state_at}
 use Rattle.revtable.specs.Asked.{as_change, in_one}
 use Rattle.revtable.specs.Rows.{IsAnswer, shown}
-use Rattle.revtable.proofs.Inserts.{bound_body}
 use Rattle.revtable.proofs.Pages.{finds_in}
 use Rattle.revtable.proofs.Where.{bound_page, bound_in}
 use Rattle.revtable.proofs.Texts.{in_text, in_is, in_plain}
 use Rattle.revtable.proofs.Outcomes.{answered}
 use Rattle.revtable.proofs.table.Table.listed_in.Goals as goal
-
-abbrev name : goal.After-ask → Option (List ℕ)
-name c = option_map (λ b. b.now) c.args.after
 
 pub ask-requires-clause-plain : goal.ask-requires-clause-plain
 ask-requires-clause-plain c = in_plain
@@ -22,10 +17,10 @@ pub ask-requires-clause-unlisted : goal.ask-requires-clause-unlisted
 ask-requires-clause-unlisted c = in_is.1
 
 pub returns-clause-ok : goal.returns-clause-ok
-returns-clause-ok c =
-    let params = bound_page c.args.revision c.args.max (bound_in c.args.kind c.args.namespace.now (name c)) in
-    let bound : Int (to_z w64 c.args.revision) ∷ Int (to_z w64 c.args.max) ∷ Int (pos c.args.kind) ∷ Words c.args.namespace.now ∷ Words c.lowest-low.result.now ∷ bound_value (or_null (λ s. Words s.now) c.args.after) ∷ [] ≡ params =
-    rw (to_z_pos w64 c.args.revision c.requires.fits, to_z_pos w64 c.args.max c.requires.max, bound_body c.args.after, c.lowest-low.ensures) refl in
-    answered in_text _ params c.args.self.now.changes c.ask.result (map (λ e. shown (as_change e)) (take c.args.max (in_one c.args.kind c.args.namespace.now (name c) (state_at c.args.self.now.changes c.args.revision)))) in_is.0
-    (λ db rows is h. finds_in db c.args.self.now.changes c.args.kind c.args.namespace.now (name c) c.args.revision c.args.max c.args.self.now.current rows is c.ask.ensures.sound.is.rising h)
-    (subst (λ p. IfOk c.ask.result (λ rows. IsAnswer in_text p c.args.self.now.changes rows.items)) bound (rw (c.params-to_sql.ensures, c.params-to_sql-2.ensures, c.params-to_sql-3.ensures, c.params-to_sql-4.ensures, c.params-to_sql-5.ensures, c.params-to_sql-6.ensures) at c.ask.ensures.ok))
+returns-clause-ok c name low =
+    let params = bound_page c.args.revision c.args.max (bound_in c.args.kind c.args.namespace.now name) in
+    let bound : Int (to_z w64 c.args.revision) ∷ Int (to_z w64 c.args.max) ∷ Int (pos c.args.kind) ∷ Words c.args.namespace.now ∷ Words c.args.low.now ∷ [] ≡ params =
+    rw (to_z_pos w64 c.args.revision c.requires.fits, to_z_pos w64 c.args.max c.requires.max, low) refl in
+    answered in_text _ params c.args.self.now.changes c.ask.result (map (λ e. shown (as_change e)) (take c.args.max (in_one c.args.kind c.args.namespace.now name (state_at c.args.self.now.changes c.args.revision)))) in_is.0
+    (λ db rows is h. finds_in db c.args.self.now.changes c.args.kind c.args.namespace.now name c.args.revision c.args.max c.args.self.now.current rows is c.ask.ensures.sound.is.rising h)
+    (subst (λ p. IfOk c.ask.result (λ rows. IsAnswer in_text p c.args.self.now.changes rows.items)) bound (rw (c.params-to_sql.ensures, c.params-to_sql-2.ensures, c.params-to_sql-3.ensures, c.params-to_sql-4.ensures, c.params-to_sql-5.ensures) at c.ask.ensures.ok))
