@@ -11,6 +11,8 @@ ghost use Rattle.ownership.specs.Managers.{pairs};
 ghost use Rattle.ownership.specs.Parts.{Gives, all_within, if_read, parts_in};
 ghost use Rattle.ownership.specs.ReadBack.{IsReadBack};
 ghost use Rattle.ownership.specs.Results.{identity_of, state_of};
+ghost use Rattle.ownership.specs.Sameness.{is_within};
+ghost use Rattle.pathmap.specs.Contents.{dom};
 
 use crate::envelope::{fields_of, split, version_in};
 use crate::fault::ObjectFault;
@@ -18,7 +20,6 @@ use crate::managed_fields::read_owners;
 use crate::managers::Entry;
 use crate::object::Identity;
 use crate::owned::Owned;
-use crate::same::is_within;
 use fieldset::FieldSet;
 use schema::Schema;
 use serde_json::Value;
@@ -67,12 +68,19 @@ fn read_parts(alloc: Global, schema: &Schema, value: Value) -> Result<(Owned, u6
     Ok((Owned { tree, managers }, version))
 }
 
-/// Whether the set has all paths of the entries.
-fn are_within(entries: &[Entry], alloc: Global, paths: &FieldSet) -> Result<bool, AllocError>
-    ensures { IfOk result (λ b. b ≡ all_within paths.now (pairs entries.now)) }
+/// Whether each of these paths stands in the content.
+fn stand_in(tree: &Tree, alloc: Global, paths: &FieldSet) -> Result<bool, AllocError>
+    ensures { IfOk result (λ b. b ≡ is_within paths.now (dom tree.now)) }
+{
+    Ok(tree.lacking(alloc, paths)?.is_empty())
+}
+
+/// Whether all paths of the entries stand in the content.
+fn all_stand_in(tree: &Tree, alloc: Global, entries: &[Entry]) -> Result<bool, AllocError>
+    ensures { IfOk result (λ b. b ≡ all_within (dom tree.now) (pairs entries.now)) }
 {
     for entry in entries {
-        if !is_within(alloc, &entry.paths, paths)? {
+        if !stand_in(tree, alloc, &entry.paths)? {
             return Ok(false);
         }
     }
@@ -86,8 +94,7 @@ impl Owned {
     fn owned_stand(&self, alloc: Global) -> Result<bool, AllocError>
         ensures { IfOk result (λ b. IsTrue b ↔ OwnedStand (state_of self.now)) }
     {
-        let paths = self.tree.paths(alloc)?;
-        are_within(self.managers.entries(), alloc, &paths)
+        all_stand_in(&self.tree, alloc, self.managers.entries())
     }
 
     /// Reads an object of this type and key back: what stands in it, who owns what, and its version.

@@ -10,11 +10,7 @@ use std::alloc::{AllocError, Global};
 use typed::Tree;
 
 /// Whether the other set has all these paths.
-pub(crate) fn is_within(
-    alloc: Global,
-    mine: &FieldSet,
-    theirs: &FieldSet,
-) -> Result<bool, AllocError>
+fn is_within(alloc: Global, mine: &FieldSet, theirs: &FieldSet) -> Result<bool, AllocError>
     ensures { IfOk result (λ b. b ≡ is_within mine.now theirs.now) }
 {
     Ok(mine.minus(alloc, theirs)?.is_empty())

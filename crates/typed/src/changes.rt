@@ -27,6 +27,13 @@ impl Tree {
         Ok(FieldSet::of(self.map().marks(alloc)?))
     }
 
+    /// Those of these paths that the content lacks.
+    pub fn lacking(&self, alloc: Global, paths: &FieldSet) -> Result<FieldSet, AllocError>
+        ensures { IfOk result (λ s. s ≡ set.difference paths.now (dom self.now)) }
+    {
+        Ok(FieldSet::of(paths.map().minus(alloc, self.map())?))
+    }
+
     /// The paths that the other content lacks or has another value at.
     pub fn changed_from(&self, alloc: Global, other: &Tree) -> Result<FieldSet, AllocError>
         ensures { IfOk result (λ s. s ≡ changed self.now other.now) }
