@@ -1,9 +1,10 @@
-//! `bench WORD..` times the layers: a number sets the size, and `selectors`, `indexer`, `reader`, `tables`, `hub`
-//! or `objects` runs that layer at it. What was done goes to standard output, the processor times to standard error.
+//! `bench WORD..` times the layers: a number sets the size, and `selectors`, `indexer`, `reader`, `tables`, `hub`,
+//! `objects` or `client` runs that layer at it. What was done goes to standard output, the processor times to standard error.
 #![tactic(auto)]
 
 mod connecting;
 mod indexing;
+mod mirroring;
 mod objects;
 mod reading;
 mod selecting;
@@ -33,6 +34,7 @@ fn run_layer(
             connecting::run(rt, alloc)
         }
         "objects" => objects::run(rt, alloc, count),
+        "client" => mirroring::run(rt, alloc, count),
         _ => bail!("no such layer: {layer}"),
     }
 }
