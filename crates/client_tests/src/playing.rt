@@ -1,7 +1,7 @@
 //! An informer and a summary, played by questions.
 
 use crate::replies::{replies, reply};
-use crate::rows::first_word;
+use crate::rows::{expect_text, first_word};
 use decoder::Wanted;
 use indexer::{IndexBy, Indexer, Object};
 use reflector::{Informer, Notice, Settings};
@@ -54,6 +54,12 @@ fn informer(alloc: Global, selector: &str) -> Result<Informer<Namespace>, Fail> 
     Ok(made.map_err(|_| "refused settings")?)
 }
 
+/// Where the calls that `bench/failing_memory.py` refuses memory begin and end.
+fn mark(alloc: Global) -> Result<(), AllocError> {
+    Vec::<u8>::with_capacity(alloc, 1_000_003)?;
+    Ok(())
+}
+
 fn tiers(alloc: Global) -> Result<Summary, AllocError> {
     Ok(Summary::new(alloc, String::from_str(alloc, "tier")?))
 }
@@ -75,7 +81,8 @@ impl Play {
 
     /// `ask`: the request that is due. `counts`, `apply`: what the summary says. `after A;B <- C;D`: what stands after
     /// these replies, and what is asked then. `fronts A;B <- C;D`: the same after each front of the bytes of C and D
-    /// and a cut. Else an event, and what stands after it.
+    /// and a cut. `marked A;B <- C`: what stands after A and B in one piece, for which memory may be refused; the list C
+    /// tells the same. Else an event, and what stands after it.
     pub fn answer(&mut self, alloc: Global, question: &str) -> Result<String, Fail> {
         let (word, rest) = first_word(question);
         match word {
@@ -84,6 +91,7 @@ impl Play {
             "apply" => apply(alloc, &self.summary),
             "after" => self.after(alloc, rest),
             "fronts" => self.fronts(alloc, rest),
+            "marked" => self.marked(alloc, rest),
             _ => {
                 self.event(alloc, question)?;
                 self.stands(alloc)
@@ -161,6 +169,19 @@ impl Play {
             runs.push(alloc, self.after_front(alloc, &text.as_bytes()[..n])?)?;
         }
         Ok(runs.text)
+    }
+
+    fn marked(&mut self, alloc: Global, words: &str) -> Result<String, Fail> {
+        let (words, page) = words.split_once(" <- ").ok_or("no list")?;
+        let text = replies(alloc, words)?;
+        mark(alloc)?;
+        let fed = self.informer.feed(text.as_bytes());
+        mark(alloc)?;
+        if fed.is_err() {
+            expect_text(ask(alloc, &mut self.informer)?, "/widgets?limit=2")?;
+            self.event(alloc, page)?;
+        }
+        self.stands(alloc)
     }
 
     fn after_front(&mut self, alloc: Global, front: &[u8]) -> Result<String, Fail> {
