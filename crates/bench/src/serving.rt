@@ -7,7 +7,7 @@ use schema::Types;
 use serde_json::Value;
 use std::alloc::{AllocError, Global};
 use std::time::CpuClock;
-use verbs::{Api, Body, Call, Fault, Plan};
+use verbs::{Api, Body, Call, Fault};
 
 const TYPES: &str =
     r#"{"types":[{"group":"demo.example","version":"v1","kind":"Widget","plural":"widgets","schema":{"type":"object","properties":{"spec":{"type":"object","properties":{"config":{"type":"object","additionalProperties":{"type":"string"}}}}}}}]}"#;
@@ -108,18 +108,11 @@ fn serve_all(hub: &mut Hub, requests: Vec<Vec<u8>>) -> Result<u64, HubFault> {
     Ok(served)
 }
 
-fn plan(api: &mut Api, call: &Call) -> Result<Plan, Fault> {
-    api.plan(call)
-}
-
 /// Plans a call and commits its change; whether it is served.
 fn answer(api: &mut Api, call: &Call) -> Result<bool, Fault> {
-    let Plan { answer, change } = plan(api, call)?;
-    let is_served = answer.status < 300;
-    if let Some(change) = change {
-        api.commit(change)?;
-    }
-    Ok(is_served)
+    let plan = api.plan(call)?;
+    api.commit(&plan)?;
+    Ok(plan.answer.status < 300)
 }
 
 /// Applies a body; whether it is served.

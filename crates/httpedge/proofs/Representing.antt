@@ -1,8 +1,8 @@
 -- What the hub's values stand for, after each event.
-use Rattle.std.proofs.Common.{arith, ◌≡◌, ◌≢◌, ℕ, ◌+◌, ◌<◌, Bool, true, false, cond, not, ◌&&◌, List, [], ◌∷◌, ◌++◌, length, drop, min, Option, Some, None, Result, Ok, Err, refl, sym, ap, ap₂, subst, ◌∙◌}
-use Rattle.std.specs.Prelude.{is_some, option_map, unwrap_or, nat_le, nat_lt, OnOk}
-use Rattle.std.proofs.lemmas.Bool.{ltb-true, lt-ltb}
-use Rattle.std.proofs.lemmas.Bool.Decides.{nat_tests}
+use Rattle.std.proofs.Common.{arith, ◌≡◌, ◌≢◌, ℕ, ◌+◌, ◌<◌, Bool, true, false, cond, not, ◌&&◌, List, [], ◌∷◌, ◌++◌, length, drop, min, Option, Some, None, Result, Ok, Err, inl, inr, refl, sym, ap, ap₂, subst, ◌∙◌}
+use Rattle.std.specs.Prelude.{◌↔◌, is_some, option_map, unwrap_or, nat_le, nat_lt, OnOk}
+use Rattle.std.proofs.lemmas.Bool.{ltb-true, lt-leb, lt-ltb}
+use Rattle.std.proofs.lemmas.Bool.Decides.{leb_tells, nat_tests}
 use Rattle.std.specs.BTreeMap.{BTreeMap, get, is_at}
 use Rattle.std.specs.Map.{lookup}
 use Rattle.std.specs.List.{list_all}
@@ -11,21 +11,27 @@ use Rattle.std.specs.FinMap as fin
 use Rattle.std.specs.Ordering.{nat_cmp, eq_by_cmp}
 use Rattle.schema.specs.TypesFile.{ServedShape}
 use Rattle.verbs.specs.declared.api.Api.{Api}
-use Rattle.history.specs.History.{History}
+use Rattle.history.specs.History.{History, compacted_to}
 use Rattle.verbs.specs.Seen.{Stands}
+use Rattle.revstore.specs.declared.fault.CompactFault.{CompactFault}
+use Rattle.revstore.specs.declared.fault.CompactFault.TheVariants as broken
+use Rattle.revtable.specs.declared.fault.Fault.{Fault as TheirFault}
+use Rattle.verbs.specs.declared.fault.Fault.{Fault}
+use Rattle.verbs.specs.declared.fault.Fault.TheVariants as failed
 use Rattle.httpedge.specs.declared.connection.Connection as conns
 use Rattle.httpedge.specs.declared.connection.Connection.TheVariants as conn
 use Rattle.httpedge.specs.declared.out.Out.{Out}
 use Rattle.httpedge.specs.declared.fault.HubFault.{HubFault}
-use Rattle.httpedge.specs.declared.fault.HubFault.TheVariants.{IdNotAbove, UnknownId, Memory, Store}
+use Rattle.httpedge.specs.declared.fault.HubFault.TheVariants.{IdNotAbove, UnknownId, CompactionRefused, Memory, Store}
 use Rattle.httpedge.specs.Asks.{CallDecision}
 use Rattle.httpedge.specs.Connections.{Connection, Connections, Standing, waiting, watching, ended, gone, has_ended, is_new, is_open, is_waiting, left_out, open_count, opened, out_of, with_standing, with_taken, with_written}
 use Rattle.httpedge.specs.Decision.{undecided, refused, accepted}
 use Rattle.httpedge.specs.Held.{DiesAt, Holds, HoldsAt, PutAt, ReceivedAt, ReceivedBy, Represents, TakesAt, count_after, is_above, is_open_in, left, out_in, waiting_for}
+use Rattle.httpedge.specs.Faults.{hub_fault_of}
 use Rattle.httpedge.specs.HubSeen.{Happened, found_none, refusal_number}
 use Rattle.httpedge.specs.Refusals.{as_denied, too_many_connections}
 use Rattle.httpedge.specs.Runs.{Follows, Happening, happens, starves, Runs, Starves, Steps}
-use Rattle.httpedge.specs.Steps.{Event, State, opens, comes, goes, pumps, ticks, compacts, by_connection, connection_after, dead, opening, received, refusal, refusal_reply, start, carried_out, unless_refused, with_bytes_taken, with_connection}
+use Rattle.httpedge.specs.Steps.{Event, State, opens, comes, goes, pumps, ticks, compacts, by_connection, connection_after, dead, opening, received, refusal, refusal_reply, start, carried_out, unless_refused, with_bytes_taken, with_connection, with_machine}
 use Rattle.httpedge.proofs.Connected.{Entries, ids, itself, new_put, new_still, one_if, open_put, opens_in, opens_of, tied_same, unknown}
 use Rattle.httpedge.proofs.Outcomes.{ComesBy, ComesOn}
 use Rattle.httpedge.proofs.Taking.{left_after}
@@ -326,6 +332,8 @@ follows In s e old new (Err IdNotAbove) is ok denied same memory =
     (happens e, s, refl, refused_stays s e 1 (sym denied), subst (λ h. In h s) (sym (same (λ n. absurd cc))) is)
 follows In s e old new (Err UnknownId) is ok denied same memory =
     (happens e, s, refl, refused_stays s e 2 (sym denied), subst (λ h. In h s) (sym (same (λ n. absurd cc))) is)
+follows In s e old new (Err CompactionRefused) is ok denied same memory =
+    (happens e, s, refl, refused_stays s e 5 (sym denied), subst (λ h. In h s) (sym (same (λ n. absurd cc))) is)
 follows In s e old new (Err Memory) is ok denied same memory =
     let found = memory refl in (starves e (λ q. false), found.0, ((λ q. false), refl), found.1, found.2)
 follows In s e old new (Err Store) is ok denied same memory =
@@ -352,6 +360,83 @@ opens_unrefused s api held count highest id is above = ap (λ (b : Bool). cond b
 pub mapped_some : (o : Option conns.Connection) (b : Bool) → option_map is_open_in o ≡ Some b → (d : conns.Connection) × (o ≡ Some d) × (is_open_in d ≡ b)
 mapped_some None b is = absurd cc
 mapped_some (Some d) b is = (d, refl, some_of is)
+
+-- ---- compactions
+
+-- from the compacted number to the current revision
+within : (low c high : ℕ) → (c < low → ⊥) → (high < c → ⊥) → (nat_le low c && nat_le c high) ≡ true
+within low c high above below = elim (leb_tells low c) [
+  | inl first ↦ elim (leb_tells c high) [
+    | inl second ↦ rw (first.0, second.0) refl
+    | inr second ↦ absurd (below second.1)
+  ]
+  | inr first ↦ absurd (above first.1)
+]
+
+unrefused : (s : State) (c : ℕ) → (c < s.machine.compacted → ⊥) → (s.machine.current < c → ⊥) → refusal s (compacts c) ≡ None
+unrefused s c above below = ap (λ (b : Bool). cond b None (Some 5)) (within s.machine.compacted c s.machine.current above below)
+
+refused_low : (s : State) (c : ℕ) → c < s.machine.compacted → refusal s (compacts c) ≡ Some 5
+refused_low s c low = ap (λ (b : Bool). cond (b && nat_le c s.machine.current) None (Some 5)) (lt-leb s.machine.compacted c low)
+
+no_first : (b : Bool) → b && false ≡ false
+no_first true = refl
+no_first false = refl
+
+refused_high : (s : State) (c : ℕ) → s.machine.current < c → refusal s (compacts c) ≡ Some 5
+refused_high s c high =
+    ap (λ (b : Bool). cond (nat_le s.machine.compacted c && b) None (Some 5)) (lt-leb c s.machine.current high)
+    ∙ ap (λ (b : Bool). cond b None (Some 5)) (no_first (nat_le s.machine.compacted c))
+
+ok_isnt : {A E : Type 0} (a : A) (e : E) → Ok a ≡ Err e → ⊥
+ok_isnt a e h = cc
+
+abbrev failed_with : (A : Type 0) → CompactFault → Result A CompactFault
+failed_with A e = Err e
+
+early_isnt : (A : Type 0) (f : TheirFault) → failed_with A (broken.Failed f) ≡ failed_with A broken.Expired → ⊥
+early_isnt A f h = cc
+
+late_isnt : (A : Type 0) (f : TheirFault) → failed_with A (broken.Failed f) ≡ failed_with A broken.TooLarge → ⊥
+late_isnt A f h = cc
+
+-- by what a compaction answers it is refused or not
+abbrev pub Answers : {A : Type 0} → State → ℕ → Result A CompactFault → Type 0
+Answers s c r = ((r ≡ Err broken.Expired) ↔ (c < s.machine.compacted)) × ((r ≡ Err broken.TooLarge) ↔ (s.machine.current < c))
+
+pub done_fits : (A : Type 0) (s : State) (c : ℕ) (r : Result A CompactFault) (a : A) → Answers s c r → r ≡ Ok a → refusal s (compacts c) ≡ None
+done_fits A s c r a (early, late) is = unrefused s c (λ h. ok_isnt a broken.Expired (sym is ∙ early.1 h)) (λ h. ok_isnt a broken.TooLarge (sym is ∙ late.1 h))
+
+pub failed_fits : (A : Type 0) (s : State) (c : ℕ) (r : Result A CompactFault) (e : CompactFault) (f : TheirFault) → Answers s c r → r ≡ Err e → e ≡ broken.Failed f → refusal s (compacts c) ≡ None
+failed_fits A s c r e f (early, late) is failed =
+    let back : failed_with A (broken.Failed f) ≡ r = sym (is ∙ ap (failed_with A) failed) in
+    unrefused s c (λ h. early_isnt A f (back ∙ early.1 h)) (λ h. late_isnt A f (back ∙ late.1 h))
+
+pub early_refused : (A : Type 0) (s : State) (c : ℕ) (r : Result A CompactFault) (e : CompactFault) → Answers s c r → r ≡ Err e → e ≡ broken.Expired → refusal s (compacts c) ≡ Some 5
+early_refused A s c r e (early, late) is expired = refused_low s c (early.0 (is ∙ ap (failed_with A) expired))
+
+pub late_refused : (A : Type 0) (s : State) (c : ℕ) (r : Result A CompactFault) (e : CompactFault) → Answers s c r → r ≡ Err e → e ≡ broken.TooLarge → refusal s (compacts c) ≡ Some 5
+late_refused A s c r e (early, late) is large = refused_high s c (late.0 (is ∙ ap (failed_with A) large))
+
+-- the same connections over another API
+pub compacts_well : (s : State) (c : ℕ) (api api' : Api) (held : Held) (count : ℕ) (highest : Option ℕ) → Represents api held count highest s → refusal s (compacts c) ≡ None
+    → Stands api' s.types (compacted_to c s.machine) → (t : State) × Steps s (compacts c) t × Represents api' held count highest t
+compacts_well s c api api' held count highest is unrefused stands =
+    let t = with_machine s (compacted_to c s.machine) in (
+      t,
+      (undecided, refl, sym (ap (λ (o : Option ℕ). unless_refused o s t) unrefused)),
+      record { machine = stands; connections = is.connections; count_is = is.count_is; highest_is = is.highest_is },
+    )
+
+pub same_held : (s : State) (api api' : Api) (held : Held) (count : ℕ) (highest : Option ℕ) → Represents api held count highest s → Stands api' s.types s.machine → Represents api' held count highest s
+same_held s api api' held count highest is stands = record { machine = stands; connections = is.connections; count_is = is.count_is; highest_is = is.highest_is }
+
+-- ---- what failed below
+
+pub no_refusal : (A : Type 0) (f : Fault) → refusal_number {A = A} (Err (hub_fault_of f)) ≡ None
+no_refusal A failed.Memory = refl
+no_refusal A failed.Store = refl
+no_refusal A failed.Unreadable = refl
 
 -- ---- bytes that are taken
 

@@ -7,3 +7,4 @@ use Rattle.httpedge.specs.declared.fault.HubFault.TheVariants.{Memory, Store}
 abbrev pub hub_fault_of : below.Fault → HubFault
 hub_fault_of failed.Memory = Memory
 hub_fault_of failed.Store = Store
+hub_fault_of failed.Unreadable = Store

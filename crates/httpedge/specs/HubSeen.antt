@@ -9,11 +9,12 @@ use Rattle.httpedge.specs.declared.fault.HubFault.TheVariants as fault
 use Rattle.httpedge.specs.declared.hub.Hub as hubs
 use Rattle.httpedge.specs.Held.{Represents}
 use Rattle.httpedge.specs.Runs.{Happening, happens, starves}
-use Rattle.httpedge.specs.Steps.{Event, State, opens, comes}
+use Rattle.httpedge.specs.Steps.{Event, State, opens, comes, compacts}
 
 abbrev pub event_of : events.Event → Event
 event_of (event.Open id) = opens id
 event_of (event.In id bytes) = comes id bytes.items
+event_of (event.Compact c) = compacts c
 
 -- the hub is in this state
 abbrev pub IsIn : hubs.Hub → State → Type 0
@@ -24,6 +25,7 @@ abbrev pub refusal_number : {A : Type 0} → Result A faults.HubFault → Option
 refusal_number (Ok a) = None
 refusal_number (Err fault.IdNotAbove) = Some 1
 refusal_number (Err fault.UnknownId) = Some 2
+refusal_number (Err fault.CompactionRefused) = Some 5
 refusal_number (Err fault.Memory) = None
 refusal_number (Err fault.Store) = None
 
@@ -32,6 +34,7 @@ abbrev pub found_none : {A : Type 0} → Result A faults.HubFault → Bool
 found_none (Ok a) = false
 found_none (Err fault.IdNotAbove) = false
 found_none (Err fault.UnknownId) = false
+found_none (Err fault.CompactionRefused) = false
 found_none (Err fault.Memory) = true
 found_none (Err fault.Store) = true
 
@@ -44,5 +47,6 @@ abbrev pub Happened : {A : Type 0} → Event → Result A faults.HubFault → Ha
 Happened e (Ok a) h = h ≡ happens e
 Happened e (Err fault.IdNotAbove) h = h ≡ happens e
 Happened e (Err fault.UnknownId) h = h ≡ happens e
+Happened e (Err fault.CompactionRefused) h = h ≡ happens e
 Happened e (Err fault.Memory) h = HasStarved e h
 Happened e (Err fault.Store) h = HasStarved e h

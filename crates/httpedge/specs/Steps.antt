@@ -3,7 +3,7 @@ use Rattle.std.specs.Prelude.{ℕ, Bool, ◌&&◌, ◌==◌, nat_lt, nat_le, if�
 use Rattle.std.specs.FinMap as fin
 use Rattle.serde_json.specs.Written.{compact_text}
 use Rattle.schema.specs.TypesFile.{ServedShape}
-use Rattle.history.specs.History.{History}
+use Rattle.history.specs.History.{History, compacted_to}
 use Rattle.verbs.specs.Calls.{Answer, Denied}
 use Rattle.verbs.specs.Machine.{after}
 use Rattle.verbs.specs.Reasons.{code_of}
@@ -69,10 +69,6 @@ by_connection s (Some c) f = f c
 
 abbrev pub on_connection : State → ℕ → (Connection → State) → State
 on_connection s id f = by_connection s (fin.get s.connections id) f
-
--- a compaction changes the compacted number alone: no change is lost
-abbrev pub compacted_to : ℕ → History → History
-compacted_to c m = record { changes = m.changes; current = m.current; compacted = c }
 
 -- ---- an opening
 
@@ -141,6 +137,7 @@ carried_out s (comes id bytes) asked = on_connection s id (λ c. received_by s i
 carried_out s (goes id) asked = on_connection s id (λ c. with_connection s id (with_standing c (gone (has_ended c.standing))))
 carried_out s (pumps id max) asked = on_connection s id (λ c. with_connection s id (with_turn (pumped s.types s.machine max) c))
 carried_out s (ticks ms) asked = with_tick s ms (each (λ id c. with_turn (ticked ms) c) s.connections)
+-- no change is lost: the compacted number alone is another
 carried_out s (compacts c) asked = with_machine s (compacted_to c s.machine)
 
 abbrev pub unless_refused : Option ℕ → State → State → State

@@ -1,16 +1,15 @@
 //! What is written on a connection.
 
-ghost use Rattle.std.specs.Prelude.{◌≡◌, List, IfOk, IfSome, OnOk, OnErr, option_map};
+ghost use Rattle.std.specs.Prelude.{◌≡◌, List, IfOk, OnErr, option_map};
 ghost use Rattle.schema.specs.TypesFile.{ServedShape};
 ghost use Rattle.history.specs.History.{History};
-ghost use Rattle.verbs.specs.Machine.{IsNext, after};
-ghost use Rattle.verbs.specs.Seen.{Stands, answer_of, call_of, change_of, denied_of};
+ghost use Rattle.verbs.specs.Seen.{Stands, answer_of, call_of, denied_of};
 ghost use Rattle.httpedge.specs.Held.{Serves};
 ghost use Rattle.httpedge.specs.Steps.{answer_reply, refusal_reply};
 
 use crate::reply::reply_bytes;
 use std::alloc::{AllocError, Global};
-use verbs::{Answer, Api, Call, Change, Denied, Fault, status_value};
+use verbs::{Answer, Api, Call, Denied, Fault, status_value};
 
 /// The reply of a refusal.
 pub(crate) fn refusal_reply(alloc: Global, denied: Denied) -> Result<Vec<u8>, AllocError>
@@ -28,16 +27,6 @@ fn answer_reply(alloc: Global, answer: &Answer) -> Result<Vec<u8>, AllocError>
     reply_bytes(alloc, answer.status, None, answer.body.as_str())
 }
 
-fn make(api: &mut Api, change: Option<Change>) -> Result<(), Fault>
-    ensures ok { (types : List ServedShape) (m : History) → Stands api.old types m → IfSome change (λ c. IsNext types m (change_of c)) → OnOk result (Stands api.new types (after m (option_map change_of change))) }
-    ensures err { (types : List ServedShape) (m : History) → Stands api.old types m → OnErr result (Stands api.new types m) }
-{
-    match change {
-        Some(change) => api.commit(change),
-        None => Ok(()),
-    }
-}
-
 /// Makes a call: its reply is there before its change is made.
 pub(crate) fn serve(alloc: Global, api: &mut Api, call: &Call) -> Result<Vec<u8>, Fault>
     ensures ok { (types : List ServedShape) (m : History) → Stands api.old types m → IfOk result (λ v. Serves types m (call_of call.now) v.items api.new) }
@@ -45,6 +34,6 @@ pub(crate) fn serve(alloc: Global, api: &mut Api, call: &Call) -> Result<Vec<u8>
 {
     let plan = api.plan(call)?;
     let reply = answer_reply(alloc, &plan.answer)?;
-    make(api, plan.change)?;
+    api.commit(&plan)?;
     Ok(reply)
 }

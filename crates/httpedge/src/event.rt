@@ -7,4 +7,7 @@ pub enum Event {
     Open(u64),
     /// Bytes come on a connection.
     In(u64, Vec<u8>),
+    /// What no answer from this revision on can show may be forgotten: a revision from the compacted number to the
+    /// current one.
+    Compact(u64),
 }

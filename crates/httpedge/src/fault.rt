@@ -10,6 +10,9 @@ pub enum HubFault {
     IdNotAbove,
     #[error("there is no connection of this id")]
     UnknownId,
+    /// A compaction below the compacted number, or past the current revision.
+    #[error("the revision is compacted already, or still to come")]
+    CompactionRefused,
     #[error("out of memory")]
     Memory,
     /// The store refused a statement for memory or size, or what is stored is no object's text.
@@ -48,7 +51,7 @@ impl From<verbs::Fault> for HubFault {
     fn from(fault: verbs::Fault) -> HubFault {
         match fault {
             verbs::Fault::Memory => HubFault::Memory,
-            verbs::Fault::Store => HubFault::Store,
+            verbs::Fault::Store | verbs::Fault::Unreadable => HubFault::Store,
         }
     }
 }

@@ -1,6 +1,6 @@
 //! The hub: connections over one API.
 
-ghost use Rattle.std.specs.Prelude.{◌≡◌, ◌≢◌, ◌++◌, ◌∷◌, [], List, None, true, false, OnOk};
+ghost use Rattle.std.specs.Prelude.{◌≡◌, ◌≢◌, ◌++◌, ◌∷◌, [], List, None, true, false, Ok, OnOk};
 ghost use Rattle.schema.specs.TypesFile.{ServedShape};
 ghost use Rattle.history.specs.History.{History};
 ghost use Rattle.verbs.specs.Seen.{Stands};
@@ -8,15 +8,16 @@ ghost use Rattle.httpedge.specs.Connections.{ended_on, out_on, waiting_on};
 ghost use Rattle.httpedge.specs.Held.{is_above};
 ghost use Rattle.httpedge.specs.HubSeen.{Happened, IsIn, event_of, found_none, refusal_number};
 ghost use Rattle.httpedge.specs.Runs.{Follows, Happening, Runs, Starves, Steps, takes};
-ghost use Rattle.httpedge.specs.Steps.{State, comes, opens, refusal, start, with_bytes_taken};
+ghost use Rattle.httpedge.specs.Steps.{State, comes, compacts, opens, refusal, start, with_bytes_taken};
 
 use crate::connection::{Connection, count_with, opening};
 use crate::connections::{open_at, open_count, out_at, put, receive_at, take_at};
 use crate::event::Event;
 use crate::fault::HubFault;
+use revstore::CompactFault;
 use std::alloc::Global;
 use std::collections::BTreeMap;
-use verbs::Api;
+use verbs::{Api, Fault};
 
 /// Connections over one API: bytes in, reply bytes out.
 #[derive(Drop)]
@@ -84,6 +85,20 @@ impl Hub {
         Ok(received?)
     }
 
+    fn compact(&mut self, revision: u64) -> Result<(), HubFault>
+        ensures ok { (s : State) → IsIn self.old s → OnOk result ((t : State) × Steps s (compacts revision) t × IsIn self.new t) }
+        ensures refused { (s : State) → IsIn self.old s → refusal_number result ≡ refusal s (compacts revision) }
+        ensures unchanged { refusal_number result ≢ None → self.new ≡ self.old }
+        ensures memory { (s : State) → IsIn self.old s → found_none result ≡ true → (t : State) × Starves s (compacts revision) (λ q. false) t × IsIn self.new t }
+    {
+        match self.api.compact(revision) {
+            Ok(()) => Ok(()),
+            Err(CompactFault::Expired) => Err(HubFault::CompactionRefused),
+            Err(CompactFault::TooLarge) => Err(HubFault::CompactionRefused),
+            Err(CompactFault::Failed(fault)) => Err(HubFault::from(Fault::from(fault))),
+        }
+    }
+
     fn step(&mut self, event: &Event) -> Result<(), HubFault>
         ensures ok { (s : State) → IsIn self.old s → OnOk result ((t : State) × Steps s (event_of event.now) t × IsIn self.new t) }
         ensures refused { (s : State) → IsIn self.old s → refusal_number result ≡ refusal s (event_of event.now) }
@@ -93,12 +108,14 @@ impl Hub {
         match event {
             Event::Open(id) => self.open(*id),
             Event::In(id, bytes) => self.receive(*id, bytes),
+            Event::Compact(revision) => self.compact(*revision),
         }
     }
 
     /// Handles an event: in the event that decides what the bytes of a connection ask, the reply is written and the
     /// connection has ended. Refused, an event changes nothing; without memory an opening changes nothing, and a
-    /// connection that waits is dead where bytes come on it. Bytes on one that has ended want no memory.
+    /// connection that waits is dead where bytes come on it. Bytes on one that has ended want no memory. A compaction
+    /// that fails changes nothing.
     pub fn on(&mut self, event: &Event) -> Result<(), HubFault>
         ensures follows { (s : State) → IsIn self.old s → (h : Happening) × (t : State) × Happened (event_of event.now) result h × Follows s h t × IsIn self.new t }
         ensures runs { (r s : State) (before : List Happening) → Runs r before s → IsIn self.old s → (h : Happening) × (t : State) × Happened (event_of event.now) result h × Runs r (before ++ h ∷ []) t × IsIn self.new t }
@@ -139,5 +156,12 @@ impl Hub {
         ensures { (s : State) → IsIn self.now s → result ≡ waiting_on s.connections id }
     {
         open_at(&self.connections, id).unwrap_or(false)
+    }
+
+    /// The current revision and the compacted number.
+    pub fn marks(&self) -> Result<(u64, u64), Fault>
+        ensures { (s : State) → IsIn self.now s → result ≡ Ok (s.machine.current, s.machine.compacted) }
+    {
+        self.api.marks()
     }
 }

@@ -14,7 +14,7 @@ use Rattle.std.proofs.lemmas.Slice.Eq.{bytes_eq-Decides}
 use Rattle.serde_json.specs.Data.{unsigned, negative, float, Data, null, boolean, number, string, array, object, Items, no_items, item, Members, no_members, member}
 use Rattle.serde_json.specs.Find.{as_array, as_bool, as_object, as_str}
 use Rattle.serde_json.specs.Read.{read as read_json}
-use Rattle.programs.specs.Script.{Apply, AreEvents, Event, apply, opens, comes, HasTarget, IsFirstBad, IsTarget, IsEventLine, is_filled, object_of}
+use Rattle.programs.specs.Script.{Apply, AreEvents, Event, apply, opens, comes, compacts, HasTarget, IsFirstBad, IsTarget, IsEventLine, is_filled, object_of}
 use Rattle.programs.specs.ScriptSteps.{apply_in, comes_in, event_in, event_named, event_of, if_target, is_last, is_last_item, is_target, next_item, next_named, number_in, only_member, with_items, with_rest}
 
 some≢none : {X : Type 0} (x : X) → Some x ≡ None → ⊥
@@ -190,30 +190,35 @@ only no_members p e = cc
 only (member k d ms) p e = let l = last (k, d) p ms e in ap₂ (λ (q : List ℕ × Data) r. member q.0 q.1 r) l.1 l.0
 
 named_is : (name : List ℕ) (d : Data) (e : Event) → event_named name d ≡ Some e → (object (member name d no_members) ≡ object_of e) × HasTarget e
-named_is name d e is = go (bytes_eq name (codes "apply")) (bytes_eq name (codes "open")) (bytes_eq name (codes "in")) refl refl refl is
+named_is name d e is = go (bytes_eq name (codes "apply")) (bytes_eq name (codes "open")) (bytes_eq name (codes "in")) (bytes_eq name (codes "compact")) refl refl refl refl is
   where
     whole : (k : List ℕ) (x : Data) → name ≡ k → d ≡ x → object (member name d no_members) ≡ object (member k x no_members)
     whole k x n v = ap₂ (λ m y. object (member m y no_members)) n v
 
-    go : (a o i : Bool) → bytes_eq name (codes "apply") ≡ a → bytes_eq name (codes "open") ≡ o → bytes_eq name (codes "in") ≡ i
-        → cond a (option_map apply (option_and_then apply_in (as_object d))) (cond o (option_map opens (number_in d)) (cond i (option_and_then comes_in (as_array d)) None)) ≡ Some e
+    go : (a o i p : Bool) → bytes_eq name (codes "apply") ≡ a → bytes_eq name (codes "open") ≡ o → bytes_eq name (codes "in") ≡ i → bytes_eq name (codes "compact") ≡ p
+        → cond a (option_map apply (option_and_then apply_in (as_object d)))
+        (cond o (option_map opens (number_in d)) (cond i (option_and_then comes_in (as_array d)) (cond p (option_map compacts (number_in d)) None))) ≡ Some e
         → (object (member name d no_members) ≡ object_of e) × HasTarget e
-    go true o i at ot it h =
+    go true o i p at ot it pt h =
         let a = map-Some apply _ e h in
         let ms = and_then-Some apply_in _ a.0 a.1 in
         let said = apply_is ms.0 a.0 ms.2 in
         subst (λ (x : Event). (object (member name d no_members) ≡ object_of x) × HasTarget x) a.2
         (whole (codes "apply") _ ((bytes_eq-Decides name (codes "apply")).0 at) (inner d ms.0 ms.1 ∙ ap object said.0), said.1)
-    go false true i at ot it h =
+    go false true i p at ot it pt h =
         let k = map-Some opens _ e h in
         subst (λ (x : Event). (object (member name d no_members) ≡ object_of x) × HasTarget x) k.2
         (whole (codes "open") _ ((bytes_eq-Decides name (codes "open")).0 ot) (counted d k.0 k.1), tt)
-    go false false true at ot it h =
+    go false false true p at ot it pt h =
         let ds = and_then-Some comes_in _ e h in
         let said = comes_is ds.0 e ds.2 in
         subst (λ (x : Event). (object (member name d no_members) ≡ object_of x) × HasTarget x) (sym said.2)
         (whole (codes "in") _ ((bytes_eq-Decides name (codes "in")).0 it) (listed d ds.0 ds.1 ∙ ap array said.3), tt)
-    go false false false at ot it h = cc
+    go false false false true at ot it pt h =
+        let c = map-Some compacts _ e h in
+        subst (λ (x : Event). (object (member name d no_members) ≡ object_of x) × HasTarget x) c.2
+        (whole (codes "compact") _ ((bytes_eq-Decides name (codes "compact")).0 pt) (counted d c.0 c.1), tt)
+    go false false false false at ot it pt h = cc
 
 event_is : (d : Data) (e : Event) → event_in d ≡ Some e → (d ≡ object_of e) × HasTarget e
 event_is d e is =
@@ -232,6 +237,7 @@ event_said : (line : List ℕ) (e : Event) → IsEventLine line e → event_of l
 event_said line (apply a) says = rw (says.0, is_target_of a.target says.1) refl
 event_said line (opens k) says = rw says.0 refl
 event_said line (comes k text) says = rw says.0 refl
+event_said line (compacts c) says = rw says.0 refl
 
 -- ---- lists of lines
 

@@ -9,7 +9,7 @@ use Rattle.httpedge.specs.Runs as runs
 use Rattle.httpedge.specs.Steps as edge
 use Rattle.wireclient.specs.Reads as reads
 use Rattle.wireclient.specs.Reply as reply
-use Rattle.programs.specs.Script.{Apply, Event, apply, opens, comes}
+use Rattle.programs.specs.Script.{Apply, Event, apply, opens, comes, compacts}
 use Rattle.programs.specs.Requests.{IsRequestOf}
 
 -- ---- what is printed
@@ -60,11 +60,16 @@ abbrev pub noted : Run → ℕ → Option ℕ → edge.State → Run
 noted r id None t = record { hub = t; highest = id; others = r.others ++ id ∷ [] }
 noted r id (Some n) t = record { hub = t; highest = r.highest; others = r.others }
 
+-- an event of the hub that prints nothing
+abbrev pub Leads : Run → edge.Event → List ℕ → Run → Type 0
+Leads r e text q = (text ≡ []) × ((t : edge.State) × runs.Steps r.hub e t × (q ≡ record { hub = t; highest = r.highest; others = r.others }))
+
 -- the event leads from a run to another, and prints the text
 abbrev pub Does : Run → Event → List ℕ → Run → Type 0
 Does r (apply a) text q = Applies r a (next_id r.highest) text q
 Does r (opens id) text q = (text ≡ []) × ((t : edge.State) × runs.Steps r.hub (edge.opens id) t × (q ≡ noted r id (edge.refusal r.hub (edge.opens id)) t))
-Does r (comes id bytes) text q = (text ≡ []) × ((t : edge.State) × runs.Steps r.hub (edge.comes id bytes) t × (q ≡ record { hub = t; highest = r.highest; others = r.others }))
+Does r (comes id bytes) text q = Leads r (edge.comes id bytes) text q
+Does r (compacts c) text q = Leads r (edge.compacts c) text q
 
 -- ---- all events
 

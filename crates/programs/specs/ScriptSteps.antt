@@ -5,7 +5,7 @@ use Rattle.std.specs.Str.{bytes_eq}
 use Rattle.serde_json.specs.Data.{Data, Items, no_items, item, Members, no_members, member}
 use Rattle.serde_json.specs.Find.{as_array, as_bool, as_number, as_object, as_str, as_u64}
 use Rattle.serde_json.specs.Read.{read as read_json}
-use Rattle.programs.specs.Script.{Apply, Event, apply, opens, comes}
+use Rattle.programs.specs.Script.{Apply, Event, apply, opens, comes, compacts}
 
 -- the first member's value, if the member has the name, and the members after it
 abbrev pub next_named : List ℕ → Members → Option (Data × Members)
@@ -65,6 +65,7 @@ event_named name d =
     if bytes_eq name (codes "apply") then option_map apply (option_and_then apply_in (as_object d))
     else if bytes_eq name (codes "open") then option_map opens (number_in d)
     else if bytes_eq name (codes "in") then option_and_then comes_in (as_array d)
+    else if bytes_eq name (codes "compact") then option_map compacts (number_in d)
     else None
 
 abbrev pub event_in : Data → Option Event

@@ -11,7 +11,7 @@ ghost use Rattle.wireclient.specs.Views.{told_of};
 ghost use Rattle.programs.specs.ApplyLine.{apply_of, event_view};
 ghost use Rattle.programs.specs.Replays.{Answers, Applies, Does, Prints, PrintsFront, Runs, TellsReply, connection_text, connections_text, next_id, start, words_of};
 ghost use Rattle.programs.specs.Replays as replays;
-ghost use Rattle.programs.specs.Script.{opens, comes};
+ghost use Rattle.programs.specs.Script.{opens, comes, compacts};
 ghost use Rattle.programs.specs.Requests.{IsRequestOf, query_of, request_target_of};
 ghost use Rattle.programs.specs.Running.{IsUntaken, RunStands};
 
@@ -165,6 +165,7 @@ fn is_taken(hub: &mut Hub, event: &httpedge::Event) -> Result<bool, ReplayFault>
         Ok(()) => Ok(true),
         Err(HubFault::IdNotAbove) => Ok(false),
         Err(HubFault::UnknownId) => Ok(false),
+        Err(HubFault::CompactionRefused) => Ok(false),
         Err(HubFault::Memory) => Err(ReplayFault::Memory),
         Err(HubFault::Store) => Err(ReplayFault::Memory),
     }
@@ -234,6 +235,13 @@ impl Run {
         Ok(())
     }
 
+    fn compact(&mut self, revision: u64) -> Result<(), ReplayFault>
+        ensures { (r : replays.Run) → RunStands self.old r → OnOk result ((q : replays.Run) × Does r (compacts revision) [] q × RunStands self.new q) }
+    {
+        is_taken(&mut self.hub, &httpedge::Event::Compact(revision))?;
+        Ok(())
+    }
+
     /// Handles one event: what is printed of it.
     fn take(&mut self, event: &Event) -> Result<Vec<u8>, ReplayFault>
         ensures { (r : replays.Run) → RunStands self.old r → IfOk result (λ v. (q : replays.Run) × Does r (event_view event.now) v.items q × RunStands self.new q) }
@@ -246,6 +254,10 @@ impl Run {
             }
             Event::In(id, text) => {
                 self.receive(*id, text.as_str())?;
+                Ok(Vec::new(self.alloc))
+            }
+            Event::Compact(revision) => {
+                self.compact(*revision)?;
                 Ok(Vec::new(self.alloc))
             }
         }

@@ -35,6 +35,8 @@ pub enum Event {
     Open(u64),
     /// The bytes of a text come on a connection.
     In(u64, String),
+    /// Changes up to a revision may be forgotten.
+    Compact(u64),
 }
 
 fn into_text(value: Value) -> Option<String>
@@ -177,6 +179,7 @@ fn event_named(name: &str, value: Value) -> Option<Event>
         "apply" => apply_of(value),
         "open" => Some(Event::Open(value.as_u64()?)),
         "in" => comes_in(into_items(value)?),
+        "compact" => Some(Event::Compact(value.as_u64()?)),
         _ => None,
     }
 }

@@ -4,7 +4,7 @@ use crate::given::{api_with_one_left, fresh_api};
 use serde_json::Value;
 use std::alloc::Global;
 use std::test::Fail;
-use verbs::{Answer, Api, Body, Call, Denied, Plan, Reason, Refusal, Target, status_value};
+use verbs::{Answer, Api, Body, Call, Denied, Reason, Refusal, Target, status_value};
 
 const MEDIA: &[u8] = b"Application/Apply-Patch+YAML ; charset=utf-8";
 
@@ -32,12 +32,9 @@ fn call(alloc: Global, api: &Api, name: &str, query: &str, rest: &str) -> Result
 
 /// Plans a call and makes its change.
 fn answered(api: &mut Api, call: &Call) -> Result<Answer, Fail> {
-    let Plan { answer, change } = api.plan(call)?;
-    match change {
-        Some(change) => api.commit(change)?,
-        None => (),
-    }
-    Ok(answer)
+    let plan = api.plan(call)?;
+    api.commit(&plan)?;
+    Ok(plan.answer)
 }
 
 /// The message, or else the version that the object has.

@@ -88,6 +88,10 @@ fn opens(hub: &mut Hub, id: u64) -> Result<(), HubFault> {
     hub.on(&Event::Open(id))
 }
 
+fn compacts(hub: &mut Hub, revision: u64) -> Result<(), HubFault> {
+    hub.on(&Event::Compact(revision))
+}
+
 /// A hub of widgets on which these connections were opened, one after the other.
 fn hub_with(alloc: Global, first: u64, last: u64) -> Result<Hub, Fail> {
     let mut hub = Hub::new(alloc, fresh_api(alloc)?);
@@ -168,6 +172,13 @@ fn hub_refusals(rt: HostRuntime) -> Result<(), Fail> {
     }
     assert_eq!(rt; comes(alloc, &mut hub, 9, b"GET"), Err(HubFault::UnknownId));
     assert_eq!(rt; standing(alloc, &hub, 9)?.as_str(), "0 false false");
+    for revision in [0, 2] {
+        assert_eq!(rt;
+            compacts(&mut hub, revision),
+            Err(HubFault::CompactionRefused)
+        );
+    }
+    assert_eq!(rt; compacts(&mut hub, 1), Ok(()));
     Ok(())
 }
 

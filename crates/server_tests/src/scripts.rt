@@ -33,6 +33,25 @@ fn first_apply(rt: HostRuntime) -> Result<(), Fail> {
     Ok(())
 }
 
+/// An apply, twice, and compactions between the two, of which the hub refuses the second.
+const COMPACTED: &str =
+    r#"{"apply":{"body":{"apiVersion":"demo.example/v1","kind":"Widget","metadata":{"name":"w1"},"spec":{"image":"a","replicas":3}},"force":false,"manager":"alice","target":"/apis/demo.example/v1/namespaces/default/widgets/w1"}}
+{"compact":2}
+{"compact":1}
+{"apply":{"body":{"apiVersion":"demo.example/v1","kind":"Widget","metadata":{"name":"w1"},"spec":{"image":"a","replicas":3}},"force":false,"manager":"alice","target":"/apis/demo.example/v1/namespaces/default/widgets/w1"}}"#;
+
+/// The object's text.
+const APPLIED: &str =
+    r#"{"apiVersion":"demo.example/v1","kind":"Widget","metadata":{"managedFields":[{"apiVersion":"demo.example/v1","fieldsType":"FieldsV1","fieldsV1":{"f:spec":{"f:image":{},"f:replicas":{}}},"manager":"alice","operation":"Apply"}],"name":"w1","namespace":"default","resourceVersion":"2"},"spec":{"image":"a","replicas":3}}"#;
+
+#[test]
+fn compaction_keeps_what_stands(rt: HostRuntime) -> Result<(), Fail> {
+    let alloc = rt.alloc();
+    let wanted = format!(in alloc; "201 {APPLIED}\n200 {APPLIED}\n")?;
+    assert_eq!(rt; written(alloc, COMPACTED)?, wanted);
+    Ok(())
+}
+
 /// The exit status where the replies of a script find no room.
 fn status_without_room(alloc: Global, script: &str) -> Result<u8, Fail> {
     let events = read_script(alloc, script)?;
@@ -68,10 +87,10 @@ fn lines_of_connections_read(rt: HostRuntime) -> Result<(), Fail> {
     assert_eq!(rt;
         shown(
             rt.alloc(),
-            "{\"open\":18446744073709551615}\n\n{\"in\":[3,\"GET / \\r\\n\"]}\n"
+            "{\"open\":18446744073709551615}\n\n{\"in\":[3,\"GET / \\r\\n\"]}\n{\"compact\":7}"
         )?
         .as_str(),
-        r#"[Open(18446744073709551615), In(3, "GET / \r\n")]"#
+        r#"[Open(18446744073709551615), In(3, "GET / \r\n"), Compact(7)]"#
     );
     Ok(())
 }
@@ -106,6 +125,9 @@ fn bad_lines_are_refused(rt: HostRuntime) -> Result<(), Fail> {
 {"open":1.0}
 {"open":18446744073709551616}
 {"open":"1"}
+{"compact":-1}
+{"compact":"1"}
+{"compact":[1]}
 {"in":[1]}
 {"in":[1,2]}
 {"in":["1","GET"]}

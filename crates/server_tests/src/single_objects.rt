@@ -4,7 +4,7 @@ use crate::given::{api_with_one_left, api_with_ports, fresh_api};
 use serde_json::Value;
 use std::alloc::Global;
 use std::test::Fail;
-use verbs::{Answer, Api, Body, Call, Plan, Target};
+use verbs::{Answer, Api, Body, Call, Target};
 
 fn media_of(method: &str) -> &'static str {
     if method == "PATCH" {
@@ -57,12 +57,9 @@ fn call_of(alloc: Global, api: &Api, line: &str) -> Result<Call, Fail> {
 
 /// Plans a call and makes its change.
 fn answered(api: &mut Api, call: &Call) -> Result<Answer, Fail> {
-    let Plan { answer, change } = api.plan(call)?;
-    match change {
-        Some(change) => api.commit(change)?,
-        None => (),
-    }
-    Ok(answer)
+    let plan = api.plan(call)?;
+    api.commit(&plan)?;
+    Ok(plan.answer)
 }
 
 /// The message of a refusal, or else the object.

@@ -93,6 +93,7 @@ impl Api {
         ensures expired { (types : List ServedShape) (m : History) → Stands self.old types m → (result ≡ Err CompactFault.Expired) ↔ (revision < m.compacted) }
         ensures too_large { (types : List ServedShape) (m : History) → Stands self.old types m → (result ≡ Err CompactFault.TooLarge) ↔ (m.current < revision) }
         ensures err { (types : List ServedShape) (m : History) → Stands self.old types m → OnErr result (Stands self.new types m) }
+        ensures unchanged { OnErr result (self.new ≡ self.old) }
     {
         self.store.compact(revision)
     }

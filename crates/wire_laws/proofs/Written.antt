@@ -305,10 +305,8 @@ created_fine t current live k intent =
 
 create_fine : (t : ServedShape) (current : ℕ) (objects : Objects) (kind : ℕ) (namespace query : List ℕ) (body : Data) → IsFine (step.create_validated t current objects kind namespace query body)
 create_fine t current objects kind namespace query body =
-    checked (step.intent_of (record { served = t; namespace = namespace; name = None; method = method.Post }) asked.Post query body)
-    (λ intent. validated.and_then (required_name (name_in body)) (λ name. step.created_in t current objects (record { kind = kind; namespace = namespace; name = name }) intent))
-    (λ intent. checked (required_name (name_in body)) (λ name. step.created_in t current objects (record { kind = kind; namespace = namespace; name = name }) intent)
-    (λ name. created_fine t current (fin.get objects (record { kind = kind; namespace = namespace; name = name })) (record { kind = kind; namespace = namespace; name = name }) intent))
+    checked (step.creation_validated t kind namespace query body) (λ c. step.created_as t current (fin.get objects c.key) c.key c.intent)
+    (λ c. created_fine t current (fin.get objects c.key) c.key c.intent)
 
 updated_fine : (t : ServedShape) (current : ℕ) (k : Key) (live : Option Object) (intent : step.Intent) → IsFine (step.updated_over t current k live intent)
 updated_fine t current k live intent =

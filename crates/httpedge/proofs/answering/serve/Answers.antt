@@ -8,9 +8,15 @@ use Rattle.httpedge.proofs.answering.serve.Goals as goal
 
 pub returns-clause-ok : goal.returns-clause-ok
 returns-clause-ok c = λ types m stands.
-    subst (λ (p : Plan). (c.in_ok-reply.reply.items ≡ answer_reply p.answer) × Stands c.make.new.api types (after m p.change))
+    subst (λ (p : Plan). (c.in_ok-reply.reply.items ≡ answer_reply p.answer) × Stands c.commit.new.self types (after m p.change))
     (c.in_ok-plan.ensures.planned types m stands)
-    (c.in_ok-reply.ensures, c.in_ok-make.ensures.ok types m stands (c.in_ok-plan.ensures.next types m stands))
+    (c.in_ok-reply.ensures, c.in_ok-commit.ensures.ok types m (c.plan.ensures.same types m stands) (c.in_ok-plan.ensures.next types m stands))
 
-pub returns-in_err-make-clause-err : goal.returns-in_err-make-clause-err
-returns-in_err-make-clause-err c = λ types m stands. on_err c.from_residual-in_err-make.result (c.in_err-make.ensures.err types m stands)
+pub returns-in_err-plan-clause-err : goal.returns-in_err-plan-clause-err
+returns-in_err-plan-clause-err c = λ types m stands. on_err c.from_residual.result (c.plan.ensures.same types m stands)
+
+pub returns-in_err-reply-clause-err : goal.returns-in_err-reply-clause-err
+returns-in_err-reply-clause-err c = λ types m stands. on_err c.from_residual-in_err-reply.result (c.plan.ensures.same types m stands)
+
+pub returns-in_err-commit-clause-err : goal.returns-in_err-commit-clause-err
+returns-in_err-commit-clause-err c = λ types m stands. on_err c.from_residual-in_err-commit.result (c.in_err-commit.ensures.err types m (c.plan.ensures.same types m stands))

@@ -25,6 +25,7 @@ follows_as hub s e f g is follows =
 none_goes : (e : events.Event) → peer_goes (event_of e) ≡ false
 none_goes (event.Open id) = refl
 none_goes (event.In id bytes) = refl
+none_goes (event.Compact c) = refl
 
 -- an event that happened led on, and nothing is taken yet
 leads_on : (hub : Hub) (s : edge.State) (e : events.Event)
@@ -57,4 +58,13 @@ returns-in-Err-UnknownId c = λ s stands.
       ap is_none (refused_as s e _ _ c.in-Err-UnknownId.field-0-is (stated.refused s stands.0)),
       leads_on c.on.new.self s c.args.event.now c.all_is_out.ensures.stays stands.1
           (follows_as c.on.new.self s e _ _ c.in-Err-UnknownId.field-0-is (stated.follows s stands.0)),
+    )
+
+pub returns-in-Err-CompactionRefused : goal.returns-in-Err-CompactionRefused
+returns-in-Err-CompactionRefused c = λ s stands.
+    let e = event_of c.args.event.now in
+    let stated = c.in-Err-CompactionRefused.ensures in (
+      ap is_none (refused_as s e _ _ c.in-Err-CompactionRefused.field-0-is (stated.refused s stands.0)),
+      leads_on c.on.new.self s c.args.event.now c.all_is_out.ensures.stays stands.1
+          (follows_as c.on.new.self s e _ _ c.in-Err-CompactionRefused.field-0-is (stated.follows s stands.0)),
     )

@@ -27,3 +27,13 @@ returns-in-In-clause-memory c =
     (sym c.in-In.is)
     (subst (λ (bytes : List ℕ). (s : State) → IsIn c.args.self.now s → found_none c.receive.result ≡ true → (t : State) × Starves s (comes c.in-In.id bytes) (λ q. false) t × IsIn c.receive.new.self t)
     c.deref.ensures.value c.receive.ensures.memory)
+
+pub returns-in-Compact-clause-ok : goal.returns-in-Compact-clause-ok
+returns-in-Compact-clause-ok c =
+    subst (λ (e : events.Event). (s : State) → IsIn c.args.self.now s → OnOk c.compact.result ((t : State) × Steps s (event_of e) t × IsIn c.compact.new.self t)) (sym c.in-Compact.is)
+    c.compact.ensures.ok
+
+pub returns-in-Compact-clause-memory : goal.returns-in-Compact-clause-memory
+returns-in-Compact-clause-memory c =
+    subst (λ (e : events.Event). (s : State) → IsIn c.args.self.now s → found_none c.compact.result ≡ true → (t : State) × Starves s (event_of e) (λ q. false) t × IsIn c.compact.new.self t)
+    (sym c.in-Compact.is) c.compact.ensures.memory
