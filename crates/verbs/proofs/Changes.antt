@@ -1,9 +1,10 @@
 -- One more change of a machine.
-use Rattle.std.proofs.Common.{◌≡◌, ℕ, suc, ◌≤◌, Bool, true, false, cond, List, [], ◌∷◌, ◌++◌, Option, Some, None, refl, sym, ap, subst, ◌∙◌, arith}
+use Rattle.std.proofs.Common.{filter, ◌≡◌, ℕ, suc, ◌≤◌, Bool, true, false, cond, List, [], ◌∷◌, ◌++◌, Option, Some, None, refl, sym, ap, subst, ◌∙◌, arith}
+use Rattle.std.specs.Prelude.{nat_le}
 use Rattle.std.specs.FinMap as fin
 use Rattle.std.specs.List.{AllByRecursion}
 use Rattle.schema.specs.TypesFile.{ServedShape}
-use Rattle.history.specs.History.{Key, Change, Object, Objects, History, IsHistory, changed, is_same_key, key_cmp, left_by, object_by, put_or_remove, standing, written}
+use Rattle.history.specs.History.{Key, Change, Object, Objects, History, IsHistory, changed, is_same_key, key_cmp, left_by, object_by, put_or_remove, standing, state_at, up_to, written}
 use Rattle.history.proofs.Keys.{get-put_or_remove, tied}
 use Rattle.history.proofs.Revisions.{changed-append, up_to-all}
 use Rattle.history.proofs.Wholes.{whole_is, whole_writes}
@@ -57,7 +58,18 @@ texts_changed : (types : List ServedShape) (cs : List Change) (s : Objects) → 
 texts_changed types [] s all are = all
 texts_changed types (c ∷ cs) s all are = texts_changed types cs (put_or_remove s c.key (left_by c)) (texts_put types s c.key c.revision c.body all are.0) are.1
 
+all_filter : (P : Change → Type 0) (own : Change → Bool) (cs : List Change) → AllByRecursion P cs → AllByRecursion P (filter own cs)
+all_filter P own [] all = all
+all_filter P own (c ∷ cs) all = go (own c) (all_filter P own cs all.1)
+  where
+    go : (b : Bool) → AllByRecursion P (filter own cs) → AllByRecursion P (cond b (c ∷ filter own cs) (filter own cs))
+    go true others = (all.0, others)
+    go false others = others
+
+pub texts_at : (types : List ServedShape) (m : History) (r : ℕ) → IsMachine types m → AreTexts types (state_at m.changes r)
+texts_at types m r is =
+    texts_changed types (up_to r m.changes) fin.empty (λ k o there. no_some o (sym there ∙ fin.get-empty key_cmp k))
+    (all_filter (IsOfTypes types) (λ c. nat_le c.revision r) m.changes is.texts)
+
 pub standing_texts : (types : List ServedShape) (m : History) → IsMachine types m → AreTexts types (standing m)
-standing_texts types m is =
-    subst (AreTexts types) (sym (standing_is m (is_history types m is)))
-    (texts_changed types m.changes fin.empty (λ k o there. no_some o (sym there ∙ fin.get-empty key_cmp k)) is.texts)
+standing_texts types m is = texts_at types m m.current is

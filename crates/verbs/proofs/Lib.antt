@@ -1,5 +1,6 @@
 pub mod Ascii
 pub mod Blanks
+pub mod Changed
 pub mod Changes
 pub mod Causes
 pub mod Checks

@@ -1,7 +1,8 @@
 -- What a call plans may come next; an apply without force changes no field that another manager owns, and an update takes from others only what it changes.
-use Rattle.std.proofs.Common.{◌≡◌, ℕ, suc, ◌<◌, ◌≤◌, Bool, true, false, cond, List, [], Option, Some, None, Ok, Err, refl, sym, ap, subst, ◌∙◌, is_some, not, ◌&&◌, ◌||◌, ap₂, true≢false, ltb-true, ltb-false}
+use Rattle.std.proofs.Common.{◌≡◌, ℕ, suc, ◌<◌, ◌≤◌, Bool, true, false, cond, List, [], ◌∷◌, Option, Some, None, Ok, Err, refl, sym, ap, subst, ◌∙◌, is_some, not, ◌&&◌, ◌||◌, ap₂, true≢false, ltb-true, ltb-false}
 use Rattle.std.specs.Prelude.{codes, length, nat_le, nat_lt, slice_get, IfSome}
 use Rattle.std.specs.FinMap as fin
+use Rattle.std.specs.List.{AllByRecursion}
 use Rattle.std.specs.FinSet as set
 use Rattle.serde_json.specs.Data.{Data}
 use Rattle.serde_json.specs.Written.{compact_text}
@@ -16,7 +17,7 @@ use Rattle.pathmap.proofs.Contents.{path_cmp_total}
 use Rattle.pathmap.proofs.Sets.{contains-changed, contains-dom}
 use Rattle.typed.specs.Fitting.{IsContent}
 use Rattle.typed.specs.Reading.{content_of}
-use Rattle.history.specs.History.{Key, Change, Object, Objects, History, is_same_key, last_revision, object_by, put_or_remove, standing}
+use Rattle.history.specs.History.{Key, Change, Object, Objects, History, is_same_key, last_revision, object_by, put_or_remove, standing, state_at}
 use Rattle.history.proofs.Keys.{get-put_or_remove, tied}
 use Rattle.ownership.specs.Owners.{Manager, is_same, manager_of, apply_operation, owned_by, update_operation}
 use Rattle.ownership.specs.Update.{removed, updated}
@@ -37,14 +38,14 @@ use Rattle.verbs.specs.Json.{IsJson, IsJsonBody}
 use Rattle.verbs.specs.Envelope.{Expected, api_version_of, envelope_of, name_in}
 use Rattle.verbs.specs.declared.reason.Reason.TheVariants.{Invalid}
 use Rattle.verbs.specs.Validated.{Validated, and_then, require}
-use Rattle.verbs.specs.Machine.{AreTexts, IsBodyAt, IsMachine, IsNamed, IsNext, after, identity_of, no_state, state_by, state_of_live, state_said, state_under}
+use Rattle.verbs.specs.Machine.{AreTexts, IsBodyAt, IsMachine, IsNamed, IsNext, IsOfTypes, after, identity_of, no_state, state_by, state_of_live, state_said, state_under}
 use Rattle.verbs.specs.Naming.{marks_validated, metadata_object, names_validated, path_validated, required_name}
 use Rattle.verbs.specs.Options.{options_validated}
 use Rattle.verbs.specs.Parameters.{parameters_validated}
-use Rattle.verbs.specs.Promise.{AppliesKeepOthers, OthersKeepUnchanged, PlansComeNext, StepsKeepMachines, TextsSayStates, UpdatesTakeChanges}
+use Rattle.verbs.specs.Promise.{AppliesKeepOthers, BodiesSayStates, OthersKeepUnchanged, PlansComeNext, SaysState, StepsKeepMachines, TextsSayStates, UpdatesTakeChanges}
 use Rattle.verbs.specs.Size.{count_if_there, is_over, max_bytes, max_labels, size_validated}
 use Rattle.verbs.specs.Step.{Intent, applied_over, apply_validated, at_path, body_of, collection_validated_by, conflict_refusal, Creation, create_validated, created_as, creation_validated, delete_validated, deleted_over, get_validated, intent_of, validated_at, validated_in, validated_over, as_it_stands, key_at, not_there, object_validated_by, ownership_validated, planned, printed, revisions_left, shape_validated, stored, stored_over, text_at, there, plan_for, update_validated, updated_by, updated_over, version_checked, version_come}
-use Rattle.verbs.proofs.Changes.{machine_next, standing_next, standing_texts}
+use Rattle.verbs.proofs.Changes.{machine_next, standing_next, standing_texts, texts_at}
 use Rattle.verbs.proofs.Checks.{change_in, held, no_err, ok_is, passed}
 use Rattle.verbs.proofs.Contents.{intended_content}
 use Rattle.verbs.proofs.Said.{Shapes, nothing_placed, printed_is_text, said_back, shapes_of}
@@ -354,9 +355,20 @@ pub steps_keep_machines : StepsKeepMachines
 steps_keep_machines types m call is json = after_machine types m (planned types m call).change is (plans_come_next types m call is json)
 
 pub texts_say_states : TextsSayStates
-texts_say_states types m k o is there =
-    let x = standing_texts types m is k o there in
-    (x, sym (ap (λ u. state_by u (fin.get (standing m) k)) x.served ∙ ap (state_of_live x.t) there ∙ said_back x.t.shape _ o.revision x.state o.body ((shapes_of types is.shapes) k.kind x.t x.served) x.says))
+texts_say_states types m r k o is there =
+    let x = texts_at types m r is k o there in
+    (x, sym (ap (λ u. state_by u (fin.get (state_at m.changes r) k)) x.served ∙ ap (state_of_live x.t) there ∙ said_back x.t.shape _ o.revision x.state o.body ((shapes_of types is.shapes) k.kind x.t x.served) x.says))
+
+body_says : (types : List ServedShape) → Shapes types → (c : Change) (body : Option (List ℕ)) → IsBodyAt types c.key c.revision body → SaysState types c body
+body_says types shapes c None is = tt
+body_says types shapes c (Some text) is = (is, sym (said_back is.t.shape _ c.revision is.state text (shapes c.key.kind is.t is.served) is.says))
+
+all_say : (types : List ServedShape) → Shapes types → (cs : List Change) → AllByRecursion (IsOfTypes types) cs → AllByRecursion (λ c. SaysState types c c.body) cs
+all_say types shapes [] all = tt
+all_say types shapes (c ∷ cs) all = (body_says types shapes c c.body all.0, all_say types shapes cs all.1)
+
+pub bodies_say_states : BodiesSayStates
+bodies_say_states types m is = all_say types (shapes_of types is.shapes) m.changes is.texts
 
 -- ---- a call whose method is a write of an object
 

@@ -1,24 +1,25 @@
 -- What a call leaves to the managers of other fields (Kubernetes docs, "Server-Side Apply", "Conflicts", "Transferring ownership"),
 -- and what it leaves of the machine.
-use Rattle.std.specs.Prelude.{◌≡◌, ◌≤◌, ℕ, false, List, Some, IfSome}
-use Rattle.std.specs.declared.result.Result.TheVariants.{Ok}
+use Rattle.std.specs.Prelude.{◌≡◌, ◌≤◌, ℕ, false, List, Option, Some, None, IfSome}
+use Rattle.std.specs.declared.result.Result.TheVariants.{Ok, Err}
 use Rattle.std.specs.FinMap as fin
 use Rattle.std.specs.List.{AllByRecursion}
 use Rattle.params.specs.Values.{Values}
 use Rattle.params.specs.declared.params.Asked.TheVariants as asked
 use Rattle.schema.specs.TypesFile.{ServedShape}
 use Rattle.fieldpath.specs.Paths.{PathTexts}
-use Rattle.history.specs.History.{Key, Object, History, compacted_to, fresh, last_revision, standing}
+use Rattle.history.specs.History.{Change, Key, Object, History, compacted_to, fresh, last_revision, standing, state_at}
 use Rattle.history.specs.View.{view}
 use Rattle.ownership.specs.Owners.{Manager, manager_of, apply_operation, update_operation}
 use Rattle.ownership.specs.Apply.{State}
 use Rattle.ownership.specs.Keeping.{OthersKeep, Owns}
-use Rattle.verbs.specs.declared.method.Method.TheVariants.{Patch, Put}
-use Rattle.verbs.specs.Calls.{Call}
+use Rattle.verbs.specs.declared.method.Method.TheVariants.{Get, Patch, Put}
+use Rattle.verbs.specs.Calls.{Call, Target}
 use Rattle.verbs.specs.Json.{IsJsonBody}
-use Rattle.verbs.specs.Machine.{AreObjectTypes, IsMachine, IsNext, IsTextAt, state_under}
+use Rattle.verbs.specs.Machine.{AreObjectTypes, IsMachine, IsNext, IsTextAt, state_said, state_under}
 use Rattle.verbs.specs.Parameters.{parameters_validated}
-use Rattle.verbs.specs.Step.{planned, planned_in, step, steps}
+use Rattle.verbs.specs.Step.{planned, planned_in, step, steps, validated_over}
+use Rattle.verbs.specs.Status.{CallRefusal}
 
 -- what a call plans may come next, so the machine is one after each call whose body is a value that a JSON text spells
 abbrev pub PlansComeNext : Type 0
@@ -41,11 +42,19 @@ CompactionsKeepMachines = (types : List ServedShape) (m : History) (c : ℕ) →
 abbrev pub PlansByViews : Type 0
 PlansByViews = (types : List ServedShape) (m : History) (call : Call) → IsMachine types m → planned types m call ≡ planned_in types (view m) call
 
--- what stands under a key is the text of the state that is read of it, at its revision
+-- what stands under a key, at any revision, is the text of the state that is read of it, at the revision of its own
 abbrev pub TextsSayStates : Type 0
 TextsSayStates =
-    (types : List ServedShape) (m : History) (k : Key) (o : Object) → IsMachine types m → fin.get (standing m) k ≡ Some o
-    → (t : IsTextAt types k o.revision o.body) × (t.state ≡ state_under types (standing m) k)
+    (types : List ServedShape) (m : History) (r : ℕ) (k : Key) (o : Object) → IsMachine types m → fin.get (state_at m.changes r) k ≡ Some o
+    → (t : IsTextAt types k o.revision o.body) × (t.state ≡ state_under types (state_at m.changes r) k)
+
+-- so is the body of each change; a deletion has none
+abbrev pub SaysState : List ServedShape → Change → Option (List ℕ) → Type 0
+SaysState types c None = Unit {0}
+SaysState types c (Some text) = (t : IsTextAt types c.key c.revision text) × (t.state ≡ state_said t.t.shape text)
+
+abbrev pub BodiesSayStates : Type 0
+BodiesSayStates = (types : List ServedShape) (m : History) → IsMachine types m → AllByRecursion (λ c. SaysState types c c.body) m.changes
 
 -- An apply without force changes no field that another manager owns: after the call, whatever it answers, each path of each
 -- object that another manager owned has the value and the owner that it had.
@@ -65,3 +74,26 @@ UpdatesTakeChanges =
     (types : List ServedShape) (m : History) (call : Call) (values : Values) → IsMachine types m → IsJsonBody call.body
     → call.target.method ≡ Put → parameters_validated asked.Put call.query ≡ Ok values
     → (k : Key) → OthersKeepUnchanged (state_under types (standing m) k) (state_under types (standing (step types m call).1) k) (manager_of values.manager update_operation)
+
+-- ---- what a call changes
+
+-- a refused call changes nothing
+abbrev pub RefusalsChangeNothing : Type 0
+RefusalsChangeNothing =
+    (types : List ServedShape) (m : History) (call : Call) (d : CallRefusal) → validated_over types m.current (standing m) call ≡ Err d → (step types m call).1 ≡ m
+
+-- a GET changes nothing
+abbrev pub GetsChangeNothing : Type 0
+GetsChangeNothing = (types : List ServedShape) (m : History) (call : Call) → call.target.method ≡ Get → (step types m call).1 ≡ m
+
+-- the key is of the type and the namespace that the call is of, and of its name if it has one
+pub record IsCalled (target : Target) (k : Key) : Type 0 where
+  pub kind : k.kind ≡ target.kind
+  pub namespace : target.namespace ≡ Some k.namespace
+  pub name : IfSome target.name (λ n. n ≡ k.name)
+
+-- a change is of an object that the call is of, and what stands under every other key stays
+abbrev pub CallsChangeOneObject : Type 0
+CallsChangeOneObject =
+    (types : List ServedShape) (m : History) (call : Call) (c : Change) → IsMachine types m → IsJsonBody call.body → (planned types m call).change ≡ Some c
+    → IsCalled call.target c.key × ((k : Key) → ¬ (k ≡ c.key) → fin.get (standing (step types m call).1) k ≡ fin.get (standing m) k)

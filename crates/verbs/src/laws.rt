@@ -1,6 +1,6 @@
 //! Laws of the step. Each function does nothing; what it promises is the law.
 
-ghost use Rattle.verbs.specs.Promise.{AppliesKeepOthers, CallsKeepMachines, CompactionsKeepMachines, MachinesBegin, PlansByViews, PlansComeNext, StepsKeepMachines, TextsSayStates, UpdatesTakeChanges};
+ghost use Rattle.verbs.specs.Promise.{AppliesKeepOthers, BodiesSayStates, CallsChangeOneObject, CallsKeepMachines, CompactionsKeepMachines, GetsChangeNothing, MachinesBegin, PlansByViews, PlansComeNext, RefusalsChangeNothing, StepsKeepMachines, TextsSayStates, UpdatesTakeChanges};
 
 /// A machine begins without a change. What a call plans may come next; a machine stays one over each call, over calls
 /// one after the other, and over a compaction.
@@ -17,9 +17,10 @@ pub fn plans_by_views()
     ensures { PlansByViews }
 {}
 
-/// Each text that stands is that of one state: the one that is read of it.
+/// Each text that stands at a revision is that of one state, the one that is read of it, and so is each change's.
 pub fn texts_say_states()
-    ensures { TextsSayStates }
+    ensures stands { TextsSayStates }
+    ensures changes { BodiesSayStates }
 {}
 
 /// An apply without force changes no field that another manager owns.
@@ -30,4 +31,11 @@ pub fn applies_keep_others()
 /// An update takes from other managers only what it changes.
 pub fn updates_take_changes()
     ensures { UpdatesTakeChanges }
+{}
+
+/// A refused call and a GET change nothing; any other call changes one object at most, one that it is of.
+pub fn calls_change_one_object()
+    ensures refusals { RefusalsChangeNothing }
+    ensures gets { GetsChangeNothing }
+    ensures one { CallsChangeOneObject }
 {}

@@ -48,7 +48,8 @@ pub use calls::{Answer, Call, Plan, Target};
 pub use change::Change;
 pub use fault::Fault;
 pub use laws::{
-    applies_keep_others, machines_stay, plans_by_views, texts_say_states, updates_take_changes,
+    applies_keep_others, calls_change_one_object, machines_stay, plans_by_views, texts_say_states,
+    updates_take_changes,
 };
 pub use method::Method;
 pub use reason::Reason;
