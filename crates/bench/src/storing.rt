@@ -10,6 +10,12 @@ use std::time::CpuClock;
 /// How many entries a page has.
 const PAGE: u64 = 500;
 
+/// How many times each page is asked for.
+const ROUNDS: u64 = 4;
+
+/// A prime, so that all keys are met one after the other in no order, but of sizes that it divides.
+const STRIDE: u64 = 38_197;
+
 fn key(alloc: Global, i: u64) -> Result<Key, AllocError> {
     Ok(Key {
         kind: 1,
@@ -26,10 +32,11 @@ fn body(alloc: Global) -> Result<String, AllocError> {
     Ok(text)
 }
 
-fn keys(alloc: Global, size: u64) -> Result<Vec<Key>, AllocError> {
+/// All keys, each so many places after the one before it, and round again at the end.
+fn keys(alloc: Global, size: u64, stride: u64) -> Result<Vec<Key>, AllocError> {
     let mut all = Vec::new(alloc);
     for i in 0..size {
-        all.push(key(alloc, i)?)?;
+        all.push(key(alloc, i.saturating_mul(stride) % size.max(1))?)?;
     }
     Ok(all)
 }
@@ -63,8 +70,7 @@ fn count_found(store: &mut Store, keys: &[Key]) -> Result<u64, Fault> {
     Ok(count)
 }
 
-fn page_after(store: &mut Store, name: &str) -> Result<usize, ListFault> {
-    let revision = store.current();
+fn page_after(store: &mut Store, revision: u64, name: &str) -> Result<usize, ListFault> {
     Ok(
         store
             .list_at(1, None, revision, Some(("default", name)), PAGE)?
@@ -88,11 +94,25 @@ fn compact_each(store: &mut Store, from: u64, count: u64) -> Result<(), CompactF
     Ok(())
 }
 
+fn pages_after(
+    store: &mut Store,
+    revision: u64,
+    name: &str,
+    count: u64,
+) -> Result<usize, ListFault> {
+    let mut found = 0;
+    for _ in 0..count {
+        found = page_after(store, revision, name)?;
+    }
+    Ok(found)
+}
+
 fn pages(
     rt: &(impl Print + Eprint + CpuClock),
     alloc: Global,
     store: &mut Store,
     size: u64,
+    revision: u64,
 ) -> anyhow::Result<()> {
     for (what, first) in [
         ("a page from the front", 0),
@@ -100,9 +120,10 @@ fn pages(
         ("a page to the end", size.saturating_sub(PAGE)),
     ] {
         let name = format!(in alloc; "object-{first:08}")?;
+        let what = format!(in alloc; "{what} at {revision}")?;
         let start = spent(rt)?;
-        let found = page_after(store, &name)?;
-        tell(rt, what, 1, start)?;
+        let found = pages_after(store, revision, &name, ROUNDS)?;
+        tell(rt, &what, ROUNDS, start)?;
         println!(rt; "tables: {what} has {found}")?;
     }
     Ok(())
@@ -138,8 +159,9 @@ fn run_writes(
     alloc: Global,
     store: &mut Store,
     size: u64,
+    stride: u64,
 ) -> anyhow::Result<()> {
-    let keys = keys(alloc, size)?;
+    let keys = keys(alloc, size, stride)?;
     let body = body(alloc)?;
     for what in ["first write", "second write"] {
         time_writes(rt, what, store, &keys, &body)?;
@@ -181,15 +203,28 @@ fn time_compactions(
     Ok(())
 }
 
-/// Writes so many objects of 1 KB twice, reads single ones, pages and changes, and compacts half of the changes.
+fn run_once(
+    rt: &(impl Print + Eprint + CpuClock),
+    alloc: Global,
+    size: u64,
+    stride: u64,
+) -> anyhow::Result<()> {
+    let mut store = open(alloc)?;
+    run_writes(rt, alloc, &mut store, size, stride)?;
+    let current = store.current();
+    pages(rt, alloc, &mut store, size, current)?;
+    pages(rt, alloc, &mut store, size, size.saturating_add(1))?;
+    time_changes(rt, &mut store, size)?;
+    time_compactions(rt, &mut store, size)
+}
+
+/// Writes so many objects of 1 KB twice, reads single ones, pages at two revisions and changes, and compacts half of
+/// the changes; first with keys that ascend, and then with keys in no order.
 pub(crate) fn run(
     rt: &(impl Print + Eprint + CpuClock),
     alloc: Global,
     size: u64,
 ) -> anyhow::Result<()> {
-    let mut store = open(alloc)?;
-    run_writes(rt, alloc, &mut store, size)?;
-    pages(rt, alloc, &mut store, size)?;
-    time_changes(rt, &mut store, size)?;
-    time_compactions(rt, &mut store, size)
+    run_once(rt, alloc, size, 1)?;
+    run_once(rt, alloc, size, STRIDE)
 }
