@@ -83,14 +83,16 @@ fn labels_of(alloc: Global, value: Option<&Value>) -> Result<BTreeMap<String, St
     texts_in(alloc, members)
 }
 
-/// The compact JSON of a value without floats.
+/// The compact JSON of a value without floats, in no more room than it takes, as many are kept.
 fn text_of(alloc: Global, value: &Value) -> Result<String, DecodeFault>
     ensures { Gives (λ s. string_bytes s) result (text_of (view value.now)) }
 {
     if has_float(value) {
         return Err(DecodeFault::Malformed(Malformed::Number));
     }
-    Ok(value.to_string(alloc)?)
+    let mut text = value.to_string(alloc)?;
+    text.shrink_to_fit();
+    Ok(text)
 }
 
 /// The object that a JSON value is.
