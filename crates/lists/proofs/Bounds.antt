@@ -1,11 +1,14 @@
 -- The revision of a list that is not refused lies between the two numbers.
-use Rattle.std.proofs.Common.{◌≡◌, ℕ, ◌≤◌, Bool, true, false, cond, refl, sym, subst, leb-true, ltb-false, arith}
+use Rattle.std.proofs.Common.{◌≡◌, ℕ, ◌≤◌, Bool, true, false, cond, refl, sym, ap, subst, leb-true, ltb-false, arith}
 use Rattle.std.specs.Prelude.{nat_le, nat_lt}
 use Rattle.std.specs.declared.result.Result.{Result}
 use Rattle.std.specs.declared.result.Result.TheVariants.{Ok, Err}
 use Rattle.params.specs.Values.{Values}
 use Rattle.lists.specs.declared.refusal.Refusal.{Refusal}
 use Rattle.lists.specs.declared.refusal.Refusal.TheVariants.{Expired, TooLarge}
+use Rattle.history.specs.History.{Objects}
+use Rattle.lists.specs.Body.{Collection, list_text}
+use Rattle.lists.specs.Lists.{list_of, page_of, text_at}
 use Rattle.lists.specs.Revision.{Wanted, exactly, not_older_than, revision_by, revision_of, wanted_by}
 
 abbrev pub IsBetween : ℕ → ℕ → ℕ → Type 0
@@ -32,3 +35,11 @@ module _ (current compacted : ℕ) (low : compacted ≤ current) where
 
   pub revision_between : (values : Values) (r : ℕ) → (let answer : Result ℕ Refusal = Ok r in answer) ≡ revision_of current compacted values → IsBetween compacted current r
   revision_between values r is = subst (IsOkOf (IsBetween compacted current)) (sym is) (between (wanted_by values.token values))
+
+  -- only the objects between the two numbers are looked at
+  pub list_same : (of : Collection) (values : Values) (at other : ℕ → Objects) → ((r : ℕ) → compacted ≤ r → at r ≡ other r) → list_of of values current compacted at ≡ list_of of values current compacted other
+  list_same of values at other same = go (revision_of current compacted values) (between (wanted_by values.token values))
+    where
+      go : (answer : Result ℕ Refusal) → IsOkOf (IsBetween compacted current) answer → text_at of values at answer ≡ text_at of values other answer
+      go (Ok r) h = ap (λ s. Ok (list_text of r (page_of of values s))) (same r h.0)
+      go (Err refusal) h = refl

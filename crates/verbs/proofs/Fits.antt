@@ -15,6 +15,8 @@ use Rattle.verbs.specs.declared.method.Method.{Method}
 use Rattle.verbs.specs.declared.method.Method.TheVariants.{Delete, Get, Patch, Post, Put}
 use Rattle.verbs.specs.Calls.{Call, Plan}
 use Rattle.verbs.specs.Envelope.{Expected, api_version_of, name_in}
+use Rattle.std.specs.declared.result.Result.{Result}
+use Rattle.lists.specs.declared.refusal.Refusal.{Refusal}
 use Rattle.verbs.specs.Validated.{Validated, and_then}
 use Rattle.verbs.specs.Machine.{ComesAfter, no_state, state_of_live, state_said}
 use Rattle.verbs.specs.Naming.{marks_validated, names_validated, required_name}
@@ -23,7 +25,7 @@ use Rattle.verbs.specs.Parameters.{parameters_validated}
 use Rattle.verbs.specs.Promise.{IsCalled}
 use Rattle.verbs.specs.Seen.{objects_in}
 use Rattle.verbs.specs.Size.{size_validated}
-use Rattle.verbs.specs.Step.{Creation, Intent, apply_validated, at_path, body_of, collection_validated_by, create_validated, creation_validated, delete_validated, deleted_over, get_validated, intent_of, validated_at, validated_in, validated_over, as_it_stands, key_at, not_there, object_validated_by, plan_for, planned_over, ownership_validated, printed, revisions_left, stored, stored_over, there, update_validated, updated_by, updated_over, version_checked, version_come}
+use Rattle.verbs.specs.Step.{Creation, Intent, apply_validated, at_path, body_of, collection_validated_by, create_validated, creation_validated, delete_validated, deleted_over, get_validated, intent_of, validated_at, validated_in, validated_over, as_it_stands, key_at, not_there, object_validated_by, plan_for, planned_over, ownership_validated, printed, revisions_left, stored, stored_over, there, update_validated, updated_by, updated_over, version_checked, version_come, all_validated_by, collection_of, list_answered, list_validated, list_parameters, Lists, lists_in}
 use Rattle.verbs.proofs.Checks.{change_in, no_err, ok_is, passed}
 
 -- and its key is one of those that Q says
@@ -101,7 +103,7 @@ module _ (current : ℕ) (objects : Objects) (Q : Key → Type 0) where
       let free = passed (not_there t k.name (fin.get objects k)) _ p named.2 in
       stored_fits t k 201 (updated_by creation.0.intent no_state) p (subst (λ (c : Creation). Q c.key) same (own name.0)) free.2
 
-module _ (current : ℕ) (objects : Objects) (call : Call) where
+module _ (current : ℕ) (objects : Objects) (lists : Lists) (call : Call) where
   abbrev AllFit : Validated Plan → Type 0
   AllFit j = (p : Plan) → j ≡ Ok p → Fits current objects (IsCalled call.target) p.change
 
@@ -117,10 +119,27 @@ module _ (current : ℕ) (objects : Objects) (call : Call) where
   object_fits Patch t k own p e = with_body _ (λ body q f. apply_fits current objects (IsCalled call.target) t k call.query body q own f) p e
   object_fits Delete t k own p e = delete_fits current objects (IsCalled call.target) t k call.query call.body p own e
 
+  -- a list changes nothing
+  list_fits : (t : ServedShape) (kind : ℕ) (namespace : Option (List ℕ)) → AllFit (list_validated t lists kind namespace call.query)
+  list_fits t kind namespace p e =
+      let values = passed (list_parameters call.query) _ p e in
+      answered (lists (collection_of t kind namespace) values.0) values.2
+    where
+      answered : (r : Result (List ℕ) Refusal) → list_answered r ≡ Ok p → Fits current objects (IsCalled call.target) p.change
+      answered (Ok text) f = subst (Fits current objects (IsCalled call.target)) (ap change_in f) tt
+      answered (Err refusal) f = no_err _ p f
+
+  all_fits : (w : Method) (t : ServedShape) (kind : ℕ) → AllFit (all_validated_by w t lists kind call.query)
+  all_fits Get t kind p e = list_fits t kind None p e
+  all_fits Post t kind p e = no_err _ p e
+  all_fits Put t kind p e = no_err _ p e
+  all_fits Patch t kind p e = no_err _ p e
+  all_fits Delete t kind p e = no_err _ p e
+
   collection_fits : (w : Method) (t : ServedShape) (namespace : List ℕ) → ((name : List ℕ) → IsCalled call.target (key_at call namespace name))
-      → AllFit (collection_validated_by w t current objects call.target.kind namespace call.query call.body)
+      → AllFit (collection_validated_by w t current objects lists call.target.kind namespace call.query call.body)
   collection_fits Post t namespace own p e = with_body _ (λ body q f. create_fits current objects (IsCalled call.target) t call.target.kind namespace call.query body q own f) p e
-  collection_fits Get t namespace own p e = no_err _ p e
+  collection_fits Get t namespace own p e = list_fits t call.target.kind (Some namespace) p e
   collection_fits Put t namespace own p e = no_err _ p e
   collection_fits Patch t namespace own p e = no_err _ p e
   collection_fits Delete t namespace own p e = no_err _ p e
@@ -131,27 +150,28 @@ module _ (current : ℕ) (objects : Objects) (call : Call) where
   if_none : (given : Option (List ℕ)) (name : List ℕ) → given ≡ None → IfSome given (λ n. n ≡ name)
   if_none given name is = subst (λ o. IfSome o (λ n. n ≡ name)) (sym is) tt
 
-  in_fits : (t : ServedShape) (namespace name : Option (List ℕ)) → call.target.namespace ≡ namespace → call.target.name ≡ name → AllFit (validated_in t current objects call namespace name)
-  in_fits t None name placed is p e = no_err _ p e
+  in_fits : (t : ServedShape) (namespace name : Option (List ℕ)) → call.target.namespace ≡ namespace → call.target.name ≡ name → AllFit (validated_in t current objects lists call namespace name)
+  in_fits t None None placed is p e = all_fits call.target.method t call.target.kind p e
+  in_fits t None (Some name) placed is p e = no_err _ p e
   in_fits t (Some namespace) None placed is p e =
       collection_fits call.target.method t namespace (λ name. record { kind = refl; namespace = placed; name = if_none call.target.name name is }) p e
   in_fits t (Some namespace) (Some name) placed is p e =
       object_fits call.target.method t (key_at call namespace name) (record { kind = refl; namespace = placed; name = if_named call.target.name name is }) p e
 
-  at_fits : (found : Option ServedShape) → AllFit (validated_at found current objects call)
+  at_fits : (found : Option ServedShape) → AllFit (validated_at found current objects lists call)
   at_fits None p e = no_err _ p e
   at_fits (Some t) p e = in_fits t call.target.namespace call.target.name refl refl p e
 
-  told_fits : (types : List ServedShape) (j : Validated Plan) → validated_over types current objects call ≡ j → Fits current objects (IsCalled call.target) (plan_for j).change
+  told_fits : (types : List ServedShape) (j : Validated Plan) → validated_over types current objects lists call ≡ j → Fits current objects (IsCalled call.target) (plan_for j).change
   told_fits types (Err d) e = tt
   told_fits types (Ok p) e = at_fits (slice_get types call.target.kind) p e
 
-  pub planned_fits : (types : List ServedShape) → Fits current objects (IsCalled call.target) (planned_over types current objects call).change
-  planned_fits types = told_fits types (validated_over types current objects call) refl
+  pub planned_fits : (types : List ServedShape) → Fits current objects (IsCalled call.target) (planned_over types current objects lists call).change
+  planned_fits types = told_fits types (validated_over types current objects lists call) refl
 
 if_comes : (v : View) (Q : Key → Type 0) (change : Option Change) → Fits v.current (objects_in v) Q change → IfSome change (ComesAfter v)
 if_comes v Q None is = tt
 if_comes v Q (Some c) is = record { next = is.0; there = is.1 }
 
-pub planned_comes : (types : List ServedShape) (v : View) (call : Call) → IfSome (planned_over types v.current (objects_in v) call).change (ComesAfter v)
-planned_comes types v call = if_comes v (IsCalled call.target) _ (planned_fits v.current (objects_in v) call types)
+pub planned_comes : (types : List ServedShape) (v : View) (call : Call) → IfSome (planned_over types v.current (objects_in v) (lists_in v) call).change (ComesAfter v)
+planned_comes types v call = if_comes v (IsCalled call.target) _ (planned_fits v.current (objects_in v) (lists_in v) call types)

@@ -1,16 +1,18 @@
 -- A machine from its beginning on.
-use Rattle.std.proofs.Common.{◌≡◌, List, [], ◌∷◌, sym, ap}
+use Rattle.std.proofs.Common.{◌≡◌, List, [], ◌∷◌, sym, ap, ap₂}
 use Rattle.std.specs.List.{AllByRecursion}
 use Rattle.schema.specs.TypesFile.{ServedShape}
-use Rattle.history.specs.History.{History, standing}
+use Rattle.history.specs.History.{History, standing, state_at}
 use Rattle.history.specs.View.{state_in, view}
 use Rattle.history.proofs.Views.{view_states}
+use Rattle.lists.proofs.Bounds.{list_same}
+use Rattle.std.proofs.Math.Path.{fun_ext}
 use Rattle.history.proofs.Wholes.{whole_compacts, whole_fresh}
 use Rattle.verbs.specs.Calls.{Call}
 use Rattle.verbs.specs.Json.{IsJsonBody}
 use Rattle.verbs.specs.Machine.{IsMachine}
 use Rattle.verbs.specs.Promise.{CallsKeepMachines, CompactionsKeepMachines, MachinesBegin, PlansByViews}
-use Rattle.verbs.specs.Step.{planned_over, step, steps}
+use Rattle.verbs.specs.Step.{lists_in, lists_of, planned_over, step, steps}
 use Rattle.verbs.proofs.Changes.{is_history}
 use Rattle.verbs.proofs.Promise.{steps_keep_machines}
 
@@ -31,5 +33,9 @@ compactions_keep_machines types m c is low high = record { first = is.first; who
 pub standing_seen : (types : List ServedShape) (m : History) → IsMachine types m → state_in (view m) m.current ≡ standing m
 standing_seen types m is = view_states m m.current (is_history types m is) is.whole.low
 
+-- and so are the lists of it
+pub lists_seen : (types : List ServedShape) (m : History) → IsMachine types m → lists_in (view m) ≡ lists_of m
+lists_seen types m is = fun_ext (λ of. fun_ext (λ values. list_same m.current m.compacted is.whole.low of values (state_in (view m)) (state_at m.changes) (λ r low. view_states m r (is_history types m is) low)))
+
 pub plans_by_views : PlansByViews
-plans_by_views types m call is = sym (ap (λ s. planned_over types m.current s call) (standing_seen types m is))
+plans_by_views types m call is = sym (ap₂ (λ s ls. planned_over types m.current s ls call) (standing_seen types m is) (lists_seen types m is))

@@ -1,5 +1,5 @@
 -- What a call comes to at a machine.
-use Rattle.std.proofs.Common.{◌≡◌, Ok, Err, Bool, true, false, Option, Some, None, refl, sym, ap, subst, ◌∙◌, List, ℕ, true≢false, ltb-true, ltb-false}
+use Rattle.std.proofs.Common.{◌≡◌, Ok, Err, Bool, true, false, Option, Some, None, refl, sym, ap, ap₂, subst, ◌∙◌, List, ℕ, true≢false, ltb-true, ltb-false}
 use Rattle.std.specs.Prelude.{◌↔◌, ◌<◌, ◌≤◌, IfSome, OnOk, nat_lt, option_map, slice_get}
 use Rattle.std.specs.declared.result.Result.{Result}
 use Rattle.std.specs.FinMap as fin
@@ -18,19 +18,19 @@ use Rattle.verbs.specs.Json.{IsJsonBody}
 use Rattle.verbs.specs.Calls.{Call, Plan}
 use Rattle.verbs.specs.Machine.{AreTexts, IsMachine, IsNext, IsReadable, after, identity_of}
 use Rattle.verbs.proofs.Changes.{is_history, machine_next, standing_texts}
-use Rattle.verbs.proofs.Machines.{compactions_keep_machines, standing_seen}
+use Rattle.verbs.proofs.Machines.{compactions_keep_machines, lists_seen, standing_seen}
 use Rattle.verbs.proofs.Promise.{plans_come_next}
 use Rattle.verbs.specs.Seen.{Stands, body_seen, call_of, change_of, plan_of, types_of, objects_in}
-use Rattle.verbs.specs.Step.{plan_for, planned, planned_over, validated_over}
+use Rattle.verbs.specs.Step.{lists_in, lists_of, plan_for, planned, planned_over, validated_over}
 
 module _ (api : Api) (types : List ServedShape) (m : History) (call : Call) (stands : Stands api types m) where
-  validated_is : validated_over (types_of api) api.store.current (objects_in api.store) call ≡ validated_over types m.current (standing m) call
+  validated_is : validated_over (types_of api) api.store.current (objects_in api.store) (lists_in api.store) call ≡ validated_over types m.current (standing m) (lists_of m) call
   validated_is =
-      ap (λ ts. validated_over ts api.store.current (objects_in api.store) call) stands.serves
-      ∙ ap (λ (v : View). validated_over types v.current (objects_in v) call) stands.store
-      ∙ ap (λ os. validated_over types m.current os call) (standing_seen types m stands.is_machine)
+      ap (λ ts. validated_over ts api.store.current (objects_in api.store) (lists_in api.store) call) stands.serves
+      ∙ ap (λ (v : View). validated_over types v.current (objects_in v) (lists_in v) call) stands.store
+      ∙ ap₂ (λ os ls. validated_over types m.current os ls call) (standing_seen types m stands.is_machine) (lists_seen types m stands.is_machine)
 
-  pub planned_is : planned_over (types_of api) api.store.current (objects_in api.store) call ≡ planned types m call
+  pub planned_is : planned_over (types_of api) api.store.current (objects_in api.store) (lists_in api.store) call ≡ planned types m call
   planned_is = ap plan_for validated_is
 
   -- each text that stands in the store is an object's

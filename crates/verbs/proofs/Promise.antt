@@ -36,6 +36,8 @@ use Rattle.verbs.specs.declared.method.Method.TheVariants.{Get, Post, Put, Patch
 use Rattle.verbs.specs.Calls.{Call, Plan}
 use Rattle.verbs.specs.Json.{IsJson, IsJsonBody}
 use Rattle.verbs.specs.Envelope.{Expected, api_version_of, envelope_of, name_in}
+use Rattle.std.specs.declared.result.Result.{Result}
+use Rattle.lists.specs.declared.refusal.Refusal.{Refusal}
 use Rattle.verbs.specs.declared.reason.Reason.TheVariants.{Invalid}
 use Rattle.verbs.specs.Validated.{Validated, and_then, require}
 use Rattle.verbs.specs.Machine.{AreTexts, IsBodyAt, IsMachine, IsNamed, IsNext, IsOfTypes, after, identity_of, no_state, state_by, state_of_live, state_said, state_under}
@@ -44,7 +46,7 @@ use Rattle.verbs.specs.Options.{options_validated}
 use Rattle.verbs.specs.Parameters.{parameters_validated}
 use Rattle.verbs.specs.Promise.{AppliesKeepOthers, BodiesSayStates, OthersKeepUnchanged, PlansComeNext, SaysState, StepsKeepMachines, TextsSayStates, UpdatesTakeChanges}
 use Rattle.verbs.specs.Size.{count_if_there, is_over, max_bytes, max_labels, size_validated}
-use Rattle.verbs.specs.Step.{Intent, applied_over, apply_validated, at_path, body_of, collection_validated_by, conflict_refusal, Creation, create_validated, created_as, creation_validated, delete_validated, deleted_over, get_validated, intent_of, validated_at, validated_in, validated_over, as_it_stands, key_at, not_there, object_validated_by, ownership_validated, planned, printed, revisions_left, shape_validated, stored, stored_over, text_at, there, plan_for, update_validated, updated_by, updated_over, version_checked, version_come}
+use Rattle.verbs.specs.Step.{Intent, applied_over, apply_validated, at_path, body_of, collection_validated_by, conflict_refusal, Creation, create_validated, created_as, creation_validated, delete_validated, deleted_over, get_validated, intent_of, validated_at, validated_in, validated_over, as_it_stands, key_at, not_there, object_validated_by, ownership_validated, planned, printed, revisions_left, shape_validated, stored, stored_over, text_at, there, plan_for, update_validated, updated_by, updated_over, version_checked, version_come, all_validated_by, collection_of, list_answered, list_validated, list_parameters, Lists, lists_of}
 use Rattle.verbs.proofs.Changes.{machine_next, standing_next, standing_texts, texts_at}
 use Rattle.verbs.proofs.Checks.{change_in, held, no_err, ok_is, passed}
 use Rattle.verbs.proofs.Contents.{intended_content}
@@ -277,7 +279,7 @@ body_json : (body : Option Data) (d : Data) → IsJsonBody body → body_of body
 body_json None d json e = no_err _ d e
 body_json (Some x) d json e = subst IsJson (ok_is x d e) json
 
-module _ (types : List ServedShape) (current : ℕ) (objects : Objects) (shapes : Shapes types) (texts : AreTexts types objects) (call : Call) (json : IsJsonBody call.body) where
+module _ (types : List ServedShape) (current : ℕ) (objects : Objects) (shapes : Shapes types) (texts : AreTexts types objects) (lists : Lists) (call : Call) (json : IsJsonBody call.body) where
   abbrev Writes : Validated Plan → Type 0
   Writes j = (p : Plan) → j ≡ Ok p → WritesBy types current objects (Unit {0}) (λ old new. Unit {0}) p.change
 
@@ -293,23 +295,41 @@ module _ (types : List ServedShape) (current : ℕ) (objects : Objects) (shapes 
   object_writes Patch t k serves p e = with_body _ (λ body read q f. apply_writes types current objects shapes texts t k serves (Unit {0}) (λ old new. Unit {0}) call.query body q read (λ i is before s owned. tt) f) p e
   object_writes Delete t k serves p e = delete_writes types current objects shapes texts t k serves (Unit {0}) (λ old new. Unit {0}) tt call.query call.body p e
 
-  collection_writes : (w : Method) (t : ServedShape) (kind : ℕ) (namespace : List ℕ) → slice_get types kind ≡ Some t → Writes (collection_validated_by w t current objects kind namespace call.query call.body)
+  -- a list writes nothing
+  list_writes : (t : ServedShape) (kind : ℕ) (namespace : Option (List ℕ)) → Writes (list_validated t lists kind namespace call.query)
+  list_writes t kind namespace p e =
+      let values = passed (list_parameters call.query) _ p e in
+      answered (lists (collection_of t kind namespace) values.0) values.2
+    where
+      answered : (r : Result (List ℕ) Refusal) → list_answered r ≡ Ok p → WritesBy types current objects (Unit {0}) (λ old new. Unit {0}) p.change
+      answered (Ok text) f = subst (WritesBy types current objects (Unit {0}) (λ old new. Unit {0})) (ap change_in f) tt
+      answered (Err refusal) f = no_err _ p f
+
+  all_writes : (w : Method) (t : ServedShape) (kind : ℕ) → Writes (all_validated_by w t lists kind call.query)
+  all_writes Get t kind p e = list_writes t kind None p e
+  all_writes Post t kind p e = no_err _ p e
+  all_writes Put t kind p e = no_err _ p e
+  all_writes Patch t kind p e = no_err _ p e
+  all_writes Delete t kind p e = no_err _ p e
+
+  collection_writes : (w : Method) (t : ServedShape) (kind : ℕ) (namespace : List ℕ) → slice_get types kind ≡ Some t → Writes (collection_validated_by w t current objects lists kind namespace call.query call.body)
   collection_writes Post t kind namespace serves p e = with_body _ (λ body read q f. create_writes types current objects shapes texts t kind serves namespace call.query body q read f) p e
-  collection_writes Get t kind namespace serves p e = no_err _ p e
+  collection_writes Get t kind namespace serves p e = list_writes t kind (Some namespace) p e
   collection_writes Put t kind namespace serves p e = no_err _ p e
   collection_writes Patch t kind namespace serves p e = no_err _ p e
   collection_writes Delete t kind namespace serves p e = no_err _ p e
 
-  in_writes : (t : ServedShape) → slice_get types call.target.kind ≡ Some t → (namespace name : Option (List ℕ)) → Writes (validated_in t current objects call namespace name)
-  in_writes t serves None name p e = no_err _ p e
+  in_writes : (t : ServedShape) → slice_get types call.target.kind ≡ Some t → (namespace name : Option (List ℕ)) → Writes (validated_in t current objects lists call namespace name)
+  in_writes t serves None None p e = all_writes call.target.method t call.target.kind p e
+  in_writes t serves None (Some name) p e = no_err _ p e
   in_writes t serves (Some namespace) None p e = collection_writes call.target.method t call.target.kind namespace serves p e
   in_writes t serves (Some namespace) (Some name) p e = object_writes call.target.method t (key_at call namespace name) serves p e
 
-  at_writes : (found : Option ServedShape) → slice_get types call.target.kind ≡ found → Writes (validated_at found current objects call)
+  at_writes : (found : Option ServedShape) → slice_get types call.target.kind ≡ found → Writes (validated_at found current objects lists call)
   at_writes None is p e = no_err _ p e
   at_writes (Some t) is p e = in_writes t is call.target.namespace call.target.name p e
 
-  call_writes : (j : Validated Plan) → validated_over types current objects call ≡ j → WritesBy types current objects (Unit {0}) (λ old new. Unit {0}) (plan_for j).change
+  call_writes : (j : Validated Plan) → validated_over types current objects lists call ≡ j → WritesBy types current objects (Unit {0}) (λ old new. Unit {0}) (plan_for j).change
   call_writes (Err d) e = tt
   call_writes (Ok p) e = at_writes (slice_get types call.target.kind) refl p e
 
@@ -345,7 +365,7 @@ if_next types m D R (Some c) is = comes_next types m D R c is
 pub plans_come_next : PlansComeNext
 plans_come_next types m call is json =
     if_next types m (Unit {0}) (λ old new. Unit {0}) (planned types m call).change
-    (call_writes types m.current (standing m) (shapes_of types is.shapes) (standing_texts types m is) call json (validated_over types m.current (standing m) call) refl)
+    (call_writes types m.current (standing m) (shapes_of types is.shapes) (standing_texts types m is) (lists_of m) call json (validated_over types m.current (standing m) (lists_of m) call) refl)
 
 pub after_machine : (types : List ServedShape) (m : History) (change : Option Change) → IsMachine types m → IfSome change (IsNext types m) → IsMachine types (after m change)
 after_machine types m None is next = is
@@ -372,26 +392,29 @@ bodies_say_states types m is = all_say types (shapes_of types is.shapes) m.chang
 
 -- ---- a call whose method is a write of an object
 
-module _ (types : List ServedShape) (current : ℕ) (objects : Objects) (call : Call) (json : IsJsonBody call.body) (R : State → State → Type 0) (w : Method) (validated : ServedShape → Key → Data → Validated Plan)
+module _ (types : List ServedShape) (current : ℕ) (objects : Objects) (lists : Lists) (call : Call) (json : IsJsonBody call.body) (R : State → State → Type 0) (w : Method) (validated : ServedShape → Key → Data → Validated Plan)
     (is : call.target.method ≡ w)
-    (alone : (t : ServedShape) (kind : ℕ) (namespace : List ℕ) (p : Plan) → collection_validated_by w t current objects kind namespace call.query call.body ≡ Ok p → ⊥)
+    (alone : (t : ServedShape) (kind : ℕ) (namespace : List ℕ) (p : Plan) → collection_validated_by w t current objects lists kind namespace call.query call.body ≡ Ok p → ⊥)
+    (everywhere : (t : ServedShape) (kind : ℕ) (p : Plan) → all_validated_by w t lists kind call.query ≡ Ok p → ⊥)
     (object : (t : ServedShape) (k : Key) → object_validated_by w t current (fin.get objects k) k call.query call.body ≡ and_then (body_of call.body) (validated t k))
     (keeps : (t : ServedShape) (k : Key) → slice_get types k.kind ≡ Some t → (body : Data) (p : Plan) → IsJson body → validated t k body ≡ Ok p → WritesBy types current objects ⊥ R p.change) where
-  in_keeps : (t : ServedShape) → slice_get types call.target.kind ≡ Some t → (namespace name : Option (List ℕ)) (p : Plan) → validated_in t current objects call namespace name ≡ Ok p → WritesBy types current objects ⊥ R p.change
-  in_keeps t serves None name p e = no_err _ p e
+  in_keeps : (t : ServedShape) → slice_get types call.target.kind ≡ Some t → (namespace name : Option (List ℕ)) (p : Plan) → validated_in t current objects lists call namespace name ≡ Ok p → WritesBy types current objects ⊥ R p.change
+  in_keeps t serves None None p e =
+      absurd (everywhere t call.target.kind p (subst (λ (m : Method). all_validated_by m t lists call.target.kind call.query ≡ Ok p) is e))
+  in_keeps t serves None (Some name) p e = no_err _ p e
   in_keeps t serves (Some namespace) None p e =
-      absurd (alone t call.target.kind namespace p (subst (λ (m : Method). collection_validated_by m t current objects call.target.kind namespace call.query call.body ≡ Ok p) is e))
+      absurd (alone t call.target.kind namespace p (subst (λ (m : Method). collection_validated_by m t current objects lists call.target.kind namespace call.query call.body ≡ Ok p) is e))
   in_keeps t serves (Some namespace) (Some name) p e =
       let k = key_at call namespace name in
       let served = sym (object t k) ∙ subst (λ (m : Method). object_validated_by m t current (fin.get objects k) k call.query call.body ≡ Ok p) is e in
       let body = passed (body_of call.body) (validated t k) p served in
       keeps t k serves body.0 p (body_json call.body body.0 json body.1) body.2
 
-  at_keeps : (found : Option ServedShape) → slice_get types call.target.kind ≡ found → (p : Plan) → validated_at found current objects call ≡ Ok p → WritesBy types current objects ⊥ R p.change
+  at_keeps : (found : Option ServedShape) → slice_get types call.target.kind ≡ found → (p : Plan) → validated_at found current objects lists call ≡ Ok p → WritesBy types current objects ⊥ R p.change
   at_keeps None serves p e = no_err _ p e
   at_keeps (Some t) serves p e = in_keeps t serves call.target.namespace call.target.name p e
 
-  plan_keeps : (j : Validated Plan) → validated_over types current objects call ≡ j → WritesBy types current objects ⊥ R (plan_for j).change
+  plan_keeps : (j : Validated Plan) → validated_over types current objects lists call ≡ j → WritesBy types current objects ⊥ R (plan_for j).change
   plan_keeps (Err d) e = tt
   plan_keeps (Ok p) e = at_keeps (slice_get types call.target.kind) refl p e
 
@@ -431,26 +454,26 @@ pub applies_keep_others : AppliesKeepOthers
 applies_keep_others types m call values is json patch read gentle =
     let R = AsApplied values.manager in
     let texts = standing_texts types m is in
-    after_keeps types m is R (λ s k p apart owns. (refl, owns)) (plan_for (validated_over types m.current (standing m) call)).change
-    (plan_keeps types m.current (standing m) call json R Patch (λ t k. apply_validated t m.current (fin.get (standing m) k) k call.query) patch
-    (λ t kind namespace p e. no_err _ p e) (λ t k. refl)
+    after_keeps types m is R (λ s k p apart owns. (refl, owns)) (plan_for (validated_over types m.current (standing m) (lists_of m) call)).change
+    (plan_keeps types m.current (standing m) (lists_of m) call json R Patch (λ t k. apply_validated t m.current (fin.get (standing m) k) k call.query) patch
+    (λ t kind namespace p e. no_err _ p e) (λ t kind p e. no_err _ p e) (λ t k. refl)
     (λ t k serves body p spelled e. apply_writes types m.current (standing m) (shapes_of types is.shapes) texts t k serves ⊥ R call.query body p spelled
     (λ i intends before s owned.
     let said = intended (at_path t k Patch) asked.Apply call.query body i values intends read in
     subst (λ w. AsApplied w before s) (sym said.0)
     (owned_keeps _ before i.content (manager_of i.manager apply_operation) i.is_forced s (sym said.1 ∙ gentle) owned)) e)
-    (validated_over types m.current (standing m) call) refl)
+    (validated_over types m.current (standing m) (lists_of m) call) refl)
 
 pub updates_take_changes : UpdatesTakeChanges
 updates_take_changes types m call values is json put read =
     let R = AsUpdated values.manager in
     let texts = standing_texts types m is in
-    after_keeps types m is R (λ s k p apart owns same. owns) (plan_for (validated_over types m.current (standing m) call)).change
-    (plan_keeps types m.current (standing m) call json R Put (λ t k. update_validated t m.current (fin.get (standing m) k) k call.query) put
-    (λ t kind namespace p e. no_err _ p e) (λ t k. refl)
+    after_keeps types m is R (λ s k p apart owns same. owns) (plan_for (validated_over types m.current (standing m) (lists_of m) call)).change
+    (plan_keeps types m.current (standing m) (lists_of m) call json R Put (λ t k. update_validated t m.current (fin.get (standing m) k) k call.query) put
+    (λ t kind namespace p e. no_err _ p e) (λ t kind p e. no_err _ p e) (λ t k. refl)
     (λ t k serves body p spelled e. update_writes types m.current (standing m) (shapes_of types is.shapes) texts t k serves ⊥ R call.query body p spelled
     (λ i intends before.
     let said = intended (at_path t k Put) asked.Put call.query body i values intends read in
     subst (λ w. AsUpdated w before (updated_by i before)) (sym said.0)
     (updated_keeps before i.content (manager_of i.manager update_operation))) e)
-    (validated_over types m.current (standing m) call) refl)
+    (validated_over types m.current (standing m) (lists_of m) call) refl)

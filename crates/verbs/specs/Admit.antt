@@ -18,7 +18,7 @@ use Rattle.verbs.specs.declared.method.Method.TheVariants.{Get, Post, Put, Patch
 use Rattle.verbs.specs.declared.reason.Reason.{Reason}
 use Rattle.verbs.specs.declared.reason.Reason.TheVariants.{NotFound, MethodNotAllowed, UnsupportedMediaType}
 use Rattle.verbs.specs.declared.resource.Resource.{Resource}
-use Rattle.verbs.specs.declared.resource.Resource.TheVariants.{Collection, Object}
+use Rattle.verbs.specs.declared.resource.Resource.TheVariants.{AllNamespaces, Collection, Object}
 use Rattle.verbs.specs.Calls.{Target, Denied}
 
 -- ---- methods (RFC 9110, section 9.1: they are known by their bytes)
@@ -33,8 +33,13 @@ method_named s =
 
 -- the methods that are served on what a path leads to
 abbrev pub serves : Resource → Method → Bool
+serves AllNamespaces Get = true
+serves AllNamespaces Post = false
+serves AllNamespaces Put = false
+serves AllNamespaces Patch = false
+serves AllNamespaces Delete = false
+serves Collection Get = true
 serves Collection Post = true
-serves Collection Get = false
 serves Collection Put = false
 serves Collection Patch = false
 serves Collection Delete = false
@@ -46,10 +51,14 @@ serves Object Delete = true
 
 -- as they stand in `Allow`
 abbrev pub allowed : Resource → List ℕ
-allowed Collection = codes "POST"
+allowed AllNamespaces = codes "GET"
+allowed Collection = codes "GET, POST"
 allowed Object = codes "DELETE, GET, PATCH, PUT"
 
 -- ---- routes
+
+abbrev pub all_path : List ℕ
+all_path = codes "/apis/{group}/{version}/{plural}"
 
 abbrev pub collection_path : List ℕ
 collection_path = codes "/apis/{group}/{version}/namespaces/{namespace}/{plural}"
@@ -69,7 +78,7 @@ with_route path r rows = with_scan (parse_route path) r rows
 
 -- the table
 unfoldable pub routes : Rows
-routes = with_route object_path Object (with_route collection_path Collection [])
+routes = with_route object_path Object (with_route collection_path Collection (with_route all_path AllNamespaces []))
 
 -- the parts of a path by the names in its route
 abbrev pub Parts : Type 0

@@ -1,6 +1,7 @@
 -- The step: what a call answers at a machine, and the machine after it, with the checks in their order
 -- (Kubernetes docs, "Server-Side Apply"; "Kubernetes API Concepts", "Resource versions").
-use Rattle.std.specs.Prelude.{ℕ, suc, Bool, ◌==◌, nat_le, nat_lt, List, [], ◌∷◌, ◌++◌, length, Option, Some, None, slice_get, if◌then◌else◌, codes, decimal}
+use Rattle.std.specs.Prelude.{ℕ, suc, Bool, not, is_some, ◌==◌, nat_le, nat_lt, List, [], ◌∷◌, ◌++◌, length, Option, Some, None, slice_get, if◌then◌else◌, codes, decimal}
+use Rattle.std.specs.declared.result.Result.{Result}
 use Rattle.std.specs.declared.result.Result.TheVariants.{Ok, Err}
 use Rattle.std.specs.FinMap as fin
 use Rattle.serde_json.specs.Data.{Data, string, object, Items, no_items, item, no_members, put}
@@ -13,12 +14,17 @@ use Rattle.typed.specs.declared.fault.Cause.TheVariants.{NotAnObject, UnknownFie
 use Rattle.typed.specs.Faults.{Read, cause_text}
 use Rattle.typed.specs.Reading.{content_of}
 use Rattle.ownership.specs.Owners.{Manager, manager_of, apply_operation, update_operation}
-use Rattle.history.specs.History.{Key, Object, Objects, History, last_revision, standing}
+use Rattle.history.specs.History.{Key, Object, Objects, History, last_revision, standing, state_at}
 use Rattle.history.specs.View.{View, state_in}
 use Rattle.ownership.specs.Apply.{State, Conflict, conflicts, applied, is_refused}
 use Rattle.ownership.specs.Update.{updated}
 use Rattle.ownership.specs.Sameness.{same_state}
 use Rattle.ownership.specs.ObjectText.{object_value}
+use Rattle.lists.specs.Body.{Collection}
+use Rattle.lists.specs.Lists.{list_of}
+use Rattle.lists.specs.declared.refusal.Refusal.{Refusal}
+use Rattle.lists.specs.declared.refusal.Refusal.TheVariants.{Expired, TooLarge}
+use Rattle.params.specs.Values.{Values}
 use Rattle.params.specs.declared.params.Asked.{Asked}
 use Rattle.params.specs.declared.params.Asked.TheVariants as asked
 use Rattle.verbs.specs.declared.method.Method.{Method}
@@ -28,7 +34,7 @@ use Rattle.verbs.specs.declared.reason.Reason.TheVariants.{BadRequest, NotFound,
 use Rattle.verbs.specs.declared.reason.Reason.TheVariants as reason
 use Rattle.verbs.specs.Reasons.{code_of}
 use Rattle.verbs.specs.Status.{CallRefusal, call_refusal_value}
-use Rattle.verbs.specs.Validated.{Validated, and_then, refused_for, require}
+use Rattle.verbs.specs.Validated.{Validated, and_then, call_refusal, refused_for, require}
 use Rattle.verbs.specs.Machine.{after, identity_of, no_state, state_of_live, state_said}
 use Rattle.verbs.specs.Calls.{Call, Answer, Plan}
 use Rattle.verbs.specs.Envelope.{Expected, api_version_of, envelope_of, name_in}
@@ -199,6 +205,37 @@ get_validated t current live k query =
     and_then (version_come values.version current) (λ u.
     Ok (as_it_stands o))))
 
+-- ---- lists ("Retrieving large results sets in chunks")
+
+-- the texts of lists, or why there is none
+abbrev pub Lists : Type 0
+Lists = Collection → Values → Result (List ℕ) Refusal
+
+abbrev pub collection_of : ServedShape → ℕ → Option (List ℕ) → Collection
+collection_of t kind namespace = record { kind = kind; namespace = namespace; api_version = api_version_of t; item_kind = t.kind }
+
+abbrev pub expired_message : ℕ → ℕ → List ℕ
+expired_message n compacted = codes "too old resource version: " ++ decimal n ++ codes " (" ++ decimal compacted ++ codes ")"
+
+abbrev pub list_refusal : Refusal → CallRefusal
+list_refusal (Expired n compacted) = call_refusal reason.Expired (expired_message n compacted)
+list_refusal (TooLarge n current) = call_refusal Timeout (too_large_message n current)
+
+abbrev pub list_answered : Result (List ℕ) Refusal → Validated Plan
+list_answered (Ok text) = Ok (record { answer = record { status = 200; body = text }; change = None })
+list_answered (Err refusal) = Err (list_refusal refusal)
+
+-- watches are not served yet
+abbrev pub unwatched : Values → Validated (Unit {0})
+unwatched values = require (not (is_some values.watch)) BadRequest (codes "bad parameter: watch")
+
+abbrev pub list_parameters : List ℕ → Validated Values
+list_parameters query = and_then (parameters_validated asked.List query) (λ values. and_then (unwatched values) (λ u. Ok values))
+
+-- parameters, then the list's revision
+abbrev pub list_validated : ServedShape → Lists → ℕ → Option (List ℕ) → List ℕ → Validated Plan
+list_validated t lists kind namespace query = and_then (list_parameters query) (λ values. list_answered (lists (collection_of t kind namespace) values))
+
 -- ---- creation and update ("Server-Side Apply", "Comparison with Client-Side Apply": they own what they change)
 
 abbrev pub updated_by : Intent → State → State
@@ -282,12 +319,20 @@ object_validated_by Patch t current live k query body = and_then (body_of body) 
 object_validated_by Delete t current live k query body = delete_validated t current live k query body
 
 -- on all objects of a namespace
-abbrev pub collection_validated_by : Method → ServedShape → ℕ → Objects → ℕ → List ℕ → List ℕ → Option Data → Validated Plan
-collection_validated_by Post t current objects kind namespace query body = and_then (body_of body) (create_validated t current objects kind namespace query)
-collection_validated_by Get t current objects kind namespace query body = not_served
-collection_validated_by Put t current objects kind namespace query body = not_served
-collection_validated_by Patch t current objects kind namespace query body = not_served
-collection_validated_by Delete t current objects kind namespace query body = not_served
+abbrev pub collection_validated_by : Method → ServedShape → ℕ → Objects → Lists → ℕ → List ℕ → List ℕ → Option Data → Validated Plan
+collection_validated_by Post t current objects lists kind namespace query body = and_then (body_of body) (create_validated t current objects kind namespace query)
+collection_validated_by Get t current objects lists kind namespace query body = list_validated t lists kind (Some namespace) query
+collection_validated_by Put t current objects lists kind namespace query body = not_served
+collection_validated_by Patch t current objects lists kind namespace query body = not_served
+collection_validated_by Delete t current objects lists kind namespace query body = not_served
+
+-- on all objects of a type
+abbrev pub all_validated_by : Method → ServedShape → Lists → ℕ → List ℕ → Validated Plan
+all_validated_by Get t lists kind query = list_validated t lists kind None query
+all_validated_by Post t lists kind query = not_served
+all_validated_by Put t lists kind query = not_served
+all_validated_by Patch t lists kind query = not_served
+all_validated_by Delete t lists kind query = not_served
 
 abbrev pub no_path : Validated Plan
 no_path = refused_for NotFound (codes "no such path")
@@ -295,20 +340,21 @@ no_path = refused_for NotFound (codes "no such path")
 abbrev pub key_at : Call → List ℕ → List ℕ → Key
 key_at call namespace name = record { kind = call.target.kind; namespace = namespace; name = name }
 
--- by namespace and name: an object's path has both, a collection's no name
-abbrev pub validated_in : ServedShape → ℕ → Objects → Call → Option (List ℕ) → Option (List ℕ) → Validated Plan
-validated_in t current objects call None name = no_path
-validated_in t current objects call (Some namespace) None =
-    collection_validated_by call.target.method t current objects call.target.kind namespace call.query call.body
-validated_in t current objects call (Some namespace) (Some name) =
+-- by namespace and name: an object's path has both, a collection's no name, that of all namespaces neither
+abbrev pub validated_in : ServedShape → ℕ → Objects → Lists → Call → Option (List ℕ) → Option (List ℕ) → Validated Plan
+validated_in t current objects lists call None None = all_validated_by call.target.method t lists call.target.kind call.query
+validated_in t current objects lists call None (Some name) = no_path
+validated_in t current objects lists call (Some namespace) None =
+    collection_validated_by call.target.method t current objects lists call.target.kind namespace call.query call.body
+validated_in t current objects lists call (Some namespace) (Some name) =
     object_validated_by call.target.method t current (fin.get objects (key_at call namespace name)) (key_at call namespace name) call.query call.body
 
-abbrev pub validated_at : Option ServedShape → ℕ → Objects → Call → Validated Plan
-validated_at None current objects call = no_path
-validated_at (Some t) current objects call = validated_in t current objects call call.target.namespace call.target.name
+abbrev pub validated_at : Option ServedShape → ℕ → Objects → Lists → Call → Validated Plan
+validated_at None current objects lists call = no_path
+validated_at (Some t) current objects lists call = validated_in t current objects lists call call.target.namespace call.target.name
 
-abbrev pub validated_over : List ServedShape → ℕ → Objects → Call → Validated Plan
-validated_over types current objects call = validated_at (slice_get types call.target.kind) current objects call
+abbrev pub validated_over : List ServedShape → ℕ → Objects → Lists → Call → Validated Plan
+validated_over types current objects lists call = validated_at (slice_get types call.target.kind) current objects lists call
 
 -- a refusal is answered by its Status, and changes nothing
 abbrev pub refused : CallRefusal → Plan
@@ -318,17 +364,24 @@ abbrev pub plan_for : Validated Plan → Plan
 plan_for (Ok p) = p
 plan_for (Err d) = refused d
 
--- by the types, the current number, and the objects that stand
-abbrev pub planned_over : List ServedShape → ℕ → Objects → Call → Plan
-planned_over types current objects call = plan_for (validated_over types current objects call)
+-- by the types, the current number, the objects that stand, and the lists
+abbrev pub planned_over : List ServedShape → ℕ → Objects → Lists → Call → Plan
+planned_over types current objects lists call = plan_for (validated_over types current objects lists call)
+
+-- the lists of a machine, by its objects at each revision
+abbrev pub lists_of : History → Lists
+lists_of m = λ of values. list_of of values m.current m.compacted (state_at m.changes)
+
+abbrev pub lists_in : View → Lists
+lists_in v = λ of values. list_of of values v.current v.compacted (state_in v)
 
 -- the answer of a call, and the change that it makes
 abbrev pub planned : List ServedShape → History → Call → Plan
-planned types m call = planned_over types m.current (standing m) call
+planned types m call = planned_over types m.current (standing m) (lists_of m) call
 
 -- the same, by what may be seen of the history
 abbrev pub planned_in : List ServedShape → View → Call → Plan
-planned_in types v call = planned_over types v.current (state_in v v.current) call
+planned_in types v call = planned_over types v.current (state_in v v.current) (lists_in v) call
 
 -- the answer, and the machine after the call
 abbrev pub step : List ServedShape → History → Call → Answer × History

@@ -19,7 +19,11 @@ use revtable::Object;
 use schema::Served;
 use std::alloc::{AllocError, Global};
 
-fn too_large_message(alloc: Global, asked: u64, current: u64) -> Result<String, AllocError>
+pub(crate) fn too_large_message(
+    alloc: Global,
+    asked: u64,
+    current: u64,
+) -> Result<String, AllocError>
     ensures { IfOk result (λ s. string_bytes s ≡ too_large_message asked current) }
 {
     let asked = asked.to_string(alloc)?;

@@ -2,7 +2,7 @@
 //!
 //! Promises: what a call answers and changes is the step of the machine, with its checks in their order;
 //! a refused call changes nothing. The machine is a history whose bodies are texts of objects.
-//! Stands on `history` for changes, `revstore` for what stands, `ownership` for apply, `typed` for reading, `schema` for types, `params` and `names` for parameters and names.
+//! Stands on `history` for changes, `revstore` for what stands, `lists` for lists, `ownership` for apply, `typed` for reading, `schema` for types, `params` and `names` for parameters and names.
 #![tactic(auto)]
 
 mod admitting;
@@ -21,6 +21,7 @@ mod getting;
 mod identity;
 mod intent;
 mod laws;
+mod listing;
 mod live;
 mod media;
 mod method;

@@ -1,6 +1,6 @@
 //! What a call comes to, by what stands in the store.
 
-ghost use Rattle.std.specs.Prelude.{◌≡◌, ◌≢◌, ◌≤◌, Err, IfOk, List, Some, option_map, slice_get};
+ghost use Rattle.std.specs.Prelude.{◌≡◌, ◌≢◌, ◌≤◌, Err, IfOk, List, None, Some, option_map, slice_get};
 ghost use Rattle.std.specs.FinMap as fin;
 ghost use Rattle.schema.specs.ObjectShape.{IsObjectShape};
 ghost use Rattle.schema.specs.Served as types;
@@ -15,19 +15,25 @@ ghost use Rattle.verbs.specs.Calls as calls;
 ghost use Rattle.verbs.specs.Validated.{Validated, and_then};
 ghost use Rattle.verbs.specs.Machine.{AreTexts, IsReadable, state_of_live};
 ghost use Rattle.verbs.specs.Seen.{Gives, call_of, creation_seen, object_of, objects_in, plan_of};
-ghost use Rattle.verbs.specs.Step.{apply_validated, body_of, collection_validated_by, created_as, creation_validated, object_validated_by, plan_for, planned_over, update_validated, validated_in};
+ghost use Rattle.params.specs.Views.{values_of};
+ghost use Rattle.lists.specs.Views as views;
+ghost use Rattle.verbs.specs.Step.{all_validated_by, apply_validated, body_of, collection_of, collection_validated_by, create_validated, created_as, creation_validated, list_answered, list_validated, lists_in, object_validated_by, plan_for, planned_over, update_validated, validated_in};
 
 use crate::answering::{body_of, no_path, not_served, refused};
 use crate::applying::validate_apply;
-use crate::calls::{Call, Plan};
+use crate::calls::{Answer, Call, Plan};
 use crate::deleting::validate_delete;
+use crate::envelope::api_version_of;
 use crate::fault::{CallError, Fault};
 use crate::getting::validate_get;
 use crate::intent::Creation;
+use crate::listing::{list_parameters, list_refusal};
 use crate::live::{Live, read_live};
 use crate::method::Method;
 use crate::updating::{created_as, validate_creation, validate_update};
 use history::Key;
+use lists::{Collection, ListFault, list};
+use params::Params;
 use revstore::Store;
 use revtable::Object;
 use schema::{Served, Types};
@@ -202,6 +208,89 @@ fn planned_creation(
     )
 }
 
+/// A creation in a namespace.
+fn planned_post(
+    alloc: Global,
+    served: &Served,
+    store: &mut Store,
+    namespace: &str,
+    call: &Call,
+) -> Result<Plan, Fault>
+    requires { IsObjectShape (types.served served.now).shape }
+    ensures planned { let c = call_of call.now in
+        IfOk result (λ p. plan_of p ≡ plan_for (and_then (body_of c.body) (create_validated (types.served served.now) store.old.current (objects_in store.old) c.target.kind namespace.now c.query))) }
+    ensures readable { result ≢ Err Fault.Unreadable }
+    ensures same { store.new ≡ store.old }
+{
+    match validate_collection(alloc, served, namespace, call) {
+        Ok(creation) => planned_creation(alloc, served, store, creation),
+        Err(call_error) => plan_for(alloc, Err(call_error)),
+    }
+}
+
+fn list_answered(
+    alloc: Global,
+    store: &mut Store,
+    of: Collection<'_>,
+    params: &Params,
+) -> Result<Plan, Fault>
+    ensures planned { IfOk result (λ p. plan_of p ≡ plan_for (list_answered (lists_in store.old (views.collection_of of.entry) (values_of params.now)))) }
+    ensures readable { result ≢ Err Fault.Unreadable }
+    ensures same { store.new ≡ store.old }
+{
+    match list(alloc, store, of, params) {
+        Ok(body) => Ok(Plan {
+            answer: Answer { status: 200, body },
+            change: None,
+        }),
+        Err(ListFault::Refused(refusal)) => plan_for(alloc, Err(list_refusal(alloc, refusal))),
+        Err(ListFault::Failed(revtable::Fault::Memory)) => Err(Fault::Memory),
+        Err(ListFault::Failed(revtable::Fault::Store)) => Err(Fault::Store),
+    }
+}
+
+fn listed(
+    alloc: Global,
+    served: &Served,
+    store: &mut Store,
+    kind: u32,
+    namespace: Option<&str>,
+    params: &Params,
+) -> Result<Plan, Fault>
+    ensures planned { IfOk result (λ p. plan_of p ≡ plan_for (list_answered (lists_in store.old (collection_of (types.served served.now) kind (option_map (λ s. s.now) namespace.entry)) (values_of params.now)))) }
+    ensures readable { result ≢ Err Fault.Unreadable }
+    ensures same { store.new ≡ store.old }
+{
+    let api_version = api_version_of(alloc, served)?;
+    let of = Collection {
+        kind,
+        namespace,
+        api_version: api_version.as_str(),
+        item_kind: served.kind.as_str(),
+    };
+    list_answered(alloc, store, of, params)
+}
+
+/// A list of a namespace, or of all.
+fn planned_list(
+    alloc: Global,
+    served: &Served,
+    store: &mut Store,
+    kind: u32,
+    namespace: Option<&str>,
+    query: &[u8],
+) -> Result<Plan, Fault>
+    ensures planned { IfOk result (λ p. plan_of p ≡ plan_for (list_validated (types.served served.now) (lists_in store.old) kind (option_map (λ s. s.now) namespace.entry) query.now)) }
+    ensures readable { result ≢ Err Fault.Unreadable }
+    ensures same { store.new ≡ store.old }
+{
+    match list_parameters(alloc, query) {
+        Ok(params) => listed(alloc, served, store, kind, namespace, &params),
+        Err(call_error) => plan_for(alloc, Err(call_error)),
+    }
+}
+
+/// By the method, over the objects of a namespace.
 fn planned_collection(
     alloc: Global,
     served: &Served,
@@ -211,28 +300,66 @@ fn planned_collection(
 ) -> Result<Plan, Fault>
     requires { IsObjectShape (types.served served.now).shape }
     ensures planned { let c = call_of call.now in
-        IfOk result (λ p. plan_of p ≡ plan_for (collection_validated_by c.target.method (types.served served.now) store.old.current (objects_in store.old) c.target.kind namespace.now c.query c.body)) }
+        IfOk result (λ p. plan_of p ≡ plan_for (collection_validated_by c.target.method (types.served served.now) store.old.current (objects_in store.old) (lists_in store.old) c.target.kind namespace.now c.query c.body)) }
     ensures readable { result ≢ Err Fault.Unreadable }
     ensures same { store.new ≡ store.old }
 {
-    if call.target.method != Method::Post {
-        return plan_for(alloc, Err(not_served(alloc)));
+    let kind = call.target.kind;
+    let query = call.query.as_slice();
+    match call.target.method {
+        Method::Get => planned_list(alloc, served, store, kind, Some(namespace), query),
+        Method::Post => planned_post(alloc, served, store, namespace, call),
+        Method::Put => plan_for(alloc, Err(not_served(alloc))),
+        Method::Patch => plan_for(alloc, Err(not_served(alloc))),
+        Method::Delete => plan_for(alloc, Err(not_served(alloc))),
     }
-    match validate_collection(alloc, served, namespace, call) {
-        Ok(creation) => planned_creation(alloc, served, store, creation),
-        Err(call_error) => plan_for(alloc, Err(call_error)),
+}
+
+/// By the method, over the objects of all namespaces.
+fn planned_all(alloc: Global, served: &Served, store: &mut Store, call: &Call) -> Result<Plan, Fault>
+    ensures planned { let c = call_of call.now in
+        IfOk result (λ p. plan_of p ≡ plan_for (all_validated_by c.target.method (types.served served.now) (lists_in store.old) c.target.kind c.query)) }
+    ensures readable { result ≢ Err Fault.Unreadable }
+    ensures same { store.new ≡ store.old }
+{
+    let kind = call.target.kind;
+    let query = call.query.as_slice();
+    match call.target.method {
+        Method::Get => planned_list(alloc, served, store, kind, None, query),
+        Method::Post => plan_for(alloc, Err(not_served(alloc))),
+        Method::Put => plan_for(alloc, Err(not_served(alloc))),
+        Method::Patch => plan_for(alloc, Err(not_served(alloc))),
+        Method::Delete => plan_for(alloc, Err(not_served(alloc))),
+    }
+}
+
+/// A call on a path without a namespace, which has no name either.
+fn planned_without(
+    alloc: Global,
+    served: &Served,
+    store: &mut Store,
+    call: &Call,
+) -> Result<Plan, Fault>
+    ensures planned { let c = call_of call.now in
+        IfOk result (λ p. plan_of p ≡ plan_for (validated_in (types.served served.now) store.old.current (objects_in store.old) (lists_in store.old) c None c.target.name)) }
+    ensures readable { result ≢ Err Fault.Unreadable }
+    ensures same { store.new ≡ store.old }
+{
+    match &call.target.name {
+        Some(_) => plan_for(alloc, Err(no_path(alloc))),
+        None => planned_all(alloc, served, store, call),
     }
 }
 
 fn planned_in(alloc: Global, served: &Served, store: &mut Store, call: &Call) -> Result<Plan, Fault>
     requires { IsObjectShape (types.served served.now).shape }
     ensures planned { let c = call_of call.now in
-        IfOk result (λ p. plan_of p ≡ plan_for (validated_in (types.served served.now) store.old.current (objects_in store.old) c c.target.namespace c.target.name)) }
+        IfOk result (λ p. plan_of p ≡ plan_for (validated_in (types.served served.now) store.old.current (objects_in store.old) (lists_in store.old) c c.target.namespace c.target.name)) }
     ensures readable { (all : List ServedShape) → slice_get all call.now.target.kind ≡ Some (types.served served.now) → AreTexts all (objects_in store.old) → result ≢ Err Fault.Unreadable }
     ensures same { store.new ≡ store.old }
 {
     let Some(namespace) = &call.target.namespace else {
-        return plan_for(alloc, Err(no_path(alloc)));
+        return planned_without(alloc, served, store, call);
     };
     let Some(name) = &call.target.name else {
         return planned_collection(alloc, served, store, namespace.as_str(), call);
@@ -252,7 +379,7 @@ pub(crate) fn planned(
     store: &mut Store,
     call: &Call,
 ) -> Result<Plan, Fault>
-    ensures planned { IfOk result (λ p. plan_of p ≡ planned_over (types_view all.now) store.old.current (objects_in store.old) (call_of call.now)) }
+    ensures planned { IfOk result (λ p. plan_of p ≡ planned_over (types_view all.now) store.old.current (objects_in store.old) (lists_in store.old) (call_of call.now)) }
     ensures readable { AreTexts (types_view all.now) (objects_in store.old) → result ≢ Err Fault.Unreadable }
     ensures same { store.new ≡ store.old }
 {

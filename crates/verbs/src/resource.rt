@@ -6,6 +6,8 @@ use crate::method::Method;
 /// What a path leads to (Kubernetes docs, "Kubernetes API Concepts", "Resource URIs").
 #[derive(Clone, Copy, Debug, PartialEq, Eq)]
 pub enum Resource {
+    /// All objects of a type, in all namespaces.
+    AllNamespaces,
     /// All objects of a type in a namespace.
     Collection,
     /// An object in a namespace.
@@ -18,7 +20,8 @@ impl Resource {
         ensures { result ≡ serves self method }
     {
         match self {
-            Resource::Collection => method == Method::Post,
+            Resource::AllNamespaces => method == Method::Get,
+            Resource::Collection => method == Method::Get || method == Method::Post,
             Resource::Object => method != Method::Post,
         }
     }
@@ -28,7 +31,8 @@ impl Resource {
         ensures { result.now ≡ allowed self }
     {
         match self {
-            Resource::Collection => "POST",
+            Resource::AllNamespaces => "GET",
+            Resource::Collection => "GET, POST",
             Resource::Object => "DELETE, GET, PATCH, PUT",
         }
     }

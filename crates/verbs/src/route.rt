@@ -8,6 +8,9 @@ use matchit::Router;
 use schema::Types;
 use std::alloc::Global;
 
+/// The path of all objects of a type, in all namespaces.
+const ALL_NAMESPACES: &str = "/apis/{group}/{version}/{plural}";
+
 /// The path of all objects of a type in a namespace.
 const COLLECTION: &str = "/apis/{group}/{version}/namespaces/{namespace}/{plural}";
 
@@ -29,6 +32,10 @@ impl Routes {
 
     pub fn new(alloc: Global) -> Result<Routes, Fault> {
         let mut router = Router::new(alloc);
+        match router.insert(ALL_NAMESPACES, Resource::AllNamespaces) {
+            Ok(()) => (),
+            Err(_) => return Err(Fault::Memory),
+        }
         match router.insert(COLLECTION, Resource::Collection) {
             Ok(()) => (),
             Err(_) => return Err(Fault::Memory),
