@@ -2,3 +2,4 @@ pub mod Bounds
 pub mod Joining
 pub mod Labelled
 pub mod Reading
+pub mod Values

@@ -1,20 +1,19 @@
 -- Rows, a few at a time, and the page that they make.
-use Rattle.std.proofs.Common.{◌≡◌, ℕ, zero, suc, ◌+◌, ◌-◌, ◌<◌, ◌≤◌, Bool, true, false, cond, ◌&&◌, List, [], ◌∷◌, ◌++◌, length, take, map, refl, sym, ap, subst, ◌∙◌, Option, Some, None, option_map, arith, append_assoc, append-nil, length-append, filter}
+use Rattle.std.proofs.Common.{◌≡◌, ℕ, zero, suc, ◌+◌, ◌-◌, ◌<◌, ◌≤◌, Bool, true, false, cond, List, [], ◌∷◌, ◌++◌, length, take, map, refl, sym, ap, subst, ◌∙◌, Option, Some, None, option_map, arith, append_assoc, append-nil, length-append}
 use Rattle.std.proofs.Common.{ltb-true, lt-ltb, true≢false}
 use Rattle.std.specs.Prelude.{nat_lt, slice_get}
 use Rattle.std.proofs.lemmas.List.{length-map, map-append, take-map}
 use Rattle.std.proofs.lemmas.List.Elements.{filter-append}
-use Rattle.std.specs.FinMap as fin
 use Rattle.history.specs.History.{Key, Object, Objects}
 use Rattle.history.specs.Read.{key_of}
-use Rattle.history.specs.Page.{is_within, last_key, listed, next_of, page}
+use Rattle.history.specs.Page.{last_key, listed, page}
 use Rattle.history.specs.Seen.{SeenPage, limited, seen_page}
 use Rattle.history.proofs.Leading.{ended, more}
 use Rattle.history.proofs.Paging.{wanted_first, wanted_past}
 use Rattle.revtable.specs.declared.row.Entry.{Entry}
 use Rattle.revtable.specs.Read.{entry_of}
 use Rattle.selector.specs.Requirement.{Requirement, selects}
-use Rattle.params.specs.Values.{Token, Values}
+use Rattle.params.specs.Values.{Token}
 use Rattle.lists.specs.Labels.{labels_of, selection_of}
 use Rattle.lists.specs.Lists.{key_after}
 use Rattle.lists.specs.Rows.{Start, is_over, matching, place_of, rows_left, to_read}

@@ -1,6 +1,6 @@
 -- The text of a list: its items' texts as they stand, one after the other (Kubernetes API conventions, "Lists and Simple kinds").
 use Rattle.std.specs.Prelude.{ℕ, List, [], ◌∷◌, ◌++◌, map, flat_map, Option, Some, None, option_map, codes, decimal}
-use Rattle.serde_json.specs.Data.{Data, array, string, object, Items, Members, no_members, put}
+use Rattle.serde_json.specs.Data.{Data, array, string, object, Items, no_items, item, Members, no_members, put}
 use Rattle.serde_json.specs.Written.{compact_text}
 use Rattle.history.specs.History.{Key}
 use Rattle.history.specs.Seen.{SeenPage}
@@ -44,6 +44,11 @@ joined_text of metadata texts =
 
 abbrev pub list_text : Collection → ℕ → SeenPage → List ℕ
 list_text of revision page = joined_text of (metadata_of revision (option_map (continued_at revision) page.next)) (map (λ e. e.1.body) page.found)
+
+-- the texts of items that are compact JSON
+abbrev pub item_texts : Items → List (List ℕ)
+item_texts no_items = []
+item_texts (item d ds) = compact_text d ∷ item_texts ds
 
 -- the same list as a value
 abbrev pub list_value : Collection → Data → Items → Data

@@ -1,5 +1,5 @@
 -- The labels that an object's text gives, and which objects a list is of by them (Kubernetes documentation, "Labels and Selectors").
-use Rattle.std.specs.Prelude.{ℕ, ◌&&◌, codes, List, [], ◌∷◌, Option, Some, None, option_map, option_and_then, unwrap_or}
+use Rattle.std.specs.Prelude.{ℕ, ◌&&◌, codes, List, [], ◌∷◌, Option, Some, option_map, option_and_then, unwrap_or}
 use Rattle.serde_json.specs.Data.{Data, Members, no_members, member}
 use Rattle.serde_json.specs.Find.{as_object, as_str, get}
 use Rattle.serde_json.specs.Read.{read}

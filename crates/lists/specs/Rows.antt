@@ -1,5 +1,5 @@
 -- How the rows of a list are read: a few at a time, until there are enough or none are left.
-use Rattle.std.specs.Prelude.{◌≡◌, ◌<◌, ℕ, suc, List, [], length, filter, Option, Some, None, nat_lt, Bool, false}
+use Rattle.std.specs.Prelude.{ℕ, suc, List, [], length, filter, Option, Some, None, nat_lt, Bool, false}
 use Rattle.selector.specs.Requirement.{Requirement, selects}
 use Rattle.history.specs.History.{Key, Object, Objects}
 use Rattle.history.specs.Page.{listed}

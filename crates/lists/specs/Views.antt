@@ -1,8 +1,7 @@
 -- What the crate's values represent.
-use Rattle.std.specs.Prelude.{◌≡◌, ℕ, List, map, Option, Some, None, if◌then◌else◌, option_map, string_bytes}
+use Rattle.std.specs.Prelude.{◌≡◌, map, Some, None, if◌then◌else◌, option_map, string_bytes}
 use Rattle.std.specs.declared.result.Result.{Result}
 use Rattle.std.specs.declared.result.Result.TheVariants.{Ok, Err}
-use Rattle.history.specs.History.{Key, Object}
 use Rattle.history.specs.Page.{last_key}
 use Rattle.history.specs.Seen.{SeenPage}
 use Rattle.revtable.specs.Read.{entry_of}

@@ -11,6 +11,7 @@
 mod collection;
 mod fault;
 mod labels;
+mod laws;
 mod listing;
 mod page;
 mod refusal;
@@ -20,5 +21,6 @@ mod text;
 
 pub use collection::Collection;
 pub use fault::ListFault;
+pub use laws::lists_are_json;
 pub use listing::list;
 pub use refusal::Refusal;

@@ -1,4 +1,4 @@
-use Rattle.std.proofs.Common.{◌≤◌, ◌∙◌, ap₂, sym, subst}
+use Rattle.std.proofs.Common.{◌∙◌, ap₂}
 use Rattle.params.specs.Views.{values_of}
 use Rattle.history.proofs.Revisions.{rising_ends}
 use Rattle.lists.specs.Revision.{revision_of}

@@ -3,7 +3,7 @@ use Rattle.std.specs.Option.{option_map}
 use Rattle.history.specs.Page.{listed}
 use Rattle.history.specs.Seen.{limited, seen_page}
 use Rattle.history.specs.View.{state_in}
-use Rattle.params.specs.Views.{token_view, values_of}
+use Rattle.params.specs.Views.{values_of}
 use Rattle.lists.specs.Labels.{selection_of}
 use Rattle.lists.specs.Lists.{key_after}
 use Rattle.lists.specs.Rows.{matching}

@@ -1,7 +1,6 @@
-use Rattle.std.proofs.Common.{◌∙◌, ap, map}
+use Rattle.std.proofs.Common.{◌∙◌, ap}
 use Rattle.std.specs.Option.{option_map}
 use Rattle.serde_json.specs.Written.{compact_text}
-use Rattle.revtable.specs.Read.{entry_of}
 use Rattle.lists.specs.Body.{continued_at, metadata_of, with_commas}
 use Rattle.lists.specs.Views.{collection_of, page_seen}
 use Rattle.lists.proofs.Joining.{text_is, texts_in}
