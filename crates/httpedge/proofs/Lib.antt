@@ -4,6 +4,7 @@ pub mod Connected
 pub mod Cuts
 pub mod Digits
 pub mod Heading
+pub mod Lasting
 pub mod Numbers
 pub mod Outcomes
 pub mod Representing

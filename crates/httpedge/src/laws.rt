@@ -4,6 +4,7 @@ ghost use Rattle.std.specs.Prelude.{◌≡◌, ◌≢◌, ◌++◌, ℕ, Bool, t
 ghost use Rattle.std.specs.FinMap as fin;
 ghost use Rattle.schema.specs.TypesFile.{ServedShape};
 ghost use Rattle.history.specs.History.{History};
+ghost use Rattle.verbs.specs.Machine.{IsMachine};
 ghost use Rattle.httpedge.specs.Asks.{CallDecision, Asks};
 ghost use Rattle.httpedge.specs.Connections.{AllIsOut, Connection, Connections, IsUntaken, each, ended_on, has_gone, out_on, watching_on, written_on};
 ghost use Rattle.httpedge.specs.Decision.{undecided};
@@ -78,4 +79,9 @@ pub fn all_is_out()
 pub fn written_stays()
     ensures grows { (s t : State) (h : Happening) (id : ℕ) → Follows s h t → (more : List ℕ) × (written_on t.connections id ≡ written_on s.connections id ++ more) }
     ensures parts { (all : Connections) (id : ℕ) (c : Connection) → fin.get all id ≡ Some c → has_gone c.standing ≡ false → written_on all id ≡ take c.taken c.written ++ out_on all id }
+{}
+
+/// The machine stays one, whatever happens to the hub: calls, compactions, events that are refused or find no memory.
+pub fn machines_last()
+    ensures { (s t : State) (hs : List Happening) → IsMachine s.types s.machine → Runs s hs t → IsMachine t.types t.machine }
 {}

@@ -32,8 +32,8 @@ pub use fault::HubFault;
 pub use head::{Head, Length, read_head};
 pub use hub::Hub;
 pub use laws::{
-    all_is_out, bytes_are_taken, each_changes, each_steps, ends_stay, one_asked, one_outcome,
-    others_stay, pieces, ticks_are_for_watches, written_stays,
+    all_is_out, bytes_are_taken, each_changes, each_steps, ends_stay, machines_last, one_asked,
+    one_outcome, others_stay, pieces, ticks_are_for_watches, written_stays,
 };
 pub use refusal::Refusal;
 pub use reply::reply_bytes;

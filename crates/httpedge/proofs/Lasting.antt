@@ -1,0 +1,150 @@
+-- A hub's machine stays one, whatever happens.
+use Rattle.std.proofs.Common.{◌≡◌, ℕ, Bool, true, false, cond, List, [], ◌∷◌, Option, Some, None, refl, sym, ap, subst, ◌∙◌, true≢false, leb-true}
+use Rattle.std.specs.Prelude.{◌&&◌, length, nat_le, nat_lt, take}
+use Rattle.std.specs.FinMap as fin
+use Rattle.std.specs.Str.{is_utf8}
+use Rattle.serde_json.specs.Data.{Data}
+use Rattle.serde_json.specs.Read.{read}
+use Rattle.fieldpath.proofs.Spelled.{spelled-read}
+use Rattle.schema.specs.TypesFile.{ServedShape}
+use Rattle.history.specs.History.{History}
+use Rattle.verbs.specs.Admit.{admitted}
+use Rattle.verbs.specs.Calls.{Call}
+use Rattle.verbs.specs.Json.{IsJsonBody}
+use Rattle.verbs.specs.Machine.{IsMachine}
+use Rattle.verbs.proofs.Machines.{compactions_keep_machines}
+use Rattle.verbs.proofs.Promise.{steps_keep_machines}
+use Rattle.httpedge.specs.Asks.{CallDecision, asked_by, call_in}
+use Rattle.httpedge.specs.Bodies.{body_in, body_of, checked_media, declared_body, declared_length, json_in, path_of, query_of, some_json}
+use Rattle.httpedge.specs.Connections.{Connection, Standing, waiting, watching, ended, gone}
+use Rattle.httpedge.specs.Decision.{Decision, undecided, refused, accepted, and_then, decided_by}
+use Rattle.httpedge.specs.Heads.{HeadDecision, Request}
+use Rattle.httpedge.specs.Runs.{AsksIf, Follows, Happening, Runs, bytes_at, happens, starves, takes}
+use Rattle.httpedge.specs.Steps.{Event, State, opens, comes, goes, pumps, ticks, compacts, by_connection, carried_out, machine_after, received_by, refusal, starved, unless_refused}
+
+-- ---- the body of a call that bytes ask is a value that a JSON text spells
+
+abbrev is_accepted : {A : Type 0} → Decision A → Bool
+is_accepted undecided = false
+is_accepted (refused d) = false
+is_accepted (accepted a) = true
+
+abbrev accepted_or : {A : Type 0} → A → Decision A → A
+accepted_or a undecided = a
+accepted_or a (refused d) = a
+accepted_or a (accepted b) = b
+
+accepted_is : {A : Type 0} (a b : A) → accepted a ≡ accepted b → a ≡ b
+accepted_is a b e = ap (accepted_or a) e
+
+went_on : {A B : Type 0} (j : Decision A) (f : A → Decision B) (b : B) → and_then j f ≡ accepted b → (a : A) × (j ≡ accepted a) × (f a ≡ accepted b)
+went_on undecided f b e = absurd (true≢false (sym (ap is_accepted e)))
+went_on (refused d) f b e = absurd (true≢false (sym (ap is_accepted e)))
+went_on (accepted a) f b e = (a, refl, e)
+
+read_json : (bytes : List ℕ) (o : Option Data) → read bytes ≡ o → (value : Option Data) → some_json o ≡ accepted value → IsJsonBody value
+read_json bytes None is value e = absurd (true≢false (sym (ap is_accepted e)))
+read_json bytes (Some d) is value e = subst IsJsonBody (accepted_is (Some d) value e) (spelled-read bytes d is)
+
+text_json : (bytes : List ℕ) (value : Option Data) → some_json (json_in bytes) ≡ accepted value → IsJsonBody value
+text_json bytes value e = go (is_utf8 bytes) e
+  where
+    go : (b : Bool) → some_json (cond b (read bytes) None) ≡ accepted value → IsJsonBody value
+    go true f = read_json bytes (read bytes) refl value f
+    go false f = absurd (true≢false (sym (ap is_accepted f)))
+
+sized_json : (n : ℕ) (rest : List ℕ) (value : Option Data) → body_of n rest ≡ accepted value → IsJsonBody value
+sized_json n rest value e = go (nat_lt (length rest) n) e
+  where
+    go : (b : Bool) → cond b undecided (some_json (json_in (take n rest))) ≡ accepted value → IsJsonBody value
+    go true f = absurd (true≢false (sym (ap is_accepted f)))
+    go false f = text_json (take n rest) value f
+
+declared_json : (n : Option ℕ) (rest : List ℕ) (value : Option Data) → declared_body n rest ≡ accepted value → IsJsonBody value
+declared_json None rest value e = subst IsJsonBody (accepted_is None value e) tt
+declared_json (Some n) rest value e = sized_json n rest value e
+
+call_json : (types : List ServedShape) (request : Request) (rest : List ℕ) (call : Call) → call_in types request rest ≡ accepted call → IsJsonBody call.body
+call_json types request rest call e =
+    let target = went_on (decided_by (admitted types request.method (path_of request.request_target) (checked_media request))) _ call e in
+    let body = went_on (body_in request rest) _ call target.2 in
+    let made : Call = record { target = target.0; query = query_of request.request_target; body = body.0 } in
+    let declared = went_on (decided_by (declared_length request)) _ body.0 body.1 in
+    subst (λ (c : Call). IsJsonBody c.body) (accepted_is made call body.2) (declared_json declared.0 rest body.0 declared.2)
+
+head_json : (types : List ServedShape) (head : HeadDecision) (call : Call) → asked_by types head ≡ accepted call → IsJsonBody call.body
+head_json types head call e =
+    let r = went_on head _ call e in
+    call_json types r.0.0 r.0.1 call r.2
+
+asked_json : (s : State) (bytes : Option (List ℕ)) (asked : CallDecision) → AsksIf s bytes asked → (call : Call) → asked ≡ accepted call → IsJsonBody call.body
+asked_json s None asked is call e = absurd (true≢false (sym (ap is_accepted (sym is ∙ e))))
+asked_json s (Some bytes) asked is call e = head_json s.types is.0 call (sym is.2 ∙ e)
+
+-- ---- one event
+
+abbrev Lasts : State → Type 0
+Lasts s = IsMachine s.types s.machine
+
+made_lasts : (types : List ServedShape) (m : History) (asked : CallDecision) → ((call : Call) → asked ≡ accepted call → IsJsonBody call.body) → IsMachine types m → IsMachine types (machine_after types m asked)
+made_lasts types m undecided json is = is
+made_lasts types m (refused d) json is = is
+made_lasts types m (accepted call) json is = steps_keep_machines types m call is (json call refl)
+
+received_lasts : (s : State) (id : ℕ) (c : Connection) (st : Standing) (bytes : List ℕ) (asked : CallDecision) → ((call : Call) → asked ≡ accepted call → IsJsonBody call.body) → Lasts s
+    → Lasts (received_by s id c st bytes asked)
+received_lasts s id c (waiting front) bytes asked json is = made_lasts s.types s.machine asked json is
+received_lasts s id c (watching w) bytes asked json is = is
+received_lasts s id c ended bytes asked json is = is
+received_lasts s id c (gone had_ended) bytes asked json is = is
+
+by_lasts : (s : State) (o : Option Connection) (f : Connection → State) → ((c : Connection) → Lasts (f c)) → Lasts s → Lasts (by_connection s o f)
+by_lasts s None f stays is = is
+by_lasts s (Some c) f stays is = stays c
+
+both : (a b : Bool) → (a && b) ≡ true → (a ≡ true) × (b ≡ true)
+both true true e = (refl, refl)
+both true false e = absurd (true≢false (sym e))
+both false b e = absurd (true≢false (sym e))
+
+abbrev is_none : Option ℕ → Bool
+is_none None = true
+is_none (Some n) = false
+
+in_range : (b : Bool) → cond {A = Option ℕ} b None (Some 5) ≡ None → b ≡ true
+in_range true e = refl
+in_range false e = absurd (true≢false (sym (ap is_none e)))
+
+carried_lasts : (s : State) (e : Event) (asked : CallDecision) → ((call : Call) → asked ≡ accepted call → IsJsonBody call.body) → refusal s e ≡ None → Lasts s → Lasts (carried_out s e asked)
+carried_lasts s (opens id) asked json free is = is
+carried_lasts s (comes id bytes) asked json free is = by_lasts s (fin.get s.connections id) _ (λ c. received_lasts s id c c.standing bytes asked json is) is
+carried_lasts s (goes id) asked json free is = by_lasts s (fin.get s.connections id) _ (λ c. is) is
+carried_lasts s (pumps id max) asked json free is = by_lasts s (fin.get s.connections id) _ (λ c. is) is
+carried_lasts s (ticks ms) asked json free is = is
+carried_lasts s (compacts c) asked json free is =
+    let range = both (nat_le s.machine.compacted c) (nat_le c s.machine.current) (in_range _ free) in
+    compactions_keep_machines s.types s.machine c is (leb-true _ _ range.0) (leb-true _ _ range.1)
+
+unless_lasts : (s t : State) (o : Option ℕ) → (o ≡ None → Lasts t) → Lasts s → Lasts (unless_refused o s t)
+unless_lasts s t None stays is = stays refl
+unless_lasts s t (Some n) stays is = is
+
+starved_lasts : (s : State) (e : Event) (which : ℕ → Bool) → Lasts s → Lasts (starved s e which)
+starved_lasts s (opens id) which is = is
+starved_lasts s (comes id bytes) which is = by_lasts s (fin.get s.connections id) _ (λ c. is) is
+starved_lasts s (goes id) which is = is
+starved_lasts s (pumps id max) which is = by_lasts s (fin.get s.connections id) _ (λ c. is) is
+starved_lasts s (ticks ms) which is = is
+starved_lasts s (compacts c) which is = is
+
+-- ---- all that happens
+
+follows_lasts : (s t : State) (h : Happening) → Follows s h t → Lasts s → Lasts t
+follows_lasts s t (happens e) (asked, asks, to) is =
+    subst Lasts (sym to) (unless_lasts s (carried_out s e asked) (refusal s e) (λ free. carried_lasts s e asked (asked_json s (bytes_at s e) asked asks) free is) is)
+follows_lasts s t (starves e which) (free, wants, to) is = subst Lasts (sym to) (starved_lasts s e which is)
+follows_lasts s t (takes id n) to is = subst Lasts (sym to) (by_lasts s (fin.get s.connections id) _ (λ c. is) is)
+
+pub runs_last : (s t : State) (hs : List Happening) → IsMachine s.types s.machine → Runs s hs t → IsMachine t.types t.machine
+runs_last s t [] is to = subst Lasts (sym to) is
+runs_last s t (h ∷ hs) is (mid, first, rest) = runs_last mid t hs (follows_lasts s mid h first is) rest
