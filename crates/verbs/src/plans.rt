@@ -104,44 +104,28 @@ fn planned_by(
         IfOk result (λ p. plan_of p ≡ plan_for (object_validated_by c.target.method (types.served served.now) current (option_map object_of object) (key_of key) c.query c.body)) }
     ensures readable { IsReadable (types.served served.now) (key_of key) (option_map object_of object) → result ≢ Err Fault.Unreadable }
 {
+    let query = call.query.as_slice();
     match call.target.method {
         Method::Get => {
-            let query = call.query.as_slice();
-            plan_for(
-                alloc,
-                validate_get(alloc, served, current, object.as_ref(), &key, query),
-            )
+            let read = validate_get(alloc, served, current, object.as_ref(), &key, query);
+            plan_for(alloc, read)
         }
         Method::Post => plan_for(alloc, Err(not_served(alloc))),
         Method::Put => {
             let live = read_live(alloc, served, &key, object)?;
-            plan_for(
-                alloc,
-                validate_put(alloc, served, current, &live, key, call),
-            )
+            let updated = validate_put(alloc, served, current, &live, key, call);
+            plan_for(alloc, updated)
         }
         Method::Patch => {
             let live = read_live(alloc, served, &key, object)?;
-            plan_for(
-                alloc,
-                validate_patch(alloc, served, current, &live, key, call),
-            )
+            let applied = validate_patch(alloc, served, current, &live, key, call);
+            plan_for(alloc, applied)
         }
         Method::Delete => {
             let live = read_live(alloc, served, &key, object)?;
-            let query = call.query.as_slice();
-            plan_for(
-                alloc,
-                validate_delete(
-                    alloc,
-                    served,
-                    current,
-                    &live,
-                    key,
-                    query,
-                    call.body.as_ref(),
-                ),
-            )
+            let body = call.body.as_ref();
+            let deleted = validate_delete(alloc, served, current, &live, key, query, body);
+            plan_for(alloc, deleted)
         }
     }
 }
