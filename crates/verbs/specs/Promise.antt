@@ -18,7 +18,7 @@ use Rattle.verbs.specs.Calls.{Call, Target}
 use Rattle.verbs.specs.Json.{IsJsonBody}
 use Rattle.verbs.specs.Machine.{AreObjectTypes, IsMachine, IsNext, IsTextAt, state_said, state_under}
 use Rattle.verbs.specs.Parameters.{parameters_validated}
-use Rattle.verbs.specs.Step.{planned, planned_in, step, steps, validated_over}
+use Rattle.verbs.specs.Step.{lists_of, planned, planned_in, step, steps, validated_over}
 use Rattle.verbs.specs.Status.{CallRefusal}
 
 -- what a call plans may come next, so the machine is one after each call whose body is a value that a JSON text spells
@@ -80,7 +80,7 @@ UpdatesTakeChanges =
 -- a refused call changes nothing
 abbrev pub RefusalsChangeNothing : Type 0
 RefusalsChangeNothing =
-    (types : List ServedShape) (m : History) (call : Call) (d : CallRefusal) → validated_over types m.current (standing m) call ≡ Err d → (step types m call).1 ≡ m
+    (types : List ServedShape) (m : History) (call : Call) (d : CallRefusal) → validated_over types m.current (standing m) (lists_of m) call ≡ Err d → (step types m call).1 ≡ m
 
 -- a GET changes nothing
 abbrev pub GetsChangeNothing : Type 0

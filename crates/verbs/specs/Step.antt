@@ -1,6 +1,6 @@
 -- The step: what a call answers at a machine, and the machine after it, with the checks in their order
 -- (Kubernetes docs, "Server-Side Apply"; "Kubernetes API Concepts", "Resource versions").
-use Rattle.std.specs.Prelude.{ℕ, suc, Bool, not, is_some, ◌==◌, nat_le, nat_lt, List, [], ◌∷◌, ◌++◌, length, Option, Some, None, slice_get, if◌then◌else◌, codes, decimal}
+use Rattle.std.specs.Prelude.{ℕ, suc, Bool, true, false, not, ◌==◌, nat_le, nat_lt, List, [], ◌∷◌, ◌++◌, length, Option, Some, None, slice_get, if◌then◌else◌, codes, decimal}
 use Rattle.std.specs.declared.result.Result.{Result}
 use Rattle.std.specs.declared.result.Result.TheVariants.{Ok, Err}
 use Rattle.std.specs.FinMap as fin
@@ -38,7 +38,8 @@ use Rattle.verbs.specs.Validated.{Validated, and_then, call_refusal, refused_for
 use Rattle.verbs.specs.Machine.{after, identity_of, no_state, state_of_live, state_said}
 use Rattle.verbs.specs.Calls.{Call, Answer, Plan}
 use Rattle.verbs.specs.Envelope.{Expected, api_version_of, envelope_of, name_in}
-use Rattle.verbs.specs.Parameters.{parameters_validated}
+use Rattle.verbs.specs.Parameters.{bad_parameter, parameters_validated, watch_validated}
+use Rattle.params.specs.declared.parameter.Parameter.TheVariants.{Watch}
 use Rattle.verbs.specs.Naming.{marks_validated, names_validated, required_name}
 use Rattle.verbs.specs.Options.{options_validated}
 use Rattle.verbs.specs.Size.{size_validated}
@@ -226,11 +227,12 @@ list_answered (Ok text) = Ok (record { answer = record { status = 200; body = te
 list_answered (Err refusal) = Err (list_refusal refusal)
 
 -- watches are not served yet
-abbrev pub unwatched : Values → Validated (Unit {0})
-unwatched values = require (not (is_some values.watch)) BadRequest (codes "bad parameter: watch")
+abbrev pub if_unwatched : Bool → List ℕ → Validated Values
+if_unwatched true query = Err (bad_parameter Watch)
+if_unwatched false query = parameters_validated asked.List query
 
 abbrev pub list_parameters : List ℕ → Validated Values
-list_parameters query = and_then (parameters_validated asked.List query) (λ values. and_then (unwatched values) (λ u. Ok values))
+list_parameters query = and_then (watch_validated query) (λ is_watch. if_unwatched is_watch query)
 
 -- parameters, then the list's revision
 abbrev pub list_validated : ServedShape → Lists → ℕ → Option (List ℕ) → List ℕ → Validated Plan

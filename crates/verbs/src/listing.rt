@@ -4,15 +4,15 @@ ghost use Rattle.std.specs.Prelude.{◌≡◌, IfOk, string_bytes};
 ghost use Rattle.params.specs.Views.{values_of};
 ghost use Rattle.lists.specs.declared.refusal.Refusal.TheVariants.{Expired, TooLarge};
 ghost use Rattle.verbs.specs.Seen.{Gives, Refuses};
-ghost use Rattle.verbs.specs.Step.{expired_message, list_parameters, list_refusal, unwatched};
+ghost use Rattle.verbs.specs.Step.{expired_message, list_parameters, list_refusal};
 
 use crate::fault::CallError;
 use crate::getting::too_large_message;
-use crate::parameters::read_parameters;
+use crate::parameters::{bad_parameter, is_watch, read_parameters};
 use crate::reason::Reason;
 use crate::texts::joined;
 use lists::Refusal;
-use params::{Asked, Params};
+use params::{Asked, Parameter, Params};
 use std::alloc::{AllocError, Global};
 
 fn expired_message(alloc: Global, asked: u64, compacted: u64) -> Result<String, AllocError>
@@ -55,20 +55,12 @@ pub(crate) fn list_refusal(alloc: Global, refusal: Refusal) -> CallError
     }
 }
 
-fn check_unwatched(alloc: Global, params: &Params) -> Result<(), CallError>
-    ensures { Gives (λ u. u) result (unwatched (values_of params.now)) }
-{
-    match params.watch {
-        None => Ok(()),
-        Some(_) => Err(CallError::refused_for(alloc, Reason::BadRequest, "bad parameter: watch")),
-    }
-}
-
-/// The parameters of a list.
+/// The parameters of a list, where it isn't to be watched.
 pub(crate) fn list_parameters(alloc: Global, query: &[u8]) -> Result<Params, CallError>
     ensures { Gives values_of result (list_parameters query.now) }
 {
-    let params = read_parameters(alloc, Asked::List, query)?;
-    check_unwatched(alloc, &params)?;
-    Ok(params)
+    if is_watch(alloc, query)? {
+        return Err(bad_parameter(alloc, Parameter::Watch));
+    }
+    read_parameters(alloc, Asked::List, query)
 }
