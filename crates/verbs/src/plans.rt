@@ -300,7 +300,12 @@ fn planned_collection(
 }
 
 /// By the method, over the objects of all namespaces.
-fn planned_all(alloc: Global, served: &Served, store: &mut Store, call: &Call) -> Result<Plan, Fault>
+fn planned_all(
+    alloc: Global,
+    served: &Served,
+    store: &mut Store,
+    call: &Call,
+) -> Result<Plan, Fault>
     ensures planned { let c = call_of call.now in
         IfOk result (λ p. plan_of p ≡ plan_for (all_validated_by c.target.method (types.served served.now) (lists_in store.old) c.target.kind c.query)) }
     ensures readable { result ≢ Err Fault.Unreadable }
