@@ -177,9 +177,6 @@ front_ascends n m ms h hs = by_order (cmp n m) refl h
     by_order Equal is h = ap (λ o. is_lt o && ascend_from m ms) is ∙ sym (ap (λ a. not (a || list_any (bytes_eq n) ms) && ascend_from m ms) (alike n m is))
     by_order Greater is h = absurd (true≢false h)
 
-inner_first : (a b c : Bool) → a && (b && c) ≡ b && (a && c)
-inner_first = and_turned
-
 put_ascends : (n m : Name) (ms : List Name) → is_lt (cmp m n) ≡ true → AllByRecursion (λ k. NotAbove m k) ms → Rises ms
     → ascend_from m (put_name n ms) ≡ not (list_any (bytes_eq n) ms) && ascend_from m ms
 put_ascends n m [] lt hs h = ap (λ b. b && true) lt
