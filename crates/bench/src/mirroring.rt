@@ -95,13 +95,7 @@ fn token_before(alloc: Global, size: u64, end: u64) -> Result<String, AllocError
     format!(in alloc; "\"continue\":\"{size}.{end}\",")
 }
 
-fn items(
-    alloc: Global,
-    spec: &str,
-    size: u64,
-    first: u64,
-    end: u64,
-) -> Result<String, AllocError> {
+fn items(alloc: Global, spec: &str, size: u64, first: u64, end: u64) -> Result<String, AllocError> {
     let mut text = String::new(alloc);
     for i in first..end {
         if i > first {
@@ -124,7 +118,10 @@ fn line(alloc: Global, spec: &str, size: u64, revision: u64) -> Result<String, A
 fn lines(alloc: Global, spec: &str, size: u64, from: u64) -> Result<String, AllocError> {
     let mut text = String::new(alloc);
     for i in 0..PAGE {
-        let revision = size.saturating_add(from).saturating_add(i).saturating_add(1);
+        let revision = size
+            .saturating_add(from)
+            .saturating_add(i)
+            .saturating_add(1);
         text.push_str(&line(alloc, spec, size, revision)?)?;
     }
     Ok(text)
