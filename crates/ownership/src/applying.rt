@@ -1,9 +1,10 @@
 ghost use Rattle.std.specs.Prelude.{◌≡◌, IfOk, false, map};
 ghost use Rattle.schema.specs.Shape.{Shape};
+ghost use Rattle.pathmap.specs.Beside.{changed as changed_paths};
 ghost use Rattle.pathmap.specs.Contents.{Content, dom};
 ghost use Rattle.typed.specs.Fitting.{IsContent};
 ghost use Rattle.ownership.specs.Owners.{WroteByNone, apply_operation, manager_of};
-ghost use Rattle.ownership.specs.Apply.{dropped, is_refused};
+ghost use Rattle.ownership.specs.Apply.{applied, dropped, is_refused};
 ghost use Rattle.ownership.specs.Keeping.{HasPlaces, IsPlacedState, IsSettled, LeavesOwned, OthersKeep, OwnedStand};
 ghost use Rattle.ownership.specs.Managers.{manager_view};
 ghost use Rattle.ownership.specs.Results.{Applies, conflict_of, state_of};
@@ -31,6 +32,24 @@ fn dropped(
         }
         None => Ok(FieldSet::new(alloc)),
     }
+}
+
+/// The object after an apply that nothing refuses; `changed` is what the body has and the object lacks, or has another
+/// value at.
+fn applied(
+    alloc: Global,
+    live: &Owned,
+    manager: Manager,
+    config: &Tree,
+    changed: &FieldSet,
+) -> Result<Owned, AllocError>
+    ensures { changed.now ≡ changed_paths config.now live.now.tree → IfOk result (λ o. state_of o ≡ applied (state_of live.now) config.now (manager_view manager)) }
+{
+    let owned = config.paths(alloc)?;
+    let dropped = dropped(alloc, live, &manager, &owned)?;
+    let tree = live.tree.merge(alloc, config)?.without(&dropped);
+    let managers = live.managers.taken_over(alloc, manager, changed, owned)?;
+    Ok(Owned { tree, managers })
 }
 
 fn is_refused(conflicts: &[Conflict], force: bool) -> bool
@@ -63,9 +82,5 @@ pub fn apply(
     if is_refused(&conflicts, force) {
         return Err(ApplyFault::Conflicts(conflicts));
     }
-    let owned = config.paths(alloc)?;
-    let dropped = dropped(alloc, live, &manager, &owned)?;
-    let tree = live.tree.merge(alloc, config)?.without(&dropped);
-    let managers = live.managers.taken_over(alloc, manager, &changed, owned)?;
-    Ok(Owned { tree, managers })
+    Ok(applied(alloc, live, manager, config, &changed)?)
 }

@@ -4,7 +4,7 @@ use Rattle.ownership.specs.Managers.{manager_view}
 use Rattle.ownership.specs.Owners.{manager_of, apply_operation}
 use Rattle.ownership.specs.Results.{state_of, conflict_of}
 use Rattle.ownership.proofs.Clauses.{keeps_others, keeps_places, keeps_standing, keeps_leaves, keeps_placed, keeps_by_none, settles}
-use Rattle.ownership.proofs.Dropping.{conflicts_are, state_is}
+use Rattle.ownership.proofs.Dropping.{conflicts_are}
 use Rattle.ownership.proofs.applying.apply.Goals as goal
 
 pub returns-then-is_refused : goal.returns-then-is_refused
@@ -30,9 +30,8 @@ returns c =
     let cs = conflicts_are live body m c.in_ok-changed.changed c.in_ok-changed.ensures
     (map conflict_of c.in_ok-conflicts.conflicts.items) (manager_view c.in_ok-manager.manager) c.in_ok-manager.ensures c.in_ok-conflicts.ensures in
     let free : is_refused (conflicts live body m) c.args.force ≡ false = ap (λ l. is_refused l c.args.force) (sym cs) ∙ ap (λ l. is_refused (map conflict_of l) c.args.force) (sym c.deref.ensures.value) ∙ sym c.is_refused.ensures ∙ c.if-is_refused.false in
-    let new : State = record { content = c.without-tree.result; owners = c.in_ok-managers.managers } in
-    let is : new ≡ applied live body m = state_is live body m c.in_ok-changed.changed c.in_ok-changed.ensures (manager_view c.in_ok-manager.manager) c.without-tree.result c.in_ok-managers.managers c.in_ok-merge.field-0 c.in_ok-dropped.dropped c.in_ok-owned.owned
-    c.in_ok-manager.ensures c.in_ok-merge.ensures (c.in_ok-dropped.ensures body c.in_ok-owned.ensures) c.without-tree.ensures c.in_ok-owned.ensures c.in_ok-managers.ensures in
+    let new : State = state_of c.in_ok-applied.field-0 in
+    let is : new ≡ applied live body m = c.in_ok-applied.ensures c.in_ok-changed.ensures ∙ ap (applied live body) c.in_ok-manager.ensures in
     record {
       applies = (free, is);
       others = keeps_others live body m c.args.force new free is;
