@@ -35,7 +35,7 @@ use Rattle.verbs.specs.declared.reason.Reason.{Reason}
 use Rattle.history.specs.History.{Change, Object, Objects, History}
 use Rattle.history.specs.Read.{key_of}
 use Rattle.history.specs.View.{View, state_in, view as view_of}
-use Rattle.verbs.specs.Machine.{IsMachine}
+use Rattle.verbs.specs.Machine.{ComesAfter, IsMachine}
 use Rattle.verbs.specs.declared.body.Body.{Body}
 use Rattle.serde_json.specs.Data.{Data}
 use Rattle.verbs.specs.Calls.{Target, Call, Answer, Plan, Denied}
@@ -124,12 +124,16 @@ objects_in v = state_in v v.current
 abbrev pub types_of : Api → List ServedShape
 types_of api = types_view api.types
 
--- what may be seen of its store
-abbrev pub seen_of : Api → View
-seen_of api = api.store
+-- what is seen of its store
+abbrev pub store_of : Api → View
+store_of api = api.store
+
+-- a change that may come next in it
+abbrev pub ComesNext : Api → Change → Type 0
+ComesNext api c = ComesAfter (store_of api) c
 
 -- the API serves these types, and of its store is seen what is seen of the machine
 pub record Stands (api : Api) (types : List ServedShape) (m : History) : Type 0 where
   pub is_machine : IsMachine types m
   pub serves : types_of api ≡ types
-  pub store : seen_of api ≡ view_of m
+  pub store : store_of api ≡ view_of m

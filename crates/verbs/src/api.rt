@@ -25,8 +25,8 @@ impl Api {
     ghost use Rattle.schema.specs.TypesFile.{ServedShape};
     ghost use Rattle.verbs.specs.Admit.{admitted};
     ghost use Rattle.history.specs.History.{History, compacted_to, fresh, last_revision};
-    ghost use Rattle.verbs.specs.Machine.{ComesAfter, IsNext, after};
-    ghost use Rattle.verbs.specs.Seen.{Admits, Stands, call_of, change_of, plan_of, seen_of, types_of};
+    ghost use Rattle.verbs.specs.Machine.{IsNext, after};
+    ghost use Rattle.verbs.specs.Seen.{Admits, ComesNext, Stands, call_of, change_of, plan_of, types_of};
     ghost use Rattle.verbs.specs.Step.{planned};
 
     /// An API without objects, at revision 1.
@@ -67,7 +67,7 @@ impl Api {
             → IfOk result (λ p. plan_of p ≡ planned types m (call_of call.now)) }
         ensures next { (types : List ServedShape) (m : History) → Stands self.old types m
             → IfOk result (λ p. IfSome p.change (λ c. IsNext types m (change_of c))) }
-        ensures comes { IfOk result (λ p. IfSome p.change (λ c. ComesAfter (seen_of self.new) (change_of c))) }
+        ensures comes { IfOk result (λ p. IfSome p.change (λ c. ComesNext self.new (change_of c))) }
         ensures readable { (types : List ServedShape) (m : History) → Stands self.old types m → result ≢ Err Fault.Unreadable }
         ensures same { (types : List ServedShape) (m : History) → Stands self.old types m → Stands self.new types m }
     {
@@ -76,7 +76,7 @@ impl Api {
 
     /// Makes the change of a plan, if it has one: a plan of what stands now. Refused, it changes nothing.
     pub fn commit(&mut self, plan: &Plan) -> Result<(), Fault>
-        requires { IfSome plan.now.change (λ c. ComesAfter (seen_of self.old) (change_of c)) }
+        requires { IfSome plan.now.change (λ c. ComesNext self.old (change_of c)) }
         ensures ok { (types : List ServedShape) (m : History) → Stands self.old types m → IfSome plan.now.change (λ c. IsNext types m (change_of c))
             → OnOk result (Stands self.new types (after m (plan_of plan.now).change)) }
         ensures err { (types : List ServedShape) (m : History) → Stands self.old types m → OnErr result (Stands self.new types m) }
