@@ -10,6 +10,8 @@ mod connections;
 #[cfg(test)]
 mod given;
 #[cfg(test)]
+mod lists;
+#[cfg(test)]
 mod recording;
 #[cfg(test)]
 mod replays;

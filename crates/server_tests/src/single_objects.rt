@@ -44,7 +44,7 @@ fn body_of(alloc: Global, method: &str, rest: &str) -> Result<Option<Body>, Fail
 }
 
 /// A line of `METHOD NAME QUERY REST`.
-fn call_of(alloc: Global, api: &Api, line: &str) -> Result<Call, Fail> {
+pub fn call_of(alloc: Global, api: &Api, line: &str) -> Result<Call, Fail> {
     let (method, line) = line.split_once(' ').ok_or("no method")?;
     let (name, line) = line.split_once(' ').ok_or("no name")?;
     let (query, rest) = line.split_once(' ').ok_or("no query")?;
@@ -56,7 +56,7 @@ fn call_of(alloc: Global, api: &Api, line: &str) -> Result<Call, Fail> {
 }
 
 /// Plans a call and makes its change.
-fn answered(api: &mut Api, call: &Call) -> Result<Answer, Fail> {
+pub fn answered(api: &mut Api, call: &Call) -> Result<Answer, Fail> {
     let plan = api.plan(call)?;
     api.commit(&plan)?;
     Ok(plan.answer)
@@ -86,7 +86,7 @@ fn answers_of(alloc: Global, api: &mut Api, lines: &str) -> Result<String, Fail>
     Ok(all)
 }
 
-fn fresh_answers(alloc: Global, lines: &str) -> Result<String, Fail> {
+pub fn fresh_answers(alloc: Global, lines: &str) -> Result<String, Fail> {
     answers_of(alloc, &mut fresh_api(alloc)?, lines)
 }
 
