@@ -21,6 +21,7 @@ use Rattle.verbs.specs.declared.resource.Resource.{Resource}
 use Rattle.verbs.specs.declared.resource.Resource.TheVariants as resource
 use Rattle.verbs.specs.Admit.{Place, admitted, allowed, not_admitted, method_admitted, method_named, method_served, place_admitted, place_of, accepts_media, target_at}
 use Rattle.verbs.specs.Calls.{Call, Denied, Plan, Target}
+use Rattle.lists.specs.declared.refusal.Refusal.{Refusal as ListRefusal}
 use Rattle.params.specs.declared.params.Asked.TheVariants as asked
 use Rattle.verbs.specs.Envelope.{api_version_of, name_in}
 use Rattle.verbs.specs.Validated as validated
@@ -78,7 +79,8 @@ unfolding serde_json_on_literals digits
 media_readable = plain reason.UnsupportedMediaType (codes "media type not served") refl
 
 allowed_readable : (r : Resource) → IsAllowed (Some (allowed r))
-allowed_readable resource.Collection = (passes_each is_value_byte (codes "POST") refl, omega arith)
+allowed_readable resource.AllNamespaces = (passes_each is_value_byte (codes "GET") refl, omega arith)
+allowed_readable resource.Collection = (passes_each is_value_byte (codes "GET, POST") refl, omega arith)
 allowed_readable resource.Object = (passes_each is_value_byte (codes "DELETE, GET, PATCH, PUT") refl, omega arith)
 
 method_short : length (compact_text (status_value reason.MethodNotAllowed (codes "method not served here"))) ≤ client.max_body
@@ -345,23 +347,39 @@ object_fine method.Put t current live k query o = with_body o (step.update_valid
 object_fine method.Patch t current live k query o = with_body o (step.apply_validated t current live k query) (apply_fine t current live k query)
 object_fine method.Delete t current live k query o = delete_fine t current live k query o
 
-collection_fine : (m : Method) (t : ServedShape) (current : ℕ) (objects : Objects) (kind : ℕ) (namespace query : List ℕ) (o : Option Data)
-    → IsFine (step.collection_validated_by m t current objects kind namespace query o)
-collection_fine method.Post t current objects kind namespace query o = with_body o (step.create_validated t current objects kind namespace query) (create_fine t current objects kind namespace query)
-collection_fine method.Get t current objects kind namespace query o = denied _
-collection_fine method.Put t current objects kind namespace query o = denied _
-collection_fine method.Patch t current objects kind namespace query o = denied _
-collection_fine method.Delete t current objects kind namespace query o = denied _
+list_fine : (t : ServedShape) (lists : step.Lists) (kind : ℕ) (namespace : Option (List ℕ)) (query : List ℕ) → IsFine (step.list_validated t lists kind namespace query)
+list_fine t lists kind namespace query =
+    checked (step.list_parameters query) (λ values. step.list_answered (lists (step.collection_of t kind namespace) values)) (λ values. answered (lists (step.collection_of t kind namespace) values))
+  where
+    answered : (r : Result (List ℕ) ListRefusal) → IsFine (step.list_answered r)
+    answered (Ok text) = fine _ (omega arith, omega arith)
+    answered (Err refusal) = denied _
 
-in_fine : (t : ServedShape) (current : ℕ) (objects : Objects) (call : Call) (namespace name : Option (List ℕ)) → IsFine (step.validated_in t current objects call namespace name)
-in_fine t current objects call None name = denied _
-in_fine t current objects call (Some namespace) None = collection_fine call.target.method t current objects call.target.kind namespace call.query call.body
-in_fine t current objects call (Some namespace) (Some name) =
+all_fine : (m : Method) (t : ServedShape) (lists : step.Lists) (kind : ℕ) (query : List ℕ) → IsFine (step.all_validated_by m t lists kind query)
+all_fine method.Get t lists kind query = list_fine t lists kind None query
+all_fine method.Post t lists kind query = denied _
+all_fine method.Put t lists kind query = denied _
+all_fine method.Patch t lists kind query = denied _
+all_fine method.Delete t lists kind query = denied _
+
+collection_fine : (m : Method) (t : ServedShape) (current : ℕ) (objects : Objects) (lists : step.Lists) (kind : ℕ) (namespace query : List ℕ) (o : Option Data)
+    → IsFine (step.collection_validated_by m t current objects lists kind namespace query o)
+collection_fine method.Post t current objects lists kind namespace query o = with_body o (step.create_validated t current objects kind namespace query) (create_fine t current objects kind namespace query)
+collection_fine method.Get t current objects lists kind namespace query o = list_fine t lists kind (Some namespace) query
+collection_fine method.Put t current objects lists kind namespace query o = denied _
+collection_fine method.Patch t current objects lists kind namespace query o = denied _
+collection_fine method.Delete t current objects lists kind namespace query o = denied _
+
+in_fine : (t : ServedShape) (current : ℕ) (objects : Objects) (lists : step.Lists) (call : Call) (namespace name : Option (List ℕ)) → IsFine (step.validated_in t current objects lists call namespace name)
+in_fine t current objects lists call None None = all_fine call.target.method t lists call.target.kind call.query
+in_fine t current objects lists call None (Some name) = denied _
+in_fine t current objects lists call (Some namespace) None = collection_fine call.target.method t current objects lists call.target.kind namespace call.query call.body
+in_fine t current objects lists call (Some namespace) (Some name) =
     object_fine call.target.method t current (fin.get objects (step.key_at call namespace name)) (step.key_at call namespace name) call.query call.body
 
-at_fine : (o : Option ServedShape) (current : ℕ) (objects : Objects) (call : Call) → IsFine (step.validated_at o current objects call)
-at_fine None current objects call = denied _
-at_fine (Some t) current objects call = in_fine t current objects call call.target.namespace call.target.name
+at_fine : (o : Option ServedShape) (current : ℕ) (objects : Objects) (lists : step.Lists) (call : Call) → IsFine (step.validated_at o current objects lists call)
+at_fine None current objects lists call = denied _
+at_fine (Some t) current objects lists call = in_fine t current objects lists call call.target.namespace call.target.name
 
 plan_fine : (j : Validated Plan) → IsFine j → IsStatusCode (step.plan_for j).answer.status
 plan_fine (Ok p) is = is.is
@@ -369,4 +387,4 @@ plan_fine (Err d) is = code_is d.reason
 
 pub status_is : (types : List ServedShape) (m : History) (call : Call) → IsStatusCode (step.planned types m call).answer.status
 status_is types m call =
-    plan_fine (step.validated_over types m.current (standing m) call) (at_fine (slice_get types call.target.kind) m.current (standing m) call)
+    plan_fine (step.validated_over types m.current (standing m) (step.lists_of m) call) (at_fine (slice_get types call.target.kind) m.current (standing m) (step.lists_of m) call)
