@@ -42,7 +42,9 @@ GET -  "#;
 
 /// The name of an object and a blank.
 fn push_name(all: &mut String, item: &Value) -> Result<(), Fail> {
-    let name = item.pointer("/metadata/name").and_then(|name| name.as_str());
+    let name = item
+        .pointer("/metadata/name")
+        .and_then(|name| name.as_str());
     all.push_str(name.unwrap_or("?"))?;
     Ok(all.push_str(" ")?)
 }
