@@ -10,7 +10,7 @@ mod connections;
 #[cfg(test)]
 mod given;
 #[cfg(test)]
-mod lists;
+mod list_rows;
 #[cfg(test)]
 mod recording;
 #[cfg(test)]
