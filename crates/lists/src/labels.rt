@@ -54,7 +54,8 @@ fn texts_of(
     Ok(Some(labels))
 }
 
-fn value_of(alloc: Global, text: &str) -> Result<Option<Value>, Fault>
+/// The JSON value that a text is, if it is one.
+pub fn value_of(alloc: Global, text: &str) -> Result<Option<Value>, Fault>
     ensures { IfOk result (λ o. option_map view o ≡ read text.now) }
 {
     match Value::from_str(alloc, text) {
@@ -81,7 +82,7 @@ fn labels_of(alloc: Global, text: &str) -> Result<BTreeMap<String, String>, Faul
 }
 
 /// Whether the labels in an object's text are selected; the text isn't read where nothing is asked of them.
-pub(crate) fn is_selected(alloc: Global, selector: &Selector, text: &str) -> Result<bool, Fault>
+pub fn is_selected(alloc: Global, selector: &Selector, text: &str) -> Result<bool, Fault>
     ensures { IfOk result (λ b. b ≡ selects selector.now (labels_of text.now)) }
 {
     if selector.is_all() {

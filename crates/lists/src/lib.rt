@@ -21,6 +21,9 @@ mod text;
 
 pub use collection::Collection;
 pub use fault::ListFault;
+pub use labels::{is_selected, value_of};
 pub use laws::lists_are_json;
 pub use listing::list;
+pub use page::{Page, next_start, selected_page};
 pub use refusal::Refusal;
+pub use rows::Start;

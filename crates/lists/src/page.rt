@@ -1,17 +1,18 @@
 //! The page that is asked for.
 
-ghost use Rattle.std.specs.Prelude.{◌≡◌, ◌<◌, ◌≤◌, ◌++◌, IfOk, map, option_map};
+ghost use Rattle.std.specs.Prelude.{◌≡◌, ◌<◌, ◌≤◌, ◌++◌, IfOk, Some, map, option_map};
 ghost use Rattle.history.specs.Page.{listed};
 ghost use Rattle.history.specs.Seen.{IsLimit, limited};
 ghost use Rattle.history.specs.View.{state_in};
 ghost use Rattle.params.specs.Views.{token_view, values_of};
 ghost use Rattle.revtable.specs.Read.{entry_of};
 ghost use Rattle.lists.specs.Lists.{page_limit, page_of};
-ghost use Rattle.lists.specs.Rows.{is_over, matching};
+ghost use Rattle.lists.specs.Rows.{is_over, matching, place_of};
 ghost use Rattle.lists.specs.Views.{collection_of, page_seen, start_of};
 
 use crate::collection::Collection;
-use crate::rows::{Start, matching, next_rows};
+use crate::rows::{Start, after, matching, next_rows};
+use crate::text::next_of;
 use params::{Params, Token};
 use revstore::Store;
 use revtable::{Entry, Fault};
@@ -26,10 +27,10 @@ const MAX_ROWS: u64 = 501;
 
 /// A page of a list.
 #[derive(Debug, Drop)]
-pub(crate) struct Page {
-    pub(crate) found: Vec<Entry>,
+pub struct Page {
+    pub found: Vec<Entry>,
     /// Whether an object is left after these.
-    pub(crate) has_more: bool,
+    pub has_more: bool,
 }
 
 /// How many items the page has at most; None where the list is whole.
@@ -108,6 +109,39 @@ fn found_from(
         max = max.saturating_mul(2).min(MAX_ROWS);
     }
     Ok(found)
+}
+
+/// The first that are selected from a start on, at most so many, and whether more are left; the names of the type are
+/// not looked at.
+pub fn selected_page(
+    alloc: Global,
+    store: &mut Store,
+    of: Collection<'_>,
+    revision: u64,
+    selector: &Selector,
+    start: &Start,
+    max: usize,
+) -> Result<Page, Fault>
+    requires low { store.old.compacted ≤ revision }
+    requires high { revision ≤ store.old.current }
+    ensures page { IfOk result (λ p. page_seen p
+        ≡ limited (Some max) (matching selector.now (listed (collection_of of.entry).kind (collection_of of.entry).namespace (start_of start.now) (state_in store.old revision)))) }
+    ensures same { store.new ≡ store.old }
+{
+    let start = start.copied()?;
+    let limit = Some(max);
+    let found = found_from(alloc, store, of, revision, selector, start, limit)?;
+    Ok(cut(limit, found))
+}
+
+/// Where the next page begins, unless this is the last.
+pub fn next_start(page: &Page) -> Result<Option<Start>, AllocError>
+    ensures { IfOk result (λ o. option_map start_of o ≡ option_map place_of (page_seen page.now).next) }
+{
+    match next_of(page) {
+        Some(key) => Ok(Some(after(key)?)),
+        None => Ok(None),
+    }
 }
 
 /// Where a list goes on: after its token's object, or from the first one on.

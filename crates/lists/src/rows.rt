@@ -19,7 +19,7 @@ use std::alloc::{AllocError, Global};
 
 /// Where rows are read from: from the first one on, or after an object's namespace and name.
 #[derive(Debug, Drop)]
-pub(crate) enum Start {
+pub enum Start {
     First,
     After(String, String),
 }
@@ -31,6 +31,16 @@ impl Start {
         match self {
             Start::First => None,
             Start::After(namespace, name) => Some((namespace.as_str(), name.as_str())),
+        }
+    }
+
+    /// The same start.
+    pub fn copied(&self) -> Result<Start, AllocError>
+        ensures { IfOk result (λ s. start_of s ≡ start_of self.now) }
+    {
+        match self {
+            Start::First => Ok(Start::First),
+            Start::After(namespace, name) => Ok(Start::After(namespace.clone()?, name.clone()?)),
         }
     }
 }
@@ -45,7 +55,8 @@ pub(crate) fn last_key(rows: &[Entry]) -> Option<&Key>
     }
 }
 
-fn after(key: &Key) -> Result<Start, AllocError>
+/// After the object of this key.
+pub(crate) fn after(key: &Key) -> Result<Start, AllocError>
     ensures { IfOk result (λ s. start_of s ≡ place_of (key_of key.now)) }
 {
     Ok(Start::After(key.namespace.clone()?, key.name.clone()?))

@@ -100,7 +100,7 @@ fn metadata_text(alloc: Global, revision: u64, next: Option<&Key>) -> Result<Str
 }
 
 /// The key after which the next page begins.
-fn next_of(page: &Page) -> Option<&Key>
+pub(crate) fn next_of(page: &Page) -> Option<&Key>
     ensures { option_map (λ k. key_of k.now) result ≡ (page_seen page.now).next }
 {
     if page.has_more {

@@ -1,0 +1,5 @@
+pub mod Batched
+pub mod Coming
+pub mod Onward
+pub mod Printed
+pub mod Putting

@@ -1,0 +1,7 @@
+pub mod Versions
+pub mod Lines
+pub mod Watches
+pub mod Turns
+pub mod Opening
+pub mod Batches
+pub mod Views

@@ -1,0 +1,77 @@
+-- What a watch begins from (Kubernetes docs, "Kubernetes API Concepts", "Semantics for watch").
+use Rattle.std.specs.Prelude.{ℕ, nat_lt, ◌==◌, if◌then◌else◌, Bool, List, [], ◌∷◌, Option, Some, None}
+use Rattle.std.specs.FinMap as fin
+use Rattle.std.specs.declared.result.Result.{Result}
+use Rattle.std.specs.declared.result.Result.TheVariants.{Ok, Err}
+use Rattle.selector.specs.Requirement.{Requirement}
+use Rattle.history.specs.History.{Key, Object}
+use Rattle.history.specs.Seen.{selected}
+use Rattle.params.specs.Values.{Values, Watch}
+use Rattle.lists.specs.declared.refusal.Refusal.{Refusal}
+use Rattle.lists.specs.declared.refusal.Refusal.TheVariants.{Expired}
+use Rattle.lists.specs.Labels.{selection_of}
+use Rattle.watchline.specs.declared.opening.Initial.{Initial}
+use Rattle.watchline.specs.declared.opening.Initial.TheVariants.{Changes, Objects, NoObjects}
+use Rattle.watchline.specs.Watches.{Source, Cursor, Left, none_left, left_from}
+
+-- the seconds after which it ends are 0 for never
+pub record WatchFrom : Type 0 where
+  pub kind : ℕ
+  pub namespace : Option (List ℕ)
+  pub requirements : List Requirement
+  pub position : ℕ
+  pub initial : Initial
+  pub bookmarks : Bool
+  pub timeout : ℕ
+
+-- ---- the cursor of a watch that nothing was told on
+
+-- a client that names a version knows all up to it
+abbrev pub told_of : Initial → ℕ → ℕ
+told_of Changes position = position
+told_of Objects position = 0
+told_of NoObjects position = 0
+
+abbrev pub left_of : Initial → Left
+left_of Changes = none_left
+left_of Objects = left_from None
+left_of NoObjects = none_left
+
+abbrev pub begun : WatchFrom → Cursor
+begun from = record {
+  kind = from.kind;
+  namespace = from.namespace;
+  requirements = from.requirements;
+  bookmarks = from.bookmarks;
+  position = from.position;
+  told = told_of from.initial from.position;
+  left = left_of from.initial;
+}
+
+-- ---- what a request for a watch opens
+
+abbrev pub initial_of : List (Key × Object) → Initial
+initial_of [] = NoObjects
+initial_of (e ∷ es) = Objects
+
+abbrev pub from_parts : ℕ → Option (List ℕ) → List Requirement → Watch → ℕ → Initial → WatchFrom
+from_parts kind namespace requirements watch position initial =
+    record { kind = kind; namespace = namespace; requirements = requirements; position = position; initial = initial; bookmarks = watch.has_bookmarks; timeout = watch.timeout }
+
+-- the revision that it begins at, and what it tells first: without a version the objects that stand now, from a version on the changes after
+-- it, unless some of them were forgotten
+abbrev pub starts : Source → Option ℕ → Initial → Result (ℕ × Initial) Refusal
+starts s None objects = Ok (s.current, objects)
+starts s (Some v) objects = if v == 0 then Ok (s.current, objects) else (if nat_lt v s.compacted then Err (Expired v s.compacted) else Ok (v, Changes))
+
+abbrev pub opened_by : (ℕ → Initial → WatchFrom) → Result (ℕ × Initial) Refusal → Result WatchFrom Refusal
+opened_by from (Ok p) = Ok (from p.0 p.1)
+opened_by from (Err refusal) = Err refusal
+
+-- what the selection has now
+abbrev pub initial_in : Source → ℕ → Option (List ℕ) → List Requirement → Initial
+initial_in s kind namespace requirements = initial_of (fin.entries (selected (selection_of kind namespace requirements) (s.at s.current)))
+
+abbrev pub opened : Source → ℕ → Option (List ℕ) → Values → Watch → Result WatchFrom Refusal
+opened s kind namespace values watch =
+    opened_by (from_parts kind namespace values.selector watch) (starts s values.version (initial_in s kind namespace values.selector))

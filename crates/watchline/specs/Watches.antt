@@ -1,0 +1,134 @@
+-- Watches: where one stands, what it has still to tell, and what it tells at its turn (Kubernetes docs, "Kubernetes API Concepts",
+-- "Efficient detection of changes", "Semantics for watch").
+use Rattle.std.specs.Prelude.{ℕ, zero, suc, ◌-◌, max, nat_lt, Bool, true, false, ◌&&◌, if◌then◌else◌, List, [], ◌∷◌, ◌++◌, length, take, map, Option, Some, None, option_map}
+use Rattle.std.specs.FinMap as fin
+use Rattle.selector.specs.Requirement.{Requirement}
+use Rattle.history.specs.History.{Key, Object, Objects, Change, History, later, state_at, up_to}
+use Rattle.history.specs.Page.{next_of}
+use Rattle.history.specs.Seen.{Selection, SeenChange, left_after, reached, seen_among, selected}
+use Rattle.history.specs.View.{View, state_in}
+use Rattle.lists.specs.Labels.{selection_of}
+use Rattle.watchline.specs.Lines.{added, bookmark_line, error_line, line_of}
+
+-- ---- what it tells from
+
+-- the two numbers, the objects at each revision from the compacted one on, and the changes after it, oldest first
+pub record Source : Type 0 where
+  pub current : ℕ
+  pub compacted : ℕ
+  pub at : ℕ → Objects
+  pub changes : List Change
+
+abbrev pub from_history : History → Source
+from_history h = record { current = h.current; compacted = h.compacted; at = state_at h.changes; changes = h.changes }
+
+abbrev pub from_view : View → Source
+from_view v = record { current = v.current; compacted = v.compacted; at = state_in v; changes = v.changes }
+
+-- ---- where it stands
+
+-- of the objects that stood when the watch was opened: none is left to be told, or those after a namespace and name, or all
+pub data Left : Type 0 where
+  none_left : Left
+  left_from : Option (List ℕ × List ℕ) → Left
+
+pub record Cursor : Type 0 where
+  pub kind : ℕ
+  pub namespace : Option (List ℕ)
+  pub requirements : List Requirement
+  -- whether it tells bookmarks
+  pub bookmarks : Bool
+  -- each change up to it was told, or isn't seen
+  pub position : ℕ
+  -- the last revision that the client was told, 0 before there is one
+  pub told : ℕ
+  pub left : Left
+
+abbrev pub moved : Cursor → ℕ → ℕ → Left → Cursor
+moved w position told left = record { kind = w.kind; namespace = w.namespace; requirements = w.requirements; bookmarks = w.bookmarks; position = position; told = told; left = left }
+
+abbrev pub wanted : Cursor → Selection
+wanted w = selection_of w.kind w.namespace w.requirements
+
+-- ---- what it has still to tell
+
+abbrev pub key_at : ℕ → List ℕ × List ℕ → Key
+key_at kind place = record { kind = kind; namespace = place.0; name = place.1 }
+
+abbrev pub entries_left : ℕ → Left → List (Key × Object) → List (Key × Object)
+entries_left kind none_left es = []
+entries_left kind (left_from place) es = left_after (option_map (key_at kind) place) es
+
+-- objects that stood at its position
+abbrev pub objects_left : Source → Cursor → List (Key × Object)
+objects_left s w = entries_left w.kind w.left (fin.entries (selected (wanted w) (s.at w.position)))
+
+-- the changes seen after its position, up to now
+abbrev pub changes_left : Source → Cursor → List SeenChange
+changes_left s w = seen_among (wanted w) (s.at w.position) (up_to s.current (later w.position s.changes))
+
+-- objects first, each as added, then changes
+abbrev pub coming : Source → Cursor → List SeenChange
+coming s w = map added (objects_left s w) ++ changes_left s w
+
+-- ---- its turn at a pump: at most so many lines
+
+-- the changes for which there is room behind the objects
+abbrev pub changes_told : Source → ℕ → Cursor → List SeenChange
+changes_told s room w = take (room - length (objects_left s w)) (changes_left s w)
+
+abbrev pub left_by : Option Key → Left
+left_by None = none_left
+left_by (Some k) = left_from (Some (k.namespace, k.name))
+
+-- what is left of these after so many
+abbrev pub left_past : ℕ → List (Key × Object) → Left → Left
+left_past zero es left = left
+left_past (suc n) es left = left_by (next_of (suc n) es)
+
+abbrev pub position_by : Bool → ℕ → ℕ → ℕ
+position_by has_room current p = if has_room then max p current else p
+
+-- an object moves it nowhere, a change to its revision; where room is left, nothing else is to be seen up to now
+abbrev pub position_past : Source → ℕ → Cursor → ℕ
+position_past s room w = position_by (nat_lt (length (coming s w)) room) s.current (reached w.position (changes_told s room w))
+
+-- the lines, whether the watch has ended by them, and where it then stands
+pub record Turn : Type 0 where
+  pub lines : List (List ℕ)
+  pub ended : Bool
+  pub next : Cursor
+
+abbrev pub telling : Source → ℕ → Cursor → Turn
+telling s room w = record {
+  lines = map line_of (take room (coming s w));
+  ended = false;
+  next = moved w (position_past s room w) (reached w.told (changes_told s room w)) (left_past room (objects_left s w) w.left);
+}
+
+-- below the compacted number it can't tell what it has missed, and ends with an error
+abbrev pub expiring : Source → Cursor → Turn
+expiring s w = record { lines = error_line w.position s.compacted ∷ []; ended = true; next = w }
+
+abbrev pub pumped : Source → ℕ → Cursor → Turn
+pumped s room w = if nat_lt w.position s.compacted then expiring s w else telling s room w
+
+-- ---- bookmarks
+
+abbrev pub is_none_left : Left → Bool
+is_none_left none_left = true
+is_none_left (left_from place) = false
+
+-- it stands past what the client was told, and no object is left
+abbrev pub is_bookmark_due : Cursor → Bool
+is_bookmark_due w = w.bookmarks && (is_none_left w.left && nat_lt w.told w.position)
+
+-- a bookmark's line, if one is due, and where the watch then stands
+pub record Marking : Type 0 where
+  pub line : Option (List ℕ)
+  pub next : Cursor
+
+abbrev pub bookmarked : List ℕ → List ℕ → Cursor → Marking
+bookmarked api_version kind w =
+    if is_bookmark_due w then record { line = Some (bookmark_line api_version kind w.position); next = moved w w.position w.position w.left }
+    else record { line = None; next = w }

@@ -1,0 +1,116 @@
+//! The changes after a revision, a few at a time.
+
+ghost use Rattle.std.specs.Prelude.{◌≡◌, ◌<◌, ◌≤◌, ◌++◌, IfOk, map, option_map, take};
+ghost use Rattle.std.specs.Prelude as prelude;
+ghost use Rattle.history.specs.History.{later};
+ghost use Rattle.history.specs.Page.{changes_within};
+ghost use Rattle.history.specs.Seen.{seen_in};
+ghost use Rattle.history.specs.View.{IsView};
+ghost use Rattle.lists.specs.Labels.{selection_of};
+ghost use Rattle.revtable.specs.Read.{change_of};
+ghost use Rattle.watchline.specs.Batches.{AreBetween, IsLow, changes_past, last_revision, to_read};
+ghost use Rattle.watchline.specs.Views.{change_seen};
+
+use crate::seen::{Seen, seen_each};
+use revstore::{ChangesFault, Store};
+use revtable::{Change, Fault};
+use selector::Selector;
+use std::alloc::Global;
+
+/// How many changes are read at once at most.
+const MAX_CHANGES: usize = 500;
+
+/// The revision of the last of these.
+fn last_revision(changes: &[Change]) -> Option<u64>
+    ensures { result ≡ last_revision (map change_of changes.now) }
+{
+    match changes.last() {
+        Some(last) => Some(last.revision),
+        None => None,
+    }
+}
+
+/// The first changes of the type and namespace after a revision.
+fn changes_after(
+    store: &mut Store,
+    kind: u32,
+    namespace: Option<&str>,
+    after: u64,
+    max: u64,
+) -> Result<Vec<Change>, Fault>
+    requires low { store.old.compacted ≤ after }
+    ensures changes { IfOk result (λ v. map change_of v.items ≡ changes_within kind (option_map (λ b. b.now) namespace.entry) max (later after store.old.changes)) }
+    ensures same { store.new ≡ store.old }
+{
+    match store.changes(kind, namespace, after, max) {
+        Ok(changes) => Ok(changes),
+        Err(ChangesFault::Failed(fault)) => Err(fault),
+        Err(ChangesFault::Expired) => unreachable!(),
+    }
+}
+
+/// The same, and the revision after which the next ones come, unless these were the last.
+fn next_changes(
+    store: &mut Store,
+    kind: u32,
+    namespace: Option<&str>,
+    after: u64,
+    max: usize,
+) -> Result<(Vec<Change>, Option<u64>), Fault>
+    requires sound { IsView store.old }
+    requires low { store.old.compacted ≤ after }
+    requires some { 0 < max }
+    ensures changes { IfOk result (λ p. changes_past kind (option_map (λ b. b.now) namespace.entry) store.old (prelude.Some after)
+        ≡ map change_of p.0.items ++ changes_past kind (option_map (λ b. b.now) namespace.entry) store.old p.1) }
+    ensures fewer { IfOk result (λ p. to_read kind (option_map (λ b. b.now) namespace.entry) store.old p.1
+        < to_read kind (option_map (λ b. b.now) namespace.entry) store.old (prelude.Some after)) }
+    ensures between { IfOk result (λ p. AreBetween store.old.compacted store.old.current (map change_of p.0.items)) }
+    ensures low { IfOk result (λ p. IsLow store.old.compacted p.1) }
+    ensures same { store.new ≡ store.old }
+{
+    let changes = changes_after(store, kind, namespace, after, max as u64)?;
+    if changes.len() < max {
+        return Ok((changes, None));
+    }
+    let next = last_revision(&changes);
+    Ok((changes, next))
+}
+
+/// The first of these, at most so many.
+fn cut(found: Vec<Seen>, max: usize) -> Vec<Seen>
+    ensures { map change_seen result.items ≡ take max (map change_seen found.items) }
+{
+    let mut found = found;
+    found.truncate(max);
+    found
+}
+
+/// The first that is seen after a revision, at most so much.
+pub(crate) fn seen_after(
+    alloc: Global,
+    store: &mut Store,
+    kind: u32,
+    namespace: Option<&str>,
+    selector: &Selector,
+    after: u64,
+    max: usize,
+) -> Result<Vec<Seen>, Fault>
+    requires sound { IsView store.old }
+    requires low { store.old.compacted ≤ after }
+    ensures seen { IfOk result (λ v. map change_seen v.items ≡ take max (seen_in (selection_of kind (option_map (λ b. b.now) namespace.entry) selector.now) store.old after store.old.current)) }
+    ensures same { store.new ≡ store.old }
+{
+    let mut found = Vec::new(alloc);
+    let mut left = Some(after);
+    while let Some(after) = left {
+        if found.len() >= max {
+            return Ok(cut(found, max));
+        }
+        let room = (max - found.len()).min(MAX_CHANGES);
+        let (changes, next) = next_changes(store, kind, namespace, after, room)?;
+        let mut more = seen_each(alloc, store, selector, changes)?;
+        found.append(&mut more)?;
+        left = next;
+    }
+    Ok(cut(found, max))
+}

@@ -1,0 +1,181 @@
+//! Where a watch stands.
+
+ghost use Rattle.std.specs.Prelude.{◌≡◌, false, IfOk, None, Ok, OnErr, Some, option_map, string_bytes};
+ghost use Rattle.watchline.specs.Opening.{begun, left_of, told_of};
+ghost use Rattle.watchline.specs.Watches.{bookmarked, from_view, is_bookmark_due, pumped};
+ghost use Rattle.watchline.specs.Views.{cursor_of, left_at, marking_of, turn_of, watch_from};
+
+use crate::lines::bookmark_line;
+use crate::opening::{Initial, WatchFrom};
+use crate::telling::{expired, told};
+use lists::{Collection, Start};
+use revstore::Store;
+use revtable::Fault;
+use selector::Selector;
+use std::alloc::Global;
+use std::marker::Model;
+
+/// What a watch is of, and whether it tells bookmarks.
+#[derive(Debug, Drop)]
+pub(crate) struct Scope {
+    pub(crate) kind: u32,
+    pub(crate) namespace: Option<String>,
+    pub(crate) selector: Selector,
+    pub(crate) bookmarks: bool,
+}
+
+impl Scope {
+    pub(crate) fn namespace(&self) -> Option<&str>
+        ensures { option_map (λ s. s.now) result ≡ option_map string_bytes self.now.namespace }
+    {
+        match &self.namespace {
+            Some(namespace) => Some(namespace.as_str()),
+            None => None,
+        }
+    }
+
+    /// Its objects; they are looked up by number of type and namespace, and the names of the type aren't shown.
+    pub(crate) fn collection(&self) -> Collection<'_>
+        ensures kind { result.kind ≡ self.now.kind }
+        ensures namespace { option_map (λ s. s.now) result.namespace ≡ option_map string_bytes self.now.namespace }
+    {
+        Collection {
+            kind: self.kind,
+            namespace: self.namespace(),
+            api_version: "",
+            item_kind: "",
+        }
+    }
+}
+
+/// What was told.
+#[derive(Debug, Drop)]
+pub(crate) struct Standing {
+    /// Each change up to this revision was told, or isn't seen.
+    pub(crate) position: u64,
+    /// The last revision that the client was told; 0 before there is one.
+    pub(crate) told: u64,
+    /// Where the objects begin that stood when the watch was opened and are still to be told.
+    pub(crate) left: Option<Start>,
+}
+
+/// The lines of a pump, and whether the watch has ended by them.
+#[derive(Debug, Drop)]
+pub struct Pumped {
+    pub lines: Vec<String>,
+    pub ended: bool,
+}
+
+/// Where a watch stands.
+#[derive(Debug, Drop)]
+pub struct WatchCursor {
+    scope: Scope,
+    standing: Standing,
+}
+
+impl Model for WatchCursor {
+    ghost use Rattle.watchline.specs.Watches.{Cursor};
+    ghost use Rattle.watchline.specs.Views.{cursor_of};
+
+    ghost Value = { Cursor };
+
+    ghost view = { λ c. cursor_of c.scope c.standing };
+}
+
+/// The revision that a client was told before its watch has told anything: all up to the version that it names.
+fn told_of(initial: Initial, position: u64) -> u64
+    ensures { result ≡ told_of initial position }
+{
+    match initial {
+        Initial::Changes => position,
+        Initial::Objects | Initial::NoObjects => 0,
+    }
+}
+
+fn left_of(initial: Initial) -> Option<Start>
+    ensures { left_at result ≡ left_of initial }
+{
+    match initial {
+        Initial::Objects => Some(Start::First),
+        Initial::Changes | Initial::NoObjects => None,
+    }
+}
+
+/// Whether the watch stands past what the client was told, and no object is left to be told.
+fn is_bookmark_due(scope: &Scope, standing: &Standing) -> bool
+    ensures { result ≡ is_bookmark_due (cursor_of scope.now standing.now) }
+{
+    scope.bookmarks && standing.left.is_none() && standing.told < standing.position
+}
+
+impl WatchCursor {
+    /// The cursor of a watch that has told nothing yet. Its time is not its own: who pumps it ends it.
+    pub fn new(from: WatchFrom) -> WatchCursor
+        ensures { result ≡ begun (watch_from from) }
+    {
+        let standing = Standing {
+            position: from.position,
+            told: told_of(from.initial, from.position),
+            left: left_of(from.initial),
+        };
+        let scope = Scope {
+            kind: from.kind,
+            namespace: from.namespace,
+            selector: from.selector,
+            bookmarks: from.bookmarks,
+        };
+        WatchCursor { scope, standing }
+    }
+
+    /// The number of the type that it is of.
+    pub fn kind(&self) -> u32
+        ensures { result ≡ self.now.kind }
+    {
+        self.scope.kind
+    }
+
+    /// Whether a bookmark is due: the watch tells bookmarks, it stands past what the client was told, and no object is
+    /// left to be told.
+    pub fn is_bookmark_due(&self) -> bool
+        ensures { result ≡ is_bookmark_due self.now }
+    {
+        is_bookmark_due(&self.scope, &self.standing)
+    }
+
+    /// The next lines, at most `max`: of objects that are left, each as added, then of changes that are seen after
+    /// the position. Where changes after it were forgotten, the one line says so and the watch has ended.
+    pub fn pump(&mut self, alloc: Global, store: &mut Store, max: usize) -> Result<Pumped, Fault>
+        ensures pumped { IfOk result (λ p. turn_of p self.new ≡ pumped (from_view store.old) max self.old) }
+        ensures err { OnErr result (self.new ≡ self.old) }
+        ensures same { store.new ≡ store.old }
+    {
+        let position = self.standing.position;
+        let compacted = store.compacted();
+        if position < compacted {
+            return Ok(expired(alloc, position, compacted)?);
+        }
+        let (pumped, standing) = told(alloc, store, &self.scope, &self.standing, max)?;
+        self.standing = standing;
+        Ok(pumped)
+    }
+
+    /// The line of a bookmark, where one is due: it tells the position. Where none is due it can't fail.
+    pub fn bookmark(
+        &mut self,
+        alloc: Global,
+        api_version: &str,
+        kind: &str,
+    ) -> Result<Option<String>, Fault>
+        ensures bookmarked { IfOk result (λ o. marking_of o self.new ≡ bookmarked api_version.now kind.now self.old) }
+        ensures needs { is_bookmark_due self.old ≡ false → result ≡ Ok None }
+        ensures stays { is_bookmark_due self.old ≡ false → self.new ≡ self.old }
+        ensures err { OnErr result (self.new ≡ self.old) }
+    {
+        if !is_bookmark_due(&self.scope, &self.standing) {
+            return Ok(None);
+        }
+        let line = bookmark_line(alloc, api_version, kind, self.standing.position)?;
+        self.standing.told = self.standing.position;
+        Ok(Some(line))
+    }
+}

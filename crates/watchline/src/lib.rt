@@ -1,0 +1,30 @@
+//! Watches of objects, line by line (Kubernetes documentation, "Kubernetes API Concepts", "Efficient detection of
+//! changes").
+//!
+//! A watch tells first the objects that stood when it was opened, if it names no version, and then each change that
+//! its selection sees after its position. A pump tells the first so many of what is still to be told and moves the
+//! position; a watch that has missed forgotten changes ends with an error; a bookmark tells the position alone. A
+//! call that fails leaves the cursor where it stood.
+//!
+//! Stands on `history` for what is seen, `revstore` for the changes, `lists` for the objects and their labels.
+#![tactic(auto)]
+
+mod batches;
+mod cursor;
+mod event;
+mod floats;
+mod laws;
+mod lines;
+mod objects;
+mod opening;
+mod seen;
+mod status;
+mod telling;
+mod version;
+
+pub use cursor::{Pumped, WatchCursor};
+pub use event::EventType;
+pub use laws::{positions_pass_nothing, turns_lead_on, turns_tell_in_order, watches_by_views};
+pub use lines::line;
+pub use opening::{Initial, WatchFrom, start_watch};
+pub use status::expired_message;

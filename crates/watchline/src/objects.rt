@@ -1,0 +1,59 @@
+//! The objects that stood when a watch was opened and are still to be told.
+
+ghost use Rattle.std.specs.Prelude.{◌≡◌, ◌≤◌, IfOk, Some, map, take};
+ghost use Rattle.history.specs.View.{IsView};
+ghost use Rattle.revtable.specs.Read.{entry_of};
+ghost use Rattle.watchline.specs.Watches.{from_view, left_past, objects_left};
+ghost use Rattle.watchline.specs.Views.{cursor_of, left_at, objects_at};
+
+use crate::cursor::{Scope, Standing};
+use lists::{Start, next_start, selected_page};
+use revstore::Store;
+use revtable::{Entry, Fault};
+use std::alloc::Global;
+
+/// The first from a start on, at most so many, and where the others begin.
+fn objects_from(
+    alloc: Global,
+    store: &mut Store,
+    scope: &Scope,
+    position: u64,
+    start: &Start,
+    max: usize,
+) -> Result<(Vec<Entry>, Option<Start>), Fault>
+    requires sound { IsView store.old }
+    requires low { store.old.compacted ≤ position }
+    ensures found { IfOk result (λ p. map entry_of p.0.items ≡ take max (objects_at store.old scope.now position start.now)) }
+    ensures left { IfOk result (λ p. left_at p.1 ≡ left_past max (objects_at store.old scope.now position start.now) (left_at (Some start.now))) }
+    ensures same { store.new ≡ store.old }
+{
+    let revision = position.min(store.current());
+    let of = scope.collection();
+    let page = selected_page(alloc, store, of, revision, &scope.selector, start, max)?;
+    if max == 0 {
+        return Ok((page.found, Some(start.copied()?)));
+    }
+    let left = next_start(&page)?;
+    Ok((page.found, left))
+}
+
+/// The objects that come first, at most so many, and where the others begin.
+pub(crate) fn objects_told(
+    alloc: Global,
+    store: &mut Store,
+    scope: &Scope,
+    standing: &Standing,
+    max: usize,
+) -> Result<(Vec<Entry>, Option<Start>), Fault>
+    requires sound { IsView store.old }
+    requires low { store.old.compacted ≤ standing.now.position }
+    ensures found { IfOk result (λ p. map entry_of p.0.items ≡ take max (objects_left (from_view store.old) (cursor_of scope.now standing.now))) }
+    ensures left { IfOk result (λ p. left_at p.1
+        ≡ left_past max (objects_left (from_view store.old) (cursor_of scope.now standing.now)) (left_at standing.now.left)) }
+    ensures same { store.new ≡ store.old }
+{
+    match &standing.left {
+        Some(start) => objects_from(alloc, store, scope, standing.position, start, max),
+        None => Ok((Vec::new(alloc), None)),
+    }
+}

@@ -1,0 +1,122 @@
+//! What a watch begins from.
+
+ghost use Rattle.std.specs.Prelude.{◌≡◌, IfOk, option_map, string_bytes};
+ghost use Rattle.lists.specs.Views.{Gives, collection_of};
+ghost use Rattle.params.specs.Views.{values_of, watch_view};
+ghost use Rattle.watchline.specs.Opening.{initial_in, opened, starts};
+ghost use Rattle.watchline.specs.Watches.{from_view};
+ghost use Rattle.watchline.specs.Views.{watch_from};
+
+use lists::{Collection, ListFault, Refusal, Start, selected_page};
+use params::{Params, Watch};
+use revstore::Store;
+use revtable::Fault;
+use selector::Selector;
+use std::alloc::{AllocError, Global};
+
+/// What a watch tells first.
+#[derive(Clone, Copy, Debug, PartialEq, Eq)]
+pub enum Initial {
+    /// It names a version: the changes after it alone.
+    Changes,
+    /// It names none, and objects of it stand: each as added.
+    Objects,
+    /// It names none, and no object of it stands.
+    NoObjects,
+}
+
+/// What a watch begins from.
+#[derive(Debug, Drop)]
+pub struct WatchFrom {
+    /// The number of the type.
+    pub kind: u32,
+    /// None over all namespaces.
+    pub namespace: Option<String>,
+    pub selector: Selector,
+    /// The revision after which changes are told.
+    pub position: u64,
+    pub initial: Initial,
+    /// Whether it tells bookmarks.
+    pub bookmarks: bool,
+    /// In seconds; 0 is none.
+    pub timeout: u64,
+}
+
+/// Whether objects of the watch stand now.
+fn initial_in(
+    alloc: Global,
+    store: &mut Store,
+    of: Collection<'_>,
+    selector: &Selector,
+) -> Result<Initial, Fault>
+    ensures initial { IfOk result (λ i. i ≡ initial_in (from_view store.old) (collection_of of.entry).kind (collection_of of.entry).namespace selector.now) }
+    ensures same { store.new ≡ store.old }
+{
+    let current = store.current();
+    let first = selected_page(alloc, store, of, current, selector, &Start::First, 1)?;
+    if first.found.is_empty() {
+        Ok(Initial::NoObjects)
+    } else {
+        Ok(Initial::Objects)
+    }
+}
+
+/// The revision that a watch begins at, where it names this version, and what it tells first.
+fn starts(
+    alloc: Global,
+    store: &mut Store,
+    of: Collection<'_>,
+    version: Option<u64>,
+    selector: &Selector,
+) -> Result<(u64, Initial), ListFault>
+    ensures starts { Gives (λ p. p) result (starts (from_view store.old) version
+        (initial_in (from_view store.old) (collection_of of.entry).kind (collection_of of.entry).namespace selector.now)) }
+    ensures same { store.new ≡ store.old }
+{
+    match version {
+        Some(version) if version > 0 => {
+            let compacted = store.compacted();
+            if version < compacted {
+                return Err(ListFault::Refused(Refusal::Expired(version, compacted)));
+            }
+            Ok((version, Initial::Changes))
+        }
+        _ => {
+            let current = store.current();
+            Ok((current, initial_in(alloc, store, of, selector)?))
+        }
+    }
+}
+
+fn namespace_of(alloc: Global, of: Collection<'_>) -> Result<Option<String>, AllocError>
+    ensures { IfOk result (λ o. option_map string_bytes o ≡ (collection_of of.entry).namespace) }
+{
+    match of.namespace {
+        Some(namespace) => Ok(Some(String::from_str(alloc, namespace)?)),
+        None => Ok(None),
+    }
+}
+
+/// The watch that these parameters ask for, or why there is none. It changes nothing.
+pub fn start_watch(
+    alloc: Global,
+    store: &mut Store,
+    of: Collection<'_>,
+    params: Params,
+    watch: Watch,
+) -> Result<WatchFrom, ListFault>
+    ensures opened { Gives watch_from result (opened (from_view store.old) (collection_of of.entry).kind (collection_of of.entry).namespace (values_of params) (watch_view watch)) }
+    ensures same { store.new ≡ store.old }
+{
+    let (position, initial) = starts(alloc, store, of, params.version, &params.selector)?;
+    let namespace = namespace_of(alloc, of)?;
+    Ok(WatchFrom {
+        kind: of.kind,
+        namespace,
+        selector: params.selector,
+        position,
+        initial,
+        bookmarks: watch.has_bookmarks,
+        timeout: watch.timeout,
+    })
+}

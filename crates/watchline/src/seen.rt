@@ -1,0 +1,152 @@
+//! What a watch sees of a change.
+
+ghost use Rattle.std.specs.Prelude.{◌≡◌, ◌-◌, ◌<◌, ◌≤◌, ◌++◌, IfOk, OnOk, map, option_map, string_bytes};
+ghost use Rattle.history.specs.Read.{key_of};
+ghost use Rattle.history.specs.Seen.{reached, seen_by};
+ghost use Rattle.history.specs.View.{state_in};
+ghost use Rattle.revtable.specs.Read.{change_of, object_of};
+ghost use Rattle.watchline.specs.Batches.{AreBetween, if_labelled, seen_each, seen_labelled};
+ghost use Rattle.watchline.specs.Views.{change_seen, kind_seen, seen_list};
+
+use history::Key;
+use lists::is_selected;
+use revstore::Store;
+use revtable::{Change, Fault, Object};
+use selector::Selector;
+use std::alloc::Global;
+
+#[derive(Clone, Copy, Debug, PartialEq, Eq)]
+pub(crate) enum SeenKind {
+    Added,
+    Modified,
+    Deleted,
+}
+
+/// A change as a watch sees it: the object is what stands after it, and of a deletion what stood before it, at the
+/// change's revision.
+#[derive(Debug, Drop)]
+pub(crate) struct Seen {
+    pub(crate) kind: SeenKind,
+    pub(crate) key: Key,
+    pub(crate) object: Object,
+}
+
+fn seen_as(kind: SeenKind, key: Key, revision: u64, body: String) -> Seen
+    ensures { change_seen result ≡ record { kind = kind_seen kind; key = key_of key; object = record { revision = revision; body = string_bytes body } } }
+{
+    Seen {
+        kind,
+        key,
+        object: Object { revision, body },
+    }
+}
+
+/// By the bodies before and after the change, where they are selected.
+fn seen_by(revision: u64, key: Key, before: Option<String>, after: Option<String>) -> Option<Seen>
+    ensures { seen_list result ≡ seen_by revision (key_of key) (option_map string_bytes before) (option_map string_bytes after) }
+{
+    match before {
+        None => match after {
+            None => None,
+            Some(after) => Some(seen_as(SeenKind::Added, key, revision, after)),
+        },
+        Some(before) => match after {
+            None => Some(seen_as(SeenKind::Deleted, key, revision, before)),
+            Some(after) => Some(seen_as(SeenKind::Modified, key, revision, after)),
+        },
+    }
+}
+
+/// A body, where its labels are selected.
+fn if_labelled(
+    alloc: Global,
+    selector: &Selector,
+    body: Option<String>,
+) -> Result<Option<String>, Fault>
+    ensures { IfOk result (λ o. option_map string_bytes o ≡ if_labelled selector.now (option_map string_bytes body)) }
+{
+    let Some(body) = body else {
+        return Ok(None);
+    };
+    if is_selected(alloc, selector, body.as_str())? {
+        Ok(Some(body))
+    } else {
+        Ok(None)
+    }
+}
+
+fn body_of(object: Option<Object>) -> Option<String>
+    ensures { option_map string_bytes result ≡ option_map (λ o. o.body) (option_map object_of object) }
+{
+    match object {
+        Some(object) => Some(object.body),
+        None => None,
+    }
+}
+
+/// What is seen of a change of the type and namespace, if anything.
+fn seen_of(
+    alloc: Global,
+    store: &mut Store,
+    selector: &Selector,
+    change: Change,
+) -> Result<Option<Seen>, Fault>
+    requires above { store.old.compacted < change.revision }
+    requires known { change.revision ≤ store.old.current }
+    ensures seen { IfOk result (λ o. seen_list o ≡ seen_labelled selector.now (state_in store.old (change.revision - 1)) (change_of change)) }
+    ensures same { store.new ≡ store.old }
+{
+    let stood = store.before(&change.key, change.revision)?;
+    let before = if_labelled(alloc, selector, body_of(stood))?;
+    let after = if_labelled(alloc, selector, change.body)?;
+    Ok(seen_by(change.revision, change.key, before, after))
+}
+
+/// Keeps what is seen of a change.
+fn push_seen(
+    alloc: Global,
+    store: &mut Store,
+    selector: &Selector,
+    found: &mut Vec<Seen>,
+    change: Change,
+) -> Result<(), Fault>
+    requires above { store.old.compacted < change.revision }
+    requires known { change.revision ≤ store.old.current }
+    ensures found { OnOk result (map change_seen found.new.items
+        ≡ map change_seen found.old.items ++ seen_labelled selector.now (state_in store.old (change.revision - 1)) (change_of change)) }
+    ensures same { store.new ≡ store.old }
+{
+    let Some(seen) = seen_of(alloc, store, selector, change)? else {
+        return Ok(());
+    };
+    found.push(seen)?;
+    Ok(())
+}
+
+/// What is seen of these changes of the type and namespace, one after the other.
+pub(crate) fn seen_each(
+    alloc: Global,
+    store: &mut Store,
+    selector: &Selector,
+    changes: Vec<Change>,
+) -> Result<Vec<Seen>, Fault>
+    requires between { AreBetween store.old.compacted store.old.current (map change_of changes.items) }
+    ensures seen { IfOk result (λ v. map change_seen v.items ≡ seen_each selector.now store.old (map change_of changes.items)) }
+    ensures same { store.new ≡ store.old }
+{
+    let mut found = Vec::new(alloc);
+    for change in changes {
+        push_seen(alloc, store, selector, &mut found, change)?;
+    }
+    Ok(found)
+}
+
+/// The revision of the last of these, or `from` where there is none.
+pub(crate) fn reached(from: u64, changes: &[Seen]) -> u64
+    ensures { result ≡ reached from (map change_seen changes.now) }
+{
+    match changes.last() {
+        Some(last) => last.object.revision,
+        None => from,
+    }
+}

@@ -1,0 +1,123 @@
+//! What a watch tells at a pump.
+
+ghost use Rattle.std.specs.Prelude.{◌≡◌, ◌≤◌, ◌++◌, [], ◌∷◌, true, IfOk, OnOk, map};
+ghost use Rattle.history.specs.Seen.{reached};
+ghost use Rattle.revtable.specs.Read.{entry_of};
+ghost use Rattle.watchline.specs.Lines.{added, error_line, line_of};
+ghost use Rattle.watchline.specs.Watches.{from_view, position_by, telling};
+ghost use Rattle.watchline.specs.Views.{change_seen, cursor_of, lines_in, turn_of};
+
+use crate::batches::seen_after;
+use crate::cursor::{Pumped, Scope, Standing};
+use crate::lines::{change_line, error_line, object_line};
+use crate::objects::objects_told;
+use crate::seen::{Seen, reached};
+use lists::Start;
+use revstore::Store;
+use revtable::{Entry, Fault};
+use std::alloc::{AllocError, Global};
+
+/// The lines of objects.
+fn object_lines(alloc: Global, objects: &[Entry]) -> Result<Vec<String>, AllocError>
+    ensures { IfOk result (λ v. lines_in v.items ≡ map line_of (map added (map entry_of objects.now))) }
+{
+    let mut lines = Vec::new(alloc);
+    for object in objects {
+        lines.push(object_line(alloc, object)?)?;
+    }
+    Ok(lines)
+}
+
+/// The lines of changes, behind those that are there.
+fn push_change_lines(alloc: Global, lines: &mut Vec<String>, changes: &[Seen]) -> Result<(), Fault>
+    ensures { OnOk result (lines_in lines.new.items ≡ lines_in lines.old.items ++ map line_of (map change_seen changes.now)) }
+{
+    for change in changes {
+        lines.push(change_line(alloc, change)?)?;
+    }
+    Ok(())
+}
+
+/// The lines of objects, and then of changes.
+fn lines_of(alloc: Global, objects: &[Entry], changes: &[Seen]) -> Result<Vec<String>, Fault>
+    ensures { IfOk result (λ v. lines_in v.items ≡ map line_of (map added (map entry_of objects.now) ++ map change_seen changes.now)) }
+{
+    let mut lines = object_lines(alloc, objects)?;
+    push_change_lines(alloc, &mut lines, changes)?;
+    Ok(lines)
+}
+
+/// A position is moved to the current revision where nothing else was to be seen up to it.
+fn position_by(has_room: bool, current: u64, position: u64) -> u64
+    ensures { result ≡ position_by has_room current position }
+{
+    if has_room {
+        return position.max(current);
+    }
+    position
+}
+
+/// Where a watch stands that has told these changes: where room was left, nothing else was to be seen up to now.
+fn moved(
+    standing: &Standing,
+    changes: &[Seen],
+    left: Option<Start>,
+    has_room: bool,
+    current: u64,
+) -> Standing
+    ensures position { result.position ≡ position_by has_room current (reached standing.now.position (map change_seen changes.now)) }
+    ensures told { result.told ≡ reached standing.now.told (map change_seen changes.now) }
+    ensures left { result.left ≡ left }
+{
+    let position = reached(standing.position, changes);
+    Standing {
+        position: position_by(has_room, current, position),
+        told: reached(standing.told, changes),
+        left,
+    }
+}
+
+/// The next lines of a watch that has missed nothing, at most so many, and where it then stands.
+pub(crate) fn told(
+    alloc: Global,
+    store: &mut Store,
+    scope: &Scope,
+    standing: &Standing,
+    max: usize,
+) -> Result<(Pumped, Standing), Fault>
+    requires low { store.old.compacted ≤ standing.now.position }
+    ensures told { IfOk result (λ p. turn_of p.0 (cursor_of scope.now p.1) ≡ telling (from_view store.old) max (cursor_of scope.now standing.now)) }
+    ensures same { store.new ≡ store.old }
+{
+    let current = store.current();
+    let (objects, left) = objects_told(alloc, store, scope, standing, max)?;
+    let room = max.saturating_sub(objects.len());
+    let changes = seen_after(
+        alloc,
+        store,
+        scope.kind,
+        scope.namespace(),
+        &scope.selector,
+        standing.position,
+        room,
+    )?;
+    let lines = lines_of(alloc, &objects, &changes)?;
+    let next = moved(standing, &changes, left, lines.len() < max, current);
+    Ok((
+        Pumped {
+            lines,
+            ended: false,
+        },
+        next,
+    ))
+}
+
+/// The end of a watch whose next changes were forgotten.
+pub(crate) fn expired(alloc: Global, position: u64, compacted: u64) -> Result<Pumped, AllocError>
+    ensures lines { IfOk result (λ p. lines_in p.lines.items ≡ error_line position compacted ∷ []) }
+    ensures ended { IfOk result (λ p. p.ended ≡ true) }
+{
+    let mut lines = Vec::new(alloc);
+    lines.push(error_line(alloc, position, compacted)?)?;
+    Ok(Pumped { lines, ended: true })
+}
