@@ -1,5 +1,7 @@
 pub mod Bounds
 pub mod Joining
 pub mod Labelled
+pub mod NextPages
 pub mod Reading
+pub mod Tokens
 pub mod Values

@@ -4,3 +4,4 @@ pub mod Body
 pub mod Lists
 pub mod Rows
 pub mod Views
+pub mod Tokens

@@ -5,7 +5,8 @@
 //! revision, in the order of keys, those after a key, as many as a page holds; it names a next page exactly where
 //! an object that is seen is left. Refused is exactly a revision that is compacted or past the current one.
 //!
-//! Stands on `history` for what is seen, `revstore` for the rows, `selector` and `params` for what is asked.
+//! Stands on `history` for what is seen, `revstore` for the rows, `selector` and `params` for what is asked, and
+//! `form_urlencoded` for the queries of its laws.
 #![tactic(auto)]
 
 mod collection;
@@ -18,6 +19,7 @@ mod refusal;
 mod revision;
 mod rows;
 mod text;
+mod token_laws;
 
 pub use collection::Collection;
 pub use fault::ListFault;
@@ -27,3 +29,4 @@ pub use listing::list;
 pub use page::{Page, next_start, selected_page};
 pub use refusal::Refusal;
 pub use rows::Start;
+pub use token_laws::{pages_go_on, tokens_are_read};
