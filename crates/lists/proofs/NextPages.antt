@@ -1,15 +1,18 @@
 -- Pages that are asked for with the token of the page before.
-use Rattle.std.proofs.Common.{◌≡◌, ℕ, zero, suc, ◌<◌, ◌≤◌, ◌&&◌, ◌==◌, min, Bool, true, false, cond, List, [], ◌∷◌, ◌++◌, length, take, filter, refl, sym, ap, subst, ◌∙◌, Option, Some, None, option_map, arith, is_lt, eqb-true}
-use Rattle.std.proofs.lemmas.Bool.{and_parts, eqb-false, le-leb, le-ltb}
+use Rattle.std.proofs.Common.{◌≡◌, ℕ, zero, suc, ◌<◌, ◌≤◌, ◌&&◌, ◌==◌, min, Bool, true, false, cond, List, [], ◌∷◌, ◌++◌, length, take, filter, refl, sym, ap, subst, ◌∙◌, Option, Some, None, option_map, arith, is_lt, eqb-true, T, drop, ◌-◌, take-append-drop, length-drop}
+use Rattle.std.proofs.lemmas.Bool.{and_parts, eqb-false, le-leb, le-ltb, ltb-true}
+use Rattle.std.proofs.lemmas.List.{length-take}
 use Rattle.std.specs.Prelude.{nat_lt}
 use Rattle.std.specs.List.{AllByRecursion}
 use Rattle.std.specs.FinMap as fin
+use Rattle.std.specs.FinMap.{is_sorted}
 use Rattle.std.specs.declared.result.Result.TheVariants.{Ok}
 use Rattle.history.specs.History.{Key, Object, Objects, key_cmp}
 use Rattle.history.specs.Page.{IsFront, is_in_namespace, is_within, last_key, past}
-use Rattle.history.specs.Seen.{IsLimit, SeenPage, left_after, limited, seen_page}
+use Rattle.history.specs.Seen.{IsLimit, SeenPage, left_after, limited, seen_page, selected}
 use Rattle.history.proofs.Leading as leading
-use Rattle.history.proofs.Selecting.{entries-selected}
+use Rattle.history.proofs.Paging.{past-front}
+use Rattle.history.proofs.Selecting.{entries-selected, is_sorted-filter}
 use Rattle.selector.specs.Requirement.{Requirement, selects}
 use Rattle.params.specs.Values.{Token, Values}
 use Rattle.lists.specs.Body.{Collection, list_text}
@@ -135,6 +138,57 @@ pub at_once : (of : Collection) (values : Values) (s : Objects) → values.token
 at_once of values s none unlimited =
     ap (λ (page : SeenPage). page.found) (ap (page_by of values s) none)
     ∙ ap (λ n. (seen_page (selection_of of.kind of.namespace values.selector) None (page_limit n) s).found) unlimited
+
+-- ---- each page shows something, so they come to an end
+
+-- of what both tests let through there is no more than of what one does
+fewer : (p q : Key × Object → Bool) (es : Entries) → length (filter p (filter q es)) ≤ length (filter p es)
+fewer p q [] = omega arith
+fewer p q (e ∷ es) = go (q e) (p e) refl (fewer p q es)
+  where
+    go : (a b : Bool) → p e ≡ b → length (filter p (filter q es)) ≤ length (filter p es) → length (filter p (cond a (e ∷ filter q es) (filter q es))) ≤ length (cond b (e ∷ filter p es) (filter p es))
+    go true true is rest = rw is (omega (arith, rest))
+    go true false is rest = rw is rest
+    go false true is rest = omega (arith, rest)
+    go false false is rest = rest
+
+fewer_left : (after : Option Key) (k : Key) (all : Entries) → length (past k (left_after after all)) ≤ length (past k all)
+fewer_left None k all = omega arith
+fewer_left (Some q) k all = fewer (λ e. is_lt (key_cmp k e.0)) (λ e. is_lt (key_cmp q e.0)) all
+
+sorted_left : (after : Option Key) (all : Entries) → T (is_sorted key_cmp all) → T (is_sorted key_cmp (left_after after all))
+sorted_left None all h = h
+sorted_left (Some q) all h = is_sorted-filter (λ e. is_lt (key_cmp q e.0)) all h
+
+some_past : (limit : Option ℕ) (es : Entries) (k : Key) → T (is_sorted key_cmp es) → (limited limit es).next ≡ Some k → 0 < length (past k es)
+some_past None es k sorted is = absurd cc
+some_past (Some n) es k sorted is = go (nat_lt n (length es)) refl is
+  where
+    go : (b : Bool) → nat_lt n (length es) ≡ b → cond b (last_key (take n es)) None ≡ Some k → 0 < length (past k es)
+    go false t h = absurd cc
+    go true t h =
+        let cut : take n es ++ drop n es ≡ es = take-append-drop n es in
+        let rest : past k (take n es ++ drop n es) ≡ drop n es = past-front k (take n es) (drop n es) (subst (λ xs. T (is_sorted key_cmp xs)) (sym cut) sorted) h in
+        let counted : length (past k es) ≡ length es - n = ap (λ xs. length (past k xs)) (sym cut) ∙ ap length rest ∙ length-drop n es in
+        let more : n < length es = ltb-true n (length es) t in
+        omega (arith, counted, more)
+
+some_shown : (limit : Option ℕ) (es : Entries) → IsLimit limit → 0 < length es → 0 < length (limited limit es).found
+some_shown None es room some = some
+some_shown (Some n) es room some = let counted : length (take n es) ≡ min n (length es) = length-take n es in omega (arith, counted, room, some)
+
+pub shows_more : (of : Collection) (before values : Values) (revision : ℕ) (s : Objects) (k : Key) → (page_of of before s).next ≡ Some k → values.token ≡ Some (token_after revision k)
+    → values.selector ≡ before.selector → 0 < length (page_of of values s).found
+shows_more of before values revision s k is token same =
+    let all : Entries = whole_list of before.selector s in
+    let after : Option Key = option_map (key_after of.kind) before.token in
+    let sorted = sorted_left after all (fin.entries_sorted (selected (selection_of of.kind of.namespace before.selector) s)) in
+    let there : 0 < length (past k (left_after after all)) = some_past (page_limit before.limit) (left_after after all) k sorted is in
+    let left : length (past k (left_after after all)) ≤ length (past k all) = fewer_left after k all in
+    let some : 0 < length (past k all) = omega (arith, there, left) in
+    let some_here : 0 < length (past k (whole_list of values.selector s)) = subst (λ requirements. 0 < length (past k (whole_list of requirements s))) (sym same) some in
+    subst (λ (page : SeenPage). 0 < length page.found) (sym (begins_after of before values revision s k is token))
+    (some_shown (page_limit values.limit) (past k (whole_list of values.selector s)) (has_room values.limit) some_here)
 
 -- ---- its revision
 

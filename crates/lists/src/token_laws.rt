@@ -1,6 +1,6 @@
 //! Laws of tokens. Each function does nothing; what it promises is the law.
 
-ghost use Rattle.std.specs.Prelude.{◌≡◌, [], ◌++◌, ◌≤◌, ℕ, List, None, Option, Some};
+ghost use Rattle.std.specs.Prelude.{◌≡◌, [], ◌++◌, ◌<◌, ◌≤◌, ℕ, List, None, Option, Some, length};
 ghost use Rattle.std.specs.List.{All};
 ghost use Rattle.std.specs.declared.result.Result.TheVariants.{Ok};
 ghost use Rattle.form_urlencoded.specs.Form.{extend_pairs};
@@ -29,9 +29,9 @@ pub fn tokens_are_read()
 {}
 
 /// A page that names a next one names the last object that it shows. The page that is asked for with its token is of
-/// the token's revision, as long as that is not compacted, and begins exactly after this object. So the pages, joined,
-/// are a front of the whole list at the revision, and all of it where no next page is named; which is also what is
-/// listed at once without a limit.
+/// the token's revision, as long as that is not compacted, begins exactly after this object and shows at least one. So
+/// the pages, joined, are a front of the whole list at the revision, come to an end, and are all of it where no next
+/// page is named; which is also what is listed at once without a limit.
 pub fn pages_go_on()
     ensures last { (of : Collection) (values : Values) (s : Objects) (k : Key) → (page_of of values s).next ≡ Some k → last_key (page_of of values s).found ≡ Some k }
     ensures revision { (of : Collection) (values : Values) (current compacted revision : ℕ) (at : ℕ → Objects) (k : Key) → values.token ≡ Some (token_after revision k) → compacted ≤ revision → revision ≤ current
@@ -41,6 +41,8 @@ pub fn pages_go_on()
     ensures first { (of : Collection) (values : Values) (s : Objects) → values.token ≡ None → IsFront (whole_list of values.selector s) (page_of of values s).found (page_of of values s).next }
     ensures next { (of : Collection) (before values : Values) (revision : ℕ) (s : Objects) (front : List (Key × Object)) (k : Key) → (page_of of before s).next ≡ Some k → values.token ≡ Some (token_after revision k)
         → IsFront (whole_list of values.selector s) front (Some k) → IsFront (whole_list of values.selector s) (front ++ (page_of of values s).found) (page_of of values s).next }
+    ensures more { (of : Collection) (before values : Values) (revision : ℕ) (s : Objects) (k : Key) → (page_of of before s).next ≡ Some k → values.token ≡ Some (token_after revision k)
+        → values.selector ≡ before.selector → 0 < length (page_of of values s).found }
     ensures whole { (of : Collection) (requirements : List Requirement) (s : Objects) (all : List (Key × Object)) → IsFront (whole_list of requirements s) all None → all ≡ whole_list of requirements s }
     ensures at_once { (of : Collection) (values : Values) (s : Objects) → values.token ≡ None → values.limit ≡ 0 → (page_of of values s).found ≡ whole_list of values.selector s }
 {}
