@@ -3,4 +3,5 @@ pub mod Members
 pub mod Objects
 pub mod Pages
 pub mod Lines
+pub mod OwnTexts
 pub mod Seen

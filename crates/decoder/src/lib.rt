@@ -3,12 +3,16 @@
 //!
 //! What is read is of the asked type and namespace, else the first thing amiss is told.
 //!
-//! Stands on `serde_json` for JSON, `names` for versions, `indexer` for objects.
+//! What is kept of an object is what its own text says.
+//!
+//! Stands on `serde_json` for JSON, `names` for versions, `indexer` for objects; its law on `fieldpath` for texts that
+//! read back.
 #![tactic(auto)]
 
 mod fault;
 mod floats;
 mod kinds;
+mod law;
 mod line;
 mod malformed;
 mod members;
@@ -17,6 +21,7 @@ mod page;
 mod wanted;
 
 pub use fault::DecodeFault;
+pub use law::objects_are_their_texts;
 pub use line::{Line, read_line};
 pub use malformed::Malformed;
 pub use page::{Page, read_page};
