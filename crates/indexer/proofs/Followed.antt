@@ -3,7 +3,7 @@ use Rattle.std.proofs.Common.{◌≡◌, ℕ, Bool, true, false, cond, List, [],
 use Rattle.std.specs.Prelude.{IfSome}
 use Rattle.std.specs.FinMap.{empty, get, insert, remove, get-empty, get-insert, get-remove}
 use Rattle.std.specs.Ordering.{eq_by_cmp}
-use Rattle.indexer.specs.Calls.{Call, put_one, remove_at, replace_by, after, after_all, IsFollowed}
+use Rattle.indexer.specs.Calls.{Call, put_one, remove_at, replace_by, clear_all, after, after_all, IsFollowed}
 use Rattle.indexer.specs.Kept.{Held}
 use Rattle.indexer.specs.Objects.{Place, place_cmp, Stored}
 use Rattle.indexer.specs.PutAll.{put_all}
@@ -38,6 +38,7 @@ module _ (ks : Stored → List (List (List ℕ))) where
   at_call (put_one o) held h = at_insert held o h
   at_call (remove_at p) held h = at_remove held p h
   at_call (replace_by os) held h = at_put_all os empty at_empty
+  at_call clear_all held h = at_empty
 
   from_held : (calls : List Call) (held : Held) → IsFollowed ks held → IsFollowed ks (after_all ks calls held)
   from_held [] held h = h

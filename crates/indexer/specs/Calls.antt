@@ -9,12 +9,14 @@ pub data Call : Type 0 where
   put_one : Stored → Call
   remove_at : Place → Call
   replace_by : List Stored → Call
+  clear_all : Call
 
 -- ks gives an object's keys in each index
 abbrev pub after : (Stored → List (List (List ℕ))) → Call → Held → Held
 after ks (put_one o) held = insert held (o.namespace, o.name) (o, ks o)
 after ks (remove_at p) held = remove held p
 after ks (replace_by os) held = put_all ks os empty
+after ks clear_all held = empty
 
 abbrev pub after_all : (Stored → List (List (List ℕ))) → List Call → Held → Held
 after_all ks [] held = held
