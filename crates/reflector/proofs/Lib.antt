@@ -7,6 +7,8 @@ pub mod Keyed
 pub mod Queries
 pub mod Taken
 pub mod Replays
+pub mod Olds
+pub mod Exactly
 pub mod Between
 pub mod Turns
 pub mod Ascending

@@ -42,7 +42,7 @@ alike_replayed : (o q : Objects) (ns : List Notice) → AreAlike o q → AreAlik
 alike_replayed o q [] h = h
 alike_replayed o q (n ∷ ns) h = alike_replayed (with_notice o n) (with_notice q n) ns (alike_notice o q h n)
 
-replayed-append : (o : Objects) (xs ys : List Notice) → replayed o (xs ++ ys) ≡ replayed (replayed o xs) ys
+pub replayed-append : (o : Objects) (xs ys : List Notice) → replayed o (xs ++ ys) ≡ replayed (replayed o xs) ys
 replayed-append o [] ys = refl
 replayed-append o (x ∷ xs) ys = replayed-append (with_notice o x) xs ys
 
@@ -163,14 +163,14 @@ same_or_put o s old q is true t =
     sym (text-insert o (place_in s) s q ∙ stays o (place_in s) q (Some s.text) (ap (option_map (λ s. s.text)) is ∙ ap Some (equal_texts old.text s.text t)) (eq_by_cmp place_cmp q (place_in s)) refl)
 same_or_put o s old q is false t = refl
 
-put_replays : (o : Objects) (s : Stored) → AreAlike (replayed o (notice_of (fin.get o (place_in s)) (Some s))) (fin.insert o (place_in s) s)
+pub put_replays : (o : Objects) (s : Stored) → AreAlike (replayed o (notice_of (fin.get o (place_in s)) (Some s))) (fin.insert o (place_in s) s)
 put_replays o s q = go (fin.get o (place_in s)) refl
   where
     go : (x : Option Stored) → fin.get o (place_in s) ≡ x → text_at (replayed o (notice_of x (Some s))) q ≡ text_at (fin.insert o (place_in s) s) q
     go None is = refl
     go (Some old) is = same_or_put o s old q is (bytes_eq old.text s.text) refl
 
-remove_replays : (o : Objects) (s : Stored) → ArePlaced o → AreAlike (replayed o (notice_of (fin.get o (place_in s)) None)) (fin.remove o (place_in s))
+pub remove_replays : (o : Objects) (s : Stored) → ArePlaced o → AreAlike (replayed o (notice_of (fin.get o (place_in s)) None)) (fin.remove o (place_in s))
 remove_replays o s placed q = go (fin.get o (place_in s)) refl
   where
     go : (x : Option Stored) → fin.get o (place_in s) ≡ x → text_at (replayed o (notice_of x None)) q ≡ text_at (fin.remove o (place_in s)) q
@@ -179,23 +179,23 @@ remove_replays o s placed q = go (fin.get o (place_in s)) refl
 
 -- ---- places
 
-some_is : (x y : Stored) → Some x ≡ Some y → x ≡ y
+pub some_is : (x y : Stored) → Some x ≡ Some y → x ≡ y
 some_is x y e = cc
 
-nothing_is : (x : Option Stored) (p : Place) (s : Stored) → x ≡ None → x ≡ Some s → place_in s ≡ p
+pub nothing_is : (x : Option Stored) (p : Place) (s : Stored) → x ≡ None → x ≡ Some s → place_in s ≡ p
 nothing_is x p s e f = absurd cc
 
 pub empty_placed : ArePlaced fin.empty
 empty_placed p s is = nothing_is (fin.get fin.empty p) p s (fin.get-empty place_cmp p) is
 
-insert_placed : (o : Objects) (s : Stored) → ArePlaced o → ArePlaced (fin.insert o (place_in s) s)
+pub insert_placed : (o : Objects) (s : Stored) → ArePlaced o → ArePlaced (fin.insert o (place_in s) s)
 insert_placed o s placed q t is = go (eq_by_cmp place_cmp q (place_in s)) refl (sym (fin.get-insert place_total o (place_in s) s q) ∙ is)
   where
     go : (u : Bool) → eq_by_cmp place_cmp q (place_in s) ≡ u → cond u (Some s) (fin.get o q) ≡ Some t → place_in t ≡ q
     go true e same = ap place_in (sym (some_is s t same)) ∙ sym (same_place q (place_in s) e)
     go false e same = placed q t same
 
-remove_placed : (o : Objects) (p : Place) → ArePlaced o → ArePlaced (fin.remove o p)
+pub remove_placed : (o : Objects) (p : Place) → ArePlaced o → ArePlaced (fin.remove o p)
 remove_placed o p placed q t is = go (eq_by_cmp place_cmp q p) (sym (fin.get-remove place_total o p q) ∙ is)
   where
     go : (u : Bool) → cond u None (fin.get o q) ≡ Some t → place_in t ≡ q
@@ -210,7 +210,7 @@ found_placed (s ∷ all) q t is = go (eq_by_cmp place_cmp q (place_in s)) refl (
     go true e others same = ap place_in (sym (some_is s t same)) ∙ sym (same_place q (place_in s) e)
     go false e others same = others same
 
-list_placed : (all : List Stored) → T (fin.is_sorted place_cmp (by_place all)) → ArePlaced (fin.from_sorted {R = place_cmp} (by_place all))
+pub list_placed : (all : List Stored) → T (fin.is_sorted place_cmp (by_place all)) → ArePlaced (fin.from_sorted {R = place_cmp} (by_place all))
 list_placed all sorted q t is = found_placed all q t (sym (fin.get-from_sorted place_cmp (by_place all) q sorted) ∙ is)
 
 -- ---- steps

@@ -1,8 +1,10 @@
 -- Notices, replayed on the objects before them.
-use Rattle.std.specs.Prelude.{◌≡◌, ℕ, List, [], ◌∷◌, ◌++◌, Option, Some, option_map}
+use Rattle.std.specs.Prelude.{◌≡◌, ℕ, List, [], ◌∷◌, ◌++◌, Option, Some, None, option_map, ⊤}
 use Rattle.std.specs.FinMap as fin
 use Rattle.indexer.specs.Objects.{Place, Stored}
-use Rattle.reflector.specs.Client.{Objects, place_in, Notice, added, updated, deleted, Client, kept}
+use Rattle.decoder.specs.OwnTexts.{IsItsText, AreTheirTexts}
+use Rattle.decoder.specs.Wanted.{Wanted}
+use Rattle.reflector.specs.Client.{Objects, place_in, Notice, added, updated, deleted, Asks, first, next, follow, Client, kept}
 
 abbrev pub with_notice : Objects → Notice → Objects
 with_notice o (added new) = fin.insert o (place_in new) new
@@ -30,3 +32,40 @@ pub record Tells (before now : Client) : Type 0 where
   pub waiting : now.notices ≡ before.notices ++ since
   pub replay : AreAlike (replayed (kept before.cache) since) (kept now.cache)
   pub placed : ArePlaced (kept now.cache)
+
+-- ---- exactly
+
+-- the notice's old side is what stood at its place
+abbrev pub IsOld : Objects → Notice → Type 0
+IsOld o (added new) = fin.get o (place_in new) ≡ None
+IsOld o (updated old new) = fin.get o (place_in new) ≡ Some old
+IsOld o (deleted old) = fin.get o (place_in old) ≡ Some old
+
+-- each one's is, of the objects after those before it
+abbrev pub AreOld : Objects → List Notice → Type 0
+AreOld o [] = ⊤
+AreOld o (n ∷ ns) = IsOld o n × AreOld (with_notice o n) ns
+
+-- each object stands at its own namespace and name, and is what its text says
+abbrev pub AreRead : Wanted → Objects → Type 0
+AreRead wanted o = (p : Place) (s : Stored) → fin.get o p ≡ Some s → (place_in s ≡ p) × IsItsText wanted s
+
+-- what is set aside
+abbrev pub aside_in : Asks → List Stored
+aside_in first = []
+aside_in (next revision token aside) = aside
+aside_in follow = []
+
+-- so is each that the client keeps, and each that it has set aside
+pub record HasRead (wanted : Wanted) (c : Client) : Type 0 where
+  pub objects : AreRead wanted (kept c.cache)
+  pub aside : AreTheirTexts wanted (aside_in c.asks)
+
+-- the notices since then, replayed on the objects of then, are the objects of now, and what was replaced or deleted is
+-- what stood there
+pub record TellsSince (wanted : Wanted) (before now : Client) : Type 0 where
+  pub since : List Notice
+  pub waiting : now.notices ≡ before.notices ++ since
+  pub replay : replayed (kept before.cache) since ≡ kept now.cache
+  pub old : AreOld (kept before.cache) since
+  pub has_read : HasRead wanted now

@@ -26,6 +26,8 @@ mod settings;
 mod taking;
 
 pub use informer::Informer;
-pub use laws::{follows_the_server, mirrors_the_server, notices_tell, takes_whole_lists};
+pub use laws::{
+    follows_the_server, mirrors_the_server, notices_tell, notices_tell_exactly, takes_whole_lists,
+};
 pub use notice::Notice;
 pub use settings::{Settings, SettingsFault};
