@@ -17,7 +17,7 @@ use Rattle.decoder.proofs.OwnTexts.{page_texts, line_texts}
 use Rattle.reflector.specs.Client.{Objects, place_in, by_place, max_objects, Notice, updated, Cache, Asks, first, next, follow, Client, fresh, kept, notice_of, differences}
 use Rattle.reflector.specs.Items.{News, begun, page, line, over, unfit, page_or_unfit, line_or_unfit, said_of_list, said_of_watch}
 use Rattle.reflector.specs.Run.{again, after_cut, closed, set_aside, is_list, with_page, moved, with_line, with_list, with_next, with_watch, with_item, hears, hears_all}
-use Rattle.reflector.specs.Replays.{replayed, ArePlaced, AreOld, AreRead, aside_in, HasRead, TellsSince}
+use Rattle.reflector.specs.Replays.{replayed, ArePlaced, AreOld, AreRead, aside_in, HasRead, TellsSince, LeadFrom}
 use Rattle.reflector.proofs.Olds.{old-append, differences_old, placed, same_objects, empty_read, insert_read, remove_read, notice_read, differences_read, list_read, texts-append}
 use Rattle.reflector.proofs.Replays.{replayed-append, put_replays, remove_replays, differences_replay}
 
@@ -40,6 +40,9 @@ remove_old o p there = go (fin.get o p) refl
     go : (x : Option Stored) → fin.get o p ≡ x → AreOld o (notice_of x None)
     go None is = tt
     go (Some was) is = (ap (fin.get o) (there p was is) ∙ is, tt)
+
+abbrev if_asking : Bool → Client → Client
+if_asking b c = cond b (record { cache = c.cache; asks = after_cut c.asks; is_asking = false; notices = c.notices }) c
 
 module _ (wanted : Wanted) where
   -- ---- what an item says was read
@@ -194,19 +197,26 @@ module _ (wanted : Wanted) where
       let one : TellsSince wanted c (hears wanted c x) = step_tells c x read in
       joined c (hears wanted c x) (hears_all wanted (hears wanted c x) xs) one (all_tell (hears wanted c x) xs one.has_read)
 
+  pub still_lead : (o : Objects) (c : Client) (xs : List Told) → HasRead wanted c → LeadFrom o c → LeadFrom o (hears_all wanted c xs)
+  still_lead o c xs read lead =
+      let told : TellsSince wanted c (hears_all wanted c xs) = all_tell c xs read in (
+        subst (AreOld o) (sym told.waiting) (old-append o c.notices told.since lead.0 (subst (λ q. AreOld q told.since) (sym lead.1) told.old)),
+        ap (replayed o) told.waiting ∙ replayed-append o c.notices told.since ∙ ap (λ q. replayed q told.since) lead.1 ∙ told.replay,
+      )
+
   -- ---- the other events
 
   pub fresh_read : HasRead wanted fresh
   fresh_read = record { objects = empty_read wanted; aside = tt }
 
-  pub closed_read : (c : Client) → HasRead wanted c → HasRead wanted (closed c)
-  closed_read c read = go c.is_asking
+  pub closed_read : (o : Objects) (c : Client) → HasRead wanted c → LeadFrom o c → HasRead wanted (closed c) × LeadFrom o (closed c)
+  closed_read o c read lead = go c.is_asking
     where
       left : (a : Asks) → AreTheirTexts wanted (aside_in (after_cut a))
       left first = tt
       left (next r token set) = tt
       left follow = tt
 
-      go : (b : Bool) → HasRead wanted (cond b (record { cache = c.cache; asks = after_cut c.asks; is_asking = false; notices = c.notices }) c)
-      go true = record { objects = read.objects; aside = left c.asks }
-      go false = read
+      go : (b : Bool) → HasRead wanted (if_asking b c) × LeadFrom o (if_asking b c)
+      go true = (record { objects = read.objects; aside = left c.asks }, lead)
+      go false = (read, lead)

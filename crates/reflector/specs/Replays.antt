@@ -69,3 +69,7 @@ pub record TellsSince (wanted : Wanted) (before now : Client) : Type 0 where
   pub replay : replayed (kept before.cache) since ≡ kept now.cache
   pub old : AreOld (kept before.cache) since
   pub has_read : HasRead wanted now
+
+-- the waiting notices lead from these objects to those of now
+abbrev pub LeadFrom : Objects → Client → Type 0
+LeadFrom o c = AreOld o c.notices × (replayed o c.notices ≡ kept c.cache)

@@ -9,7 +9,7 @@ ghost use Rattle.reflector.specs.Run.{again, asked, closed, hears_all, restarted
 ghost use Rattle.reflector.specs.Follows.{Server, Comes, Follows, GoesOn, IsLater, Watches};
 ghost use Rattle.reflector.specs.Lists.{ArePages, answered};
 ghost use Rattle.reflector.specs.Events.{AreLawful, AreRight, Event, start};
-ghost use Rattle.reflector.specs.Replays.{ArePlaced, HasRead, Tells, TellsSince};
+ghost use Rattle.reflector.specs.Replays.{ArePlaced, HasRead, LeadFrom, Tells, TellsSince};
 
 /// Whatever comes of what a server answers, and whatever else happens, the client's objects are the server's at the
 /// revision that it reports, and that revision never falls: after any of the items (`heard`), in whichever parts; after
@@ -52,11 +52,14 @@ pub fn notices_tell()
 /// The notices that came with the items, replayed on the objects before them, are the objects after them, whole, and
 /// each one's old side is what stood at its place (`heard`). That asks that what the client keeps and has set aside was
 /// read from the objects' texts, which holds at the start (`fresh`), after items, and after all else that happens to it.
+/// So the waiting notices lead from the objects of the last time that they were taken, or of the start, to those of now
+/// (`waiting`); a request, the connection's end or giving up change neither notices nor objects.
 pub fn notices_tell_exactly()
     ensures heard { (wanted : Wanted) (c : Client) (xs : List Told) → HasRead wanted c → TellsSince wanted c (hears_all wanted c xs) }
-    ensures fresh { (wanted : Wanted) → HasRead wanted fresh }
-    ensures asked { (wanted : Wanted) (c : Client) → HasRead wanted c → HasRead wanted (asked c) }
-    ensures closed { (wanted : Wanted) (c : Client) → HasRead wanted c → HasRead wanted (closed c) }
-    ensures given_up { (wanted : Wanted) (c : Client) → HasRead wanted c → HasRead wanted (again c) }
-    ensures taken { (wanted : Wanted) (c : Client) → HasRead wanted c → HasRead wanted (taken c) }
+    ensures waiting { (wanted : Wanted) (o : Objects) (c : Client) (xs : List Told) → HasRead wanted c → LeadFrom o c → LeadFrom o (hears_all wanted c xs) }
+    ensures fresh { (wanted : Wanted) → HasRead wanted fresh × LeadFrom (kept fresh.cache) fresh }
+    ensures asked { (wanted : Wanted) (o : Objects) (c : Client) → HasRead wanted c → LeadFrom o c → HasRead wanted (asked c) × LeadFrom o (asked c) }
+    ensures closed { (wanted : Wanted) (o : Objects) (c : Client) → HasRead wanted c → LeadFrom o c → HasRead wanted (closed c) × LeadFrom o (closed c) }
+    ensures given_up { (wanted : Wanted) (o : Objects) (c : Client) → HasRead wanted c → LeadFrom o c → HasRead wanted (again c) × LeadFrom o (again c) }
+    ensures taken { (wanted : Wanted) (c : Client) → HasRead wanted c → HasRead wanted (taken c) × LeadFrom (kept c.cache) (taken c) }
 {}
