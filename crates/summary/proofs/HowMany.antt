@@ -10,15 +10,15 @@ use Rattle.std.specs.FinMap.{nat_cmp-IsAntisymmetric, slice_cmp-IsAntisymmetric}
 use Rattle.std.specs.FinMap.Entries.{by_order, find, below_all, is_sorted, put}
 use Rattle.indexer.specs.Objects.{Place, place_cmp, Stored}
 use Rattle.reflector.specs.Client.{Objects, place_in, Notice, added, updated, deleted}
-use Rattle.reflector.specs.Replays.{with_notice}
-use Rattle.summary.specs.Counts.{how_many, one_if, counted, IsOld}
+use Rattle.reflector.specs.Replays.{with_notice, replayed, IsOld, AreOld}
+use Rattle.summary.specs.Counts.{how_many, one_if, counted, counted_all}
 
 abbrev Entries : Type 0
 Entries = List (Place × Stored)
 
 -- ---- the order of places
 
-place_total : IsTotalOrder place_cmp
+pub place_total : IsTotalOrder place_cmp
 place_total = then_total (on_total (λ p. p.0) nat_list_cmp_total) (on_total (λ p. p.1) nat_list_cmp_total)
 
 first_equal : (r s : Ordering) → ordering_then r s ≡ Equal → r ≡ Equal
@@ -141,3 +141,7 @@ module _ (test : Stored → Bool) where
       let a : how_many test (fin.insert o (place_in new) new) + one_if (test old) ≡ how_many test o + one_if (test new) = insert_counted o (place_in new) new (Some old) is in
       omega (arith, a)
   notice_counted o (deleted old) is = remove_counted o (place_in old) old is
+
+  pub notices_counted : (o : Objects) (ns : List Notice) → AreOld o ns → counted_all test (how_many test o) ns ≡ how_many test (replayed o ns)
+  notices_counted o [] old = refl
+  notices_counted o (n ∷ ns) old = ap (λ k. counted_all test k ns) (sym (notice_counted o n old.0)) ∙ notices_counted (with_notice o n) ns old.1

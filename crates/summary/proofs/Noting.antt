@@ -5,8 +5,8 @@ use Rattle.std.specs.FinMap as fin
 use Rattle.std.specs.Ordering.{eq_by_cmp}
 use Rattle.indexer.specs.Objects.{Stored}
 use Rattle.reflector.specs.Client.{Objects, Notice, added, updated, deleted}
-use Rattle.reflector.specs.Replays.{with_notice}
-use Rattle.summary.specs.Counts.{value_of, is_value, has, is_labelled, how_many, count, total, Counts, counts_of, some_if_any, Summed, summed_of, one_if, counted, IsOld}
+use Rattle.reflector.specs.Replays.{with_notice, IsOld}
+use Rattle.summary.specs.Counts.{value_of, is_value, has, is_labelled, how_many, count, total, Counts, counts_of, some_if_any, Summed, summed_of, one_if, counted}
 use Rattle.summary.specs.Steps.{more, one_more, with_one_more, with_left, less_one, with_one_less, with_value, without_value, noted}
 use Rattle.summary.proofs.ByValue.{text_cmp, text_antisymmetric, ties, same_key, counts_get}
 use Rattle.summary.proofs.HowMany.{none_counted, notice_counted}

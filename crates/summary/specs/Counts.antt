@@ -1,5 +1,5 @@
 -- How many objects have each value of a label (Kubernetes documentation, "Labels and Selectors").
-use Rattle.std.specs.Prelude.{◌≡◌, ℕ, zero, suc, ◌+◌, ◌-◌, Bool, false, cond, List, [], ◌∷◌, length, Option, Some, None, is_some}
+use Rattle.std.specs.Prelude.{◌≡◌, ℕ, zero, suc, ◌+◌, ◌-◌, Bool, false, cond, List, [], ◌∷◌, ◌++◌, length, Option, Some, None, is_some}
 use Rattle.std.specs.Cmp.Lexicographic.{slice_cmp}
 use Rattle.std.specs.FinMap as fin
 use Rattle.std.specs.FinMap.Entries.{find}
@@ -7,7 +7,8 @@ use Rattle.std.specs.List.{filter, flat_map}
 use Rattle.std.specs.Ordering.{nat_cmp}
 use Rattle.std.specs.Str.{bytes_eq}
 use Rattle.indexer.specs.Objects.{Stored}
-use Rattle.reflector.specs.Client.{Objects, place_in, Notice, added, updated, deleted}
+use Rattle.reflector.specs.Client.{Objects, Notice, added, updated, deleted}
+use Rattle.reflector.specs.Replays.{replayed}
 
 -- the value that an object has of the label
 abbrev pub value_of : List ℕ → Stored → Option (List ℕ)
@@ -71,8 +72,11 @@ counted test n (added new) = n + one_if (test new)
 counted test n (updated old new) = n + one_if (test new) - one_if (test old)
 counted test n (deleted old) = n - one_if (test old)
 
--- the notice's old side is what stood at its place
-abbrev pub IsOld : Objects → Notice → Type 0
-IsOld o (added new) = fin.get o (place_in new) ≡ None
-IsOld o (updated old new) = fin.get o (place_in new) ≡ Some old
-IsOld o (deleted old) = fin.get o (place_in old) ≡ Some old
+-- how many pass it after notices, one after the other
+abbrev pub counted_all : (Stored → Bool) → ℕ → List Notice → ℕ
+counted_all test n [] = n
+counted_all test n (x ∷ xs) = counted_all test (counted test n x) xs
+
+-- what is summed up of the objects after some of these notices, the first ones
+abbrev pub SumsSome : List ℕ → Objects → List Notice → Summed → Type 0
+SumsSome label o ns s = (some : List Notice) × (rest : List Notice) × (ns ≡ some ++ rest) × (s ≡ summed_of label (replayed o some))

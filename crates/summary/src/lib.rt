@@ -10,5 +10,5 @@ mod counting;
 mod law;
 mod summary;
 
-pub use law::counts_follow;
+pub use law::{counts_follow, counts_those_kept};
 pub use summary::Summary;

@@ -19,15 +19,15 @@ pub struct Summary {
 }
 
 impl Summary {
-    ghost use Rattle.std.specs.Prelude.{◌≡◌, ◌<◌, ◌^◌, ℕ, List, IfOk, OnErr, OnOk, string_bytes};
+    ghost use Rattle.std.specs.Prelude.{◌≡◌, ◌+◌, ◌<◌, ◌^◌, ℕ, List, IfOk, OnErr, OnOk, length, map, string_bytes};
     ghost use Rattle.std.specs.FinMap as fin;
     ghost use Rattle.indexer.specs.Objects.{stored_of};
     ghost use Rattle.reflector.specs.Client.{Objects};
-    ghost use Rattle.reflector.specs.Replays.{with_notice};
+    ghost use Rattle.reflector.specs.Replays.{AreOld, IsOld, replayed, with_notice};
     ghost use Rattle.reflector.specs.Seen.{notice_seen};
     ghost use Rattle.summary.specs.Apply.{apply_request};
-    ghost use Rattle.summary.specs.Counts.{IsOld, summed_of};
-    ghost use Rattle.summary.specs.Steps.{noted, with_object, without_object};
+    ghost use Rattle.summary.specs.Counts.{SumsSome, summed_of};
+    ghost use Rattle.summary.specs.Steps.{NotesSome, noted, noted_all, with_object, without_object};
     ghost use Rattle.summary.specs.Summary.{counts_in, summed};
 
     /// The summary of no objects, by this label.
@@ -82,6 +82,16 @@ impl Summary {
         }
     }
 
+    fn tell_all(&mut self, notices: &[Notice]) -> Result<(), AllocError>
+        ensures ok { OnOk result (summed self.new ≡ noted_all (summed self.old) (map notice_seen notices.now)) }
+        ensures err { OnErr result (NotesSome (summed self.old) (map notice_seen notices.now) (summed self.new)) }
+    {
+        for notice in notices {
+            self.tell(notice)?;
+        }
+        Ok(())
+    }
+
     /// Counts what a notice tells: the summary of the objects before it becomes that of the objects after it.
     /// Refused, it changes nothing.
     pub fn note(&mut self, notice: &Notice) -> Result<(), AllocError>
@@ -90,6 +100,17 @@ impl Summary {
         ensures refused { OnErr result (summed self.new ≡ summed self.old) }
     {
         self.tell(notice)
+    }
+
+    /// Counts what notices tell, one after the other: the summary of the objects before them becomes that of the
+    /// objects after them. Refused, it has counted some of them, the first ones.
+    pub fn note_all(&mut self, notices: &[Notice]) -> Result<(), AllocError>
+        ensures noted { (label : List ℕ) (o : Objects) → summed self.old ≡ summed_of label o → fin.len o + length notices.now < 2 ^ 63 → AreOld o (map notice_seen notices.now)
+            → OnOk result (summed self.new ≡ summed_of label (replayed o (map notice_seen notices.now))) }
+        ensures some { (label : List ℕ) (o : Objects) → summed self.old ≡ summed_of label o → fin.len o + length notices.now < 2 ^ 63 → AreOld o (map notice_seen notices.now)
+            → OnErr result (SumsSome label o (map notice_seen notices.now) (summed self.new)) }
+    {
+        self.tell_all(notices)
     }
 
     /// How many objects have each value of the label; values that none has are not there.

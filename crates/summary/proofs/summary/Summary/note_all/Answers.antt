@@ -1,0 +1,24 @@
+use Rattle.std.proofs.Common.{◌≡◌, ◌+◌, ◌<◌, ◌^◌, ◌∙◌, ap, map, subst, sym}
+use Rattle.std.proofs.lemmas.List.{length-map}
+use Rattle.std.proofs.lemmas.Result.{IfOk-weaker}
+use Rattle.std.specs.FinMap as fin
+use Rattle.reflector.specs.Replays.{replayed}
+use Rattle.reflector.specs.Seen.{notice_seen}
+use Rattle.summary.specs.Counts.{SumsSome, summed_of}
+use Rattle.summary.specs.Steps.{NotesSome, noted_all}
+use Rattle.summary.specs.Summary.{summed}
+use Rattle.summary.proofs.NotingAll.{summed_noted_all, some_summed, err_weaker}
+use Rattle.summary.proofs.summary.Summary.note_all.Goals as goal
+
+pub returns-clause-noted : goal.returns-clause-noted
+returns-clause-noted c = λ label o is lt old.
+    let ns = map notice_seen c.args.notices.now in
+    let few = subst (λ n. fin.len o + n < 2 ^ 63) (sym (length-map c.args.notices.now notice_seen)) lt in
+    IfOk-weaker c.tell_all.result _ (λ _. summed c.tell_all.new.self ≡ summed_of label (replayed o ns)) (λ _ told. told ∙ ap (λ s. noted_all s ns) is ∙ summed_noted_all label ns o old few) c.tell_all.ensures.ok
+
+pub returns-clause-some : goal.returns-clause-some
+returns-clause-some c = λ label o is lt old.
+    let ns = map notice_seen c.args.notices.now in
+    let few = subst (λ n. fin.len o + n < 2 ^ 63) (sym (length-map c.args.notices.now notice_seen)) lt in
+    err_weaker c.tell_all.result (NotesSome (summed c.args.self.now) ns (summed c.tell_all.new.self)) (SumsSome label o ns (summed c.tell_all.new.self))
+    (some_summed label o ns (summed c.args.self.now) (summed c.tell_all.new.self) is old few) c.tell_all.ensures.err

@@ -1,0 +1,8 @@
+use Rattle.std.proofs.Common.{◌≡◌, map, take}
+use Rattle.reflector.specs.Seen.{notice_seen}
+use Rattle.summary.specs.Steps.{noted_all}
+use Rattle.summary.specs.Summary.{summed}
+use Rattle.summary.proofs.summary.Summary.tell_all.Given as goal
+
+abbrev pub invariant-loop-notice : goal.invariant-loop-notice
+invariant-loop-notice l = summed l.self ≡ noted_all (summed l.fn.self) (map notice_seen (take l.notice-index l.notices))
