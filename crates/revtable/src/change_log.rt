@@ -21,6 +21,10 @@ use std::alloc::Global;
 use std::marker::Model;
 use std::snapshot::Snapshot;
 
+/// How many changed pages a transaction keeps in memory before they go to the log. A compaction changes the pages of the
+/// index again and again; where they stay in memory, the log doesn't grow by each such change.
+const SPILL_PAGES: usize = 6_000;
+
 /// The rows of a database, seen as the changes that they keep. A store that fails may shut the database for good.
 /// From then on each call answers an error, and the rows are still seen as they were.
 #[derive(Drop)]
@@ -50,7 +54,9 @@ fn empty(alloc: Global) -> Result<Connection<FileStore<MemoryFile>>, Error>
         log: MemoryFile::new(alloc),
         db: MemoryFile::new(alloc),
     };
-    match Connection::open_files(alloc, files, Options::new(1)) {
+    let mut options = Options::new(1);
+    options.spill_pages = SPILL_PAGES;
+    match Connection::open_files(alloc, files, options) {
         Ok(base) => Ok(base),
         Err((error, _)) => Err(error),
     }
