@@ -1,10 +1,11 @@
 -- Bytes that only lengthen what is kept, and of which nothing is told.
-use Rattle.std.proofs.Common.{arith, ◌≡◌, ℕ, ◌+◌, ◌-◌, ◌<◌, ◌≤◌, min, Bool, true, false, cond, leb, List, [], ◌∷◌, ◌++◌, length, Some, None, suc, ltb, unwrap_or, take, drop, refl, sym, ap, ap₂, subst, ◌∙◌, append_assoc, append-nil, take-append-drop}
-use Rattle.std.proofs.lemmas.Bool.{lt-leb, ltb-false, ne_eqb}
+use Rattle.std.proofs.Common.{arith, ◌≡◌, ℕ, ◌+◌, ◌-◌, ◌<◌, ◌≤◌, min, Bool, true, false, cond, leb, List, [], ◌∷◌, ◌++◌, length, Option, Some, None, suc, unwrap_or, take, drop, refl, sym, ap, ap₂, subst, ◌∙◌, append_assoc, append-nil, take-append-drop}
+use Rattle.std.proofs.lemmas.Bool.{lt-leb, ne_eqb}
 use Rattle.std.proofs.lemmas.List.{length-append, length-take, take-append-le, take_all}
-use Rattle.std.proofs.lemmas.List.Sums.{prefix_len-le-length}
+use Rattle.std.proofs.lemmas.List.Sums.{prefix_len-le-length, position_or_len_is}
 use Rattle.std.specs.Prelude.{◌||◌, ◌==◌, not}
 use Rattle.std.specs.List.{list_any, position_or_len}
+use Rattle.memchr.specs.Find.{IsFirstByte, is_byte}
 use Rattle.wireclient.specs.Reads.{JudgedAt, Leads, TakesIn}
 use Rattle.wireclient.specs.Reply.{whole, line, end, State, body, data_in, data_cr, ended, broken, max_line, Next, fails, goes_to, data_after, step}
 
@@ -77,12 +78,15 @@ line_longer left text (b ∷ bytes) fits room one =
     quiet (data_in left text) (data_in (left - 1) (text ++ b ∷ [])) (data_in (left - length (b ∷ bytes)) (text ++ b ∷ bytes)) b bytes next tt
     (subst (λ (xs : List ℕ). Leads (data_in (left - 1) (text ++ b ∷ [])) bytes (data_in (left - length (b ∷ bytes)) xs) []) (append_assoc text (b ∷ []) bytes) same)
 
-unwrapped : (b : Bool) (n l : ℕ) → n ≤ l → ltb n l ≡ b → unwrap_or (cond b (Some n) None) l ≡ n
-unwrapped true n l le is = refl
-unwrapped false n l le is = let ge = ltb-false n l is in omega arith
+not_true : (b : Bool) → ¬ (b ≡ true) → b ≡ false
+not_true true isnt = absurd (isnt refl)
+not_true false isnt = refl
 
-pub place_is : (bytes : List ℕ) → unwrap_or (cond (ltb (position_or_len (λ b. b == 10) bytes) (length bytes)) (Some (position_or_len (λ b. b == 10) bytes)) None) (length bytes) ≡ position_or_len (λ b. b == 10) bytes
-place_is bytes = unwrapped _ (position_or_len (λ b. b == 10) bytes) (length bytes) (prefix_len-le-length (λ (b : ℕ). not (b == 10)) bytes) refl
+pub first_feed : (bytes : List ℕ) (r : Option ℕ) → IsFirstByte (is_byte 10) bytes r → unwrap_or r (length bytes) ≡ position_or_len (λ b. b == 10) bytes
+first_feed bytes None none =
+    sym (position_or_len_is (λ b. b == 10) bytes (length bytes) 0 (omega arith) (λ k lt. not_true _ (none k (omega arith) lt)) (λ lt. absurd (omega (arith, lt))))
+first_feed bytes (Some k) first =
+    sym (position_or_len_is (λ b. b == 10) bytes k 0 (omega (arith, first.0.high)) (λ j lt. not_true _ (first.0.before j (omega arith) lt)) (λ lt. first.1))
 
 -- before its first line feed a text has none
 pub before_first_none : (bytes : List ℕ) → list_any (λ b. b == 10) (take (position_or_len (λ b. b == 10) bytes) bytes) ≡ false

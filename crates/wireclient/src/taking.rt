@@ -7,6 +7,7 @@ ghost use Rattle.wireclient.specs.Reply.{body, data_in};
 ghost use Rattle.wireclient.specs.Views.{state_of};
 
 use crate::state::{MAX_LINE, State};
+use memchr::memchr;
 use std::alloc::AllocError;
 
 /// What came of the first bytes of a piece, and how many these were.
@@ -27,10 +28,7 @@ fn before_last(left: u64, piece: &[u8]) -> usize
 fn before_line_feed(piece: &[u8]) -> usize
     ensures { result ≡ position_or_len (λ b. b == 10) piece.now }
 {
-    piece
-        .iter()
-        .position(|byte| *byte == b'\n')
-        .unwrap_or(piece.len())
+    memchr(b'\n', piece).unwrap_or(piece.len())
 }
 
 fn take_body(left: u64, mut bytes: Vec<u8>, piece: &[u8]) -> Result<Taken, AllocError>
