@@ -169,7 +169,8 @@ fn run_puts(rt: &(impl Print + Eprint + CpuClock), alloc: Global, size: u64) -> 
 }
 
 fn replace(indexer: &mut Indexer<By>, objects: Vec<Object>) -> Result<(), AllocError> {
-    indexer.replace(objects)
+    indexer.replace(objects)?;
+    Ok(())
 }
 
 fn time_replace(

@@ -9,3 +9,4 @@ pub mod Shown
 pub mod Under
 pub mod Written
 pub mod Copies
+pub mod HandedOut

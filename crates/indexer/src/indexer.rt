@@ -16,7 +16,7 @@ use crate::postings::{Postings, objects_under, texts_in};
 use std::alloc::{AllocError, Global};
 use std::collections::{BTreeMap, BTreeSet};
 use std::error::Error;
-use std::fmt;
+use std::{fmt, mem};
 
 /// Objects by namespace and name, and indexes that follow them.
 #[derive(Drop)]
@@ -87,7 +87,7 @@ fn gather<I: IndexBy>(
 }
 
 impl<I: IndexBy> Indexer<I> {
-    ghost use Rattle.std.specs.Prelude.{◌≡◌, ◌<◌, ◌↔◌, ℕ, List, map, true, false, OnOk, OnErr, IfOk, IfSome, option_map, option_copied};
+    ghost use Rattle.std.specs.Prelude.{◌≡◌, ◌<◌, ◌↔◌, ℕ, List, map, true, false, OnOk, OnErr, IfOk, IfSome, option_map, option_copied, string_bytes};
     ghost use Rattle.std.specs.BTreeSet.{btree_set_len};
     ghost use Rattle.std.specs.Cmp.Lexicographic.{slice_cmp};
     ghost use Rattle.std.specs.FinMap as fin;
@@ -122,18 +122,21 @@ impl<I: IndexBy> Indexer<I> {
         })
     }
 
-    /// Keeps just these objects, put one after the other. Refused, it changes nothing.
-    pub fn replace(&mut self, objects: Vec<Object>) -> Result<(), AllocError>
+    /// Keeps just these objects, put one after the other; those that were kept are handed out, in order of keys.
+    /// Refused, it changes nothing.
+    pub fn replace(&mut self, objects: Vec<Object>) -> Result<Vec<Object>, AllocError>
         ensures ok { OnOk result (held_of self.new ≡ put_all (λ o. map (λ b. I.keys b o) (indexes_of self.old)) (map stored_of objects.items) fin.empty) }
+        ensures was { IfOk result (λ v. map stored_of v.items ≡ map (λ e. e.1) (objects_in (held_of self.old))) }
         ensures err { OnErr result (held_of self.new ≡ held_of self.old) }
         ensures indexes { indexes_of self.new ≡ indexes_of self.old }
         ensures names { names_of self.new ≡ names_of self.old }
     {
         let gathered = gather(self.alloc, &self.indexes, objects)?;
+        let room = kept::room_for(self.alloc, &self.objects)?;
         let Gathered { objects, postings } = gathered;
-        self.objects = objects;
+        let was = mem::replace(&mut self.objects, objects);
         self.postings = postings;
-        Ok(())
+        Ok(kept::handed_out(was, room))
     }
 
     /// Keeps the object where it stands, in place of the one that was there, which is handed out, and in every
@@ -193,6 +196,13 @@ impl<I: IndexBy> Indexer<I> {
         ensures { IfOk result (λ v. map (λ e. (place_of e.0.now, stored_of e.1.now)) v.items ≡ objects_in (held_of self.now)) }
     {
         kept::all_of(self.alloc, &self.objects)
+    }
+
+    /// The names of the indexes, as they were given.
+    pub fn index_names(&self) -> &[String]
+        ensures { map string_bytes result.now ≡ names_of self.now }
+    {
+        &self.names
     }
 
     /// How many objects there are. Takes no memory.

@@ -1,6 +1,6 @@
 //! The objects and the postings of every index, changed together.
 
-ghost use Rattle.std.specs.Prelude.{◌≡◌, true, ℕ, List, cond, map, IfOk, OnOk, OnErr, option_map};
+ghost use Rattle.std.specs.Prelude.{◌≡◌, ◌+◌, ◌≤◌, true, ℕ, List, [], cond, length, map, IfOk, OnOk, OnErr, option_map, vec_capacity, vec_len};
 ghost use Rattle.std.specs.BTreeMap.{get};
 ghost use Rattle.std.specs.FinMap as fin;
 ghost use Rattle.indexer.specs.Keys.{key_cmp, is_same};
@@ -114,4 +114,28 @@ pub(crate) fn all_of(
         all.push((key, &entry.object))?;
     }
     Ok(all)
+}
+
+/// Room for as many objects as there are.
+pub(crate) fn room_for(
+    alloc: Global,
+    objects: &BTreeMap<ObjectKey, Entry>,
+) -> Result<Vec<Object>, AllocError>
+    ensures none { IfOk result (λ v. v.items ≡ []) }
+    ensures room { IfOk result (λ v. vec_len v + length objects.now.entries ≤ vec_capacity v) }
+{
+    Vec::with_capacity(alloc, objects.len())
+}
+
+/// The objects alone, in order of keys, in the room that was made for them.
+pub(crate) fn handed_out(objects: BTreeMap<ObjectKey, Entry>, room: Vec<Object>) -> Vec<Object>
+    requires none { room.items ≡ [] }
+    requires room { vec_len room + length objects.entries ≤ vec_capacity room }
+    ensures { map stored_of result.items ≡ map (λ e. e.1) (objects_in (held_in objects)) }
+{
+    let mut all = room;
+    for (_, entry) in objects {
+        all.push_reserved(entry.object);
+    }
+    all
 }
