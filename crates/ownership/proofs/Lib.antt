@@ -19,3 +19,4 @@ pub mod Entered
 pub mod Textual
 pub mod Back
 pub mod Answered
+pub mod Listed

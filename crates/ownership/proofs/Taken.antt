@@ -32,7 +32,7 @@ cmp = slice_cmp nat_cmp
 pub same_text : (k : List ℕ) → cmp k k ≡ Equal
 same_text k = tied_itself nat_list_cmp_total k
 
-tied : (k l : List ℕ) → cmp k l ≡ Equal → k ≡ l
+pub tied : (k l : List ℕ) → cmp k l ≡ Equal → k ≡ l
 tied = slice_cmp-IsAntisymmetric nat_cmp-IsAntisymmetric
 
 pub lt_is : (o : Ordering) → is_lt o ≡ true → o ≡ Less
@@ -157,7 +157,7 @@ less_ascend k (member l d ms) h = by_order (cmp k l) (less_from l k ms h)
     by_order Equal later = ascend_rest l (member_names ms) h
     by_order Greater later = later
 
-less_spelled : (k : List ℕ) (ms : Members) → MembersAreSpelled ms → MembersAreSpelled (less k ms)
+pub less_spelled : (k : List ℕ) (ms : Members) → MembersAreSpelled ms → MembersAreSpelled (less k ms)
 less_spelled k no_members h = tt
 less_spelled k (member l d ms) h = by_order (cmp k l) (less_spelled k ms h.1)
   where

@@ -30,9 +30,13 @@ put_filled k (b ∷ bs) ms = put k (string (b ∷ bs)) ms
 abbrev pub put_manager : Manager → Members → Members
 put_manager m ms = put (codes "manager") (string m.name) (put (codes "operation") (string (operation_text m.operation)) (put_filled (codes "subresource") m.subresource ms))
 
+-- the members of an entry with this FieldsV1 value
+abbrev pub members_with : List ℕ → Manager → Data → Members
+members_with api_version m fields =
+    put (codes "apiVersion") (string api_version) (put (codes "fieldsType") (string (codes "FieldsV1")) (put (codes "fieldsV1") fields (put_manager m no_members)))
+
 abbrev pub entry_members : Shape → List ℕ → Manager → PathSet → Members
-entry_members s api_version m paths =
-    put (codes "apiVersion") (string api_version) (put (codes "fieldsType") (string (codes "FieldsV1")) (put (codes "fieldsV1") (fields_v1_of s paths) (put_manager m no_members)))
+entry_members s api_version m paths = members_with api_version m (fields_v1_of s paths)
 
 -- one entry of `managedFields`
 abbrev pub entry_value : Shape → List ℕ → Manager → PathSet → Data
@@ -47,10 +51,13 @@ abbrev pub put_entries : Items → Members → Members
 put_entries no_items ms = ms
 put_entries (item d ds) ms = put (codes "managedFields") (array (item d ds)) ms
 
+-- `metadata` with these entries
+abbrev pub metadata_with : Identity → ℕ → Items → Members → Members
+metadata_with of version entries labels =
+    put (codes "name") (string of.name) (put (codes "namespace") (string of.namespace) (put (codes "resourceVersion") (string (decimal version)) (put_entries entries labels)))
+
 abbrev pub metadata_of : Shape → Identity → ℕ → Owners → Members → Members
-metadata_of s of version owners labels =
-    put (codes "name") (string of.name) (put (codes "namespace") (string of.namespace) (put (codes "resourceVersion") (string (decimal version))
-    (put_entries (entry_items s of.api_version (fin.entries owners)) labels)))
+metadata_of s of version owners labels = metadata_with of version (entry_items s of.api_version (fin.entries owners)) labels
 
 -- the members of what is printed; none where nothing is
 abbrev pub members_printed : Option Data → Members

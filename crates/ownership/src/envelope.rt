@@ -1,5 +1,5 @@
 //! What stands round an object's fields, taken apart.
-ghost use Rattle.std.specs.Prelude.{◌≡◌, IfOk, OnOk, option_map, option_and_then};
+ghost use Rattle.std.specs.Prelude.{◌≡◌, codes, IfOk, OnOk, option_map, option_and_then};
 ghost use Rattle.serde_json.specs.Find.{as_object, as_str, get_member};
 ghost use Rattle.serde_json.specs.View.{members_view, view};
 ghost use Rattle.ownership.specs.Parts.{fields_of, in_two, labels_left, less, own_members, put_labels, split, text_at, version_in};
@@ -9,14 +9,14 @@ use serde_json::{Map, Value};
 use std::alloc::{AllocError, Global};
 
 /// Takes the member of this name out.
-fn take(members: &mut Map<String, Value>, name: &str) -> Option<Value>
+pub(crate) fn take(members: &mut Map<String, Value>, name: &str) -> Option<Value>
     ensures value { option_map view result ≡ get_member name.now (members_view members.old.entries) }
     ensures left { members_view members.new.entries ≡ less name.now (members_view members.old.entries) }
 {
     members.remove(name)
 }
 
-fn into_object(value: Value) -> Option<Map<String, Value>>
+pub(crate) fn into_object(value: Value) -> Option<Map<String, Value>>
     ensures { option_map (λ m. members_view m.entries) result ≡ as_object (view value) }
 {
     match value {
@@ -92,16 +92,17 @@ pub(crate) fn version_in(metadata: &Map<String, Value>) -> Option<u64>
     }
 }
 
-/// `metadata` less the envelope's part: labels and annotations.
-fn labels_left(metadata: Map<String, Value>) -> Map<String, Value>
-    ensures { members_view result.entries ≡ labels_left (members_view metadata.entries) }
+/// `metadata` less the envelope's part: labels and annotations; and its `managedFields`.
+fn labels_left(metadata: Map<String, Value>) -> (Map<String, Value>, Option<Value>)
+    ensures labels { members_view result.0.entries ≡ labels_left (members_view metadata.entries) }
+    ensures listed { option_map view result.1 ≡ get_member (codes "managedFields") (members_view metadata.entries) }
 {
     let mut labels = metadata;
     drop(take(&mut labels, "name"));
     drop(take(&mut labels, "namespace"));
     drop(take(&mut labels, "resourceVersion"));
-    drop(take(&mut labels, "managedFields"));
-    labels
+    let listed = take(&mut labels, "managedFields");
+    (labels, listed)
 }
 
 fn put_labels(
@@ -117,15 +118,17 @@ fn put_labels(
     serde_json::put(members, alloc, "metadata", Value::Object(labels))
 }
 
-/// The value of the object's fields, from what `split` gave.
+/// The value of the object's fields, from what `split` gave; and that of `managedFields`.
 pub(crate) fn fields_of(
     alloc: Global,
     others: Map<String, Value>,
     metadata: Map<String, Value>,
-) -> Result<Value, AllocError>
-    ensures { IfOk result (λ v. view v ≡ fields_of (members_view others.entries) (members_view metadata.entries)) }
+) -> Result<(Value, Option<Value>), AllocError>
+    ensures fields { IfOk result (λ o. view o.0 ≡ fields_of (members_view others.entries) (members_view metadata.entries)) }
+    ensures listed { IfOk result (λ o. option_map view o.1 ≡ get_member (codes "managedFields") (members_view metadata.entries)) }
 {
     let mut fields = others;
-    put_labels(&mut fields, alloc, labels_left(metadata))?;
-    Ok(Value::Object(fields))
+    let (labels, listed) = labels_left(metadata);
+    put_labels(&mut fields, alloc, labels)?;
+    Ok((Value::Object(fields), listed))
 }

@@ -1,16 +1,24 @@
-//! The entries of `managedFields`, read.
-ghost use Rattle.std.specs.Prelude.{◌≡◌, codes, option_map, option_and_then};
-ghost use Rattle.serde_json.specs.Find.{get_member};
+//! The entries of `managedFields`, read. With each comes the entry as it is printed, made of the FieldsV1 value that was
+//! read: of a text it is the one that its set has, so FieldsV1 isn't printed again.
+ghost use Rattle.std.specs.Prelude.{◌≡◌, true, codes, IfOk, Some, option_map, option_and_then};
+ghost use Rattle.std.specs.FinMap as fin;
+ghost use Rattle.serde_json.specs.Data.{Data};
+ghost use Rattle.serde_json.specs.Find.{as_array};
 ghost use Rattle.serde_json.specs.View.{items_view, members_view, view};
+ghost use Rattle.fieldpath.specs.Spelled.{AreSpelled, IsSpelled, MembersAreSpelled};
+ghost use Rattle.schema.specs.Lawful.{is_type_shape};
 ghost use Rattle.schema.specs.Shape.{shape};
+ghost use Rattle.fieldset.specs.FieldsV1.{fields_v1_of};
 ghost use Rattle.fieldset.specs.Reading.{read_fields_v1};
 ghost use Rattle.ownership.specs.Managers.{manager_view, pair, pairs};
-ghost use Rattle.ownership.specs.Parts.{Gives, entries_in, entry_in, if_ok, items_or_none, manager_in, operation_named, owners_in, set_in, text_at};
+ghost use Rattle.ownership.specs.ObjectText.{entry_items, entry_value};
+ghost use Rattle.ownership.specs.Parts.{Gives, entries_in, entry_in, if_ok, items_or_none, manager_in, operation_named, owners_listed, set_in, text_at};
 
-use crate::envelope::{member, text_at};
+use crate::envelope::{into_object, take, text_at};
 use crate::fault::ObjectFault;
 use crate::manager::{Manager, Operation};
 use crate::managers::{Entry, Managers};
+use crate::object::entry_with;
 use fieldset::{FieldSet, FieldsV1Fault};
 use schema::Schema;
 use serde_json::{Map, Value};
@@ -52,68 +60,99 @@ fn read_fields_v1(alloc: Global, schema: &Schema, value: &Value) -> Result<Field
     }
 }
 
-/// The set of paths that an entry's `fieldsV1` says.
+/// The set of paths that an entry's `fieldsV1` says, and that value.
 fn read_set(
     alloc: Global,
     schema: &Schema,
-    members: &Map<String, Value>,
-) -> Result<FieldSet, ObjectFault>
-    ensures { Gives (λ s. s) result (set_in (shape schema.now) (members_view members.now.entries)) }
+    members: Map<String, Value>,
+) -> Result<(FieldSet, Value), ObjectFault>
+    ensures set { Gives (λ o. o.0) result (set_in (shape schema.now) (members_view members.entries)) }
+    ensures value { IfOk result (λ o. is_type_shape (shape schema.now) ≡ true → MembersAreSpelled (members_view members.entries) → view o.1 ≡ fields_v1_of (shape schema.now) o.0) }
 {
-    match member(members, "fieldsV1") {
-        Some(value) => read_fields_v1(alloc, schema, value),
-        None => Err(ObjectFault::NotCanonical),
-    }
-}
-
-fn read_entry(alloc: Global, schema: &Schema, value: &Value) -> Result<Entry, ObjectFault>
-    ensures { Gives pair result (entry_in (shape schema.now) (view value.now)) }
-{
-    let Some(members) = value.as_object() else {
+    let mut left = members;
+    let Some(value) = take(&mut left, "fieldsV1") else {
         return Err(ObjectFault::NotCanonical);
     };
-    let manager = read_manager(alloc, members)?;
-    let paths = read_set(alloc, schema, members)?;
-    Ok(Entry { manager, paths })
+    let paths = read_fields_v1(alloc, schema, &value)?;
+    Ok((paths, value))
 }
 
-fn read_entries(alloc: Global, schema: &Schema, values: &[Value]) -> Result<Vec<Entry>, ObjectFault>
-    ensures { Gives (λ v. pairs v.items) result (entries_in (shape schema.now) (items_view values.now)) }
+/// An entry, and as it is printed.
+fn read_entry(
+    alloc: Global,
+    schema: &Schema,
+    api_version: &str,
+    value: Value,
+) -> Result<(Entry, Value), ObjectFault>
+    ensures entry { Gives (λ o. pair o.0) result (entry_in (shape schema.now) (view value)) }
+    ensures item { IfOk result (λ o. is_type_shape (shape schema.now) ≡ true → IsSpelled (view value)
+        → view o.1 ≡ entry_value (shape schema.now) api_version.now (pair o.0).0 (pair o.0).1) }
+{
+    let Some(members) = into_object(value) else {
+        return Err(ObjectFault::NotCanonical);
+    };
+    let manager = read_manager(alloc, &members)?;
+    let (paths, fields) = read_set(alloc, schema, members)?;
+    let item = entry_with(alloc, api_version, &manager, fields)?;
+    Ok((Entry { manager, paths }, item))
+}
+
+fn read_entries(
+    alloc: Global,
+    schema: &Schema,
+    api_version: &str,
+    values: Vec<Value>,
+) -> Result<(Vec<Entry>, Vec<Value>), ObjectFault>
+    ensures entries { Gives (λ o. pairs o.0.items) result (entries_in (shape schema.now) (items_view values.items)) }
+    ensures items { IfOk result (λ o. is_type_shape (shape schema.now) ≡ true → AreSpelled (items_view values.items)
+        → items_view o.1.items ≡ entry_items (shape schema.now) api_version.now (pairs o.0.items)) }
 {
     let mut entries = Vec::new(alloc);
+    let mut items = Vec::new(alloc);
     for value in values {
-        entries.push(read_entry(alloc, schema, value)?)?;
+        let (entry, item) = read_entry(alloc, schema, api_version, value)?;
+        entries.push(entry)?;
+        items.push(item)?;
     }
-    Ok(entries)
+    Ok((entries, items))
+}
+
+fn into_array(value: Value) -> Option<Vec<Value>>
+    ensures { option_map (λ v. items_view v.items) result ≡ as_array (view value) }
+{
+    match value {
+        Value::Array(items) => Some(items),
+        _ => None,
+    }
 }
 
 /// The items of `managedFields`; none where it is absent.
-fn items_in(metadata: &Map<String, Value>) -> Option<&[Value]>
-    ensures { option_map (λ v. items_view v.now) result ≡ items_or_none (get_member (codes "managedFields") (members_view metadata.now.entries)) }
+fn items_in(alloc: Global, listed: Option<Value>) -> Option<Vec<Value>>
+    ensures { option_map (λ v. items_view v.items) result ≡ items_or_none (option_map view listed) }
 {
-    match member(metadata, "managedFields") {
-        Some(value) => match value.as_array() {
-            Some(items) => Some(items.as_slice()),
-            None => None,
-        },
-        None => Some(&[]),
+    match listed {
+        Some(value) => into_array(value),
+        None => Some(Vec::new(alloc)),
     }
 }
 
-/// Who owns what, as `metadata` says it.
+/// Who owns what, as the value of `managedFields` says it, and its items as they are printed.
 pub(crate) fn read_owners(
     alloc: Global,
     schema: &Schema,
-    metadata: &Map<String, Value>,
-) -> Result<Managers, ObjectFault>
-    ensures { Gives (λ o. o) result (owners_in (shape schema.now) (members_view metadata.now.entries)) }
+    api_version: &str,
+    listed: Option<Value>,
+) -> Result<(Managers, Vec<Value>), ObjectFault>
+    ensures owners { Gives (λ o. o.0) result (owners_listed (shape schema.now) (option_map view listed)) }
+    ensures items { IfOk result (λ o. is_type_shape (shape schema.now) ≡ true → ((d : Data) → option_map view listed ≡ Some d → IsSpelled d)
+        → items_view o.1.items ≡ entry_items (shape schema.now) api_version.now (fin.entries o.0)) }
 {
-    let Some(items) = items_in(metadata) else {
+    let Some(values) = items_in(alloc, listed) else {
         return Err(ObjectFault::NotCanonical);
     };
-    let entries = read_entries(alloc, schema, items)?;
+    let (entries, items) = read_entries(alloc, schema, api_version, values)?;
     match Managers::with_entries(entries) {
-        Some(managers) => Ok(managers),
+        Some(managers) => Ok((managers, items)),
         None => Err(ObjectFault::NotCanonical),
     }
 }

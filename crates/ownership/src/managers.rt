@@ -1,4 +1,4 @@
-ghost use Rattle.std.specs.Prelude.{◌≡◌, ◌++◌, IfOk, OnOk, filter, map, not, option_map};
+ghost use Rattle.std.specs.Prelude.{◌≡◌, ◌++◌, IfOk, IfSome, OnOk, filter, map, not, option_map};
 ghost use Rattle.std.specs.FinSet as set;
 ghost use Rattle.ownership.specs.Results.{conflict_of};
 ghost use Rattle.std.specs.List.{insert};
@@ -195,7 +195,8 @@ impl Managers {
 
     /// The owners that have these entries, if any: they stand in order, and each has a path.
     pub(crate) fn with_entries(entries: Vec<Entry>) -> Option<Managers>
-        ensures { result ≡ owners_of (pairs entries.items) }
+        ensures owners { result ≡ owners_of (pairs entries.items) }
+        ensures entries { IfSome result (λ m. fin.entries m ≡ pairs entries.items) }
     {
         if are_rising(&entries) && have_paths(&entries) {
             Some(Managers { entries })

@@ -1,12 +1,13 @@
 ghost use Rattle.std.specs.Prelude.{◌≡◌, true, IfOk, OnOk, option_map, option_and_then, string_bytes};
-ghost use Rattle.serde_json.specs.Data.{put, string};
+ghost use Rattle.std.specs.FinMap as fin;
+ghost use Rattle.serde_json.specs.Data.{object, put, string};
 ghost use Rattle.serde_json.specs.Find.{as_object};
 ghost use Rattle.serde_json.specs.View.{items_view, members_view, view};
 ghost use Rattle.schema.specs.Lawful.{is_lawful};
 ghost use Rattle.schema.specs.Shape.{shape};
 ghost use Rattle.typed.specs.Fitting.{IsContent};
 ghost use Rattle.ownership.specs.Managers.{pair, pairs, manager_view};
-ghost use Rattle.ownership.specs.ObjectText.{entry_items, entry_value, members_or_none, metadata_members, metadata_of, object_text, object_value, put_entries, put_filled, put_manager};
+ghost use Rattle.ownership.specs.ObjectText.{entry_items, entry_value, members_or_none, members_with, metadata_members, metadata_with, object_text, object_value, put_entries, put_filled, put_manager};
 ghost use Rattle.ownership.specs.Results.{identity_of, state_of};
 
 use crate::manager::Manager;
@@ -54,6 +55,23 @@ fn put_manager(
     put_text(members, alloc, "manager", manager.name.as_str())
 }
 
+/// An entry with this FieldsV1 value.
+pub(crate) fn entry_with(
+    alloc: Global,
+    api_version: &str,
+    manager: &Manager,
+    fields: Value,
+) -> Result<Value, AllocError>
+    ensures { IfOk result (λ v. view v ≡ object (members_with api_version.now (manager_view manager.now) (view fields))) }
+{
+    let mut members = Map::new(alloc);
+    put_manager(&mut members, alloc, manager)?;
+    serde_json::put(&mut members, alloc, "fieldsV1", fields)?;
+    put_text(&mut members, alloc, "fieldsType", "FieldsV1")?;
+    put_text(&mut members, alloc, "apiVersion", api_version)?;
+    Ok(Value::Object(members))
+}
+
 fn entry_value(
     alloc: Global,
     schema: &Schema,
@@ -63,12 +81,8 @@ fn entry_value(
     ensures { IfOk result (λ v. view v ≡ entry_value (shape schema.now) api_version.now (manager_view entry.now.manager) entry.now.paths) }
 {
     let fields = entry.paths.to_fields_v1(alloc, schema)?;
-    let mut members = Map::new(alloc);
-    put_manager(&mut members, alloc, &entry.manager)?;
-    serde_json::put(&mut members, alloc, "fieldsV1", fields)?;
-    put_text(&mut members, alloc, "fieldsType", "FieldsV1")?;
-    put_text(&mut members, alloc, "apiVersion", api_version)?;
-    Ok(Value::Object(members))
+    let value = entry_with(alloc, api_version, &entry.manager, fields)?;
+    Ok(value)
 }
 
 fn entry_items(
@@ -144,25 +158,59 @@ fn put_entries(
     serde_json::put(members, alloc, "managedFields", Value::Array(entries))
 }
 
+/// `metadata` with these items of `managedFields`.
+fn metadata_with(
+    alloc: Global,
+    of: Identity<'_>,
+    version: u64,
+    items: Vec<Value>,
+    labels: Map<String, Value>,
+) -> Result<Map<String, Value>, AllocError>
+    ensures { IfOk result (λ m. members_view m.entries ≡ metadata_with (identity_of of.entry) version (items_view items.items) (members_view labels.entries)) }
+{
+    let mut metadata = labels;
+    put_entries(&mut metadata, alloc, items)?;
+    let version = version.to_string(alloc)?;
+    put_text(&mut metadata, alloc, "resourceVersion", version.as_str())?;
+    put_text(&mut metadata, alloc, "namespace", of.namespace)?;
+    put_text(&mut metadata, alloc, "name", of.name)?;
+    Ok(metadata)
+}
+
 impl Owned {
-    fn metadata(
+    /// The items of `managedFields`.
+    fn items(
+        &self,
+        alloc: Global,
+        schema: &Schema,
+        api_version: &str,
+    ) -> Result<Vec<Value>, AllocError>
+        ensures { IfOk result (λ v. items_view v.items ≡ entry_items (shape schema.now) api_version.now (fin.entries self.now.managers)) }
+    {
+        let items = entry_items(alloc, schema, api_version, self.managers.entries())?;
+        Ok(items)
+    }
+
+    /// The object, where the items of `managedFields` are at hand.
+    fn value_with(
         &self,
         alloc: Global,
         schema: &Schema,
         of: Identity<'_>,
         version: u64,
-        labels: Map<String, Value>,
-    ) -> Result<Map<String, Value>, AllocError>
-        ensures { IfOk result (λ m. members_view m.entries ≡ metadata_of (shape schema.now) (identity_of of.entry) version self.now.managers (members_view labels.entries)) }
+        items: Vec<Value>,
+    ) -> Result<Value, AllocError>
+        ensures { items_view items.items ≡ entry_items (shape schema.now) of.entry.api_version.now (fin.entries self.now.managers)
+            → IfOk result (λ v. view v ≡ object_value (shape schema.now) (identity_of of.entry) version (state_of self.now)) }
     {
-        let mut metadata = labels;
-        let entries = entry_items(alloc, schema, of.api_version, self.managers.entries())?;
-        put_entries(&mut metadata, alloc, entries)?;
-        let version = version.to_string(alloc)?;
-        put_text(&mut metadata, alloc, "resourceVersion", version.as_str())?;
-        put_text(&mut metadata, alloc, "namespace", of.namespace)?;
-        put_text(&mut metadata, alloc, "name", of.name)?;
-        Ok(metadata)
+        let printed = self.tree.to_value(alloc, schema)?;
+        let labels = labels_of(alloc, &printed)?;
+        let metadata = metadata_with(alloc, of, version, items, labels)?;
+        let mut members = members_of(alloc, printed);
+        serde_json::put(&mut members, alloc, "metadata", Value::Object(metadata))?;
+        put_text(&mut members, alloc, "kind", of.kind)?;
+        put_text(&mut members, alloc, "apiVersion", of.api_version)?;
+        Ok(Value::Object(members))
     }
 
     /// The object: its envelope, its content, its version and who owns what.
@@ -175,14 +223,25 @@ impl Owned {
     ) -> Result<Value, AllocError>
         ensures { IfOk result (λ v. view v ≡ object_value (shape schema.now) (identity_of of.entry) version (state_of self.now)) }
     {
-        let printed = self.tree.to_value(alloc, schema)?;
-        let labels = labels_of(alloc, &printed)?;
-        let metadata = self.metadata(alloc, schema, of, version, labels)?;
-        let mut members = members_of(alloc, printed);
-        serde_json::put(&mut members, alloc, "metadata", Value::Object(metadata))?;
-        put_text(&mut members, alloc, "kind", of.kind)?;
-        put_text(&mut members, alloc, "apiVersion", of.api_version)?;
-        Ok(Value::Object(members))
+        let items = self.items(alloc, schema, of.api_version)?;
+        self.value_with(alloc, schema, of, version, items)
+    }
+
+    /// The object's text, where the items of `managedFields` are at hand.
+    pub(crate) fn text_with(
+        &self,
+        alloc: Global,
+        schema: &Schema,
+        of: Identity<'_>,
+        version: u64,
+        items: Vec<Value>,
+    ) -> Result<String, AllocError>
+        ensures { items_view items.items ≡ entry_items (shape schema.now) of.entry.api_version.now (fin.entries self.now.managers)
+            → is_lawful (shape schema.now) ≡ true → IsContent (shape schema.now) self.now.tree
+            → IfOk result (λ t. string_bytes t ≡ object_text (shape schema.now) (identity_of of.entry) version (state_of self.now)) }
+    {
+        let value = self.value_with(alloc, schema, of, version, items)?;
+        value.to_string(alloc)
     }
 
     /// The object's text: its value as compact JSON.
@@ -196,6 +255,7 @@ impl Owned {
         ensures { is_lawful (shape schema.now) ≡ true → IsContent (shape schema.now) self.now.tree
             → IfOk result (λ t. string_bytes t ≡ object_text (shape schema.now) (identity_of of.entry) version (state_of self.now)) }
     {
-        self.to_value(alloc, schema, of, version)?.to_string(alloc)
+        let items = self.items(alloc, schema, of.api_version)?;
+        self.text_with(alloc, schema, of, version, items)
     }
 }

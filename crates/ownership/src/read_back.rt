@@ -1,13 +1,17 @@
 //! Objects read back from their texts.
-ghost use Rattle.std.specs.Prelude.{◌≡◌, ℕ, IfOk};
+ghost use Rattle.std.specs.Prelude.{◌≡◌, ℕ, true, IfOk};
+ghost use Rattle.std.specs.FinMap as fin;
 ghost use Rattle.serde_json.specs.Read.{read};
-ghost use Rattle.serde_json.specs.View.{view};
+ghost use Rattle.serde_json.specs.View.{items_view, view};
+ghost use Rattle.fieldpath.specs.Spelled.{IsSpelled};
+ghost use Rattle.schema.specs.Lawful.{is_type_shape};
 ghost use Rattle.schema.specs.ObjectShape.{IsObjectShape};
 ghost use Rattle.schema.specs.Shape.{shape};
 ghost use Rattle.typed.specs.Reading.{content_of};
 ghost use Rattle.ownership.specs.Apply.{State};
 ghost use Rattle.ownership.specs.Keeping.{OwnedStand};
 ghost use Rattle.ownership.specs.Managers.{pairs};
+ghost use Rattle.ownership.specs.ObjectText.{entry_items};
 ghost use Rattle.ownership.specs.Parts.{Gives, all_within, if_read, parts_in};
 ghost use Rattle.ownership.specs.ReadBack.{IsReadBack};
 ghost use Rattle.ownership.specs.Results.{identity_of, state_of};
@@ -52,9 +56,17 @@ fn read_content(alloc: Global, schema: &Schema, value: &Value) -> Result<Tree, O
     }
 }
 
-/// What stands in an object's value and who owns it, and its version.
-fn read_parts(alloc: Global, schema: &Schema, value: Value) -> Result<(Owned, u64), ObjectFault>
-    ensures parts { Gives {Y = State × ℕ} (λ o. (state_of o.0, o.1)) result (parts_in (shape schema.now) (view value)) }
+/// What stands in an object's value and who owns it, its version, and the items of its `managedFields` as they are
+/// printed.
+fn read_parts(
+    alloc: Global,
+    schema: &Schema,
+    api_version: &str,
+    value: Value,
+) -> Result<((Owned, u64), Vec<Value>), ObjectFault>
+    ensures parts { Gives {Y = State × ℕ} (λ o. (state_of o.0.0, o.0.1)) result (parts_in (shape schema.now) (view value)) }
+    ensures items { IfOk result (λ o. is_type_shape (shape schema.now) ≡ true → IsSpelled (view value)
+        → items_view o.1.items ≡ entry_items (shape schema.now) api_version.now (fin.entries o.0.0.managers)) }
 {
     let Some((others, metadata)) = split(value) else {
         return Err(ObjectFault::NotCanonical);
@@ -62,10 +74,10 @@ fn read_parts(alloc: Global, schema: &Schema, value: Value) -> Result<(Owned, u6
     let Some(version) = version_in(&metadata) else {
         return Err(ObjectFault::NotCanonical);
     };
-    let managers = read_owners(alloc, schema, &metadata)?;
-    let fields = fields_of(alloc, others, metadata)?;
+    let (fields, listed) = fields_of(alloc, others, metadata)?;
+    let (managers, items) = read_owners(alloc, schema, api_version, listed)?;
     let tree = read_content(alloc, schema, &fields)?;
-    Ok((Owned { tree, managers }, version))
+    Ok(((Owned { tree, managers }, version), items))
 }
 
 /// Whether each of these paths stands in the content.
@@ -108,11 +120,11 @@ impl Owned {
         ensures { IsObjectShape (shape schema.now) → IsReadBack (shape schema.now) (identity_of of.entry) text.now result }
     {
         let value = read_value(alloc, text)?;
-        let (owned, version) = read_parts(alloc, schema, value)?;
+        let ((owned, version), items) = read_parts(alloc, schema, of.api_version, value)?;
         if !owned.owned_stand(alloc)? {
             return Err(ObjectFault::NotCanonical);
         }
-        let printed = owned.to_object(alloc, schema, of, version)?;
+        let printed = owned.text_with(alloc, schema, of, version, items)?;
         if printed.as_str() == text {
             return Ok((owned, version));
         }

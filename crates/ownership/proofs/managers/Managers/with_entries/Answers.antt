@@ -11,3 +11,9 @@ invariant_of-result c =
     let up : rising es ≡ true = ap (λ l. rising (pairs l)) (sym c.deref.ensures.value) ∙ sym c.are_rising.ensures ∙ c.if-are_rising.true in
     let some : have_paths es ≡ true = ap (λ l. have_paths (pairs l)) (sym c.deref-then-are_rising.ensures.value) ∙ sym c.have_paths.ensures ∙ c.if-have_paths.true in
     (entries-sorted es (rising_sorted es up), owners_have_paths es some)
+
+pub returns-then-have_paths-clause-entries : goal.returns-then-have_paths-clause-entries
+returns-then-have_paths-clause-entries c =
+    let es = pairs c.args.entries.items in
+    let up : rising es ≡ true = ap (λ l. rising (pairs l)) (sym c.deref.ensures.value) ∙ sym c.are_rising.ensures ∙ c.if-are_rising.true in
+    entries-sorted es (rising_sorted es up)

@@ -3,6 +3,8 @@ use Rattle.std.specs.Cmp.Lexicographic.{bytes_decides}
 use Rattle.schema.specs.Shape.{shape}
 use Rattle.serde_json.specs.View.{view}
 use Rattle.ownership.specs.Results.{identity_of, state_of}
+use Rattle.fieldpath.proofs.Spelled.{spelled-read}
+use Rattle.ownership.proofs.Sameness.{both_true}
 use Rattle.ownership.proofs.Answered.{handed, unread, no_parts, not_standing, not_printed, read_back}
 use Rattle.ownership.proofs.owned.Owned.from_object.Goals as goal
 
@@ -31,11 +33,11 @@ returns-then-not-branch c = λ shaped.
 pub returns-then-eq : goal.returns-then-eq
 returns-then-eq c = λ shaped.
     read_back (shape c.args.schema.now) (identity_of c.args.of) c.args.text.now shaped (view c.in_ok-value.value) (state_of c.in_ok-owned.owned) c.in_ok-owned.version (string_bytes c.in_ok-printed.printed) c.in_ok-value.ensures c.in_ok-owned.ensures.parts
-    (c.in_ok-owned_stand.ensures.0 c.if-not-branch.false) c.in_ok-printed.ensures
+    (c.in_ok-owned_stand.ensures.0 c.if-not-branch.false) (c.in_ok-printed.ensures (c.in_ok-owned.ensures.items (both_true _ _ shaped.0 shaped.1) (spelled-read c.args.text.now (view c.in_ok-value.value) c.in_ok-value.ensures).0))
     (sym c.as_str.ensures.value ∙ (bytes_decides c.as_str.result.now c.args.text.now).0 (sym c.eq.ensures ∙ c.if-eq.true))
 
 pub returns : goal.returns
 returns c = λ shaped.
     not_printed (shape c.args.schema.now) (identity_of c.args.of) c.args.text.now shaped (view c.in_ok-value.value) c.in_ok-value.ensures (state_of c.in_ok-owned.owned) c.in_ok-owned.version c.in_ok-owned.ensures.parts
-    (string_bytes c.in_ok-printed.printed) c.in_ok-printed.ensures
+    (string_bytes c.in_ok-printed.printed) (c.in_ok-printed.ensures (c.in_ok-owned.ensures.items (both_true _ _ shaped.0 shaped.1) (spelled-read c.args.text.now (view c.in_ok-value.value) c.in_ok-value.ensures).0))
     (λ same. true≢false (sym ((bytes_decides c.as_str.result.now c.args.text.now).1 (c.as_str.ensures.value ∙ same)) ∙ sym c.eq.ensures ∙ c.if-eq.false))
