@@ -10,11 +10,11 @@ use Rattle.history.specs.History.{Change, Key, Objects, is_same_key, object_by, 
 use Rattle.history.proofs.Keys.{get-put_or_remove, tied}
 use Rattle.verbs.specs.declared.method.Method.{Method}
 use Rattle.verbs.specs.declared.method.Method.TheVariants.{Get}
-use Rattle.verbs.specs.Calls.{Call, Plan}
+use Rattle.verbs.specs.Calls.{Answer, Call, Plan}
 use Rattle.verbs.specs.Machine.{IsNext, after}
 use Rattle.verbs.specs.Parameters.{parameters_validated}
 use Rattle.verbs.specs.Promise.{CallsChangeOneObject, GetsChangeNothing, IsCalled, RefusalsChangeNothing}
-use Rattle.verbs.specs.Step.{all_validated_by, collection_of, collection_validated_by, get_validated, key_at, list_answered, list_parameters, list_validated, Lists, lists_of, object_validated_by, plan_for, there, validated_at, validated_in, validated_over, version_come}
+use Rattle.verbs.specs.Step.{all_validated_by, collection_of, collection_validated_by, get_validated, key_at, list_answered, list_validated, Lists, lists_of, object_validated_by, plan_for, there, validated_at, validated_in, validated_over, version_come}
 use Rattle.verbs.specs.Validated.{Validated}
 use Rattle.verbs.proofs.Changes.{standing_next}
 use Rattle.verbs.proofs.Checks.{change_in, no_err, passed}
@@ -36,11 +36,11 @@ module _ (current : ℕ) (objects : Objects) (lists : Lists) (call : Call) (is :
 
   listed_none : (t : ServedShape) (kind : ℕ) (namespace : Option (List ℕ)) (p : Plan) → list_validated t lists kind namespace call.query ≡ Ok p → None ≡ p.change
   listed_none t kind namespace p e =
-      let values = passed (list_parameters call.query) _ p e in
+      let values = passed (parameters_validated asked.List call.query) _ p e in
       answered (lists (collection_of t kind namespace) values.0) values.2
     where
-      answered : (r : Result (List ℕ) Refusal) → list_answered r ≡ Ok p → None ≡ p.change
-      answered (Ok text) f = ap change_in f
+      answered : (r : Result Answer Refusal) → list_answered r ≡ Ok p → None ≡ p.change
+      answered (Ok answer) f = ap change_in f
       answered (Err refusal) f = no_err _ p f
 
   in_none : (t : ServedShape) (namespace name : Option (List ℕ)) (p : Plan) → validated_in t current objects lists call namespace name ≡ Ok p → None ≡ p.change

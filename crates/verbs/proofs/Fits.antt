@@ -13,7 +13,7 @@ use Rattle.ownership.specs.Sameness.{same_state}
 use Rattle.ownership.proofs.Taken.{no_some}
 use Rattle.verbs.specs.declared.method.Method.{Method}
 use Rattle.verbs.specs.declared.method.Method.TheVariants.{Delete, Get, Patch, Post, Put}
-use Rattle.verbs.specs.Calls.{Call, Plan}
+use Rattle.verbs.specs.Calls.{Answer, Call, Plan}
 use Rattle.verbs.specs.Envelope.{Expected, api_version_of, name_in}
 use Rattle.std.specs.declared.result.Result.{Result}
 use Rattle.lists.specs.declared.refusal.Refusal.{Refusal}
@@ -25,7 +25,7 @@ use Rattle.verbs.specs.Parameters.{parameters_validated}
 use Rattle.verbs.specs.Promise.{IsCalled}
 use Rattle.verbs.specs.Seen.{objects_in}
 use Rattle.verbs.specs.Size.{size_validated}
-use Rattle.verbs.specs.Step.{Creation, Intent, apply_validated, at_path, body_of, collection_validated_by, create_validated, creation_validated, delete_validated, deleted_over, get_validated, intent_of, validated_at, validated_in, validated_over, as_it_stands, key_at, not_there, object_validated_by, plan_for, planned_over, ownership_validated, printed, revisions_left, stored, stored_over, there, update_validated, updated_by, updated_over, version_checked, version_come, all_validated_by, collection_of, list_answered, list_validated, list_parameters, Lists, lists_in}
+use Rattle.verbs.specs.Step.{Creation, Intent, apply_validated, at_path, body_of, collection_validated_by, create_validated, creation_validated, delete_validated, deleted_over, get_validated, intent_of, validated_at, validated_in, validated_over, as_it_stands, key_at, not_there, object_validated_by, plan_for, planned_over, ownership_validated, printed, revisions_left, stored, stored_over, there, update_validated, updated_by, updated_over, version_checked, version_come, all_validated_by, collection_of, list_answered, list_validated, Lists, lists_in}
 use Rattle.verbs.proofs.Checks.{change_in, no_err, ok_is, passed}
 
 -- and its key is one of those that Q says
@@ -122,11 +122,11 @@ module _ (current : ℕ) (objects : Objects) (lists : Lists) (call : Call) where
   -- a list changes nothing
   list_fits : (t : ServedShape) (kind : ℕ) (namespace : Option (List ℕ)) → AllFit (list_validated t lists kind namespace call.query)
   list_fits t kind namespace p e =
-      let values = passed (list_parameters call.query) _ p e in
+      let values = passed (parameters_validated asked.List call.query) _ p e in
       answered (lists (collection_of t kind namespace) values.0) values.2
     where
-      answered : (r : Result (List ℕ) Refusal) → list_answered r ≡ Ok p → Fits current objects (IsCalled call.target) p.change
-      answered (Ok text) f = subst (Fits current objects (IsCalled call.target)) (ap change_in f) tt
+      answered : (r : Result Answer Refusal) → list_answered r ≡ Ok p → Fits current objects (IsCalled call.target) p.change
+      answered (Ok answer) f = subst (Fits current objects (IsCalled call.target)) (ap change_in f) tt
       answered (Err refusal) f = no_err _ p f
 
   all_fits : (w : Method) (t : ServedShape) (kind : ℕ) → AllFit (all_validated_by w t lists kind call.query)

@@ -16,3 +16,4 @@ pub mod Promise
 pub mod Refusals
 pub mod Statuses
 pub mod Said
+pub mod Bookmarks

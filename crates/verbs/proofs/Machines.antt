@@ -1,18 +1,31 @@
 -- A machine from its beginning on.
-use Rattle.std.proofs.Common.{◌≡◌, List, [], ◌∷◌, sym, ap₂}
+use Rattle.std.proofs.Common.{◌≡◌, ℕ, List, [], ◌∷◌, Option, None, Some, Ok, Err, sym, ap, ap₂, cond}
+use Rattle.std.specs.Prelude.{◌==◌, nat_lt}
+use Rattle.std.specs.declared.result.Result.{Result}
+use Rattle.std.specs.FinMap as fin
 use Rattle.std.specs.List.{AllByRecursion}
 use Rattle.schema.specs.TypesFile.{ServedShape}
-use Rattle.history.specs.History.{History, standing, state_at}
+use Rattle.history.specs.History.{History, Objects, standing, state_at}
+use Rattle.history.specs.Seen.{selected}
 use Rattle.history.specs.View.{state_in, view}
 use Rattle.history.proofs.Views.{view_states}
+use Rattle.lists.specs.Body.{Collection}
+use Rattle.lists.specs.Labels.{selection_of}
+use Rattle.lists.specs.declared.refusal.Refusal.{Refusal}
+use Rattle.lists.specs.declared.refusal.Refusal.TheVariants.{Expired}
 use Rattle.lists.proofs.Bounds.{list_same}
+use Rattle.params.specs.Values.{Values, Watch}
+use Rattle.watchline.specs.declared.opening.Initial.{Initial}
+use Rattle.watchline.specs.declared.opening.Initial.TheVariants.{Changes}
+use Rattle.watchline.specs.Opening.{WatchFrom, from_parts, initial_in, initial_of, opened, opened_by, starts}
+use Rattle.watchline.specs.Watches.{from_history, from_view}
 use Rattle.std.proofs.Math.Path.{fun_ext}
 use Rattle.history.proofs.Wholes.{whole_compacts, whole_fresh}
 use Rattle.verbs.specs.Calls.{Call}
 use Rattle.verbs.specs.Json.{IsJsonBody}
 use Rattle.verbs.specs.Machine.{IsMachine}
 use Rattle.verbs.specs.Promise.{CallsKeepMachines, CompactionsKeepMachines, MachinesBegin, PlansByViews}
-use Rattle.verbs.specs.Step.{lists_in, lists_of, planned_over, step, steps}
+use Rattle.verbs.specs.Step.{lists_in, lists_of, page_shown, planned_over, shown_by, step, steps, watch_shown}
 use Rattle.verbs.proofs.Changes.{is_history}
 use Rattle.verbs.proofs.Promise.{steps_keep_machines}
 
@@ -33,9 +46,30 @@ compactions_keep_machines types m c is low high = record { first = is.first; who
 pub standing_seen : (types : List ServedShape) (m : History) → IsMachine types m → state_in (view m) m.current ≡ standing m
 standing_seen types m is = view_states m m.current (is_history types m is) is.whole.low
 
--- and so are the lists of it
-pub lists_seen : (types : List ServedShape) (m : History) → IsMachine types m → lists_in (view m) ≡ lists_of m
-lists_seen types m is = fun_ext (λ of. fun_ext (λ values. list_same m.current m.compacted is.whole.low of values (state_in (view m)) (state_at m.changes) (λ r low. view_states m r (is_history types m is) low)))
+-- and so are the answers to lists and watches of it
+module _ (types : List ServedShape) (m : History) (is : IsMachine types m) where
+  module _ (kind : ℕ) (namespace : Option (List ℕ)) (values : Values) (watch : Watch) where
+    initial_seen : initial_in (from_view (view m)) kind namespace values.selector ≡ initial_in (from_history m) kind namespace values.selector
+    initial_seen = ap (λ (objects : Objects). initial_of (fin.entries (selected (selection_of kind namespace values.selector) objects))) (standing_seen types m is)
+
+    abbrev begins : Result (ℕ × Initial) Refusal → Result WatchFrom Refusal
+    begins = opened_by (from_parts kind namespace values.selector watch)
+
+    begins_seen : (version : Option ℕ) → begins (starts (from_view (view m)) version (initial_in (from_view (view m)) kind namespace values.selector))
+        ≡ begins (starts (from_history m) version (initial_in (from_history m) kind namespace values.selector))
+    begins_seen None = ap (λ (initial : Initial). begins (Ok (m.current, initial))) initial_seen
+    begins_seen (Some v) = ap (λ (initial : Initial). begins (cond (v == 0) (Ok (m.current, initial)) (cond (nat_lt v m.compacted) (Err (Expired v m.compacted)) (Ok (v, Changes))))) initial_seen
+
+    opened_seen : opened (from_view (view m)) kind namespace values watch ≡ opened (from_history m) kind namespace values watch
+    opened_seen = begins_seen values.version
+
+  shown_seen : (of : Collection) (values : Values) (watch : Option Watch) → shown_by (from_view (view m)) of values watch ≡ shown_by (from_history m) of values watch
+  shown_seen of values None =
+      ap page_shown (list_same m.current m.compacted is.whole.low of values (state_in (view m)) (state_at m.changes) (λ r low. view_states m r (is_history types m is) low))
+  shown_seen of values (Some watch) = ap watch_shown (opened_seen of.kind of.namespace values watch)
+
+  pub lists_seen : lists_in (view m) ≡ lists_of m
+  lists_seen = fun_ext (λ of. fun_ext (λ values. shown_seen of values values.watch))
 
 pub plans_by_views : PlansByViews
 plans_by_views types m call is = sym (ap₂ (λ s ls. planned_over types m.current s ls call) (standing_seen types m is) (lists_seen types m is))

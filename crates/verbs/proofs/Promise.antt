@@ -33,7 +33,7 @@ use Rattle.ownership.specs.Sameness.{same_state}
 use Rattle.ownership.proofs.Keeping.{others_keep}
 use Rattle.verbs.specs.declared.method.Method.{Method}
 use Rattle.verbs.specs.declared.method.Method.TheVariants.{Get, Post, Put, Patch, Delete}
-use Rattle.verbs.specs.Calls.{Call, Plan}
+use Rattle.verbs.specs.Calls.{Answer, Call, Plan}
 use Rattle.verbs.specs.Json.{IsJson, IsJsonBody}
 use Rattle.verbs.specs.Envelope.{Expected, api_version_of, envelope_of, name_in}
 use Rattle.std.specs.declared.result.Result.{Result}
@@ -46,7 +46,7 @@ use Rattle.verbs.specs.Options.{options_validated}
 use Rattle.verbs.specs.Parameters.{parameters_validated}
 use Rattle.verbs.specs.Promise.{AppliesKeepOthers, BodiesSayStates, OthersKeepUnchanged, PlansComeNext, SaysState, StepsKeepMachines, TextsSayStates, UpdatesTakeChanges}
 use Rattle.verbs.specs.Size.{count_if_there, is_over, max_bytes, max_labels, size_validated}
-use Rattle.verbs.specs.Step.{Intent, applied_over, apply_validated, at_path, body_of, collection_validated_by, conflict_refusal, Creation, create_validated, created_as, creation_validated, delete_validated, deleted_over, get_validated, intent_of, validated_at, validated_in, validated_over, as_it_stands, key_at, not_there, object_validated_by, ownership_validated, planned, printed, revisions_left, shape_validated, stored, stored_over, text_at, there, plan_for, update_validated, updated_by, updated_over, version_checked, version_come, all_validated_by, collection_of, list_answered, list_validated, list_parameters, Lists, lists_of}
+use Rattle.verbs.specs.Step.{Intent, applied_over, apply_validated, at_path, body_of, collection_validated_by, conflict_refusal, Creation, create_validated, created_as, creation_validated, delete_validated, deleted_over, get_validated, intent_of, validated_at, validated_in, validated_over, as_it_stands, key_at, not_there, object_validated_by, ownership_validated, planned, printed, revisions_left, shape_validated, stored, stored_over, text_at, there, plan_for, update_validated, updated_by, updated_over, version_checked, version_come, all_validated_by, collection_of, list_answered, list_validated, Lists, lists_of}
 use Rattle.verbs.proofs.Changes.{machine_next, standing_next, standing_texts, texts_at}
 use Rattle.verbs.proofs.Checks.{change_in, held, no_err, ok_is, passed}
 use Rattle.verbs.proofs.Contents.{intended_content}
@@ -298,11 +298,11 @@ module _ (types : List ServedShape) (current : ℕ) (objects : Objects) (shapes 
   -- a list writes nothing
   list_writes : (t : ServedShape) (kind : ℕ) (namespace : Option (List ℕ)) → Writes (list_validated t lists kind namespace call.query)
   list_writes t kind namespace p e =
-      let values = passed (list_parameters call.query) _ p e in
+      let values = passed (parameters_validated asked.List call.query) _ p e in
       answered (lists (collection_of t kind namespace) values.0) values.2
     where
-      answered : (r : Result (List ℕ) Refusal) → list_answered r ≡ Ok p → WritesBy types current objects (Unit {0}) (λ old new. Unit {0}) p.change
-      answered (Ok text) f = subst (WritesBy types current objects (Unit {0}) (λ old new. Unit {0})) (ap change_in f) tt
+      answered : (r : Result Answer Refusal) → list_answered r ≡ Ok p → WritesBy types current objects (Unit {0}) (λ old new. Unit {0}) p.change
+      answered (Ok answer) f = subst (WritesBy types current objects (Unit {0}) (λ old new. Unit {0})) (ap change_in f) tt
       answered (Err refusal) f = no_err _ p f
 
   all_writes : (w : Method) (t : ServedShape) (kind : ℕ) → Writes (all_validated_by w t lists kind call.query)

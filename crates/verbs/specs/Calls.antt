@@ -2,6 +2,7 @@
 use Rattle.std.specs.Prelude.{ℕ, List, Option}
 use Rattle.serde_json.specs.Data.{Data}
 use Rattle.history.specs.History.{Change}
+use Rattle.watchline.specs.Opening.{WatchFrom}
 use Rattle.verbs.specs.declared.method.Method.{Method}
 use Rattle.verbs.specs.declared.reason.Reason.{Reason}
 
@@ -18,10 +19,11 @@ pub record Call : Type 0 where
   pub query : List ℕ
   pub body : Option Data
 
--- the body is a text
+-- the body is a text; where a watch is opened it is empty, and the watch's lines come after it
 pub record Answer : Type 0 where
   pub status : ℕ
   pub body : List ℕ
+  pub watch : Option WatchFrom
 
 -- what a call comes to: its answer, and the change that it makes, if any
 pub record Plan : Type 0 where

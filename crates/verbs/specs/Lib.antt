@@ -12,5 +12,6 @@ pub mod Naming
 pub mod Options
 pub mod Size
 pub mod Step
+pub mod Watching
 pub mod Promise
 pub mod Seen

@@ -1,5 +1,5 @@
 -- The parameters of a call, or the refusal of the first that is at fault (Kubernetes API reference, "Common Parameters").
-use Rattle.std.specs.Prelude.{ℕ, Bool, List, ◌++◌, codes}
+use Rattle.std.specs.Prelude.{ℕ, List, ◌++◌, codes}
 use Rattle.std.specs.declared.result.Result.{Result}
 use Rattle.std.specs.declared.result.Result.TheVariants.{Ok, Err}
 use Rattle.params.specs.declared.parameter.Parameter.{Parameter}
@@ -7,7 +7,7 @@ use Rattle.params.specs.declared.parameter.Parameter.TheVariants.{AllowWatchBook
 use Rattle.params.specs.declared.params.Asked.{Asked}
 use Rattle.params.specs.Parameters.{name_of}
 use Rattle.params.specs.Query.{pairs_in}
-use Rattle.params.specs.Reading.{params_of, truth_in}
+use Rattle.params.specs.Reading.{params_of}
 use Rattle.params.specs.Values.{Values}
 use Rattle.verbs.specs.declared.reason.Reason.TheVariants.{BadRequest, Invalid}
 use Rattle.verbs.specs.Status.{CallRefusal}
@@ -39,7 +39,3 @@ read_or_refused (Err p) = Err (bad_parameter p)
 
 abbrev pub parameters_validated : Asked → List ℕ → Validated Values
 parameters_validated asked query = read_or_refused (params_of asked (pairs_in query))
-
--- whether a list is to be watched, which is read before all else
-abbrev pub watch_validated : List ℕ → Validated Bool
-watch_validated query = read_or_refused (truth_in Watch (pairs_in query))

@@ -18,8 +18,10 @@ use Rattle.verbs.specs.Calls.{Call, Target}
 use Rattle.verbs.specs.Json.{IsJsonBody}
 use Rattle.verbs.specs.Machine.{AreObjectTypes, IsMachine, IsNext, IsTextAt, state_said, state_under}
 use Rattle.verbs.specs.Parameters.{parameters_validated}
-use Rattle.verbs.specs.Step.{lists_of, planned, planned_in, step, steps, validated_over}
-use Rattle.verbs.specs.Status.{CallRefusal}
+use Rattle.lists.specs.declared.refusal.Refusal.TheVariants.{Expired}
+use Rattle.watchline.specs.Lines.{expired_message, expired_value}
+use Rattle.verbs.specs.Step.{list_refusal, lists_of, planned, planned_in, step, steps, validated_over}
+use Rattle.verbs.specs.Status.{CallRefusal, call_refusal_value}
 
 -- what a call plans may come next, so the machine is one after each call whose body is a value that a JSON text spells
 abbrev pub PlansComeNext : Type 0
@@ -74,6 +76,12 @@ UpdatesTakeChanges =
     (types : List ServedShape) (m : History) (call : Call) (values : Values) → IsMachine types m → IsJsonBody call.body
     → call.target.method ≡ Put → parameters_validated asked.Put call.query ≡ Ok values
     → (k : Key) → OthersKeepUnchanged (state_under types (standing m) k) (state_under types (standing (step types m call).1) k) (manager_of values.manager update_operation)
+
+-- ---- what ends a watch
+
+-- the error that ends a watch has the Status with which a list of the same revision is refused
+abbrev pub ErrorsAreRefusals : Type 0
+ErrorsAreRefusals = (revision compacted : ℕ) → expired_value (expired_message revision compacted) ≡ call_refusal_value (list_refusal (Expired revision compacted))
 
 -- ---- what a call changes
 

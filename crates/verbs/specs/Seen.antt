@@ -38,6 +38,7 @@ use Rattle.history.specs.View.{View, state_in, view as view_of}
 use Rattle.verbs.specs.Machine.{ComesAfter, IsMachine}
 use Rattle.verbs.specs.declared.body.Body.{Body}
 use Rattle.serde_json.specs.Data.{Data}
+use Rattle.watchline.specs.Views.{watch_from}
 use Rattle.verbs.specs.Calls.{Target, Call, Answer, Plan, Denied}
 
 -- ---- calls and answers
@@ -52,7 +53,7 @@ abbrev pub call_of : TheCall → Call
 call_of c = record { target = target_of c.target; query = c.query.items; body = option_map body_seen c.body }
 
 abbrev pub answer_of : TheAnswer → Answer
-answer_of a = record { status = a.status; body = string_bytes a.body }
+answer_of a = record { status = a.status; body = string_bytes a.body; watch = option_map watch_from a.watch }
 
 abbrev pub change_of : TheChange → Change
 change_of c = record { revision = c.revision; key = key_of c.key; body = option_map string_bytes c.body }

@@ -1,6 +1,6 @@
 -- The step: what a call answers at a machine, and the machine after it, with the checks in their order
 -- (Kubernetes docs, "Server-Side Apply"; "Kubernetes API Concepts", "Resource versions").
-use Rattle.std.specs.Prelude.{ℕ, suc, Bool, true, false, not, ◌==◌, nat_le, nat_lt, List, [], ◌∷◌, ◌++◌, length, Option, Some, None, slice_get, if◌then◌else◌, codes, decimal}
+use Rattle.std.specs.Prelude.{ℕ, suc, Bool, ◌==◌, nat_le, nat_lt, List, [], ◌∷◌, ◌++◌, length, Option, Some, None, slice_get, if◌then◌else◌, codes, decimal}
 use Rattle.std.specs.declared.result.Result.{Result}
 use Rattle.std.specs.declared.result.Result.TheVariants.{Ok, Err}
 use Rattle.std.specs.FinMap as fin
@@ -14,7 +14,7 @@ use Rattle.typed.specs.declared.fault.Cause.TheVariants.{NotAnObject, UnknownFie
 use Rattle.typed.specs.Faults.{Read, cause_text}
 use Rattle.typed.specs.Reading.{content_of}
 use Rattle.ownership.specs.Owners.{Manager, manager_of, apply_operation, update_operation}
-use Rattle.history.specs.History.{Key, Object, Objects, History, last_revision, standing, state_at}
+use Rattle.history.specs.History.{Key, Object, Objects, History, last_revision, standing}
 use Rattle.history.specs.View.{View, state_in}
 use Rattle.ownership.specs.Apply.{State, Conflict, conflicts, applied, is_refused}
 use Rattle.ownership.specs.Update.{updated}
@@ -24,9 +24,12 @@ use Rattle.lists.specs.Body.{Collection}
 use Rattle.lists.specs.Lists.{list_of}
 use Rattle.lists.specs.declared.refusal.Refusal.{Refusal}
 use Rattle.lists.specs.declared.refusal.Refusal.TheVariants.{Expired, TooLarge}
-use Rattle.params.specs.Values.{Values}
+use Rattle.params.specs.Values.{Values, Watch}
 use Rattle.params.specs.declared.params.Asked.{Asked}
 use Rattle.params.specs.declared.params.Asked.TheVariants as asked
+use Rattle.watchline.specs.Lines.{expired_message}
+use Rattle.watchline.specs.Opening.{WatchFrom, opened}
+use Rattle.watchline.specs.Watches.{Source, from_history, from_view}
 use Rattle.verbs.specs.declared.method.Method.{Method}
 use Rattle.verbs.specs.declared.method.Method.TheVariants.{Get, Post, Put, Patch, Delete}
 use Rattle.verbs.specs.declared.reason.Reason.{Reason}
@@ -38,8 +41,7 @@ use Rattle.verbs.specs.Validated.{Validated, and_then, call_refusal, refused_for
 use Rattle.verbs.specs.Machine.{after, identity_of, no_state, state_of_live, state_said}
 use Rattle.verbs.specs.Calls.{Call, Answer, Plan}
 use Rattle.verbs.specs.Envelope.{Expected, api_version_of, envelope_of, name_in}
-use Rattle.verbs.specs.Parameters.{bad_parameter, parameters_validated, watch_validated}
-use Rattle.params.specs.declared.parameter.Parameter.TheVariants.{Watch}
+use Rattle.verbs.specs.Parameters.{parameters_validated}
 use Rattle.verbs.specs.Naming.{marks_validated, names_validated, required_name}
 use Rattle.verbs.specs.Options.{options_validated}
 use Rattle.verbs.specs.Size.{size_validated}
@@ -142,7 +144,7 @@ stored_as body current k status =
     and_then (size_validated body) (λ u.
     and_then (revisions_left current) (λ u.
     Ok (record {
-      answer = record { status = status; body = compact_text body };
+      answer = record { status = status; body = compact_text body; watch = None };
       change = Some (record { revision = suc current; key = k; body = Some (compact_text body) });
     })))
 
@@ -152,7 +154,7 @@ stored t current k status s = stored_as (printed t k (suc current) s) current k 
 
 -- the object as it stands
 abbrev pub as_it_stands : Object → Plan
-as_it_stands o = record { answer = record { status = 200; body = o.body }; change = None }
+as_it_stands o = record { answer = record { status = 200; body = o.body; watch = None }; change = None }
 
 -- a creation, or a change of what stands, unless it changes nothing of what that says
 abbrev pub stored_over : ServedShape → ℕ → Key → Option Object → State → Validated Plan
@@ -206,37 +208,44 @@ get_validated t current live k query =
     and_then (version_come values.version current) (λ u.
     Ok (as_it_stands o))))
 
--- ---- lists ("Retrieving large results sets in chunks")
+-- ---- lists ("Retrieving large results sets in chunks") and watches ("Efficient detection of changes")
 
--- the texts of lists, or why there is none
+-- the answers to lists and watches, or why there is none
 abbrev pub Lists : Type 0
-Lists = Collection → Values → Result (List ℕ) Refusal
+Lists = Collection → Values → Result Answer Refusal
 
 abbrev pub collection_of : ServedShape → ℕ → Option (List ℕ) → Collection
 collection_of t kind namespace = record { kind = kind; namespace = namespace; api_version = api_version_of t; item_kind = t.kind }
-
-abbrev pub expired_message : ℕ → ℕ → List ℕ
-expired_message n compacted = codes "too old resource version: " ++ decimal n ++ codes " (" ++ decimal compacted ++ codes ")"
 
 abbrev pub list_refusal : Refusal → CallRefusal
 list_refusal (Expired n compacted) = call_refusal reason.Expired (expired_message n compacted)
 list_refusal (TooLarge n current) = call_refusal Timeout (too_large_message n current)
 
-abbrev pub list_answered : Result (List ℕ) Refusal → Validated Plan
-list_answered (Ok text) = Ok (record { answer = record { status = 200; body = text }; change = None })
+abbrev pub list_answered : Result Answer Refusal → Validated Plan
+list_answered (Ok answer) = Ok (record { answer = answer; change = None })
 list_answered (Err refusal) = Err (list_refusal refusal)
 
--- watches are not served yet
-abbrev pub if_unwatched : Bool → List ℕ → Validated Values
-if_unwatched true query = Err (bad_parameter Watch)
-if_unwatched false query = parameters_validated asked.List query
-
-abbrev pub list_parameters : List ℕ → Validated Values
-list_parameters query = and_then (watch_validated query) (λ is_watch. if_unwatched is_watch query)
-
--- parameters, then the list's revision
+-- parameters, then the revision
 abbrev pub list_validated : ServedShape → Lists → ℕ → Option (List ℕ) → List ℕ → Validated Plan
-list_validated t lists kind namespace query = and_then (list_parameters query) (λ values. list_answered (lists (collection_of t kind namespace) values))
+list_validated t lists kind namespace query = and_then (parameters_validated asked.List query) (λ values. list_answered (lists (collection_of t kind namespace) values))
+
+-- the text of a page
+abbrev pub page_shown : Result (List ℕ) Refusal → Result Answer Refusal
+page_shown (Ok text) = Ok (record { status = 200; body = text; watch = None })
+page_shown (Err refusal) = Err refusal
+
+-- a watch's lines come after its answer, which has no body
+abbrev pub watch_shown : Result WatchFrom Refusal → Result Answer Refusal
+watch_shown (Ok from) = Ok (record { status = 200; body = []; watch = Some from })
+watch_shown (Err refusal) = Err refusal
+
+-- a watch where the parameters ask for one, and else a page
+abbrev pub shown_by : Source → Collection → Values → Option Watch → Result Answer Refusal
+shown_by s of values None = page_shown (list_of of values s.current s.compacted s.at)
+shown_by s of values (Some watch) = watch_shown (opened s of.kind of.namespace values watch)
+
+abbrev pub lists_from : Source → Lists
+lists_from s = λ of values. shown_by s of values values.watch
 
 -- ---- creation and update ("Server-Side Apply", "Comparison with Client-Side Apply": they own what they change)
 
@@ -283,7 +292,7 @@ update_validated t current live k query body =
 -- the object's last state, with the deletion's revision
 abbrev pub deleted : ServedShape → ℕ → Key → Object → Plan
 deleted t current k o = record {
-  answer = record { status = 200; body = text_at t k (suc current) (state_said t.shape o.body) };
+  answer = record { status = 200; body = text_at t k (suc current) (state_said t.shape o.body); watch = None };
   change = Some (record { revision = suc current; key = k; body = None });
 }
 
@@ -360,22 +369,22 @@ validated_over types current objects lists call = validated_at (slice_get types 
 
 -- a refusal is answered by its Status, and changes nothing
 abbrev pub refused : CallRefusal → Plan
-refused d = record { answer = record { status = code_of d.reason; body = compact_text (call_refusal_value d) }; change = None }
+refused d = record { answer = record { status = code_of d.reason; body = compact_text (call_refusal_value d); watch = None }; change = None }
 
 abbrev pub plan_for : Validated Plan → Plan
 plan_for (Ok p) = p
 plan_for (Err d) = refused d
 
--- by the types, the current number, the objects that stand, and the lists
+-- by the types, the current number, the objects that stand, and the answers to lists
 abbrev pub planned_over : List ServedShape → ℕ → Objects → Lists → Call → Plan
 planned_over types current objects lists call = plan_for (validated_over types current objects lists call)
 
--- the lists of a machine, by its objects at each revision
+-- the lists and watches of a machine, by its objects at each revision
 abbrev pub lists_of : History → Lists
-lists_of m = λ of values. list_of of values m.current m.compacted (state_at m.changes)
+lists_of m = lists_from (from_history m)
 
 abbrev pub lists_in : View → Lists
-lists_in v = λ of values. list_of of values v.current v.compacted (state_in v)
+lists_in v = lists_from (from_view v)
 
 -- the answer of a call, and the change that it makes
 abbrev pub planned : List ServedShape → History → Call → Plan

@@ -42,7 +42,11 @@ pub fn refused(alloc: Global, call_refusal: CallRefusal) -> Result<Plan, AllocEr
     let status = call_refusal.reason.code();
     let body = call_refusal.into_text(alloc)?;
     Ok(Plan {
-        answer: Answer { status, body },
+        answer: Answer {
+            status,
+            body,
+            watch: None,
+        },
         change: None,
     })
 }

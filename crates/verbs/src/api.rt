@@ -3,11 +3,13 @@ use crate::calls::{Call, Plan, Target};
 use crate::fault::Fault;
 use crate::plans::planned;
 use crate::route::Routes;
+use crate::watching::{bookmarked, pumped};
 use crate::writing::written;
 use revstore::{CompactFault, Store};
 use revtable::Table;
 use schema::Types;
 use std::alloc::Global;
+use watchline::{Pumped, WatchCursor, watches_by_views};
 
 /// The API over a store of its objects' texts.
 #[derive(Drop)]
@@ -19,7 +21,7 @@ pub struct Api {
 }
 
 impl Api {
-    ghost use Rattle.std.specs.Prelude.{◌≡◌, ◌≢◌, ◌↔◌, ◌<◌, ◌≤◌, List, Ok, Err, IfOk, IfSome, OnOk, OnErr, option_map};
+    ghost use Rattle.std.specs.Prelude.{◌≡◌, ◌≢◌, ◌↔◌, ◌<◌, ◌≤◌, List, Ok, Err, IfOk, IfSome, None, OnOk, OnErr, false, option_map};
     ghost use Rattle.schema.specs.Served as types;
     ghost use Rattle.schema.specs.Served.{types_view};
     ghost use Rattle.schema.specs.TypesFile.{ServedShape};
@@ -28,10 +30,14 @@ impl Api {
     ghost use Rattle.verbs.specs.Machine.{IsNext, after};
     ghost use Rattle.verbs.specs.Seen.{Admits, ComesNext, Stands, call_of, change_of, plan_of, types_of};
     ghost use Rattle.verbs.specs.Step.{planned};
+    ghost use Rattle.verbs.specs.Watching.{bookmarked_in};
+    ghost use Rattle.watchline.specs.Views.{marking_of, turn_of};
+    ghost use Rattle.watchline.specs.Watches.{from_history, is_bookmark_due, pumped};
 
     /// An API without objects, at revision 1.
     pub fn new(alloc: Global, types: Types) -> Result<Api, Fault>
-        ensures { IfOk result (λ api. Stands api (types_view types) (fresh 1)) }
+        ensures stands { IfOk result (λ api. Stands api (types_view types) (fresh 1)) }
+        ensures readable { result ≢ Err Fault.Unreadable }
     {
         Api::new_at(alloc, types, 1)
     }
@@ -40,7 +46,8 @@ impl Api {
     pub fn new_at(alloc: Global, types: Types, revision: u64) -> Result<Api, Fault>
         requires from { 1 ≤ revision }
         requires to { revision ≤ last_revision }
-        ensures { IfOk result (λ api. Stands api (types_view types) (fresh revision)) }
+        ensures stands { IfOk result (λ api. Stands api (types_view types) (fresh revision)) }
+        ensures readable { result ≢ Err Fault.Unreadable }
     {
         types.types_are_of_objects();
         let table = Table::open_at(alloc, revision)?;
@@ -70,6 +77,7 @@ impl Api {
         ensures comes { IfOk result (λ p. IfSome p.change (λ c. ComesNext self.new (change_of c))) }
         ensures readable { (types : List ServedShape) (m : History) → Stands self.old types m → result ≢ Err Fault.Unreadable }
         ensures same { (types : List ServedShape) (m : History) → Stands self.old types m → Stands self.new types m }
+        ensures unchanged { self.new ≡ self.old }
     {
         planned(self.alloc, &self.types, &mut self.store, call)
     }
@@ -80,11 +88,38 @@ impl Api {
         ensures ok { (types : List ServedShape) (m : History) → Stands self.old types m → IfSome plan.now.change (λ c. IsNext types m (change_of c))
             → OnOk result (Stands self.new types (after m (plan_of plan.now).change)) }
         ensures err { (types : List ServedShape) (m : History) → Stands self.old types m → OnErr result (Stands self.new types m) }
+        ensures readable { result ≢ Err Fault.Unreadable }
+        ensures unchanged { OnErr result (self.new ≡ self.old) }
     {
         match &plan.change {
             Some(change) => written(&mut self.store, change),
             None => Ok(()),
         }
+    }
+
+    /// The next lines of a watch, at most `max`. Refused, the cursor stays; nothing else changes ever.
+    pub fn pump(&mut self, cursor: &mut WatchCursor, max: usize) -> Result<Pumped, Fault>
+        ensures pumped { (types : List ServedShape) (m : History) → Stands self.old types m
+            → IfOk result (λ p. turn_of p cursor.new ≡ pumped (from_history m) max cursor.old) }
+        ensures err { OnErr result (cursor.new ≡ cursor.old) }
+        ensures readable { result ≢ Err Fault.Unreadable }
+        ensures same { (types : List ServedShape) (m : History) → Stands self.old types m → Stands self.new types m }
+        ensures unchanged { self.new ≡ self.old }
+    {
+        watches_by_views();
+        pumped(self.alloc, &mut self.store, cursor, max)
+    }
+
+    /// The line of a bookmark, where one is due: the version up to which the watch has told all. Refused, the cursor
+    /// stays; it needs no memory where none is due.
+    pub fn bookmark(&self, cursor: &mut WatchCursor) -> Result<Option<String>, Fault>
+        ensures bookmarked { (types : List ServedShape) (m : History) → Stands self.now types m
+            → IfOk result (λ o. marking_of o cursor.new ≡ bookmarked_in types cursor.old) }
+        ensures err { OnErr result (cursor.new ≡ cursor.old) }
+        ensures needs { is_bookmark_due cursor.old ≡ false → result ≡ Ok None }
+        ensures readable { result ≢ Err Fault.Unreadable }
+    {
+        bookmarked(self.alloc, &self.types, cursor)
     }
 
     /// Forgets what no answer from this revision on can show: from the compacted number to the current revision.

@@ -1,6 +1,7 @@
 use crate::body::Body;
 use crate::change::Change;
 use crate::method::Method;
+use watchline::WatchFrom;
 
 /// What a call is of (Kubernetes docs, "Kubernetes API Concepts", "Resource URIs").
 #[derive(Debug, Drop)]
@@ -27,8 +28,10 @@ pub struct Call {
 #[derive(Debug, Drop)]
 pub struct Answer {
     pub status: u16,
-    /// The text of an object or of a Status, as compact JSON.
+    /// The text of an object, of a list or of a Status, as compact JSON; empty where a watch begins.
     pub body: String,
+    /// What a watch begins from, whose lines come after the answer.
+    pub watch: Option<WatchFrom>,
 }
 
 /// What a call comes to: the answer, and the change that it makes, if any.

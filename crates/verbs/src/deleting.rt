@@ -46,7 +46,11 @@ fn deleted(
     let revision = current + 1;
     let body = printed_text(alloc, served, &key, revision, state)?;
     Ok(Plan {
-        answer: Answer { status: 200, body },
+        answer: Answer {
+            status: 200,
+            body,
+            watch: None,
+        },
         change: Some(Change {
             revision,
             key,

@@ -1,6 +1,6 @@
 //! Laws of the step. Each function does nothing; what it promises is the law.
 
-ghost use Rattle.verbs.specs.Promise.{AppliesKeepOthers, BodiesSayStates, CallsChangeOneObject, CallsKeepMachines, CompactionsKeepMachines, GetsChangeNothing, MachinesBegin, PlansByViews, PlansComeNext, RefusalsChangeNothing, StepsKeepMachines, TextsSayStates, UpdatesTakeChanges};
+ghost use Rattle.verbs.specs.Promise.{AppliesKeepOthers, BodiesSayStates, CallsChangeOneObject, CallsKeepMachines, CompactionsKeepMachines, ErrorsAreRefusals, GetsChangeNothing, MachinesBegin, PlansByViews, PlansComeNext, RefusalsChangeNothing, StepsKeepMachines, TextsSayStates, UpdatesTakeChanges};
 
 /// A machine begins without a change. What a call plans may come next; a machine stays one over each call, over calls
 /// one after the other, and over a compaction.
@@ -38,4 +38,9 @@ pub fn calls_change_one_object()
     ensures refusals { RefusalsChangeNothing }
     ensures gets { GetsChangeNothing }
     ensures one { CallsChangeOneObject }
+{}
+
+/// The error that ends a watch has the Status with which a list of the same revision is refused.
+pub fn errors_are_refusals()
+    ensures { ErrorsAreRefusals }
 {}

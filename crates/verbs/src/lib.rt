@@ -1,8 +1,9 @@
 //! Calls on objects and their answers.
 //!
 //! Promises: what a call answers and changes is the step of the machine, with its checks in their order;
-//! a refused call changes nothing. The machine is a history whose bodies are texts of objects.
-//! Stands on `history` for changes, `revstore` for what stands, `lists` for lists, `ownership` for apply, `typed` for reading, `schema` for types, `params` and `names` for parameters and names.
+//! a refused call changes nothing. The machine is a history whose bodies are texts of objects. A watch tells what is
+//! seen of the machine.
+//! Stands on `history` for changes, `revstore` for what stands, `lists` for lists, `watchline` for watches, `ownership` for apply, `typed` for reading, `schema` for types, `params` and `names` for parameters and names.
 #![tactic(auto)]
 
 mod admitting;
@@ -40,6 +41,7 @@ mod status;
 mod storing;
 mod texts;
 mod updating;
+mod watching;
 mod writing;
 
 pub use admitting::{Denied, Refusal};
@@ -49,8 +51,8 @@ pub use calls::{Answer, Call, Plan, Target};
 pub use change::Change;
 pub use fault::Fault;
 pub use laws::{
-    applies_keep_others, calls_change_one_object, machines_stay, plans_by_views, texts_say_states,
-    updates_take_changes,
+    applies_keep_others, calls_change_one_object, errors_are_refusals, machines_stay,
+    plans_by_views, texts_say_states, updates_take_changes,
 };
 pub use method::Method;
 pub use reason::Reason;

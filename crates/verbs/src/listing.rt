@@ -1,31 +1,16 @@
-//! Lists (Kubernetes docs, "Kubernetes API Concepts", "Retrieving large results sets in chunks").
+//! Refusals of lists and watches (Kubernetes docs, "Kubernetes API Concepts", "Retrieving large results sets in chunks",
+//! "410 Gone responses").
 
-ghost use Rattle.std.specs.Prelude.{◌≡◌, IfOk, string_bytes};
-ghost use Rattle.params.specs.Views.{values_of};
 ghost use Rattle.lists.specs.declared.refusal.Refusal.TheVariants.{Expired, TooLarge};
-ghost use Rattle.verbs.specs.Seen.{Gives, Refuses};
-ghost use Rattle.verbs.specs.Step.{expired_message, list_parameters, list_refusal};
+ghost use Rattle.verbs.specs.Seen.{Refuses};
+ghost use Rattle.verbs.specs.Step.{list_refusal};
 
 use crate::fault::CallError;
 use crate::getting::too_large_message;
-use crate::parameters::{bad_parameter, is_watch, read_parameters};
 use crate::reason::Reason;
-use crate::texts::joined;
 use lists::Refusal;
-use params::{Asked, Parameter, Params};
-use std::alloc::{AllocError, Global};
-
-fn expired_message(alloc: Global, asked: u64, compacted: u64) -> Result<String, AllocError>
-    ensures { IfOk result (λ s. string_bytes s ≡ expired_message asked compacted) }
-{
-    let asked = asked.to_string(alloc)?;
-    let mut message = joined(alloc, "too old resource version: ", asked.as_str())?;
-    message.push_str(" (")?;
-    let compacted = compacted.to_string(alloc)?;
-    message.push_str(compacted.as_str())?;
-    message.push_str(")")?;
-    Ok(message)
-}
+use std::alloc::Global;
+use watchline::expired_message;
 
 fn expired(alloc: Global, asked: u64, compacted: u64) -> CallError
     ensures { Refuses result (list_refusal (Expired asked compacted)) }
@@ -45,7 +30,7 @@ fn too_large(alloc: Global, asked: u64, current: u64) -> CallError
     }
 }
 
-/// Why there is no list of a revision.
+/// Why there is no list of a revision, or no watch from it on.
 pub(crate) fn list_refusal(alloc: Global, refusal: Refusal) -> CallError
     ensures { Refuses result (list_refusal refusal) }
 {
@@ -53,14 +38,4 @@ pub(crate) fn list_refusal(alloc: Global, refusal: Refusal) -> CallError
         Refusal::Expired(asked, compacted) => expired(alloc, asked, compacted),
         Refusal::TooLarge(asked, current) => too_large(alloc, asked, current),
     }
-}
-
-/// The parameters of a list, where it isn't to be watched.
-pub(crate) fn list_parameters(alloc: Global, query: &[u8]) -> Result<Params, CallError>
-    ensures { Gives values_of result (list_parameters query.now) }
-{
-    if is_watch(alloc, query)? {
-        return Err(bad_parameter(alloc, Parameter::Watch));
-    }
-    read_parameters(alloc, Asked::List, query)
 }

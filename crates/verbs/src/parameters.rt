@@ -1,7 +1,7 @@
 ghost use Rattle.std.specs.Prelude.{◌≡◌, ◌++◌, IfOk, codes, string_bytes};
 ghost use Rattle.params.specs.Parameters.{name_of};
 ghost use Rattle.params.specs.Views.{values_of};
-ghost use Rattle.verbs.specs.Parameters.{bad_parameter, parameters_validated, watch_validated};
+ghost use Rattle.verbs.specs.Parameters.{bad_parameter, parameters_validated};
 ghost use Rattle.verbs.specs.Seen.{Gives, Refuses};
 
 use crate::fault::CallError;
@@ -11,7 +11,7 @@ use params::{Asked, Parameter, Params, ParamsFault};
 use std::alloc::Global;
 
 /// The refusal of a parameter at fault.
-pub(crate) fn bad_parameter(alloc: Global, parameter: Parameter) -> CallError
+fn bad_parameter(alloc: Global, parameter: Parameter) -> CallError
     ensures { Refuses result (bad_parameter parameter) }
 {
     match parameter {
@@ -33,17 +33,6 @@ pub fn read_parameters(alloc: Global, asked: Asked, query: &[u8]) -> Result<Para
 {
     match Params::read(alloc, asked, query) {
         Ok(params) => Ok(params),
-        Err(ParamsFault::Bad(parameter)) => Err(bad_parameter(alloc, parameter)),
-        Err(ParamsFault::Memory) => Err(CallError::Memory),
-    }
-}
-
-/// Whether a list is to be watched.
-pub(crate) fn is_watch(alloc: Global, query: &[u8]) -> Result<bool, CallError>
-    ensures { Gives (λ b. b) result (watch_validated query.now) }
-{
-    match Params::is_watch(alloc, query) {
-        Ok(is_watch) => Ok(is_watch),
         Err(ParamsFault::Bad(parameter)) => Err(bad_parameter(alloc, parameter)),
         Err(ParamsFault::Memory) => Err(CallError::Memory),
     }

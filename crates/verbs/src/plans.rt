@@ -1,6 +1,7 @@
 //! What a call comes to, by what stands in the store.
 
-ghost use Rattle.std.specs.Prelude.{◌≡◌, ◌≢◌, ◌≤◌, Err, IfOk, List, None, Some, option_map, slice_get};
+ghost use Rattle.std.specs.Prelude.{◌≡◌, ◌≢◌, ◌≤◌, Err, IfOk, List, None, Some, option_map, slice_get, string_bytes};
+ghost use Rattle.std.specs.declared.result.Result.{Result};
 ghost use Rattle.std.specs.FinMap as fin;
 ghost use Rattle.schema.specs.ObjectShape.{IsObjectShape};
 ghost use Rattle.schema.specs.Served as types;
@@ -15,9 +16,12 @@ ghost use Rattle.verbs.specs.Calls as calls;
 ghost use Rattle.verbs.specs.Validated.{Validated, and_then};
 ghost use Rattle.verbs.specs.Machine.{AreTexts, IsReadable, state_of_live};
 ghost use Rattle.verbs.specs.Seen.{Gives, call_of, creation_seen, object_of, objects_in, plan_of};
-ghost use Rattle.params.specs.Views.{values_of};
+ghost use Rattle.params.specs.Views.{values_of, watch_view};
 ghost use Rattle.lists.specs.Views as views;
-ghost use Rattle.verbs.specs.Step.{all_validated_by, apply_validated, body_of, collection_of, collection_validated_by, create_validated, created_as, creation_validated, list_answered, list_validated, lists_in, object_validated_by, plan_for, planned_over, update_validated, validated_in};
+ghost use Rattle.lists.specs.declared.refusal.Refusal.{Refusal};
+ghost use Rattle.watchline.specs.Views.{watch_from};
+ghost use Rattle.watchline.specs.Watches.{from_view};
+ghost use Rattle.verbs.specs.Step.{all_validated_by, apply_validated, body_of, collection_of, collection_validated_by, create_validated, created_as, creation_validated, list_answered, list_validated, lists_in, object_validated_by, plan_for, planned_over, shown_by, update_validated, validated_in};
 
 use crate::answering::{body_of, no_path, not_served, refused};
 use crate::applying::validate_apply;
@@ -27,17 +31,19 @@ use crate::envelope::api_version_of;
 use crate::fault::{CallError, Fault};
 use crate::getting::validate_get;
 use crate::intent::Creation;
-use crate::listing::{list_parameters, list_refusal};
+use crate::listing::list_refusal;
 use crate::live::{Live, read_live};
 use crate::method::Method;
+use crate::parameters::read_parameters;
 use crate::updating::{created_as, validate_creation, validate_update};
 use history::Key;
 use lists::{Collection, ListFault, list};
-use params::Params;
+use params::{Asked, Params, Watch};
 use revstore::Store;
 use revtable::Object;
 use schema::{Served, Types};
 use std::alloc::Global;
+use watchline::{WatchFrom, start_watch};
 
 /// The plan of what was validated: a refusal is answered too.
 fn plan_for(alloc: Global, validated: Result<Plan, CallError>) -> Result<Plan, Fault>
@@ -212,24 +218,81 @@ fn planned_post(
     }
 }
 
-fn list_answered(
+/// Why there is neither a list nor a watch: a refusal is answered.
+fn list_failed(alloc: Global, fault: ListFault) -> Result<Plan, Fault>
+    ensures planned { (answer : Result calls.Answer Refusal) → views.Fails fault answer → IfOk result (λ p. plan_of p ≡ plan_for (list_answered answer)) }
+    ensures readable { result ≢ Err Fault.Unreadable }
+{
+    match fault {
+        ListFault::Refused(refusal) => plan_for(alloc, Err(list_refusal(alloc, refusal))),
+        ListFault::Failed(revtable::Fault::Memory) => Err(Fault::Memory),
+        ListFault::Failed(revtable::Fault::Store) => Err(Fault::Store),
+    }
+}
+
+/// What is shown, or the watch that begins.
+fn shown(body: String, watch: Option<WatchFrom>) -> Plan
+    ensures { plan_of result ≡ record { answer = record { status = 200; body = string_bytes body; watch = option_map watch_from watch }; change = None } }
+{
+    Plan {
+        answer: Answer {
+            status: 200,
+            body,
+            watch,
+        },
+        change: None,
+    }
+}
+
+fn page_answered(
     alloc: Global,
     store: &mut Store,
     of: Collection<'_>,
     params: &Params,
 ) -> Result<Plan, Fault>
-    ensures planned { IfOk result (λ p. plan_of p ≡ plan_for (list_answered (lists_in store.old (views.collection_of of.entry) (values_of params.now)))) }
+    ensures planned { IfOk result (λ p. plan_of p ≡ plan_for (list_answered (shown_by (from_view store.old) (views.collection_of of.entry) (values_of params.now) None))) }
     ensures readable { result ≢ Err Fault.Unreadable }
     ensures same { store.new ≡ store.old }
 {
     match list(alloc, store, of, params) {
-        Ok(body) => Ok(Plan {
-            answer: Answer { status: 200, body },
-            change: None,
-        }),
-        Err(ListFault::Refused(refusal)) => plan_for(alloc, Err(list_refusal(alloc, refusal))),
-        Err(ListFault::Failed(revtable::Fault::Memory)) => Err(Fault::Memory),
-        Err(ListFault::Failed(revtable::Fault::Store)) => Err(Fault::Store),
+        Ok(body) => Ok(shown(body, None)),
+        Err(fault) => list_failed(alloc, fault),
+    }
+}
+
+/// The lines of a watch come after its answer.
+fn watch_answered(
+    alloc: Global,
+    store: &mut Store,
+    of: Collection<'_>,
+    params: Params,
+    watch: Watch,
+) -> Result<Plan, Fault>
+    ensures planned { IfOk result (λ p. plan_of p ≡ plan_for (list_answered (shown_by (from_view store.old) (views.collection_of of.entry) (values_of params) (Some (watch_view watch))))) }
+    ensures readable { result ≢ Err Fault.Unreadable }
+    ensures same { store.new ≡ store.old }
+{
+    match start_watch(alloc, store, of, params, watch) {
+        Ok(from) => Ok(shown(String::new(alloc), Some(from))),
+        Err(fault) => list_failed(alloc, fault),
+    }
+}
+
+/// A watch where the parameters ask for one, and else a page.
+fn list_answered(
+    alloc: Global,
+    store: &mut Store,
+    of: Collection<'_>,
+    params: Params,
+) -> Result<Plan, Fault>
+    ensures planned { IfOk result (λ p. plan_of p ≡ plan_for (list_answered (lists_in store.old (views.collection_of of.entry) (values_of params)))) }
+    ensures readable { result ≢ Err Fault.Unreadable }
+    ensures same { store.new ≡ store.old }
+{
+    let watch = params.watch;
+    match watch {
+        Some(watch) => watch_answered(alloc, store, of, params, watch),
+        None => page_answered(alloc, store, of, &params),
     }
 }
 
@@ -239,9 +302,9 @@ fn listed(
     store: &mut Store,
     kind: u32,
     namespace: Option<&str>,
-    params: &Params,
+    params: Params,
 ) -> Result<Plan, Fault>
-    ensures planned { IfOk result (λ p. plan_of p ≡ plan_for (list_answered (lists_in store.old (collection_of (types.served served.now) kind (option_map (λ s. s.now) namespace.entry)) (values_of params.now)))) }
+    ensures planned { IfOk result (λ p. plan_of p ≡ plan_for (list_answered (lists_in store.old (collection_of (types.served served.now) kind (option_map (λ s. s.now) namespace.entry)) (values_of params)))) }
     ensures readable { result ≢ Err Fault.Unreadable }
     ensures same { store.new ≡ store.old }
 {
@@ -255,7 +318,7 @@ fn listed(
     list_answered(alloc, store, of, params)
 }
 
-/// A list of a namespace, or of all.
+/// A list of a namespace, or of all, or a watch of these.
 fn planned_list(
     alloc: Global,
     served: &Served,
@@ -268,8 +331,8 @@ fn planned_list(
     ensures readable { result ≢ Err Fault.Unreadable }
     ensures same { store.new ≡ store.old }
 {
-    match list_parameters(alloc, query) {
-        Ok(params) => listed(alloc, served, store, kind, namespace, &params),
+    match read_parameters(alloc, Asked::List, query) {
+        Ok(params) => listed(alloc, served, store, kind, namespace, params),
         Err(call_error) => plan_for(alloc, Err(call_error)),
     }
 }

@@ -25,12 +25,14 @@ pub struct Routes {
 }
 
 impl Routes {
-    ghost use Rattle.std.specs.Prelude.{◌≡◌, option_map};
+    ghost use Rattle.std.specs.Prelude.{◌≡◌, ◌≢◌, Err, option_map};
     ghost use Rattle.schema.specs.Served.{types_view};
     ghost use Rattle.verbs.specs.Admit.{place_of};
     ghost use Rattle.verbs.specs.Seen.{place_seen};
 
-    pub fn new(alloc: Global) -> Result<Routes, Fault> {
+    pub fn new(alloc: Global) -> Result<Routes, Fault>
+        ensures readable { result ≢ Err Fault.Unreadable }
+    {
         let mut router = Router::new(alloc);
         match router.insert(ALL_NAMESPACES, Resource::AllNamespaces) {
             Ok(()) => (),

@@ -131,7 +131,11 @@ fn stored_as(
     check_revisions(alloc, current)?;
     let body = text.clone()?;
     Ok(Plan {
-        answer: Answer { status, body },
+        answer: Answer {
+            status,
+            body,
+            watch: None,
+        },
         change: Some(Change {
             revision: current + 1,
             key,
@@ -164,7 +168,11 @@ pub fn as_it_stands(live: &Object) -> Result<Plan, AllocError>
 {
     let body = live.body.clone()?;
     Ok(Plan {
-        answer: Answer { status: 200, body },
+        answer: Answer {
+            status: 200,
+            body,
+            watch: None,
+        },
         change: None,
     })
 }

@@ -1,6 +1,6 @@
 //! Changes written to the store.
 
-ghost use Rattle.std.specs.Prelude.{◌≡◌, ◌<◌, None, OnErr, OnOk, option_map, true};
+ghost use Rattle.std.specs.Prelude.{◌≡◌, ◌≢◌, ◌<◌, Err, None, OnErr, OnOk, option_map, true};
 ghost use Rattle.std.specs.FinMap as fin;
 ghost use Rattle.history.specs.History.{last_revision};
 ghost use Rattle.history.specs.Read.{key_of};
@@ -18,6 +18,7 @@ fn put(store: &mut Store, key: &Key, body: Option<&str>) -> Result<(), Fault>
     requires there { body ≡ None → fin.contains_key (state_in store.old store.old.current) (key_of key.now) ≡ true }
     ensures ok { OnOk result (store.new ≡ written_in store.old (key_of key.now) (option_map (λ b. b.now) body.entry)) }
     ensures err { OnErr result (store.new ≡ store.old) }
+    ensures readable { result ≢ Err Fault.Unreadable }
 {
     match store.write(key, body) {
         Ok(_) => Ok(()),
@@ -31,6 +32,7 @@ pub(crate) fn written(store: &mut Store, change: &Change) -> Result<(), Fault>
     requires { ComesAfter store.old (change_of change.now) }
     ensures ok { OnOk result (store.new ≡ written_in store.old (change_of change.now).key (change_of change.now).body) }
     ensures err { OnErr result (store.new ≡ store.old) }
+    ensures readable { result ≢ Err Fault.Unreadable }
 {
     match &change.body {
         Some(text) => put(store, &change.key, Some(text.as_str())),

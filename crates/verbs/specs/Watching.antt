@@ -1,0 +1,14 @@
+-- Bookmarks of watches of served types (Kubernetes docs, "Kubernetes API Concepts", "Watch bookmarks").
+use Rattle.std.specs.Prelude.{List, Option, Some, None, slice_get}
+use Rattle.schema.specs.TypesFile.{ServedShape}
+use Rattle.watchline.specs.Watches.{Cursor, Marking, bookmarked}
+use Rattle.verbs.specs.Envelope.{api_version_of}
+
+-- a bookmark is an object of the watch's type
+abbrev pub bookmarked_as : Option ServedShape → Cursor → Marking
+bookmarked_as None w = record { line = None; next = w }
+bookmarked_as (Some t) w = bookmarked (api_version_of t) t.kind w
+
+-- the line of a bookmark, if one is due, and where the watch then stands
+abbrev pub bookmarked_in : List ServedShape → Cursor → Marking
+bookmarked_in types w = bookmarked_as (slice_get types w.kind) w
