@@ -1,0 +1,5 @@
+pub mod Feeds
+pub mod Renumbered
+pub mod Said
+pub mod Told
+pub mod Values

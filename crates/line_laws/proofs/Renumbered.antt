@@ -1,0 +1,214 @@
+-- An object's text at another version, and how deep an object's value is.
+use Rattle.std.proofs.Common.{◌≡◌, ℕ, suc, ◌≤◌, Bool, true, false, cond, List, [], ◌∷◌, Option, Some, None, Ordering, Less, Equal, Greater, refl, sym, ap, ap₂, subst, ◌∙◌, arith, zero-le}
+use Rattle.std.specs.Prelude.{codes, decimal, option_and_then, option_map, unwrap_or}
+use Rattle.std.specs.FinMap as fin
+use Rattle.std.specs.Ordering.{match_ordering}
+use Rattle.std.proofs.lemmas.Bool.{and_parts}
+use Rattle.serde_json.specs.Data.{Data, null, boolean, number, string, array, object, Items, no_items, item, Members, no_members, member, put, depth, items_depth, members_depth}
+use Rattle.serde_json.specs.Find.{as_object, get_member}
+use Rattle.serde_json.specs.Read.{read}
+use Rattle.serde_json.specs.Written.{compact_text, has_float}
+use Rattle.serde_json.proofs.Views.{get_member-put, get_member-put_other}
+use Rattle.fieldpath.specs.Scalars.{ascend}
+use Rattle.fieldpath.specs.Spelled.{member_names}
+use Rattle.fieldset.specs.FieldsV1 as v1
+use Rattle.pathmap.specs.Contents.{PathSet, marked}
+use Rattle.schema.specs.Lawful.{depth_of, is_lawful, is_well_formed}
+use Rattle.schema.specs.ObjectShape.{IsObjectShape}
+use Rattle.schema.specs.Shape.{Shape}
+use Rattle.schema.proofs.Members.{put_turned}
+use Rattle.typed.specs.Fitting.{IsContent}
+use Rattle.typed.specs.Placed.{ReadsBack}
+use Rattle.typed.specs.Printing.{print}
+use Rattle.typed.proofs.Depths.{content_deep}
+use Rattle.typed.proofs.FieldTexts.{members_fine, put_depth}
+use Rattle.typed.proofs.Fitting.{content_placed}
+use Rattle.typed.proofs.RoundTrip.{round}
+use Rattle.typed.proofs.Spelling.{lawful_depth}
+use Rattle.ownership.specs.Apply.{State}
+use Rattle.ownership.specs.ObjectText.{Identity, entry_items, entry_members, entry_value, members_printed, metadata_members, metadata_of, object_text, object_value, put_entries, put_filled}
+use Rattle.ownership.specs.Owners.{Manager, Owners, operation_text}
+use Rattle.ownership.specs.Parts.{less}
+use Rattle.ownership.specs.ReadBack.{IsObjectText, max_version}
+use Rattle.ownership.proofs.Back.{text_read}
+use Rattle.ownership.proofs.Taken.{apart, cmp, found_depth, put_back, same_text}
+use Rattle.ownership.proofs.Textual.{value_textual}
+use Rattle.watchline.specs.Versions.{text_at, text_of, value_at, value_of, without}
+use Rattle.line_laws.specs.Shown.{IsShown}
+
+-- ---- members, put twice and taken out
+
+put_first : (k : List ℕ) (d e : Data) (ms : Members) → put k d (member k e ms) ≡ member k d ms
+put_first k d e ms = ap (λ o. match_ordering o (member k d (member k e ms)) (member k d ms) (member k e (put k d ms))) (same_text k)
+
+put_again : (k : List ℕ) (d e : Data) (ms : Members) → put k d (put k e ms) ≡ put k d ms
+put_again k d e no_members = put_first k d e no_members
+put_again k d e (member l f ms) = by_order (cmp k l) refl (put_again k d e ms)
+  where
+    by_order : (o : Ordering) → cmp k l ≡ o → put k d (put k e ms) ≡ put k d ms
+        → put k d (match_ordering o (member k e (member l f ms)) (member l e ms) (member l f (put k e ms))) ≡ match_ordering o (member k d (member l f ms)) (member l d ms) (member l f (put k d ms))
+    by_order Less is later = put_first k d e (member l f ms)
+    by_order Equal is later = ap (λ o. match_ordering o (member k d (member l e ms)) (member l d ms) (member l e (put k d ms))) is
+    by_order Greater is later =
+        ap (λ o. match_ordering o (member k d (member l f (put k e ms))) (member l d (put k e ms)) (member l f (put k d (put k e ms)))) is ∙ ap (member l f) later
+
+same_less : (k : List ℕ) (ms : Members) → without k ms ≡ less k ms
+same_less k no_members = refl
+same_less k (member l d ms) = ap (λ x. match_ordering (cmp k l) (member l d x) ms (member l d x)) (same_less k ms)
+
+-- ---- another version
+
+-- a version put over another, among the names before it
+version_over : (name namespace old new : Data) (ms : Members)
+    → put (codes "resourceVersion") new (put (codes "name") name (put (codes "namespace") namespace (put (codes "resourceVersion") old ms)))
+    ≡ put (codes "name") name (put (codes "namespace") namespace (put (codes "resourceVersion") new ms))
+version_over name namespace old new ms =
+    put_turned (codes "resourceVersion") (codes "name") new name (put (codes "namespace") namespace (put (codes "resourceVersion") old ms)) (λ same. absurd (apart (codes "resourceVersion") (codes "name") refl same))
+    ∙ ap (put (codes "name") name) (put_turned (codes "resourceVersion") (codes "namespace") new namespace (put (codes "resourceVersion") old ms) (λ same. absurd (apart (codes "resourceVersion") (codes "namespace") refl same)))
+    ∙ ap (λ l. put (codes "name") name (put (codes "namespace") namespace l)) (put_again (codes "resourceVersion") new old ms)
+
+abbrev enveloped : Data → Data → Data → Members → Members
+enveloped api_version kind metadata base = put (codes "apiVersion") api_version (put (codes "kind") kind (put (codes "metadata") metadata base))
+
+metadata_there : (api_version kind metadata : Data) (base : Members) → get_member (codes "metadata") (enveloped api_version kind metadata base) ≡ Some metadata
+metadata_there api_version kind metadata base =
+    get_member-put_other (codes "metadata") (codes "apiVersion") api_version (put (codes "kind") kind (put (codes "metadata") metadata base)) (apart (codes "metadata") (codes "apiVersion") refl)
+    ∙ get_member-put_other (codes "metadata") (codes "kind") kind (put (codes "metadata") metadata base) (apart (codes "metadata") (codes "kind") refl)
+    ∙ get_member-put (codes "metadata") metadata base
+
+metadata_over : (api_version kind old new : Data) (base : Members) → put (codes "metadata") old (enveloped api_version kind new base) ≡ enveloped api_version kind old base
+metadata_over api_version kind old new base =
+    put_turned (codes "metadata") (codes "apiVersion") old api_version (put (codes "kind") kind (put (codes "metadata") new base)) (λ same. absurd (apart (codes "metadata") (codes "apiVersion") refl same))
+    ∙ ap (put (codes "apiVersion") api_version) (put_turned (codes "metadata") (codes "kind") old kind (put (codes "metadata") new base) (λ same. absurd (apart (codes "metadata") (codes "kind") refl same)))
+    ∙ ap (λ l. put (codes "apiVersion") api_version (put (codes "kind") kind l)) (put_again (codes "metadata") old new base)
+
+-- an object with `metadata` taken out and put in with another version
+value_over : (revision : ℕ) (api_version kind : Data) (meta new base : Members) → put (codes "resourceVersion") (string (decimal revision)) meta ≡ new
+    → ascend (member_names (enveloped api_version kind (object new) base)) ≡ true
+    → value_at revision (object (enveloped api_version kind (object meta) base)) ≡ Some (object (enveloped api_version kind (object new) base))
+value_over revision api_version kind meta new base is up =
+    let old = enveloped api_version kind (object meta) base in
+    ap (λ o. option_map (λ (p : Members × Members). value_of revision p.0 p.1) (option_map (λ (m : Members). (without (codes "metadata") old, m)) (option_and_then as_object o))) (metadata_there api_version kind (object meta) base)
+    ∙ ap (λ o. Some (object o)) (
+    ap₂ (λ m others. put (codes "metadata") (object m) others) is (same_less (codes "metadata") old ∙ ap (less (codes "metadata")) (sym (metadata_over api_version kind (object meta) (object new) base)))
+    ∙ put_back (codes "metadata") (object meta) (object new) (enveloped api_version kind (object new) base) up (metadata_there api_version kind (object new) base)
+    )
+
+module _ (s : Shape) (of : Identity) (state : State) (lawful : is_lawful s ≡ true) (content : IsContent s state.content) where
+  object_over : (v r : ℕ) → value_at r (object_value s of v state) ≡ Some (object_value s of r state)
+  unfolding object_value
+  object_over v r =
+      let base = members_printed (print s state.content) in
+      let labels = metadata_members (print s state.content) in
+      value_over r (string of.api_version) (string of.kind) (metadata_of s of v state.owners labels) (metadata_of s of r state.owners labels) base
+      (version_over (string of.name) (string of.namespace) (string (decimal v)) (string (decimal r)) (put_entries (entry_items s of.api_version (fin.entries state.owners)) labels))
+      (value_textual s lawful of r state content).0.0
+
+  clean : (r : ℕ) → has_float (object_value s of r state) ≡ false
+  clean r = (value_textual s lawful of r state content).1
+
+  pub text_over : (v r : ℕ) (text : List ℕ) → read text ≡ Some (object_value s of v state) → text_at r text ≡ object_text s of r state
+  unfolding object_text
+  text_over v r text is =
+      ap (λ o. unwrap_or (option_and_then text_of (option_and_then (value_at r) o)) text) is
+      ∙ ap (λ o. unwrap_or (option_and_then text_of o) text) (object_over v r)
+      ∙ ap (λ (b : Bool). unwrap_or (cond b None (Some (compact_text (object_value s of r state)))) text) (clean r)
+
+pub shows_text : (s : Shape) (of : Identity) (v r : ℕ) (state : State) (text : List ℕ) → IsObjectShape s → IsObjectText s of v state text → text_at r text ≡ object_text s of r state
+shows_text s of v r state text shaped said = text_over s of state shaped.1 said.placed.0 v r text (text_read s of v state text shaped said)
+
+pub shows_object : (s : Shape) (of : Identity) (v r : ℕ) (state : State) (text : List ℕ) → IsObjectShape s → IsObjectText s of v state text → r ≤ max_version → IsObjectText s of r state (text_at r text)
+shows_object s of v r state text shaped said low = record { placed = said.placed; numbered = low; is_text = shows_text s of v r state text shaped said }
+
+-- ---- how deep
+
+abbrev Within : ℕ → Members → Type 0
+Within n ms = members_depth ms ≤ n
+
+more_within : (m n a : ℕ) → m ≤ n → a ≤ m → a ≤ n
+more_within m n a h k = omega (arith, h, k)
+
+within_text : (n : ℕ) (k t : List ℕ) (ms : Members) → Within n ms → Within n (put k (string t) ms)
+within_text n k t ms h = put_depth n k (string t) ms zero-le h
+
+within_filled : (n : ℕ) (k t : List ℕ) (ms : Members) → Within n ms → Within n (put_filled k t ms)
+within_filled n k [] ms h = h
+within_filled n k (b ∷ bs) ms h = within_text n k (b ∷ bs) ms h
+
+within_printed : (n : ℕ) (o : Option Data) → ((d : Data) → o ≡ Some d → depth d ≤ n) → Within n (members_printed o)
+within_printed n None h = zero-le
+within_printed n (Some null) h = zero-le
+within_printed n (Some (boolean b)) h = zero-le
+within_printed n (Some (number x)) h = zero-le
+within_printed n (Some (string t)) h = zero-le
+within_printed n (Some (array ds)) h = zero-le
+within_printed n (Some (object ms)) h = let low : suc (members_depth ms) ≤ n = h (object ms) refl in omega (arith, low)
+
+module _ (s : Shape) (lawful : is_lawful s ≡ true) where
+  entry_within : (api_version : List ℕ) (m : Manager) (paths : PathSet) → depth (entry_value s api_version m paths) ≤ 19
+  entry_within api_version m paths =
+      let named : Within 18 (put_filled (codes "subresource") m.subresource no_members) = within_filled 18 (codes "subresource") m.subresource no_members zero-le in
+      let operation = within_text 18 (codes "operation") (operation_text m.operation) _ named in
+      let manager = within_text 18 (codes "manager") m.name _ operation in
+      let low : depth_of s ≤ 16 = lawful_depth s lawful in
+      let inside : members_depth (v1.members_of s (marked paths)) ≤ depth_of s = (members_fine s (marked paths)).3 in
+      let fields : depth (v1.fields_v1_of s paths) ≤ 18 = omega (arith, low, inside) in
+      let with_fields = put_depth 18 (codes "fieldsV1") (v1.fields_v1_of s paths) _ fields manager in
+      let whole : Within 18 (entry_members s api_version m paths) = within_text 18 (codes "apiVersion") api_version _ (within_text 18 (codes "fieldsType") (codes "FieldsV1") _ with_fields) in
+      omega (arith, whole)
+
+  items_within : (api_version : List ℕ) (es : List (Manager × PathSet)) → items_depth (entry_items s api_version es) ≤ 19
+  items_within api_version [] = zero-le
+  items_within api_version (e ∷ es) =
+      let one : depth (entry_value s api_version e.0 e.1) ≤ 19 = entry_within api_version e.0 e.1 in
+      let others : items_depth (entry_items s api_version es) ≤ 19 = items_within api_version es in
+      omega (arith, one, others)
+
+  entries_within : (ds : Items) (labels : Members) → items_depth ds ≤ 19 → Within 20 labels → Within 20 (put_entries ds labels)
+  entries_within no_items labels h low = low
+  entries_within (item d ds) labels h low = put_depth 20 (codes "managedFields") (array (item d ds)) labels (one_more (items_depth (item d ds)) h) low
+    where
+      one_more : (a : ℕ) → a ≤ 19 → suc a ≤ 20
+      one_more a k = omega (arith, k)
+
+  metadata_within : (of : Identity) (version : ℕ) (owners : Owners) (labels : Members) → Within 20 labels → Within 20 (metadata_of s of version owners labels)
+  metadata_within of version owners labels low =
+      within_text 20 (codes "name") of.name _ (within_text 20 (codes "namespace") of.namespace _ (within_text 20 (codes "resourceVersion") (decimal version) _
+      (entries_within (entry_items s of.api_version (fin.entries owners)) labels (items_within of.api_version (fin.entries owners)) low)))
+
+  module _ (state : State) (content : IsContent s state.content) where
+    printed_within : (d : Data) → print s state.content ≡ Some d → depth d ≤ 16
+    printed_within d is =
+        let formed = (and_parts (is_well_formed s) _ lawful).0 in
+        let reads = (subst (λ o. ReadsBack s o state.content) is (round s state.content formed (content_placed s formed state.content content))).1 in
+        let inside : depth d ≤ depth_of s = content_deep s d state.content reads in
+        let low : depth_of s ≤ 16 = lawful_depth s lawful in
+        omega (arith, inside, low)
+
+    base_within : Within 16 (members_printed (print s state.content))
+    base_within = within_printed 16 (print s state.content) printed_within
+
+    labels_within : Within 16 (metadata_members (print s state.content))
+    labels_within =
+        let base = members_printed (print s state.content) in
+        within_printed 16 (get_member (codes "metadata") base) (λ d is. found_depth 16 (codes "metadata") d base base_within is)
+
+    value_within : (of : Identity) (v : ℕ) → depth (object_value s of v state) ≤ 22
+    unfolding object_value
+    value_within of v =
+        let base = members_printed (print s state.content) in
+        let labels = metadata_members (print s state.content) in
+        let meta : Within 20 (metadata_of s of v state.owners labels) = metadata_within of v state.owners labels (more_within 16 20 (members_depth labels) (omega arith) labels_within) in
+        let one : depth (object (metadata_of s of v state.owners labels)) ≤ 21 = omega (arith, meta) in
+        let with_metadata = put_depth 21 (codes "metadata") (object (metadata_of s of v state.owners labels)) base one (more_within 16 21 (members_depth base) (omega arith) base_within) in
+        let all : Within 21 (enveloped (string of.api_version) (string of.kind) (object (metadata_of s of v state.owners labels)) base) = within_text 21 (codes "apiVersion") of.api_version _ (within_text 21 (codes "kind") of.kind _ with_metadata) in
+        omega (arith, all)
+
+pub has_room : (s : Shape) (of : Identity) (v : ℕ) (state : State) → is_lawful s ≡ true → IsContent s state.content → IsShown (object_value s of v state)
+has_room s of v state lawful content =
+    let low : depth (object_value s of v state) ≤ 22 = value_within s lawful state content of v in
+    record { spelled = (value_textual s lawful of v state content).0; whole = (value_textual s lawful of v state content).1; shallow = omega (arith, low) }
+
+pub text_is : (s : Shape) (of : Identity) (v : ℕ) (state : State) → object_text s of v state ≡ compact_text (object_value s of v state)
+unfolding object_text
+text_is s of v state = refl

@@ -1,0 +1,227 @@
+-- What a client takes from a line.
+use Rattle.std.proofs.Common.{◌≡◌, ℕ, suc, ◌<◌, ◌≤◌, ◌^◌, pos, negsuc, Bool, true, false, List, [], ◌∷◌, ◌++◌, Option, Some, IsUtf8, refl, ap, ap₂, subst, ◌∙◌, arith}
+use Rattle.std.specs.Prelude.{codes, decimal, option_and_then}
+use Rattle.std.specs.Cmp.Lexicographic.{bytes_decides}
+use Rattle.std.specs.Str.{bytes_eq}
+use Rattle.std.specs.declared.result.Result.TheVariants.{Ok}
+use Rattle.std.proofs.lemmas.Fmt.{IsAscii-decimal}
+use Rattle.std.proofs.lemmas.Str.{IsUtf8-append, IsUtf8-from_ascii}
+use Rattle.json.specs.Print.{quoted}
+use Rattle.json.proofs.Printed.Utf8.{are_ascii, IsUtf8-are_ascii, IsUtf8-boolean, IsUtf8-quoted}
+use Rattle.serde_json.specs.Data.{Num, unsigned, negative, float, Data, null, boolean, number, string, array, object, Items, no_items, item, Members, no_members, member}
+use Rattle.serde_json.specs.Written.{comma_if, compact_text, items_text, members_text, number_text}
+use Rattle.fieldpath.specs.Spelled.{IsSpelledNumber}
+use Rattle.names.specs.Decimals.{version_of}
+use Rattle.names.proofs.Decimals.{exact}
+use Rattle.schema.specs.ObjectShape.{IsObjectShape}
+use Rattle.schema.specs.Shape.{Shape}
+use Rattle.ownership.specs.Apply.{State}
+use Rattle.ownership.specs.ObjectText.{Identity, object_value}
+use Rattle.ownership.specs.ReadBack.{IsObjectText, max_version}
+use Rattle.history.specs.History.{Object}
+use Rattle.history.specs.Seen.{SeenChange, SeenKind, Added, Modified, Deleted}
+use Rattle.indexer.specs.Objects.{Stored}
+use Rattle.decoder.specs.declared.malformed.Malformed.TheVariants.{ApiVersion, Kind, Version}
+use Rattle.decoder.specs.Lines as reads
+use Rattle.decoder.specs.Lines.{bookmark_of, line_in, line_of}
+use Rattle.decoder.specs.Members.{Read, ◌>>=◌, is_text, or_amiss, unless, unless_empty}
+use Rattle.decoder.specs.Objects.{object_of}
+use Rattle.decoder.specs.Wanted.{Wanted, api_version_of}
+use Rattle.watchline.specs.declared.event.EventType.{EventType}
+use Rattle.watchline.specs.declared.event.EventType.TheVariants as event
+use Rattle.watchline.specs.Lines.{bookmark_value, expired_message, expired_value, text_shown, type_of}
+use Rattle.line_laws.specs.Shown.{IsShown, line_value, shown, taken, version_shown}
+use Rattle.line_laws.proofs.Renumbered.{has_room, shows_text, text_is}
+use Rattle.line_laws.proofs.Values.{line_in_value}
+
+-- ---- a compact text of texts
+
+number_utf8 : (n : Num) → IsSpelledNumber n → IsUtf8 (number_text n)
+number_utf8 (unsigned n) fits = IsUtf8-from_ascii (decimal n) (IsAscii-decimal n fits)
+number_utf8 (negative (pos n)) fits = absurd fits
+number_utf8 (negative (negsuc n)) fits =
+    let low : n < 2 ^ 63 = fits in
+    IsUtf8-append (45 ∷ []) (decimal (suc n)) (IsUtf8-are_ascii (45 ∷ []) refl) (IsUtf8-from_ascii (decimal (suc n)) (IsAscii-decimal (suc n) (omega (arith, low))))
+number_utf8 (float x) fits = IsUtf8-are_ascii [] refl
+
+comma_utf8 : (b : Bool) → IsUtf8 (comma_if b)
+comma_utf8 true = IsUtf8-are_ascii (44 ∷ []) refl
+comma_utf8 false = IsUtf8-are_ascii [] refl
+
+-- each name and each text in it is UTF-8, and its numbers are within 64 bits
+abbrev mutual
+  HasTexts : Data → Type 0
+  HasTexts null = Unit {0}
+  HasTexts (boolean b) = Unit {0}
+  HasTexts (number n) = IsSpelledNumber n
+  HasTexts (string s) = IsUtf8 s
+  HasTexts (array ds) = ItemsHaveTexts ds
+  HasTexts (object ms) = MembersHaveTexts ms
+
+  ItemsHaveTexts : Items → Type 0
+  ItemsHaveTexts no_items = Unit {0}
+  ItemsHaveTexts (item d ds) = HasTexts d × ItemsHaveTexts ds
+
+  MembersHaveTexts : Members → Type 0
+  MembersHaveTexts no_members = Unit {0}
+  MembersHaveTexts (member k d ms) = IsUtf8 k × (HasTexts d × MembersHaveTexts ms)
+
+mutual
+  text_utf8 : (d : Data) → HasTexts d → IsUtf8 (compact_text d)
+  text_utf8 null h = IsUtf8-are_ascii _ refl
+  text_utf8 (boolean b) h = IsUtf8-boolean b
+  text_utf8 (number n) h = number_utf8 n h
+  text_utf8 (string s) h = IsUtf8-quoted s h
+  text_utf8 (array ds) h = IsUtf8-append (91 ∷ []) (items_text false ds) (IsUtf8-are_ascii (91 ∷ []) refl) (items_utf8 false ds h)
+  text_utf8 (object ms) h = IsUtf8-append (123 ∷ []) (members_text false ms) (IsUtf8-are_ascii (123 ∷ []) refl) (members_utf8 false ms h)
+
+  items_utf8 : (b : Bool) (ds : Items) → ItemsHaveTexts ds → IsUtf8 (items_text b ds)
+  items_utf8 b no_items h = IsUtf8-are_ascii (93 ∷ []) refl
+  items_utf8 b (item d ds) h = IsUtf8-append (comma_if b) (compact_text d ++ items_text true ds) (comma_utf8 b) (IsUtf8-append (compact_text d) (items_text true ds) (text_utf8 d h.0) (items_utf8 true ds h.1))
+
+  members_utf8 : (b : Bool) (ms : Members) → MembersHaveTexts ms → IsUtf8 (members_text b ms)
+  members_utf8 b no_members h = IsUtf8-are_ascii (125 ∷ []) refl
+  members_utf8 b (member k d ms) h =
+      let value = h.1 in
+      IsUtf8-append (comma_if b) (quoted k ++ 58 ∷ (compact_text d ++ members_text true ms)) (comma_utf8 b)
+      (IsUtf8-append (quoted k) (58 ∷ (compact_text d ++ members_text true ms)) (IsUtf8-quoted k h.0)
+      (IsUtf8-append (58 ∷ []) (compact_text d ++ members_text true ms) (IsUtf8-are_ascii (58 ∷ []) refl) (IsUtf8-append (compact_text d) (members_text true ms) (text_utf8 d value.0) (members_utf8 true ms value.1))))
+
+-- ---- a line of any kind
+
+line_says : (wanted : Wanted) (what : EventType) (d : Data) (l : reads.Line) → IsShown d → IsUtf8 (compact_text d) → line_of wanted (line_value what d) ≡ Ok l → line_in wanted (shown what (compact_text d)) ≡ Ok l
+line_says wanted what d l fits text is = ap (λ (r : Read Data). r >>= line_of wanted) (line_in_value what d fits text) ∙ is
+
+-- ---- objects
+
+object_line : (wanted : Wanted) (k : SeenKind) (d : Data) (o : Stored) → object_of wanted d ≡ Ok o → line_of wanted (line_value (type_of k) d) ≡ Ok (taken k o)
+object_line wanted k null o is = absurd cc
+object_line wanted k (boolean b) o is = absurd cc
+object_line wanted k (number n) o is = absurd cc
+object_line wanted k (string s) o is = absurd cc
+object_line wanted k (array ds) o is = absurd cc
+object_line wanted Added (object ms) o is = ap (λ (r : Read Stored). r >>= λ x. Ok (reads.put x)) is
+object_line wanted Modified (object ms) o is = ap (λ (r : Read Stored). r >>= λ x. Ok (reads.put x)) is
+object_line wanted Deleted (object ms) o is = ap (λ (r : Read Stored). r >>= λ x. Ok (reads.deleted x)) is
+
+shown_text : (k : SeenKind) (s : Shape) (of : Identity) (v : ℕ) (state : State) (o : Object) → IsObjectShape s → IsObjectText s of v state o.body
+    → text_shown k o ≡ compact_text (object_value s of (version_shown k v o.revision) state)
+shown_text Added s of v state o shaped said = said.is_text ∙ text_is s of v state
+shown_text Modified s of v state o shaped said = said.is_text ∙ text_is s of v state
+shown_text Deleted s of v state o shaped said = shows_text s of v o.revision state o.body shaped said ∙ text_is s of o.revision state
+
+pub change_read : (wanted : Wanted) (s : Shape) (of : Identity) (v : ℕ) (state : State) (x : SeenChange) (o : Stored) → IsObjectShape s → IsObjectText s of v state x.object.body
+    → x.object.revision ≤ max_version → IsUtf8 (text_shown x.kind x.object) → object_of wanted (object_value s of (version_shown x.kind v x.object.revision) state) ≡ Ok o
+    → line_in wanted (shown (type_of x.kind) (text_shown x.kind x.object)) ≡ Ok (taken x.kind o)
+change_read wanted s of v state x o shaped said low text is =
+    let version = version_shown x.kind v x.object.revision in
+    let same : text_shown x.kind x.object ≡ compact_text (object_value s of version state) = shown_text x.kind s of v state x.object shaped said in
+    ap (λ t. line_in wanted (shown (type_of x.kind) t)) same
+    ∙ line_says wanted (type_of x.kind) (object_value s of version state) (taken x.kind o) (has_room s of version state shaped.1 said.placed.0) (subst IsUtf8 same text)
+    (object_line wanted x.kind (object_value s of version state) o is)
+
+pub object_shown : (s : Shape) (of : Identity) (v : ℕ) (state : State) (text : List ℕ) → IsObjectShape s → IsObjectText s of v state text
+    → IsShown (object_value s of v state) × (text ≡ compact_text (object_value s of v state))
+object_shown s of v state text shaped said = (has_room s of v state shaped.1 said.placed.0, said.is_text ∙ text_is s of v state)
+
+-- ---- bookmarks
+
+fits : 9223372036854775807 < 2 ^ 64
+fits = omega arith
+
+version_back : (v : ℕ) → v ≤ max_version → version_of (decimal v) ≡ Some v
+version_back v low = (exact 9223372036854775807 (decimal v) v fits).1 (low, refl)
+
+in_word : (n : ℕ) → n ≤ max_version → n < 2 ^ 64
+in_word n low = omega (arith, low)
+
+filled : (xs : List ℕ) → (xs ≡ [] → ⊥) → unless_empty xs ≡ Some xs
+filled [] h = absurd (h refl)
+filled (x ∷ xs) h = refl
+
+version_filled : (xs : List ℕ) (v : ℕ) → version_of xs ≡ Some v → unless_empty xs ≡ Some xs
+version_filled [] v is = absurd cc
+version_filled (x ∷ xs) v is = refl
+
+joined_filled : (front back : List ℕ) → unless_empty (front ++ codes "/" ++ back) ≡ Some (front ++ codes "/" ++ back)
+joined_filled [] back = refl
+joined_filled (x ∷ front) back = refl
+
+itself : (xs : List ℕ) → bytes_eq xs xs ≡ true
+itself xs = (bytes_decides xs xs).1 refl
+
+abbrev marks : List ℕ → List ℕ → Option (List ℕ) → Option (List ℕ) → Option (List ℕ) → Read ℕ
+marks api_version kind a k v = (unless (is_text api_version a) ApiVersion >>= λ u. unless (is_text kind k) Kind) >>= λ u. or_amiss Version (option_and_then version_of v)
+
+bookmark_is : (wanted : Wanted) (r : ℕ) → r ≤ max_version → (wanted.kind ≡ [] → ⊥) → bookmark_of wanted (bookmark_value (api_version_of wanted) wanted.kind (decimal r)) ≡ Ok r
+bookmark_is wanted r low some =
+    let api_version = api_version_of wanted in
+    let kind = wanted.kind in
+    ap (λ a. marks api_version kind a (unless_empty kind) (unless_empty (decimal r))) (joined_filled wanted.group wanted.version)
+    ∙ ap₂ (λ k v. marks api_version kind (Some api_version) k v) (filled kind some) (version_filled (decimal r) r (version_back r low))
+    ∙ ap₂ (λ p q. (unless p ApiVersion >>= λ u. unless q Kind) >>= λ u. or_amiss Version (version_of (decimal r))) (itself api_version) (itself kind)
+    ∙ ap (or_amiss Version) (version_back r low)
+
+bookmark_fits : (api_version kind version : List ℕ) → IsShown (bookmark_value api_version kind version)
+bookmark_fits api_version kind version = record { spelled = (refl, (tt, (tt, ((refl, (tt, tt)), tt)))); whole = refl; shallow = omega arith }
+
+ascii : (xs : List ℕ) → are_ascii xs ≡ true → IsUtf8 xs
+ascii = IsUtf8-are_ascii
+
+decimal_utf8 : (n : ℕ) → n ≤ max_version → IsUtf8 (decimal n)
+decimal_utf8 n low = IsUtf8-from_ascii (decimal n) (IsAscii-decimal n (in_word n low))
+
+bookmark_utf8 : (api_version kind version : List ℕ) → IsUtf8 api_version → IsUtf8 kind → IsUtf8 version → IsUtf8 (compact_text (bookmark_value api_version kind version))
+bookmark_utf8 api_version kind version a k v =
+    text_utf8 (bookmark_value api_version kind version)
+    (ascii (codes "apiVersion") refl, (a, (ascii (codes "kind") refl, (k, (ascii (codes "metadata") refl, ((ascii (codes "resourceVersion") refl, (v, tt)), tt))))))
+
+pub bookmark_read : (wanted : Wanted) (r : ℕ) → r ≤ max_version → IsUtf8 (api_version_of wanted) → IsUtf8 wanted.kind → (wanted.kind ≡ [] → ⊥)
+    → line_in wanted (shown event.Bookmark (compact_text (bookmark_value (api_version_of wanted) wanted.kind (decimal r)))) ≡ Ok (reads.bookmark r)
+bookmark_read wanted r low a k some =
+    line_says wanted event.Bookmark (bookmark_value (api_version_of wanted) wanted.kind (decimal r)) (reads.bookmark r) (bookmark_fits (api_version_of wanted) wanted.kind (decimal r))
+    (bookmark_utf8 (api_version_of wanted) wanted.kind (decimal r) a k (decimal_utf8 r low))
+    (ap (λ (x : Read ℕ). x >>= λ n. Ok (reads.bookmark n)) (bookmark_is wanted r low some))
+
+-- ---- errors
+
+expired_fits : (message : List ℕ) → IsShown (expired_value message)
+expired_fits message = record { spelled = (refl, (tt, (omega arith, (tt, (tt, ((refl, tt), (tt, (tt, tt)))))))); whole = refl; shallow = omega arith }
+
+message_utf8 : (r c : ℕ) → r ≤ max_version → c ≤ max_version → IsUtf8 (expired_message r c)
+message_utf8 r c low under =
+    IsUtf8-append (codes "too old resource version: " ++ decimal r ++ codes " (" ++ decimal c) (codes ")")
+    (IsUtf8-append (codes "too old resource version: " ++ decimal r ++ codes " (") (decimal c)
+    (IsUtf8-append (codes "too old resource version: " ++ decimal r) (codes " (") (IsUtf8-append (codes "too old resource version: ") (decimal r) (ascii (codes "too old resource version: ") refl) (decimal_utf8 r low)) (ascii (codes " (") refl))
+    (decimal_utf8 c under)) (ascii (codes ")") refl)
+
+expired_utf8 : (message : List ℕ) → IsUtf8 message → IsUtf8 (compact_text (expired_value message))
+expired_utf8 message m =
+    text_utf8 (expired_value message) (
+      ascii (codes "apiVersion") refl,
+      (
+        ascii (codes "v1") refl,
+        (
+          ascii (codes "code") refl,
+          (
+            omega arith,
+            (
+              ascii (codes "kind") refl,
+              (
+                ascii (codes "Status") refl,
+                (
+                  ascii (codes "message") refl,
+                  (
+                    m,
+                    (ascii (codes "metadata") refl, (tt, (ascii (codes "reason") refl, (ascii (codes "Expired") refl, (ascii (codes "status") refl, (ascii (codes "Failure") refl, tt)))))),
+                  ),
+                ),
+              ),
+            ),
+          ),
+        ),
+      ),
+    )
+
+pub error_read : (wanted : Wanted) (r c : ℕ) → r ≤ max_version → c ≤ max_version → line_in wanted (shown event.Error (compact_text (expired_value (expired_message r c)))) ≡ Ok reads.error
+error_read wanted r c low under = line_says wanted event.Error (expired_value (expired_message r c)) reads.error (expired_fits (expired_message r c)) (expired_utf8 (expired_message r c) (message_utf8 r c low under)) refl
