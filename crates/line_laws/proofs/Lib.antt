@@ -1,4 +1,5 @@
 pub mod Feeds
+pub mod Objects
 pub mod Renumbered
 pub mod Said
 pub mod Told

@@ -67,10 +67,10 @@ version_over name namespace old new ms =
     ∙ ap (put (codes "name") name) (put_turned (codes "resourceVersion") (codes "namespace") new namespace (put (codes "resourceVersion") old ms) (λ same. absurd (apart (codes "resourceVersion") (codes "namespace") refl same)))
     ∙ ap (λ l. put (codes "name") name (put (codes "namespace") namespace l)) (put_again (codes "resourceVersion") new old ms)
 
-abbrev enveloped : Data → Data → Data → Members → Members
+abbrev pub enveloped : Data → Data → Data → Members → Members
 enveloped api_version kind metadata base = put (codes "apiVersion") api_version (put (codes "kind") kind (put (codes "metadata") metadata base))
 
-metadata_there : (api_version kind metadata : Data) (base : Members) → get_member (codes "metadata") (enveloped api_version kind metadata base) ≡ Some metadata
+pub metadata_there : (api_version kind metadata : Data) (base : Members) → get_member (codes "metadata") (enveloped api_version kind metadata base) ≡ Some metadata
 metadata_there api_version kind metadata base =
     get_member-put_other (codes "metadata") (codes "apiVersion") api_version (put (codes "kind") kind (put (codes "metadata") metadata base)) (apart (codes "metadata") (codes "apiVersion") refl)
     ∙ get_member-put_other (codes "metadata") (codes "kind") kind (put (codes "metadata") metadata base) (apart (codes "metadata") (codes "kind") refl)

@@ -129,17 +129,17 @@ object_shown s of v state text shaped said = (has_room s of v state shaped.1 sai
 fits : 9223372036854775807 < 2 ^ 64
 fits = omega arith
 
-version_back : (v : ℕ) → v ≤ max_version → version_of (decimal v) ≡ Some v
+pub version_back : (v : ℕ) → v ≤ max_version → version_of (decimal v) ≡ Some v
 version_back v low = (exact 9223372036854775807 (decimal v) v fits).1 (low, refl)
 
 in_word : (n : ℕ) → n ≤ max_version → n < 2 ^ 64
 in_word n low = omega (arith, low)
 
-filled : (xs : List ℕ) → (xs ≡ [] → ⊥) → unless_empty xs ≡ Some xs
+pub filled : (xs : List ℕ) → (xs ≡ [] → ⊥) → unless_empty xs ≡ Some xs
 filled [] h = absurd (h refl)
 filled (x ∷ xs) h = refl
 
-version_filled : (xs : List ℕ) (v : ℕ) → version_of xs ≡ Some v → unless_empty xs ≡ Some xs
+pub version_filled : (xs : List ℕ) (v : ℕ) → version_of xs ≡ Some v → unless_empty xs ≡ Some xs
 version_filled [] v is = absurd cc
 version_filled (x ∷ xs) v is = refl
 
@@ -147,7 +147,7 @@ joined_filled : (front back : List ℕ) → unless_empty (front ++ codes "/" ++ 
 joined_filled [] back = refl
 joined_filled (x ∷ front) back = refl
 
-itself : (xs : List ℕ) → bytes_eq xs xs ≡ true
+pub itself : (xs : List ℕ) → bytes_eq xs xs ≡ true
 itself xs = (bytes_decides xs xs).1 refl
 
 abbrev marks : List ℕ → List ℕ → Option (List ℕ) → Option (List ℕ) → Option (List ℕ) → Read ℕ

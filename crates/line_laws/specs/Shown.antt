@@ -1,12 +1,20 @@
 -- A line of a watch without its line feed, as a client gets it (WatchEvent v1 meta), and what may stand in it.
-use Rattle.std.specs.Prelude.{◌≡◌, ℕ, ◌<◌, Bool, false, ◌==◌, List, ◌++◌, codes}
+use Rattle.std.specs.Prelude.{◌≡◌, ℕ, ◌<◌, Bool, true, false, ◌==◌, List, [], ◌++◌, codes}
+use Rattle.std.specs.declared.result.Result.TheVariants.{Ok}
 use Rattle.serde_json.specs.Data.{Data, string, object, no_members, put, depth}
 use Rattle.serde_json.specs.Read.{max_depth}
 use Rattle.serde_json.specs.Written.{has_float}
 use Rattle.fieldpath.specs.Spelled.{IsSpelled}
 use Rattle.history.specs.Seen.{SeenKind, Added, Modified, Deleted}
 use Rattle.indexer.specs.Objects.{Stored}
+use Rattle.schema.specs.Shape.{Shape}
+use Rattle.typed.specs.Printing.{print}
+use Rattle.ownership.specs.Apply.{State}
+use Rattle.ownership.specs.ObjectText.{Identity, metadata_members, object_text}
 use Rattle.decoder.specs.Lines as reads
+use Rattle.decoder.specs.Members.{at}
+use Rattle.decoder.specs.Objects.{labels_of}
+use Rattle.decoder.specs.Wanted.{Wanted, api_version_of, is_in}
 use Rattle.watchline.specs.declared.event.EventType.{EventType}
 use Rattle.watchline.specs.Lines.{type_text}
 
@@ -37,3 +45,23 @@ abbrev pub taken : SeenKind → Stored → reads.Line
 taken Added o = reads.put o
 taken Modified o = reads.put o
 taken Deleted o = reads.deleted o
+
+-- ---- objects
+
+-- an identity of what is asked for, none of whose texts is empty
+pub record HasPlace (wanted : Wanted) (of : Identity) : Type 0 where
+  pub of_version : of.api_version ≡ api_version_of wanted
+  pub of_kind : of.kind ≡ wanted.kind
+  pub within : is_in wanted.namespace of.namespace ≡ true
+  pub has_api_version : of.api_version ≡ [] → ⊥
+  pub has_kind : of.kind ≡ [] → ⊥
+  pub has_namespace : of.namespace ≡ [] → ⊥
+  pub has_name : of.name ≡ [] → ⊥
+
+-- what a client keeps of an object is that object: its key, its version, the labels that its content prints, its text
+pub record IsStored (s : Shape) (of : Identity) (version : ℕ) (state : State) (o : Stored) : Type 0 where
+  pub of_namespace : o.namespace ≡ of.namespace
+  pub of_name : o.name ≡ of.name
+  pub of_revision : o.revision ≡ version
+  pub labels_are : labels_of (at (codes "labels") (metadata_members (print s state.content))) ≡ Ok o.labels
+  pub text_is : o.text ≡ object_text s of version state

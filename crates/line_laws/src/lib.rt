@@ -10,4 +10,4 @@ mod lines;
 
 pub use deletions::deletions_show_the_object;
 pub use following::watches_tell_all;
-pub use lines::{lines_are_lines, lines_are_read};
+pub use lines::{lines_are_lines, lines_are_read, objects_are_read};

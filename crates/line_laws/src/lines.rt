@@ -8,6 +8,7 @@ ghost use Rattle.fieldpath.specs.Spelled.{IsSpelled};
 ghost use Rattle.schema.specs.ObjectShape.{IsObjectShape};
 ghost use Rattle.schema.specs.Shape.{Shape};
 ghost use Rattle.ownership.specs.Apply.{State};
+ghost use Rattle.ownership.specs.Keeping.{IsPlacedState};
 ghost use Rattle.ownership.specs.ObjectText.{Identity, object_value};
 ghost use Rattle.ownership.specs.ReadBack.{IsObjectText, max_version};
 ghost use Rattle.history.specs.Seen.{SeenChange};
@@ -20,7 +21,7 @@ ghost use Rattle.decoder.specs.Wanted.{Wanted, api_version_of};
 ghost use Rattle.watchline.specs.declared.event.EventType.{EventType};
 ghost use Rattle.watchline.specs.declared.event.EventType.TheVariants as event;
 ghost use Rattle.watchline.specs.Lines.{bookmark_line, bookmark_value, error_line, expired_message, expired_value, line, text_shown, type_of};
-ghost use Rattle.line_laws.specs.Shown.{IsShown, is_feed, line_value, shown, taken, version_shown};
+ghost use Rattle.line_laws.specs.Shown.{HasPlace, IsShown, IsStored, is_feed, line_value, shown, taken, version_shown};
 
 /// A line has one line feed, its last byte, whatever value stands in it.
 pub fn lines_are_lines()
@@ -41,4 +42,11 @@ pub fn lines_are_read()
         → line_in wanted (shown event.Bookmark (compact_text (bookmark_value (api_version_of wanted) wanted.kind (decimal r)))) ≡ Ok (reads.bookmark r) }
     ensures errors { (wanted : Wanted) (r c : ℕ) → r ≤ max_version → c ≤ max_version
         → line_in wanted (shown event.Error (compact_text (expired_value (expired_message r c)))) ≡ Ok reads.error }
+{}
+
+/// An object's value is read, from a line as from a list, as that object: its key, its version, its labels and its
+/// text, where a client asks for its type and its namespace.
+pub fn objects_are_read()
+    ensures { (wanted : Wanted) (s : Shape) (of : Identity) (v : ℕ) (state : State) → IsObjectShape s → IsPlacedState s state → v ≤ max_version → HasPlace wanted of
+        → (o : Stored) × (object_of wanted (object_value s of v state) ≡ Ok o) × IsStored s of v state o }
 {}
