@@ -127,8 +127,8 @@ impl Play {
     fn stands(&mut self, alloc: Global) -> Result<String, Fail> {
         let mut text = standing(alloc, &self.informer)?;
         let notices = self.informer.take_notices();
+        self.summary.note_all(&notices)?;
         for notice in notices.iter() {
-            self.summary.note(notice)?;
             push_notice(&mut text, notice)?;
         }
         Ok(text)
