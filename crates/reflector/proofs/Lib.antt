@@ -9,6 +9,7 @@ pub mod Taken
 pub mod Replays
 pub mod Olds
 pub mod Exactly
+pub mod Leading
 pub mod Between
 pub mod Turns
 pub mod Ascending

@@ -1,10 +1,12 @@
 -- A client beside a server, over a run of events.
 use Rattle.std.specs.Prelude.{◌≡◌, ℕ, ◌≤◌, List, [], ◌∷◌, ◌++◌, take, drop, Option, Some, None, ⊤}
+use Rattle.std.specs.FinMap as fin
 use Rattle.wireclient.specs.Reply.{Told}
 use Rattle.decoder.specs.Wanted.{Wanted}
-use Rattle.reflector.specs.Client.{Cache, follow, Client, fresh}
+use Rattle.reflector.specs.Client.{Objects, Cache, follow, Client, fresh, kept}
 use Rattle.reflector.specs.Run.{again, asked, closed, hears_all, restarted, taken}
 use Rattle.reflector.specs.Follows.{Server, Comes, IsLater, Watches}
+use Rattle.reflector.specs.Replays.{LeadFrom}
 
 pub data Event : Type 0 where
   asks : (items : List Told) → (to : ℕ) → Event  -- a request, and the items that answer it; of a watch, they lead to a revision
@@ -66,3 +68,19 @@ IsRight server m (Some now) = (m ≤ now.revision) × (now.revision ≤ server.t
 abbrev pub AreRight : Wanted → Beside → List Event → Type 0
 AreRight wanted b [] = ⊤
 AreRight wanted b (e ∷ es) = IsRight (after wanted b e).server b.highest (after wanted b e).client.cache × AreRight wanted (after wanted b e) es
+
+-- the objects as they were when the notices were taken last; none at the start, nor after a restart
+abbrev pub taken_last : Beside → Objects → Event → Objects
+taken_last b o (asks items to) = o
+taken_last b o (writes items to) = o
+taken_last b o (hears n) = o
+taken_last b o cut = o
+taken_last b o lost = o
+taken_last b o restart = fin.empty
+taken_last b o takes = kept b.client.cache
+taken_last b o (grows later) = o
+
+-- after each event the waiting notices lead from those objects to the ones that are kept
+abbrev pub AllLead : Wanted → Beside → Objects → List Event → Type 0
+AllLead wanted b o [] = ⊤
+AllLead wanted b o (e ∷ es) = LeadFrom (taken_last b o e) (after wanted b e).client × AllLead wanted (after wanted b e) (taken_last b o e) es

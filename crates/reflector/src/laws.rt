@@ -8,7 +8,7 @@ ghost use Rattle.reflector.specs.Client.{Client, Objects, first, follow, fresh, 
 ghost use Rattle.reflector.specs.Run.{again, asked, closed, hears_all, restarted, taken};
 ghost use Rattle.reflector.specs.Follows.{Server, Comes, Follows, GoesOn, IsLater, Watches};
 ghost use Rattle.reflector.specs.Lists.{ArePages, answered};
-ghost use Rattle.reflector.specs.Events.{AreLawful, AreRight, Event, start};
+ghost use Rattle.reflector.specs.Events.{AllLead, AreLawful, AreRight, Event, start};
 ghost use Rattle.reflector.specs.Replays.{ArePlaced, HasRead, LeadFrom, Tells, TellsSince};
 
 /// Whatever comes of what a server answers, and whatever else happens, the client's objects are the server's at the
@@ -62,4 +62,11 @@ pub fn notices_tell_exactly()
     ensures closed { (wanted : Wanted) (o : Objects) (c : Client) → HasRead wanted c → LeadFrom o c → HasRead wanted (closed c) × LeadFrom o (closed c) }
     ensures given_up { (wanted : Wanted) (o : Objects) (c : Client) → HasRead wanted c → LeadFrom o c → HasRead wanted (again c) × LeadFrom o (again c) }
     ensures taken { (wanted : Wanted) (c : Client) → HasRead wanted c → HasRead wanted (taken c) × LeadFrom (kept c.cache) (taken c) }
+{}
+
+/// Over any run of events, whatever the server answers: after each of them the notices that wait, replayed on the
+/// objects of the last time that they were taken (of the start or the last restart: on none), are the objects that the
+/// client keeps, and each one's old side is what stood at its place.
+pub fn notices_lead_on()
+    ensures { (wanted : Wanted) (server : Server) (events : List Event) → AllLead wanted (start server) fin.empty events }
 {}

@@ -27,7 +27,8 @@ mod taking;
 
 pub use informer::Informer;
 pub use laws::{
-    follows_the_server, mirrors_the_server, notices_tell, notices_tell_exactly, takes_whole_lists,
+    follows_the_server, mirrors_the_server, notices_lead_on, notices_tell, notices_tell_exactly,
+    takes_whole_lists,
 };
 pub use notice::Notice;
 pub use settings::{Settings, SettingsFault};
