@@ -16,4 +16,6 @@ pub mod Promise
 pub mod Refusals
 pub mod Statuses
 pub mod Said
-pub mod Bookmarks
+pub mod Seeking
+pub mod Walking
+pub mod Leading

@@ -6,6 +6,7 @@ pub mod Json
 pub mod Machine
 pub mod Calls
 pub mod Admit
+pub mod Routes
 pub mod Envelope
 pub mod Parameters
 pub mod Naming

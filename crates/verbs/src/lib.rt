@@ -36,6 +36,7 @@ mod reading;
 mod reason;
 mod resource;
 mod route;
+mod route_laws;
 mod size;
 mod status;
 mod storing;
@@ -56,4 +57,5 @@ pub use laws::{
 };
 pub use method::Method;
 pub use reason::Reason;
+pub use route_laws::paths_lead_by_parts;
 pub use status::status_value;

@@ -1,0 +1,11 @@
+use Rattle.verbs.proofs.Leading.{paths_of_all, paths_of_collections, paths_of_objects}
+use Rattle.verbs.proofs.route_laws.paths_lead_by_parts.Goals as goal
+
+pub returns-clause-all : goal.returns-clause-all
+returns-clause-all c = paths_of_all
+
+pub returns-clause-collections : goal.returns-clause-collections
+returns-clause-collections c = paths_of_collections
+
+pub returns-clause-objects : goal.returns-clause-objects
+returns-clause-objects c = paths_of_objects

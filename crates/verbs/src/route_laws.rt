@@ -1,0 +1,10 @@
+//! Laws of routes. The function does nothing; what it promises is the law.
+
+ghost use Rattle.verbs.specs.Routes.{PathsOfAll, PathsOfCollections, PathsOfObjects};
+
+/// A path leads where its parts between slashes say: to all objects of a type, to those in a namespace, or to one.
+pub fn paths_lead_by_parts()
+    ensures all { PathsOfAll }
+    ensures collections { PathsOfCollections }
+    ensures objects { PathsOfObjects }
+{}
