@@ -40,7 +40,7 @@ below_same : (f : ℕ → Connection → Connection) (id : ℕ) (es : Entries) �
 below_same f id [] = refl
 below_same f id (e ∷ es) = ap (λ (b : Bool). is_lt (nat_cmp id e.0) && b) (below_same f id es)
 
-sorted_same : (f : ℕ → Connection → Connection) (es : Entries) → entries.is_sorted nat_cmp (changed f es) ≡ entries.is_sorted nat_cmp es
+pub sorted_same : (f : ℕ → Connection → Connection) (es : Entries) → entries.is_sorted nat_cmp (changed f es) ≡ entries.is_sorted nat_cmp es
 sorted_same f [] = refl
 sorted_same f (e ∷ es) =
     ap (λ (b : Bool). b && entries.is_sorted nat_cmp (changed f es)) (below_same f e.0 es) ∙ ap (λ (b : Bool). entries.below_all nat_cmp e.0 es && b) (sorted_same f es)

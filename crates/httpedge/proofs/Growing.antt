@@ -8,10 +8,10 @@ use Rattle.std.proofs.lemmas.List.{take-append-drop}
 use Rattle.schema.specs.TypesFile.{ServedShape}
 use Rattle.history.specs.History.{History}
 use Rattle.httpedge.specs.Asks.{CallDecision}
-use Rattle.httpedge.specs.Connections.{Connection, Connections, Standing, waiting, watching, ended, gone, each, has_gone, is_new, is_open, is_watching, left_out, out_of, out_on, with_standing, written_on}
+use Rattle.httpedge.specs.Connections.{Connection, Connections, Standing, waiting, watching, ended, gone, each, has_gone, is_new, is_open, left_out, out_of, out_on, with_standing, written_on}
 use Rattle.httpedge.specs.Decision.{undecided, refused, accepted}
 use Rattle.httpedge.specs.Runs.{Follows, Happening, happens, starves, takes}
-use Rattle.httpedge.specs.Steps.{Event, State, opens, comes, goes, pumps, ticks, compacts, after_turn, answer_reply, by_connection, connection_after, dead, dead_or_ticked, opening, received_by, refusal, refusal_reply, carried_out, starved, unless_refused, with_connection, with_turn}
+use Rattle.httpedge.specs.Steps.{Event, State, opens, comes, goes, pumps, ticks, compacts, after_turn, answer_bytes, by_connection, connection_after, dead, dead_or_ticked, opening, received_by, refusal, refusal_reply, carried_out, starved, unless_refused, turn_bytes, with_connection, with_turn, writes_at}
 use Rattle.httpedge.specs.Watches.{Turn, Watch, pumped, ticked}
 use Rattle.verbs.specs.Step.{planned}
 use Rattle.httpedge.proofs.Connected.{got_each, tied_same, unknown}
@@ -28,14 +28,15 @@ Grows o p = (more : List ℕ) × (written_in p ≡ written_in o ++ more)
 same : (o : Option Connection) → Grows o o
 same o = ([], sym (append-nil (written_in o)))
 
-after_grows : (types : List ServedShape) (m : History) (c : Connection) (bytes : List ℕ) (asked : CallDecision) → Grows (Some c) (Some (connection_after types m c bytes asked))
-after_grows types m c bytes undecided = same (Some c)
-after_grows types m c bytes (refused d) = (refusal_reply d, refl)
-after_grows types m c bytes (accepted call) = (answer_reply (planned types m call).answer, refl)
+after_grows : (types : List ServedShape) (m : History) (last_tick : ℕ) (c : Connection) (bytes : List ℕ) (asked : CallDecision)
+    → Grows (Some c) (Some (connection_after types m last_tick c bytes asked))
+after_grows types m last_tick c bytes undecided = same (Some c)
+after_grows types m last_tick c bytes (refused d) = (refusal_reply d, refl)
+after_grows types m last_tick c bytes (accepted call) = (answer_bytes (planned types m call).answer (planned types m call).answer.watch, refl)
 
 turn_grows : (turn : Watch → Turn) (c : Connection) (st : Standing) → Grows (Some c) (Some (after_turn turn c st))
 turn_grows turn c (waiting front) = same (Some c)
-turn_grows turn c (watching w) = ((turn w).bytes, refl)
+turn_grows turn c (watching w) = (turn_bytes (turn w), refl)
 turn_grows turn c ended = same (Some c)
 turn_grows turn c (gone had_ended) = same (Some c)
 
@@ -43,9 +44,9 @@ dead_grows : (b : Bool) (c : Connection) → Grows (Some c) (Some (cond b (with_
 dead_grows true c = same (Some c)
 dead_grows false c = same (Some c)
 
-dead_or : (ms : ℕ) (b : Bool) (c : Connection) → Grows (Some c) (Some (cond b (dead c) (with_turn (ticked ms) c)))
-dead_or ms true c = dead_grows (is_open c.standing) c
-dead_or ms false c = turn_grows (ticked ms) c c.standing
+dead_or : (types : List ServedShape) (ms : ℕ) (b : Bool) (c : Connection) → Grows (Some c) (Some (cond b (dead c) (with_turn (ticked types ms) c)))
+dead_or types ms true c = dead_grows (is_open c.standing) c
+dead_or types ms false c = turn_grows (ticked types ms) c c.standing
 
 -- ---- one of all connections
 
@@ -69,7 +70,7 @@ there_grows s id q f grows = by_grows s q (fin.get s.connections id) _ (λ c got
 received_grows : (s : State) (id q : ℕ) (c : Connection) (st : Standing) (bytes : List ℕ) (asked : CallDecision) → fin.get s.connections id ≡ Some c
     → Grows (fin.get s.connections q) (fin.get (received_by s id c st bytes asked).connections q)
 received_grows s id q c (waiting front) bytes asked got =
-    put_grows s.connections id q _ (subst (λ (o : Option Connection). Grows o (Some (connection_after s.types s.machine c (front ++ bytes) asked))) (sym got) (after_grows s.types s.machine c (front ++ bytes) asked))
+    put_grows s.connections id q _ (subst (λ (o : Option Connection). Grows o (Some (connection_after s.types s.machine s.last_tick c (front ++ bytes) asked))) (sym got) (after_grows s.types s.machine s.last_tick c (front ++ bytes) asked))
 received_grows s id q c (watching w) bytes asked got = same (fin.get s.connections q)
 received_grows s id q c ended bytes asked got = same (fin.get s.connections q)
 received_grows s id q c (gone had_ended) bytes asked got = same (fin.get s.connections q)
@@ -98,9 +99,9 @@ stepped_grows s (opens id) asked q = opens_grows s id q (is_new s.connections id
 stepped_grows s (comes id bytes) asked q = unless_grows s _ (refusal s (comes id bytes)) q (by_grows s q (fin.get s.connections id) _ (λ c got. received_grows s id q c c.standing bytes asked got))
 stepped_grows s (goes id) asked q = unless_grows s _ (refusal s (goes id)) q (there_grows s id q _ (λ c. same (Some c)))
 stepped_grows s (pumps id max) asked q =
-    unless_grows s _ (refusal s (pumps id max)) q (there_grows s id q (with_turn (pumped s.types s.machine max)) (λ c. turn_grows (pumped s.types s.machine max) c c.standing))
+    unless_grows s _ (refusal s (pumps id max)) q (there_grows s id q (with_turn (pumped s.machine max)) (λ c. turn_grows (pumped s.machine max) c c.standing))
 stepped_grows s (ticks ms) asked q =
-    unless_grows s _ (refusal s (ticks ms)) q (each_grows (λ id c. with_turn (ticked ms) c) s.connections q (λ c. turn_grows (ticked ms) c c.standing))
+    unless_grows s _ (refusal s (ticks ms)) q (each_grows (λ id c. with_turn (ticked s.types ms) c) s.connections q (λ c. turn_grows (ticked s.types ms) c c.standing))
 stepped_grows s (compacts c) asked q = unless_grows s _ (refusal s (compacts c)) q (same (fin.get s.connections q))
 
 starved_grows : (s : State) (e : Event) (which : ℕ → Bool) (q : ℕ) → Grows (fin.get s.connections q) (fin.get (starved s e which).connections q)
@@ -108,7 +109,7 @@ starved_grows s (opens id) which q = same (fin.get s.connections q)
 starved_grows s (comes id bytes) which q = there_grows s id q dead (λ c. dead_grows (is_open c.standing) c)
 starved_grows s (goes id) which q = same (fin.get s.connections q)
 starved_grows s (pumps id max) which q = there_grows s id q dead (λ c. dead_grows (is_open c.standing) c)
-starved_grows s (ticks ms) which q = each_grows (λ id c. dead_or_ticked ms (which id) c) s.connections q (λ c. dead_or ms (which q && is_watching c.standing) c)
+starved_grows s (ticks ms) which q = each_grows (λ id c. dead_or_ticked s.types ms (which id) c) s.connections q (λ c. dead_or s.types ms (which q && writes_at ms c.standing) c)
 starved_grows s (compacts c) which q = same (fin.get s.connections q)
 
 pub grows : (s t : State) (h : Happening) (q : ℕ) → Follows s h t → (more : List ℕ) × (written_on t.connections q ≡ written_on s.connections q ++ more)

@@ -3,6 +3,10 @@ pub mod BodyCuts
 pub mod Connected
 pub mod Cuts
 pub mod Digits
+pub mod Going
+pub mod Chunking
+pub mod Turning
+pub mod Ticked
 pub mod Heading
 pub mod Lasting
 pub mod Numbers

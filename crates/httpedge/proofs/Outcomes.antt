@@ -1,17 +1,18 @@
 -- Bytes in two pieces lead where they lead in one, and events lead to one state.
-use Rattle.std.proofs.Common.{◌≡◌, ◌≢◌, ℕ, cond, List, [], ◌∷◌, ◌++◌, Option, Some, None, refl, sym, ap, subst, ◌∙◌, append_assoc}
+use Rattle.std.proofs.Common.{◌≡◌, ◌≢◌, ℕ, true, false, cond, List, [], ◌∷◌, ◌++◌, Option, Some, None, refl, sym, ap, subst, ◌∙◌, append_assoc}
 use Rattle.std.specs.Prelude.{is_some, option_and_then}
 use Rattle.std.specs.FinMap as fin
 use Rattle.schema.specs.TypesFile.{ServedShape}
 use Rattle.history.specs.History.{History}
 use Rattle.verbs.specs.Machine.{after}
+use Rattle.watchline.specs.Opening.{WatchFrom}
 use Rattle.verbs.specs.Step.{planned}
 use Rattle.httpedge.specs.Asks.{CallDecision, Asks, asked_by}
-use Rattle.httpedge.specs.Connections.{Connection, Standing, waiting, watching, ended, gone, with_standing, with_written}
+use Rattle.httpedge.specs.Connections.{Connection, Standing, waiting, watching, ended, gone, is_waiting, with_standing, with_written}
 use Rattle.httpedge.specs.Decision.{undecided, refused, accepted}
 use Rattle.httpedge.specs.Heads.{HeadDecision, ReadsHead}
 use Rattle.httpedge.specs.Runs.{AsksIf, all_bytes, bytes_at, Steps, Happening, happens, starves, takes, Follows, Runs}
-use Rattle.httpedge.specs.Steps.{State, Event, answer_reply, comes, by_connection, connection_after, machine_after, received, received_by, refusal_reply, stepped, with_connection, with_connections, with_machine, unless_refused}
+use Rattle.httpedge.specs.Steps.{State, Event, answer_bytes, answer_standing, comes, by_connection, connection_after, machine_after, received, received_by, refusal_reply, stepped, with_connection, with_connections, with_machine, unless_refused}
 use Rattle.httpedge.proofs.Deciding.{asks_more, asks_one}
 use Rattle.httpedge.proofs.Connected.{put_there, put_again}
 
@@ -31,22 +32,32 @@ again : (s : State) (id : ℕ) (c d : Connection) → with_connection (with_conn
 again s id c d = ap (with_connections s) (put_again s.connections id c d)
 
 -- more bytes, after those that left it undecided
-connection_later : (types : List ServedShape) (m : History) (c : Connection) (front bytes : List ℕ) (asked : CallDecision)
-    → connection_after types m (with_standing c (waiting front)) bytes asked ≡ connection_after types m c bytes asked
-connection_later types m c front bytes undecided = refl
-connection_later types m c front bytes (refused d) = refl
-connection_later types m c front bytes (accepted call) = refl
+connection_later : (types : List ServedShape) (m : History) (last_tick : ℕ) (c : Connection) (front bytes : List ℕ) (asked : CallDecision)
+    → connection_after types m last_tick (with_standing c (waiting front)) bytes asked ≡ connection_after types m last_tick c bytes asked
+connection_later types m last_tick c front bytes undecided = refl
+connection_later types m last_tick c front bytes (refused d) = refl
+connection_later types m last_tick c front bytes (accepted call) = refl
 
 received_after : (s : State) (id : ℕ) (c : Connection) (front bytes : List ℕ) (asked : CallDecision)
     → received (with_connection s id (with_standing c (waiting front))) id (with_standing c (waiting front)) bytes asked ≡ received s id c bytes asked
 received_after s id c front bytes asked =
     let m = machine_after s.types s.machine asked in
-    again (with_machine s m) id (with_standing c (waiting front)) (connection_after s.types s.machine (with_standing c (waiting front)) bytes asked)
-    ∙ ap (with_connection (with_machine s m) id) (connection_later s.types s.machine c front bytes asked)
+    again (with_machine s m) id (with_standing c (waiting front)) (connection_after s.types s.machine s.last_tick (with_standing c (waiting front)) bytes asked)
+    ∙ ap (with_connection (with_machine s m) id) (connection_later s.types s.machine s.last_tick c front bytes asked)
 
--- after a reply the rest changes nothing
-on_ended : (s t : State) (id : ℕ) (c : Connection) (reply second : List ℕ) → ComesBy s id (Some (with_written c reply ended)) second t → t ≡ s
-on_ended s t id c reply second (asked, asks, is) = is
+wrong : true ≡ false → ⊥
+wrong e = cc
+
+-- after an answer the rest changes nothing
+on_idle : (s t : State) (id : ℕ) (c : Connection) (written : List ℕ) (st : Standing) (second : List ℕ) → is_waiting st ≡ false → ComesBy s id (Some (with_written c written st)) second t → t ≡ s
+on_idle s t id c written (waiting front) second isnt (asked, asks, is) = absurd (wrong isnt)
+on_idle s t id c written (watching w) second isnt (asked, asks, is) = is
+on_idle s t id c written ended second isnt (asked, asks, is) = is
+on_idle s t id c written (gone had_ended) second isnt (asked, asks, is) = is
+
+answer_idle : (last_tick : ℕ) (o : Option WatchFrom) → is_waiting (answer_standing last_tick o) ≡ false
+answer_idle last_tick None = refl
+answer_idle last_tick (Some from) = refl
 
 -- where the first piece left it waiting
 then_waits : (s t : State) (id : ℕ) (c : Connection) (front first second : List ℕ)
@@ -60,14 +71,13 @@ then_waits s t id c front first second (asked, asks, is) =
     )
 
 -- what the first piece asked, the whole asks too
-then_ended : (s t : State) (id : ℕ) (c : Connection) (front first second written : List ℕ) (asked : CallDecision) (r : State)
-    → asked ≢ undecided → Asks s.types (front ++ first) asked → received s id c (front ++ first) asked ≡ with_connection r id (with_written c written ended)
-    → received s id c (front ++ (first ++ second)) asked ≡ with_connection r id (with_written c written ended)
-    → ComesBy (with_connection r id (with_written c written ended)) id (Some (with_written c written ended)) second t → ComesOn s id c (waiting front) (first ++ second) t
-then_ended s t id c front first second written asked r decided asks is too later = (
+then_answered : (s t : State) (id : ℕ) (c : Connection) (front first second written : List ℕ) (st : Standing) (asked : CallDecision) (r : State) → is_waiting st ≡ false
+    → asked ≢ undecided → Asks s.types (front ++ first) asked → received s id c (front ++ (first ++ second)) asked ≡ with_connection r id (with_written c written st)
+    → ComesBy (with_connection r id (with_written c written st)) id (Some (with_written c written st)) second t → ComesOn s id c (waiting front) (first ++ second) t
+then_answered s t id c front first second written st asked r isnt decided asks too later = (
   asked,
   subst (λ (bytes : List ℕ). Asks s.types bytes asked) (append_assoc front first second) (asks_more s.types (front ++ first) second asked asks decided),
-  on_ended (with_connection r id (with_written c written ended)) t id c written second later ∙ sym too,
+  on_idle (with_connection r id (with_written c written st)) t id c written st second isnt later ∙ sym too,
 )
 
 -- by what stands under the id after the first piece
@@ -85,14 +95,15 @@ by_asked s mid t id c front first second undecided asks is later =
     then_waits s t id c front first second (found s id d second t (subst (λ (m : State). ThenComes m id second t) is later))
 by_asked s mid t id c front first second (refused e) asks is later =
     let d = with_written c (refusal_reply e) ended in
-    then_ended s t id c front first second (refusal_reply e) (refused e) s (λ u. absurd cc) asks refl refl
+    then_answered s t id c front first second (refusal_reply e) ended (refused e) s refl (λ u. absurd cc) asks refl
     (found s id d second t (subst (λ (m : State). ThenComes m id second t) is later))
 by_asked s mid t id c front first second (accepted call) asks is later =
     let plan = planned s.types s.machine call in
-    let written = answer_reply plan.answer in
+    let written = answer_bytes plan.answer plan.answer.watch in
+    let st = answer_standing s.last_tick plan.answer.watch in
     let r = with_machine s (after s.machine plan.change) in
-    then_ended s t id c front first second written (accepted call) r (λ u. absurd cc) asks refl refl
-    (found r id (with_written c written ended) second t (subst (λ (m : State). ThenComes m id second t) is later))
+    then_answered s t id c front first second written st (accepted call) r (answer_idle s.last_tick plan.answer.watch) (λ u. absurd cc) asks refl
+    (found r id (with_written c written st) second t (subst (λ (m : State). ThenComes m id second t) is later))
 
 -- on a connection that doesn't wait both pieces change nothing
 idle : (s mid t : State) (id : ℕ) (c : Connection) (st : Standing) (first second : List ℕ) → c.standing ≡ st → fin.get s.connections id ≡ Some c

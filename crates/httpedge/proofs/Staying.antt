@@ -4,10 +4,11 @@ use Rattle.std.specs.Prelude.{◌&&◌, option_map, unwrap_or}
 use Rattle.std.specs.Cmp.{nat_cmp_total}
 use Rattle.std.specs.FinMap as fin
 use Rattle.std.specs.Ordering.{nat_cmp, eq_by_cmp}
+use Rattle.schema.specs.TypesFile.{ServedShape}
 use Rattle.httpedge.specs.Asks.{CallDecision}
 use Rattle.httpedge.specs.Connections.{Connection, Connections, Standing, waiting, watching, ended, gone, each, ended_on, has_ended, is_new, is_open, is_watching, watching_on, with_standing, with_taken}
 use Rattle.httpedge.specs.Runs.{Follows, Happening, HappensElsewhere, IsElsewhere, Starves, Steps, happens, starves, takes}
-use Rattle.httpedge.specs.Steps.{Event, State, opens, comes, goes, pumps, ticks, compacts, after_turn, by_connection, dead, dead_or_ticked, opening, received_by, refusal, starved, carried_out, unless_refused, with_connection, with_turn}
+use Rattle.httpedge.specs.Steps.{Event, State, opens, comes, goes, pumps, ticks, compacts, after_turn, by_connection, dead, dead_or_ticked, opening, received_by, refusal, starved, carried_out, unless_refused, with_connection, with_turn, writes_at}
 use Rattle.httpedge.specs.Watches.{Turn, Watch, pumped, ticked}
 use Rattle.httpedge.proofs.Connected.{got_each, tied_same, unknown}
 
@@ -20,10 +21,10 @@ apart q id isnt = go (eq_by_cmp nat_cmp q id) refl
     go true is = absurd (isnt (tied_same q id is))
     go false is = refl
 
-put_elsewhere : (all : Connections) (id q : ℕ) (c : Connection) → q ≢ id → fin.get (fin.insert all id c) q ≡ fin.get all q
+pub put_elsewhere : (all : Connections) (id q : ℕ) (c : Connection) → q ≢ id → fin.get (fin.insert all id c) q ≡ fin.get all q
 put_elsewhere all id q c isnt = fin.get-insert nat_cmp_total all id c q ∙ ap (λ (b : Bool). cond b (Some c) (fin.get all q)) (apart q id isnt)
 
-by_elsewhere : (s : State) (q : ℕ) (o : Option Connection) (f : Connection → State) → ((c : Connection) → fin.get (f c).connections q ≡ fin.get s.connections q)
+pub by_elsewhere : (s : State) (q : ℕ) (o : Option Connection) (f : Connection → State) → ((c : Connection) → fin.get (f c).connections q ≡ fin.get s.connections q)
     → fin.get (by_connection s o f).connections q ≡ fin.get s.connections q
 by_elsewhere s q None f stays = refl
 by_elsewhere s q (Some c) f stays = stays c
@@ -65,15 +66,22 @@ others s t (takes id n) q elsewhere is =
 
 -- ---- a tick, on what doesn't watch
 
-turn_idle : (turn : Watch → Turn) (c : Connection) (st : Standing) → is_watching st ≡ false → after_turn turn c st ≡ c
+pub turn_idle : (turn : Watch → Turn) (c : Connection) (st : Standing) → is_watching st ≡ false → after_turn turn c st ≡ c
 turn_idle turn c (waiting front) is = refl
 turn_idle turn c (watching w) is = absurd cc
 turn_idle turn c ended is = refl
 turn_idle turn c (gone had_ended) is = refl
 
-dead_idle : (ms : ℕ) (found_none : Bool) (c : Connection) → is_watching c.standing ≡ false → dead_or_ticked ms found_none c ≡ c
-dead_idle ms true c is = ap (λ (b : Bool). cond b (dead c) (with_turn (ticked ms) c)) is ∙ turn_idle (ticked ms) c c.standing is
-dead_idle ms false c is = turn_idle (ticked ms) c c.standing is
+writes_not : (ms : ℕ) (st : Standing) → is_watching st ≡ false → writes_at ms st ≡ false
+writes_not ms (waiting front) is = refl
+writes_not ms (watching w) is = absurd cc
+writes_not ms ended is = refl
+writes_not ms (gone had_ended) is = refl
+
+pub dead_idle : (types : List ServedShape) (ms : ℕ) (found_none : Bool) (c : Connection) → is_watching c.standing ≡ false → dead_or_ticked types ms found_none c ≡ c
+dead_idle types ms true c is =
+    ap (λ (b : Bool). cond b (dead c) (with_turn (ticked types ms) c)) (writes_not ms c.standing is) ∙ turn_idle (ticked types ms) c c.standing is
+dead_idle types ms false c is = turn_idle (ticked types ms) c c.standing is
 
 each_idle : (f : ℕ → Connection → Connection) (id : ℕ) (o : Option Connection) → ((c : Connection) → is_watching c.standing ≡ false → f id c ≡ c)
     → unwrap_or (option_map (λ c. is_watching c.standing) o) false ≡ false → option_map (f id) o ≡ o
@@ -84,14 +92,14 @@ pub ticked_idle : (s t : State) (ms id : ℕ) → watching_on s.connections id �
 ticked_idle s t ms id is (asked, asks, then) =
     ap (λ (x : State). fin.get x.connections id) then
     ∙ unless_elsewhere s (carried_out s (ticks ms) asked) (refusal s (ticks ms)) id
-    (got_each (λ q c. with_turn (ticked ms) c) s.connections id
-    ∙ each_idle (λ q c. with_turn (ticked ms) c) id (fin.get s.connections id) (λ c idle. turn_idle (ticked ms) c c.standing idle) is)
+    (got_each (λ q c. with_turn (ticked s.types ms) c) s.connections id
+    ∙ each_idle (λ q c. with_turn (ticked s.types ms) c) id (fin.get s.connections id) (λ c idle. turn_idle (ticked s.types ms) c c.standing idle) is)
 
 pub starved_idle : (s t : State) (ms id : ℕ) (which : ℕ → Bool) → watching_on s.connections id ≡ false → Starves s (ticks ms) which t → fin.get t.connections id ≡ fin.get s.connections id
 starved_idle s t ms id which is (unrefused, memory, then) =
     ap (λ (x : State). fin.get x.connections id) then
-    ∙ got_each (λ q c. dead_or_ticked ms (which q) c) s.connections id
-    ∙ each_idle (λ q c. dead_or_ticked ms (which q) c) id (fin.get s.connections id) (λ c idle. dead_idle ms (which id) c idle) is
+    ∙ got_each (λ q c. dead_or_ticked s.types ms (which q) c) s.connections id
+    ∙ each_idle (λ q c. dead_or_ticked s.types ms (which q) c) id (fin.get s.connections id) (λ c idle. dead_idle s.types ms (which id) c idle) is
 
 -- ---- an end
 
@@ -134,9 +142,9 @@ dead_by false c is = is
 dead_ended : (c : Connection) → has_ended c.standing ≡ true → has_ended (dead c).standing ≡ true
 dead_ended c is = dead_by (is_open c.standing) c is
 
-ticked_ended : (ms : ℕ) (b : Bool) (c : Connection) → has_ended c.standing ≡ true → has_ended (cond b (dead c) (with_turn (ticked ms) c)).standing ≡ true
-ticked_ended ms true c is = dead_ended c is
-ticked_ended ms false c is = turn_ended (ticked ms) c c.standing refl is
+ticked_ended : (types : List ServedShape) (ms : ℕ) (b : Bool) (c : Connection) → has_ended c.standing ≡ true → has_ended (cond b (dead c) (with_turn (ticked types ms) c)).standing ≡ true
+ticked_ended types ms true c is = dead_ended c is
+ticked_ended types ms false c is = turn_ended (ticked types ms) c c.standing refl is
 
 each_ended : (f : ℕ → Connection → Connection) (id : ℕ) (o : Option Connection) → ((c : Connection) → has_ended c.standing ≡ true → has_ended (f id c).standing ≡ true)
     → ended_in o ≡ true → ended_in (option_map (f id) o) ≡ true
@@ -170,13 +178,13 @@ stepped_ended s (goes id) asked q is =
     unless_ended s (carried_out s (goes id) asked) (refusal s (goes id)) q
     (by_ended s id q (fin.get s.connections id) _ refl (λ c at. put_ended s.connections id q (with_standing c (gone (has_ended c.standing))) (of_ended s.connections id c at) is) is) is
 stepped_ended s (pumps id max) asked q is =
-    let turn = pumped s.types s.machine max in
+    let turn = pumped s.machine max in
     unless_ended s (carried_out s (pumps id max) asked) (refusal s (pumps id max)) q
     (by_ended s id q (fin.get s.connections id) _ refl
     (λ c at. put_ended s.connections id q (with_turn turn c) (λ e. turn_ended turn c c.standing refl (of_ended s.connections id c at e)) is) is) is
 stepped_ended s (ticks ms) asked q is =
     unless_ended s (carried_out s (ticks ms) asked) (refusal s (ticks ms)) q
-    (in_each (λ id c. with_turn (ticked ms) c) s.connections q (λ c e. turn_ended (ticked ms) c c.standing refl e) is) is
+    (in_each (λ id c. with_turn (ticked s.types ms) c) s.connections q (λ c e. turn_ended (ticked s.types ms) c c.standing refl e) is) is
 stepped_ended s (compacts c) asked q is = unless_ended s (carried_out s (compacts c) asked) (refusal s (compacts c)) q is is
 
 starved_ended : (s : State) (e : Event) (which : ℕ → Bool) (q : ℕ) → ended_on s.connections q ≡ true → ended_on (starved s e which).connections q ≡ true
@@ -187,7 +195,7 @@ starved_ended s (goes id) which q is = is
 starved_ended s (pumps id max) which q is =
     by_ended s id q (fin.get s.connections id) _ refl (λ c at. put_ended s.connections id q (dead c) (λ e. dead_ended c (of_ended s.connections id c at e)) is) is
 starved_ended s (ticks ms) which q is =
-    in_each (λ id c. dead_or_ticked ms (which id) c) s.connections q (λ c e. ticked_ended ms (which q && is_watching c.standing) c e) is
+    in_each (λ id c. dead_or_ticked s.types ms (which id) c) s.connections q (λ c e. ticked_ended s.types ms (which q && writes_at ms c.standing) c e) is
 starved_ended s (compacts c) which q is = is
 
 pub ends : (s t : State) (h : Happening) (q : ℕ) → Follows s h t → ended_on s.connections q ≡ true → ended_on t.connections q ≡ true

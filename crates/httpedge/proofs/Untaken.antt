@@ -7,12 +7,14 @@ use Rattle.std.specs.Ordering.{nat_cmp, eq_by_cmp}
 use Rattle.schema.specs.TypesFile.{ServedShape}
 use Rattle.history.specs.History.{History}
 use Rattle.httpedge.specs.Asks.{CallDecision}
-use Rattle.httpedge.specs.Connections.{AllIsOut, Connection, Connections, IsUntaken, Standing, waiting, watching, ended, gone, each, has_gone, is_open, is_watching, left_out, opened, out_of, out_on, with_standing, with_written, written_on}
+use Rattle.httpedge.specs.Connections.{AllIsOut, Connection, Connections, IsUntaken, Standing, waiting, watching, ended, gone, each, has_gone, is_open, left_out, opened, out_of, out_on, with_standing, with_written, written_on}
 use Rattle.httpedge.specs.Decision.{undecided, refused, accepted}
 use Rattle.httpedge.specs.Refusals.{as_denied, too_many_connections}
 use Rattle.httpedge.specs.Runs.{Follows, Happening, IsNoGoing, LeavesOut, Steps, happens, peer_goes, starves, takes}
-use Rattle.httpedge.specs.Steps.{Event, State, opens, comes, goes, pumps, ticks, compacts, after_turn, by_connection, connection_after, dead, dead_or_ticked, opening, received_by, refusal, refusal_reply, standing_after, start, starved, carried_out, unless_refused, with_turn}
+use Rattle.httpedge.specs.Steps.{Event, State, opens, comes, goes, pumps, ticks, compacts, after_turn, answer_standing, by_connection, connection_after, dead, dead_or_ticked, opening, received_by, refusal, refusal_reply, standing_after, start, starved, carried_out, unless_refused, with_turn, writes_at}
 use Rattle.httpedge.specs.Watches.{Turn, Watch, pumped, ticked}
+use Rattle.watchline.specs.Opening.{WatchFrom}
+use Rattle.verbs.specs.Step.{planned}
 use Rattle.httpedge.proofs.Connected.{got_each, tied_same}
 
 -- ---- one connection
@@ -31,10 +33,15 @@ opened_untaken : (full : Bool) (bytes : List ℕ) → IsUntaken (Some (cond full
 opened_untaken true bytes = (refl, refl)
 opened_untaken false bytes = (refl, refl)
 
-after_untaken : (types : List ServedShape) (m : History) (c : Connection) (bytes : List ℕ) (asked : CallDecision) → IsUntaken (Some c) → IsUntaken (Some (connection_after types m c bytes asked))
-after_untaken types m c bytes undecided is = (is.0, refl)
-after_untaken types m c bytes (refused d) is = (is.0, refl)
-after_untaken types m c bytes (accepted call) is = (is.0, refl)
+answer_here : (last_tick : ℕ) (o : Option WatchFrom) → has_gone (answer_standing last_tick o) ≡ false
+answer_here last_tick None = refl
+answer_here last_tick (Some from) = refl
+
+after_untaken : (types : List ServedShape) (m : History) (last_tick : ℕ) (c : Connection) (bytes : List ℕ) (asked : CallDecision) → IsUntaken (Some c)
+    → IsUntaken (Some (connection_after types m last_tick c bytes asked))
+after_untaken types m last_tick c bytes undecided is = (is.0, refl)
+after_untaken types m last_tick c bytes (refused d) is = (is.0, refl)
+after_untaken types m last_tick c bytes (accepted call) is = (is.0, answer_here last_tick (planned types m call).answer.watch)
 
 stays_here : (o : Option Watch) → has_gone (standing_after o) ≡ false
 stays_here None = refl
@@ -76,7 +83,7 @@ each_one f all q stays out = subst IsUntaken (sym (got_each f all q)) (each_by f
 received_one : (s : State) (id q : ℕ) (c : Connection) (st : Standing) (bytes : List ℕ) (asked : CallDecision) → fin.get s.connections id ≡ Some c → IsUntaken (fin.get s.connections q)
     → IsUntaken (fin.get (received_by s id c st bytes asked).connections q)
 received_one s id q c (waiting front) bytes asked got out =
-    put_one s.connections id q _ (λ same. after_untaken s.types s.machine c _ asked (this_one s.connections id q c got out same)) out
+    put_one s.connections id q _ (λ same. after_untaken s.types s.machine s.last_tick c _ asked (this_one s.connections id q c got out same)) out
 received_one s id q c (watching w) bytes asked got out = out
 received_one s id q c ended bytes asked got out = out
 received_one s id q c (gone had_ended) bytes asked got out = out
@@ -86,9 +93,9 @@ carried_one s (opens id) asked q stays out = put_one s.connections id q (opening
 carried_one s (comes id bytes) asked q stays out = by_one s q (fin.get s.connections id) _ out (λ c got. received_one s id q c c.standing bytes asked got out)
 carried_one s (goes id) asked q stays out = by_one s q (fin.get s.connections id) _ out (λ c got. put_one s.connections id q _ (λ same. absurd (stays same)) out)
 carried_one s (pumps id max) asked q stays out =
-    let turn = pumped s.types s.machine max in
+    let turn = pumped s.machine max in
     by_one s q (fin.get s.connections id) _ out (λ c got. put_one s.connections id q (with_turn turn c) (λ same. turn_untaken turn c c.standing (this_one s.connections id q c got out same)) out)
-carried_one s (ticks ms) asked q stays out = each_one (λ id c. with_turn (ticked ms) c) s.connections q (λ c is. turn_untaken (ticked ms) c c.standing is) out
+carried_one s (ticks ms) asked q stays out = each_one (λ id c. with_turn (ticked s.types ms) c) s.connections q (λ c is. turn_untaken (ticked s.types ms) c c.standing is) out
 carried_one s (compacts c) asked q stays out = out
 
 unless_one : (s t : State) (o : Option ℕ) (q : ℕ) → IsUntaken (fin.get t.connections q) → IsUntaken (fin.get s.connections q) → IsUntaken (fin.get (unless_refused o s t).connections q)
@@ -99,9 +106,9 @@ dead_by : (b : Bool) (c : Connection) → IsUntaken (Some c) → IsUntaken (Some
 dead_by true c is = (is.0, refl)
 dead_by false c is = is
 
-dead_or : (ms : ℕ) (b : Bool) (c : Connection) → IsUntaken (Some c) → IsUntaken (Some (cond b (dead c) (with_turn (ticked ms) c)))
-dead_or ms true c is = dead_by (is_open c.standing) c is
-dead_or ms false c is = turn_untaken (ticked ms) c c.standing is
+dead_or : (types : List ServedShape) (ms : ℕ) (b : Bool) (c : Connection) → IsUntaken (Some c) → IsUntaken (Some (cond b (dead c) (with_turn (ticked types ms) c)))
+dead_or types ms true c is = dead_by (is_open c.standing) c is
+dead_or types ms false c is = turn_untaken (ticked types ms) c c.standing is
 
 starved_one : (s : State) (e : Event) (which : ℕ → Bool) (q : ℕ) → IsUntaken (fin.get s.connections q) → IsUntaken (fin.get (starved s e which).connections q)
 starved_one s (opens id) which q out = out
@@ -110,7 +117,7 @@ starved_one s (comes id bytes) which q out =
 starved_one s (goes id) which q out = out
 starved_one s (pumps id max) which q out =
     by_one s q (fin.get s.connections id) _ out (λ c got. put_one s.connections id q _ (λ same. dead_by (is_open c.standing) c (this_one s.connections id q c got out same)) out)
-starved_one s (ticks ms) which q out = each_one (λ id c. dead_or_ticked ms (which id) c) s.connections q (λ c is. dead_or ms (which q && is_watching c.standing) c is) out
+starved_one s (ticks ms) which q out = each_one (λ id c. dead_or_ticked s.types ms (which id) c) s.connections q (λ c is. dead_or s.types ms (which q && writes_at ms c.standing) c is) out
 starved_one s (compacts c) which q out = out
 
 pub one_out : (s t : State) (h : Happening) (q : ℕ) → LeavesOut h q → IsUntaken (fin.get s.connections q) → Follows s h t → IsUntaken (fin.get t.connections q)

@@ -64,6 +64,12 @@ is_open (watching w) = true
 is_open ended = false
 is_open (gone had_ended) = false
 
+abbrev pub has_gone : Standing → Bool
+has_gone (waiting bytes) = false
+has_gone (watching w) = false
+has_gone ended = false
+has_gone (gone had_ended) = true
+
 -- what was written and not taken; nothing where the peer has gone
 abbrev pub left_out : Standing → List ℕ → List ℕ
 left_out (waiting bytes) out = out
@@ -110,19 +116,19 @@ written_on all id = unwrap_or (option_map (λ c. c.written) (fin.get all id)) []
 abbrev pub ended_on : Connections → ℕ → Bool
 ended_on all id = unwrap_or (option_map (λ c. has_ended c.standing) (fin.get all id)) false
 
+abbrev pub open_on : Connections → ℕ → Bool
+open_on all id = unwrap_or (option_map (λ c. is_open c.standing) (fin.get all id)) false
+
 abbrev pub waiting_on : Connections → ℕ → Bool
 waiting_on all id = unwrap_or (option_map (λ c. is_waiting c.standing) (fin.get all id)) false
 
 abbrev pub watching_on : Connections → ℕ → Bool
 watching_on all id = unwrap_or (option_map (λ c. is_watching c.standing) (fin.get all id)) false
 
--- ---- nothing was taken
+abbrev pub gone_on : Connections → ℕ → Bool
+gone_on all id = unwrap_or (option_map (λ c. has_gone c.standing) (fin.get all id)) false
 
-abbrev pub has_gone : Standing → Bool
-has_gone (waiting bytes) = false
-has_gone (watching w) = false
-has_gone ended = false
-has_gone (gone had_ended) = true
+-- ---- nothing was taken
 
 abbrev pub IsUntaken : Option Connection → Type 0
 IsUntaken None = ⊤

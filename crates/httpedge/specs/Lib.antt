@@ -12,5 +12,6 @@ pub mod Runs
 pub mod Views
 pub mod Pendings
 pub mod Held
+pub mod Ticks
 pub mod HubSeen
 pub mod Faults

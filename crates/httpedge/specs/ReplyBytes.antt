@@ -1,7 +1,8 @@
 -- The bytes of a reply: status line (RFC 9112, section 4), fields (section 5), body (section 6). Of the fields `Connection: close` is section 9.6;
--- `Content-Type`, `Content-Length` and `Allow` are RFC 9110, sections 8.3, 8.6 and 10.2.1.
-use Rattle.std.specs.Prelude.{ℕ, List, [], ◌∷◌, ◌++◌, length, Option, None, Some, codes, unwrap_or, nat_le, nat_lt, ◌&&◌, if◌then◌else◌}
-use Rattle.std.specs.Fmt.{decimal}
+-- `Content-Type`, `Content-Length` and `Allow` are RFC 9110, sections 8.3, 8.6 and 10.2.1. A watch is sent in chunks (RFC 9112, section 7.1).
+use Rattle.std.specs.Prelude.{ℕ, List, [], ◌∷◌, ◌++◌, length, Bool, false, Option, None, Some, codes, unwrap_or, nat_le, nat_lt, ◌&&◌, if◌then◌else◌}
+use Rattle.std.specs.Fmt.{decimal, digits}
+use Rattle.std.specs.List.{flat_map}
 use Rattle.http.specs.StatusCode.{reason_phrase}
 
 -- the end of a line
@@ -26,3 +27,31 @@ reply_head code allow n =
 
 abbrev pub reply : ℕ → Option (List ℕ) → List ℕ → List ℕ
 reply code allow body = reply_head code allow (length body) ++ body
+
+-- ---- a watch
+
+-- the status line and the fields of a watch, and an empty line
+abbrev pub watch_head : ℕ → List ℕ
+watch_head code =
+    codes "HTTP/1.1 " ++ (decimal code ++ (32 ∷ (phrase_of code ++ (crlf
+    ++ (codes "Content-Type: application/json" ++ (crlf
+    ++ (codes "Transfer-Encoding: chunked" ++ (crlf
+    ++ (codes "Connection: close" ++ (crlf ++ crlf))))))))))
+
+-- in lower case
+abbrev pub hexadecimal : ℕ → List ℕ
+hexadecimal n = digits 16 false n
+
+-- the chunk of a line, which has its line feed
+abbrev pub chunk : List ℕ → List ℕ
+chunk line = hexadecimal (length line) ++ (crlf ++ (line ++ crlf))
+
+abbrev pub last_chunk : List ℕ
+last_chunk = codes "0" ++ (crlf ++ crlf)
+
+abbrev pub end_bytes : Bool → List ℕ
+end_bytes has_ended = if has_ended then last_chunk else []
+
+-- a chunk for each line, and the last chunk where nothing follows
+abbrev pub chunks : List (List ℕ) → Bool → List ℕ
+chunks lines has_ended = flat_map chunk lines ++ end_bytes has_ended

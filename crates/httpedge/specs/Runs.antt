@@ -3,9 +3,9 @@ use Rattle.std.specs.Prelude.{◌≡◌, ◌≢◌, ℕ, Bool, true, false, ◌&
 use Rattle.std.specs.List.{list_any}
 use Rattle.std.specs.FinMap as fin
 use Rattle.httpedge.specs.Asks.{CallDecision, Asks}
-use Rattle.httpedge.specs.Connections.{Standing, waiting, watching, ended, gone, is_watching, waiting_on, watching_on}
+use Rattle.httpedge.specs.Connections.{Standing, waiting, watching, ended, gone, waiting_on, watching_on}
 use Rattle.httpedge.specs.Decision.{undecided}
-use Rattle.httpedge.specs.Steps.{State, Event, opens, comes, goes, pumps, ticks, compacts, refusal, stepped, starved, with_bytes_taken}
+use Rattle.httpedge.specs.Steps.{State, Event, opens, comes, goes, pumps, ticks, compacts, refusal, stepped, starved, with_bytes_taken, writes_at}
 
 -- ---- what an event asks
 
@@ -36,13 +36,14 @@ AsksIf s (Some bytes) asked = Asks s.types bytes asked
 abbrev pub Steps : State → Event → State → Type 0
 Steps s e t = (asked : CallDecision) × AsksIf s (bytes_at s e) asked × (t ≡ stepped s e asked)
 
--- which events take memory: bytes only where the connection waits for them, a pump only where it watches, a tick where some watch found none
+-- which events take memory: bytes only where the connection waits for them, a pump only where it watches, a tick only where a watch found none
+-- whose turn writes something
 abbrev pub takes_memory : State → Event → (ℕ → Bool) → Bool
 takes_memory s (opens id) found_none = true
 takes_memory s (comes id bytes) found_none = waiting_on s.connections id
 takes_memory s (goes id) found_none = false
 takes_memory s (pumps id max) found_none = watching_on s.connections id
-takes_memory s (ticks ms) found_none = list_any (λ e. found_none e.0 && is_watching e.1.standing) (fin.entries s.connections)
+takes_memory s (ticks ms) found_none = list_any (λ e. found_none e.0 && writes_at ms e.1.standing) (fin.entries s.connections)
 takes_memory s (compacts c) found_none = true
 
 -- an event that is not refused finds no memory, and leads to this state

@@ -1,5 +1,5 @@
 -- The hub: what each event makes of its machine and its connections.
-use Rattle.std.specs.Prelude.{ℕ, Bool, ◌&&◌, ◌==◌, nat_lt, nat_le, if◌then◌else◌, List, ◌++◌, Option, Some, None}
+use Rattle.std.specs.Prelude.{ℕ, Bool, true, false, ◌&&◌, ◌==◌, nat_lt, nat_le, if◌then◌else◌, List, ◌++◌, Option, Some, None}
 use Rattle.std.specs.FinMap as fin
 use Rattle.serde_json.specs.Written.{compact_text}
 use Rattle.schema.specs.TypesFile.{ServedShape}
@@ -10,11 +10,12 @@ use Rattle.verbs.specs.Reasons.{code_of}
 use Rattle.verbs.specs.Status.{status_value}
 use Rattle.verbs.specs.Step.{planned}
 use Rattle.httpedge.specs.Asks.{CallDecision}
-use Rattle.httpedge.specs.Connections.{Connection, Connections, Standing, waiting, watching, ended, gone, opened, with_standing, with_written, with_taken, has_ended, is_known, is_new, is_open, is_watching, open_count, max_open, each}
+use Rattle.httpedge.specs.Connections.{Connection, Connections, Standing, waiting, watching, ended, gone, opened, with_standing, with_written, with_taken, has_ended, is_known, is_new, is_open, open_count, max_open, each}
 use Rattle.httpedge.specs.Decision.{undecided, refused, accepted}
 use Rattle.httpedge.specs.Refusals.{as_denied, too_many_connections}
-use Rattle.httpedge.specs.ReplyBytes.{reply}
-use Rattle.httpedge.specs.Watches.{Watch, Turn, pumped, ticked}
+use Rattle.httpedge.specs.ReplyBytes.{chunks, reply, watch_head}
+use Rattle.httpedge.specs.Watches.{Watch, Turn, begun_at, is_due, pumped, ticked}
+use Rattle.watchline.specs.Opening.{WatchFrom}
 
 pub record State : Type 0 where
   pub types : List ServedShape
@@ -86,11 +87,24 @@ opening all = if nat_le max_open (open_count all) then with_written opened (refu
 abbrev pub answer_reply : Answer → List ℕ
 answer_reply a = reply a.status None a.body
 
--- by what all the bytes of a connection ask it waits for more, or gets its reply and has ended
-abbrev pub connection_after : List ServedShape → History → Connection → List ℕ → CallDecision → Connection
-connection_after types m c bytes undecided = with_standing c (waiting bytes)
-connection_after types m c bytes (refused d) = with_written c (refusal_reply d) ended
-connection_after types m c bytes (accepted call) = with_written c (answer_reply (planned types m call).answer) ended
+-- what is written of an answer: its reply, or the head of the watch that it opens
+abbrev pub answer_bytes : Answer → Option WatchFrom → List ℕ
+answer_bytes a None = answer_reply a
+answer_bytes a (Some from) = watch_head a.status
+
+-- with its reply a connection has ended; a watch goes on from here
+abbrev pub answer_standing : ℕ → Option WatchFrom → Standing
+answer_standing last_tick None = ended
+answer_standing last_tick (Some from) = watching (begun_at last_tick from)
+
+abbrev pub answered : ℕ → Connection → Answer → Connection
+answered last_tick c a = with_written c (answer_bytes a a.watch) (answer_standing last_tick a.watch)
+
+-- by what all the bytes of a connection ask it waits for more, or gets its reply and has ended, or watches
+abbrev pub connection_after : List ServedShape → History → ℕ → Connection → List ℕ → CallDecision → Connection
+connection_after types m last_tick c bytes undecided = with_standing c (waiting bytes)
+connection_after types m last_tick c bytes (refused d) = with_written c (refusal_reply d) ended
+connection_after types m last_tick c bytes (accepted call) = answered last_tick c (planned types m call).answer
 
 -- a call makes its change
 abbrev pub machine_after : List ServedShape → History → CallDecision → History
@@ -100,7 +114,7 @@ machine_after types m (accepted call) = after m (planned types m call).change
 
 abbrev pub received : State → ℕ → Connection → List ℕ → CallDecision → State
 received s id c bytes asked =
-    with_connection (with_machine s (machine_after s.types s.machine asked)) id (connection_after s.types s.machine c bytes asked)
+    with_connection (with_machine s (machine_after s.types s.machine asked)) id (connection_after s.types s.machine s.last_tick c bytes asked)
 
 -- only a connection that waits receives bytes
 abbrev pub received_by : State → ℕ → Connection → Standing → List ℕ → CallDecision → State
@@ -115,9 +129,17 @@ abbrev pub standing_after : Option Watch → Standing
 standing_after None = ended
 standing_after (Some w) = watching w
 
+abbrev pub has_no_next : Option Watch → Bool
+has_no_next None = true
+has_no_next (Some w) = false
+
+-- each line is a chunk; the last chunk comes where the watch has ended
+abbrev pub turn_bytes : Turn → List ℕ
+turn_bytes t = chunks t.lines (has_no_next t.next)
+
 -- a watch at its turn; any other connection stays as it is
 abbrev pub after_turn : (Watch → Turn) → Connection → Standing → Connection
-after_turn turn c (watching w) = with_written c (turn w).bytes (standing_after (turn w).next)
+after_turn turn c (watching w) = with_written c (turn_bytes (turn w)) (standing_after (turn w).next)
 after_turn turn c (waiting bytes) = c
 after_turn turn c ended = c
 after_turn turn c (gone had_ended) = c
@@ -135,8 +157,8 @@ abbrev pub carried_out : State → Event → CallDecision → State
 carried_out s (opens id) asked = with_connection s id (opening s.connections)
 carried_out s (comes id bytes) asked = on_connection s id (λ c. received_by s id c c.standing bytes asked)
 carried_out s (goes id) asked = on_connection s id (λ c. with_connection s id (with_standing c (gone (has_ended c.standing))))
-carried_out s (pumps id max) asked = on_connection s id (λ c. with_connection s id (with_turn (pumped s.types s.machine max) c))
-carried_out s (ticks ms) asked = with_tick s ms (each (λ id c. with_turn (ticked ms) c) s.connections)
+carried_out s (pumps id max) asked = on_connection s id (λ c. with_connection s id (with_turn (pumped s.machine max) c))
+carried_out s (ticks ms) asked = with_tick s ms (each (λ id c. with_turn (ticked s.types ms) c) s.connections)
 -- no change is lost: the compacted number alone is another
 carried_out s (compacts c) asked = with_machine s (compacted_to c s.machine)
 
@@ -154,9 +176,16 @@ stepped s e asked = unless_refused (refusal s e) s (carried_out s e asked)
 abbrev pub dead : Connection → Connection
 dead c = if is_open c.standing then with_standing c ended else c
 
--- a watch that found no room is dead; every other connection has its turn
-abbrev pub dead_or_ticked : ℕ → Bool → Connection → Connection
-dead_or_ticked ms found_none c = if found_none && is_watching c.standing then dead c else with_turn (ticked ms) c
+-- it watches, and its turn at this tick writes something
+abbrev pub writes_at : ℕ → Standing → Bool
+writes_at ms (waiting bytes) = false
+writes_at ms (watching w) = is_due ms w
+writes_at ms ended = false
+writes_at ms (gone had_ended) = false
+
+-- a watch that found no room for what it writes is dead; every other connection has its turn: one to which nothing is due needs no room
+abbrev pub dead_or_ticked : List ServedShape → ℕ → Bool → Connection → Connection
+dead_or_ticked types ms found_none c = if found_none && writes_at ms c.standing then dead c else with_turn (ticked types ms) c
 
 -- the state after an event that found no memory; at a tick it is these connections that found none
 abbrev pub starved : State → Event → (ℕ → Bool) → State
@@ -164,7 +193,7 @@ starved s (opens id) found_none = s
 starved s (comes id bytes) found_none = on_connection s id (λ c. with_connection s id (dead c))
 starved s (goes id) found_none = s
 starved s (pumps id max) found_none = on_connection s id (λ c. with_connection s id (dead c))
-starved s (ticks ms) found_none = with_tick s ms (each (λ id c. dead_or_ticked ms (found_none id) c) s.connections)
+starved s (ticks ms) found_none = with_tick s ms (each (λ id c. dead_or_ticked s.types ms (found_none id) c) s.connections)
 starved s (compacts c) found_none = s
 
 -- ---- bytes that are taken

@@ -1,21 +1,59 @@
--- Watches (Kubernetes docs, "Kubernetes API Concepts", "Efficient detection of changes"), as far as the hub sees them.
--- No request opens one yet: until one does there is none, and what one writes is said here when the first is served.
-use Rattle.std.specs.Prelude.{ℕ, List, Option}
+-- Watches in the hub (Kubernetes docs, "Kubernetes API Concepts", "Efficient detection of changes"): what one writes at its turn, and how
+-- long it lasts. What its lines say, and where it stands in the history, is told by the definitions of watches themselves.
+use Rattle.std.specs.Prelude.{ℕ, ◌*◌, ◌-◌, Bool, ◌&&◌, ◌||◌, nat_lt, nat_le, if◌then◌else◌, List, [], ◌∷◌, Option, Some, None}
 use Rattle.schema.specs.TypesFile.{ServedShape}
 use Rattle.history.specs.History.{History}
+use Rattle.watchline.specs.Opening.{WatchFrom, begun}
+use Rattle.watchline.specs.Watches.{Cursor, Marking, from_history, is_bookmark_due}
+use Rattle.watchline.specs.Watches as cursors
+use Rattle.verbs.specs.Watching.{bookmarked_in}
 
--- where a watch stands
-pub data Watch : Type 0 where
+-- where it stands; the last tick before its opening, in milliseconds; the seconds after which it ends, 0 for never
+pub record Watch : Type 0 where
+  pub cursor : Cursor
+  pub opened : ℕ
+  pub timeout : ℕ
 
--- what a watch writes at its turn, and where it then stands, unless it has ended
+-- one that opens after this tick
+abbrev pub begun_at : ℕ → WatchFrom → Watch
+begun_at last_tick from = record { cursor = begun from; opened = last_tick; timeout = from.timeout }
+
+abbrev pub with_cursor : Watch → Cursor → Watch
+with_cursor w cursor = record { cursor = cursor; opened = w.opened; timeout = w.timeout }
+
+-- the lines that a watch writes at its turn, and where it then stands, unless it has ended
 pub record Turn : Type 0 where
-  pub bytes : List ℕ
+  pub lines : List (List ℕ)
   pub next : Option Watch
 
--- its turn at a pump, which writes at most so many lines
-abbrev pub pumped : List ServedShape → History → ℕ → Watch → Turn
-pumped types m max w = elim w [ ]
+abbrev pub unless_ended : Bool → Watch → Option Watch
+unless_ended has_ended w = if has_ended then None else Some w
 
--- its turn at a tick, so many milliseconds after the start: a bookmark where one is due, and the end where its time is over
-abbrev pub ticked : ℕ → Watch → Turn
-ticked ms w = elim w [ ]
+-- ---- its turn at a pump, which writes at most so many lines
+
+abbrev pub turned : Watch → cursors.Turn → Turn
+turned w t = record { lines = t.lines; next = unless_ended t.ended (with_cursor w t.next) }
+
+abbrev pub pumped : History → ℕ → Watch → Turn
+pumped m max w = turned w (cursors.pumped (from_history m) max w.cursor)
+
+-- ---- its turn at a tick, so many milliseconds after the start: a bookmark where one is due, and then the end where its time is over
+
+-- the milliseconds since the last tick before its opening are those of its seconds, or more
+abbrev pub is_over : ℕ → Watch → Bool
+is_over ms w = nat_lt 0 w.timeout && nat_le (w.timeout * 1000) (ms - w.opened)
+
+-- it writes something
+abbrev pub is_due : ℕ → Watch → Bool
+is_due ms w = is_bookmark_due w.cursor || is_over ms w
+
+abbrev pub line_list : Option (List ℕ) → List (List ℕ)
+line_list None = []
+line_list (Some line) = line ∷ []
+
+abbrev pub marked : ℕ → Watch → Marking → Turn
+marked ms w m = record { lines = line_list m.line; next = unless_ended (is_over ms w) (with_cursor w m.next) }
+
+-- the types name what a bookmark is of
+abbrev pub ticked : List ServedShape → ℕ → Watch → Turn
+ticked types ms w = marked ms w (bookmarked_in types w.cursor)

@@ -5,11 +5,13 @@ ghost use Rattle.schema.specs.TypesFile.{ServedShape};
 ghost use Rattle.history.specs.History.{History};
 ghost use Rattle.verbs.specs.Seen.{Stands, answer_of, call_of, denied_of};
 ghost use Rattle.httpedge.specs.Held.{Serves};
-ghost use Rattle.httpedge.specs.Steps.{answer_reply, refusal_reply};
+ghost use Rattle.httpedge.specs.Steps.{answer_bytes, refusal_reply};
+ghost use Rattle.watchline.specs.Views.{watch_from};
 
-use crate::reply::reply_bytes;
+use crate::reply::{reply_bytes, watch_head};
 use std::alloc::{AllocError, Global};
 use verbs::{Answer, Api, Call, Denied, Fault, status_value};
+use watchline::WatchFrom;
 
 /// The reply of a refusal.
 pub(crate) fn refusal_reply(alloc: Global, denied: Denied) -> Result<Vec<u8>, AllocError>
@@ -20,20 +22,33 @@ pub(crate) fn refusal_reply(alloc: Global, denied: Denied) -> Result<Vec<u8>, Al
     reply_bytes(alloc, denied.reason.code(), denied.allow, text.as_str())
 }
 
-/// The reply of an answer.
-fn answer_reply(alloc: Global, answer: &Answer) -> Result<Vec<u8>, AllocError>
-    ensures { IfOk result (λ v. v.items ≡ answer_reply (answer_of answer.now)) }
-{
-    reply_bytes(alloc, answer.status, None, answer.body.as_str())
+/// What is written of an answer, and the watch that it opens.
+#[derive(Debug, Drop)]
+pub(crate) struct Served {
+    pub(crate) bytes: Vec<u8>,
+    pub(crate) watch: Option<WatchFrom>,
 }
 
-/// Makes a call: its reply is there before its change is made.
-pub(crate) fn serve(alloc: Global, api: &mut Api, call: &Call) -> Result<Vec<u8>, Fault>
-    ensures ok { (types : List ServedShape) (m : History) → Stands api.old types m → IfOk result (λ v. Serves types m (call_of call.now) v.items api.new) }
+fn answer_bytes(alloc: Global, answer: &Answer) -> Result<Vec<u8>, AllocError>
+    ensures { IfOk result (λ v. v.items ≡ answer_bytes (answer_of answer.now) (answer_of answer.now).watch) }
+{
+    match &answer.watch {
+        None => reply_bytes(alloc, answer.status, None, answer.body.as_str()),
+        Some(_) => watch_head(alloc, answer.status),
+    }
+}
+
+/// Makes a call: what is written of its answer is there before its change is made.
+pub(crate) fn serve(alloc: Global, api: &mut Api, call: &Call) -> Result<Served, Fault>
+    ensures ok { (types : List ServedShape) (m : History) → Stands api.old types m
+        → IfOk result (λ v. Serves types m (call_of call.now) v.bytes.items (option_map watch_from v.watch) api.new) }
     ensures err { (types : List ServedShape) (m : History) → Stands api.old types m → OnErr result (Stands api.new types m) }
 {
     let plan = api.plan(call)?;
-    let reply = answer_reply(alloc, &plan.answer)?;
+    let bytes = answer_bytes(alloc, &plan.answer)?;
     api.commit(&plan)?;
-    Ok(reply)
+    Ok(Served {
+        bytes,
+        watch: plan.answer.watch,
+    })
 }

@@ -1,20 +1,23 @@
 //! One connection, and what bytes make of it.
 
-ghost use Rattle.std.specs.Prelude.{◌≡◌, ◌++◌, ◌+◌, ◌&&◌, ℕ, List, true, cond, nat_lt, IfOk, OnOk, OnErr};
+ghost use Rattle.std.specs.Prelude.{◌≡◌, ◌++◌, ◌+◌, ◌&&◌, ℕ, List, true, cond, nat_lt, IfOk, OnOk, OnErr, option_map};
 ghost use Rattle.schema.specs.TypesFile.{ServedShape};
 ghost use Rattle.history.specs.History.{History};
+ghost use Rattle.verbs.specs.Calls.{Answer};
 ghost use Rattle.verbs.specs.Seen.{Stands};
 ghost use Rattle.httpedge.specs.Connections as model;
-ghost use Rattle.httpedge.specs.Connections.{Connections, ended, open_count, with_standing, with_taken};
-ghost use Rattle.httpedge.specs.Held.{Becomes, Holds, Received, is_open_in, left, out_in};
+ghost use Rattle.httpedge.specs.Connections.{Connections, ended, gone, open_count, opened, with_standing, with_taken};
+ghost use Rattle.httpedge.specs.Held.{Becomes, Holds, Received, has_ended_in, is_open_in, is_waiting_in, left, out_in};
 ghost use Rattle.httpedge.specs.Pendings.{Awaits, Finds};
-ghost use Rattle.httpedge.specs.Steps.{opening};
+ghost use Rattle.httpedge.specs.Steps.{answer_bytes, answered, opening};
+ghost use Rattle.watchline.specs.Views.{watch_from};
 
-use crate::answering::{refusal_reply, serve};
+use crate::answering::{Served, refusal_reply, serve};
 use crate::asking::{Pending, Progress, ask, ask_on};
 use crate::front::Front;
 use crate::out::Out;
 use crate::refusal::Refusal;
+use crate::watching::Watch;
 use std::alloc::{AllocError, Global};
 use std::mem;
 use verbs::{Api, Fault};
@@ -28,8 +31,12 @@ pub(crate) enum Connection {
     Head(Front),
     /// The body of its request hasn't come whole.
     Body(Pending),
+    /// It watches.
+    Watch(Watch, Out),
     /// It has ended.
     Ended(Out),
+    /// Its peer has gone; it had ended before that, or not.
+    Gone(bool),
 }
 
 /// A new connection, where so many are open; it is refused where these are as many as may be.
@@ -47,8 +54,27 @@ pub(crate) fn is_open(connection: &Connection) -> bool
     ensures { result ≡ is_open_in connection.now }
 {
     match connection {
-        Connection::Ended(_) => false,
-        _ => true,
+        Connection::Head(_) | Connection::Body(_) | Connection::Watch(_, _) => true,
+        Connection::Ended(_) | Connection::Gone(_) => false,
+    }
+}
+
+pub(crate) fn is_waiting(connection: &Connection) -> bool
+    ensures { result ≡ is_waiting_in connection.now }
+{
+    match connection {
+        Connection::Head(_) | Connection::Body(_) => true,
+        Connection::Watch(_, _) | Connection::Ended(_) | Connection::Gone(_) => false,
+    }
+}
+
+pub(crate) fn has_ended(connection: &Connection) -> bool
+    ensures { result ≡ has_ended_in connection.now }
+{
+    match connection {
+        Connection::Head(_) | Connection::Body(_) | Connection::Watch(_, _) => false,
+        Connection::Ended(_) => true,
+        Connection::Gone(had_ended) => *had_ended,
     }
 }
 
@@ -68,8 +94,9 @@ pub(crate) fn out_of(connection: &Connection) -> &[u8]
     ensures { result.now ≡ out_in connection.now }
 {
     match connection {
+        Connection::Watch(_, out) => out.left(),
         Connection::Ended(out) => out.left(),
-        _ => &[],
+        Connection::Head(_) | Connection::Body(_) | Connection::Gone(_) => &[],
     }
 }
 
@@ -78,14 +105,41 @@ pub(crate) fn take_from(alloc: Global, connection: &mut Connection, n: usize)
     ensures { (types : List ServedShape) (c : model.Connection) → Holds types connection.old c → Holds types connection.new (with_taken c n) }
 {
     match connection {
+        Connection::Watch(_, out) => out.take(alloc, n),
         Connection::Ended(out) => out.take(alloc, n),
-        Connection::Head(_) | Connection::Body(_) => {}
+        Connection::Head(_) | Connection::Body(_) | Connection::Gone(_) => {}
+    }
+}
+
+/// Its peer goes.
+pub(crate) fn go_from(connection: &mut Connection)
+    ensures { (types : List ServedShape) (c : model.Connection) → Holds types connection.new (with_standing c (gone (has_ended_in connection.old))) }
+{
+    let had_ended = has_ended(connection);
+    *connection = Connection::Gone(had_ended);
+}
+
+/// What becomes of a connection with the answer of its call, after this tick.
+fn answered(served: Served, last_tick: u64) -> Connection
+    ensures { (types : List ServedShape) (a : Answer) → served.bytes.items ≡ answer_bytes a a.watch → option_map watch_from served.watch ≡ a.watch
+        → Holds types result (answered last_tick opened a) }
+{
+    let Served { bytes, watch } = served;
+    let out = Out::of(bytes);
+    match watch {
+        None => Connection::Ended(out),
+        Some(from) => Connection::Watch(Watch::begun(last_tick, from), out),
     }
 }
 
 /// What becomes of a connection by what its bytes ask.
-fn decided(alloc: Global, api: &mut Api, asked: Progress) -> Result<Connection, Fault>
-    ensures ok { (types : List ServedShape) (m : History) (bytes : List ℕ) → Stands api.old types m → Finds types bytes asked → IfOk result (λ c. Becomes types m bytes c api.new) }
+fn decided(
+    alloc: Global,
+    api: &mut Api,
+    asked: Progress,
+    last_tick: u64,
+) -> Result<Connection, Fault>
+    ensures ok { (types : List ServedShape) (m : History) (bytes : List ℕ) → Stands api.old types m → Finds types bytes asked → IfOk result (λ c. Becomes types m last_tick bytes c api.new) }
     ensures err { (types : List ServedShape) (m : History) → Stands api.old types m → OnErr result (Stands api.new types m) }
 {
     match asked {
@@ -95,8 +149,8 @@ fn decided(alloc: Global, api: &mut Api, asked: Progress) -> Result<Connection, 
             Ok(Connection::Ended(Out::of(reply)))
         }
         Progress::Call(call) => {
-            let reply = serve(alloc, api, &call)?;
-            Ok(Connection::Ended(Out::of(reply)))
+            let served = serve(alloc, api, &call)?;
+            Ok(answered(served, last_tick))
         }
     }
 }
@@ -106,15 +160,16 @@ fn receive_head(
     api: &mut Api,
     front: Front,
     bytes: &[u8],
+    last_tick: u64,
 ) -> Result<Connection, Fault>
-    ensures ok { (types : List ServedShape) (m : History) → Stands api.old types m → IfOk result (λ c. Becomes types m (front.bytes.items ++ bytes.now) c api.new) }
+    ensures ok { (types : List ServedShape) (m : History) → Stands api.old types m → IfOk result (λ c. Becomes types m last_tick (front.bytes.items ++ bytes.now) c api.new) }
     ensures err { (types : List ServedShape) (m : History) → Stands api.old types m → OnErr result (Stands api.new types m) }
 {
     let mut front = front.with(bytes)?;
     let end = front.find_end();
     match ask(alloc, api, front.bytes(), end)? {
         None => Ok(Connection::Head(front)),
-        Some(asked) => decided(alloc, api, asked),
+        Some(asked) => decided(alloc, api, asked, last_tick),
     }
 }
 
@@ -123,12 +178,13 @@ fn receive_body(
     api: &mut Api,
     pending: Pending,
     bytes: &[u8],
+    last_tick: u64,
 ) -> Result<Connection, Fault>
-    ensures ok { (types : List ServedShape) (m : History) (front : List ℕ) → Stands api.old types m → Awaits types front pending → IfOk result (λ c. Becomes types m (front ++ bytes.now) c api.new) }
+    ensures ok { (types : List ServedShape) (m : History) (front : List ℕ) → Stands api.old types m → Awaits types front pending → IfOk result (λ c. Becomes types m last_tick (front ++ bytes.now) c api.new) }
     ensures err { (types : List ServedShape) (m : History) → Stands api.old types m → OnErr result (Stands api.new types m) }
 {
     let asked = ask_on(alloc, pending, bytes)?;
-    decided(alloc, api, asked)
+    decided(alloc, api, asked, last_tick)
 }
 
 fn receive(
@@ -136,32 +192,36 @@ fn receive(
     api: &mut Api,
     connection: Connection,
     bytes: &[u8],
+    last_tick: u64,
 ) -> Result<Connection, Fault>
-    ensures ok { (types : List ServedShape) (m : History) (c : model.Connection) → Stands api.old types m → Holds types connection c → IfOk result (λ d. Received types m c bytes.now d api.new) }
+    ensures ok { (types : List ServedShape) (m : History) (c : model.Connection) → Stands api.old types m → Holds types connection c → IfOk result (λ d. Received types m last_tick c bytes.now d api.new) }
     ensures err { (types : List ServedShape) (m : History) → Stands api.old types m → OnErr result (Stands api.new types m) }
-    ensures waited { OnErr result (is_open_in connection ≡ true) }
+    ensures waited { OnErr result (is_waiting_in connection ≡ true) }
 {
     match connection {
-        Connection::Head(front) => receive_head(alloc, api, front, bytes),
-        Connection::Body(pending) => receive_body(alloc, api, pending, bytes),
+        Connection::Head(front) => receive_head(alloc, api, front, bytes, last_tick),
+        Connection::Body(pending) => receive_body(alloc, api, pending, bytes, last_tick),
+        Connection::Watch(watch, out) => Ok(Connection::Watch(watch, out)),
         Connection::Ended(out) => Ok(Connection::Ended(out)),
+        Connection::Gone(had_ended) => Ok(Connection::Gone(had_ended)),
     }
 }
 
-/// Bytes come on a connection; without memory it is dead. One that has ended wants none.
+/// Bytes come on a connection; without memory it is dead. One that doesn't wait for them wants none.
 pub(crate) fn receive_on(
     alloc: Global,
     api: &mut Api,
     connection: &mut Connection,
     bytes: &[u8],
+    last_tick: u64,
 ) -> Result<(), Fault>
-    ensures ok { (types : List ServedShape) (m : History) (c : model.Connection) → Stands api.old types m → Holds types connection.old c → OnOk result (Received types m c bytes.now connection.new api.new) }
+    ensures ok { (types : List ServedShape) (m : History) (c : model.Connection) → Stands api.old types m → Holds types connection.old c → OnOk result (Received types m last_tick c bytes.now connection.new api.new) }
     ensures err { (types : List ServedShape) (m : History) → Stands api.old types m → OnErr result (Stands api.new types m) }
-    ensures waited { OnErr result (is_open_in connection.old ≡ true) }
+    ensures waited { OnErr result (is_waiting_in connection.old ≡ true) }
     ensures dead { (types : List ServedShape) (c : model.Connection) → Holds types connection.old c → OnErr result (Holds types connection.new (with_standing c ended)) }
 {
-    let dead = Connection::Ended(Out::of(Vec::new(alloc)));
+    let dead = Connection::Ended(Out::empty(alloc));
     let was = mem::replace(connection, dead);
-    *connection = receive(alloc, api, was, bytes)?;
+    *connection = receive(alloc, api, was, bytes, last_tick)?;
     Ok(())
 }

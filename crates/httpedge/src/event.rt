@@ -7,6 +7,12 @@ pub enum Event {
     Open(u64),
     /// Bytes come on a connection.
     In(u64, Vec<u8>),
+    /// The peer of a connection has gone.
+    Gone(u64),
+    /// A watch may write so many lines, one or more.
+    Pump(u64, u64),
+    /// So many milliseconds have passed since the start.
+    Tick(u64),
     /// What no answer from this revision on can show may be forgotten: a revision from the compacted number to the
     /// current one.
     Compact(u64),

@@ -10,6 +10,10 @@ pub enum HubFault {
     IdNotAbove,
     #[error("there is no connection of this id")]
     UnknownId,
+    #[error("a pump of no lines")]
+    NoLines,
+    #[error("the tick goes back")]
+    TickBack,
     /// A compaction below the compacted number, or past the current revision.
     #[error("the revision is compacted already, or still to come")]
     CompactionRefused,

@@ -1,6 +1,6 @@
 //! The hub: connections over one API.
 
-ghost use Rattle.std.specs.Prelude.{◌≡◌, ◌≢◌, ◌++◌, ◌∷◌, [], List, None, true, false, Ok, OnOk};
+ghost use Rattle.std.specs.Prelude.{◌≡◌, ◌≢◌, ◌++◌, ◌∷◌, [], ℕ, Bool, List, None, true, Ok, OnOk};
 ghost use Rattle.schema.specs.TypesFile.{ServedShape};
 ghost use Rattle.history.specs.History.{History};
 ghost use Rattle.verbs.specs.Seen.{Stands};
@@ -8,15 +8,18 @@ ghost use Rattle.httpedge.specs.Connections.{ended_on, out_on, waiting_on};
 ghost use Rattle.httpedge.specs.Held.{is_above};
 ghost use Rattle.httpedge.specs.HubSeen.{Happened, IsIn, event_of, found_none, refusal_number};
 ghost use Rattle.httpedge.specs.Runs.{Follows, Happening, Runs, Starves, Steps, takes};
-ghost use Rattle.httpedge.specs.Steps.{State, comes, compacts, opens, refusal, start, with_bytes_taken};
+ghost use Rattle.httpedge.specs.Steps.{State, comes, compacts, goes, opens, pumps, refusal, start, ticks, with_bytes_taken};
 
 use crate::connection::{Connection, count_with, opening};
-use crate::connections::{open_at, open_count, out_at, put, receive_at, take_at};
+use crate::connections::{
+    ended_at, go_at, open_at, open_count, out_at, pump_at, put, receive_at, take_at, waiting_at,
+};
 use crate::event::Event;
 use crate::fault::HubFault;
+use crate::ticking::{drop_ended, tick_all};
 use revstore::CompactFault;
 use std::alloc::Global;
-use std::collections::BTreeMap;
+use std::collections::{BTreeMap, BTreeSet};
 use verbs::{Api, Fault};
 
 /// Connections over one API: bytes in, reply bytes out.
@@ -27,8 +30,12 @@ pub struct Hub {
     connections: BTreeMap<u64, Connection>,
     /// How many of them are open.
     open_count: usize,
+    /// The ids of those that are open, and of some that have ended since the last tick.
+    open_ids: BTreeSet<u64>,
     /// The highest id so far.
     highest: Option<u64>,
+    /// The time of the last tick, in milliseconds after the start.
+    last_tick: u64,
 }
 
 fn is_above(highest: Option<u64>, id: u64) -> bool
@@ -50,7 +57,9 @@ impl Hub {
             api,
             connections: BTreeMap::new(alloc),
             open_count: 0,
+            open_ids: BTreeSet::new(alloc),
             highest: None,
+            last_tick: 0,
         }
     }
 
@@ -58,13 +67,14 @@ impl Hub {
         ensures ok { (s : State) → IsIn self.old s → OnOk result ((t : State) × Steps s (opens id) t × IsIn self.new t) }
         ensures refused { (s : State) → IsIn self.old s → refusal_number result ≡ refusal s (opens id) }
         ensures unchanged { refusal_number result ≢ None → self.new ≡ self.old }
-        ensures memory { (s : State) → IsIn self.old s → found_none result ≡ true → (t : State) × Starves s (opens id) (λ q. false) t × IsIn self.new t }
+        ensures memory { (s : State) → IsIn self.old s → found_none result ≡ true → (which : ℕ → Bool) × (t : State) × Starves s (opens id) which t × IsIn self.new t }
     {
         if !is_above(self.highest, id) {
             return Err(HubFault::IdNotAbove);
         }
         let connection = opening(self.alloc, self.open_count)?;
         let count = count_with(self.open_count, &connection);
+        self.open_ids.insert(id)?;
         put(&mut self.connections, id, connection)?;
         self.open_count = count;
         self.highest = Some(id);
@@ -75,21 +85,91 @@ impl Hub {
         ensures ok { (s : State) → IsIn self.old s → OnOk result ((t : State) × Steps s (comes id bytes.now) t × IsIn self.new t) }
         ensures refused { (s : State) → IsIn self.old s → refusal_number result ≡ refusal s (comes id bytes.now) }
         ensures unchanged { refusal_number result ≢ None → self.new ≡ self.old }
-        ensures memory { (s : State) → IsIn self.old s → found_none result ≡ true → (t : State) × Starves s (comes id bytes.now) (λ q. false) t × IsIn self.new t }
+        ensures memory { (s : State) → IsIn self.old s → found_none result ≡ true → (which : ℕ → Bool) × (t : State) × Starves s (comes id bytes.now) which t × IsIn self.new t }
     {
         let Some(was_open) = open_at(&self.connections, id) else {
             return Err(HubFault::UnknownId);
         };
-        let received = receive_at(self.alloc, &mut self.api, &mut self.connections, id, bytes);
+        let received = receive_at(
+            self.alloc,
+            &mut self.api,
+            &mut self.connections,
+            id,
+            bytes,
+            self.last_tick,
+        );
         self.open_count = open_count(self.open_count, was_open, &self.connections, id);
         Ok(received?)
+    }
+
+    fn go(&mut self, id: u64) -> Result<(), HubFault>
+        ensures ok { (s : State) → IsIn self.old s → OnOk result ((t : State) × Steps s (goes id) t × IsIn self.new t) }
+        ensures refused { (s : State) → IsIn self.old s → refusal_number result ≡ refusal s (goes id) }
+        ensures unchanged { refusal_number result ≢ None → self.new ≡ self.old }
+        ensures memory { (s : State) → IsIn self.old s → found_none result ≡ true → (which : ℕ → Bool) × (t : State) × Starves s (goes id) which t × IsIn self.new t }
+    {
+        let Some(was_open) = open_at(&self.connections, id) else {
+            return Err(HubFault::UnknownId);
+        };
+        go_at(&mut self.connections, id);
+        self.open_count = open_count(self.open_count, was_open, &self.connections, id);
+        Ok(())
+    }
+
+    fn pump(&mut self, id: u64, max: u64) -> Result<(), HubFault>
+        ensures ok { (s : State) → IsIn self.old s → OnOk result ((t : State) × Steps s (pumps id max) t × IsIn self.new t) }
+        ensures refused { (s : State) → IsIn self.old s → refusal_number result ≡ refusal s (pumps id max) }
+        ensures unchanged { refusal_number result ≢ None → self.new ≡ self.old }
+        ensures memory { (s : State) → IsIn self.old s → found_none result ≡ true → (which : ℕ → Bool) × (t : State) × Starves s (pumps id max) which t × IsIn self.new t }
+    {
+        let Some(was_open) = open_at(&self.connections, id) else {
+            return Err(HubFault::UnknownId);
+        };
+        if max == 0 {
+            return Err(HubFault::NoLines);
+        }
+        let pumped = pump_at(
+            self.alloc,
+            &mut self.api,
+            &mut self.connections,
+            id,
+            max as usize,
+        );
+        self.open_count = open_count(self.open_count, was_open, &self.connections, id);
+        Ok(pumped?)
+    }
+
+    fn tick(&mut self, ms: u64) -> Result<(), HubFault>
+        ensures ok { (s : State) → IsIn self.old s → OnOk result ((t : State) × Steps s (ticks ms) t × IsIn self.new t) }
+        ensures refused { (s : State) → IsIn self.old s → refusal_number result ≡ refusal s (ticks ms) }
+        ensures unchanged { refusal_number result ≢ None → self.new ≡ self.old }
+        ensures memory { (s : State) → IsIn self.old s → found_none result ≡ true → (which : ℕ → Bool) × (t : State) × Starves s (ticks ms) which t × IsIn self.new t }
+    {
+        if ms < self.last_tick {
+            return Err(HubFault::TickBack);
+        }
+        let (count, found_none) = tick_all(
+            self.alloc,
+            &self.api,
+            &mut self.connections,
+            &self.open_ids,
+            ms,
+            self.open_count,
+        );
+        self.open_count = count;
+        self.last_tick = ms;
+        drop_ended(&mut self.open_ids, &self.connections);
+        if found_none {
+            return Err(HubFault::Memory);
+        }
+        Ok(())
     }
 
     fn compact(&mut self, revision: u64) -> Result<(), HubFault>
         ensures ok { (s : State) → IsIn self.old s → OnOk result ((t : State) × Steps s (compacts revision) t × IsIn self.new t) }
         ensures refused { (s : State) → IsIn self.old s → refusal_number result ≡ refusal s (compacts revision) }
         ensures unchanged { refusal_number result ≢ None → self.new ≡ self.old }
-        ensures memory { (s : State) → IsIn self.old s → found_none result ≡ true → (t : State) × Starves s (compacts revision) (λ q. false) t × IsIn self.new t }
+        ensures memory { (s : State) → IsIn self.old s → found_none result ≡ true → (which : ℕ → Bool) × (t : State) × Starves s (compacts revision) which t × IsIn self.new t }
     {
         match self.api.compact(revision) {
             Ok(()) => Ok(()),
@@ -103,19 +183,23 @@ impl Hub {
         ensures ok { (s : State) → IsIn self.old s → OnOk result ((t : State) × Steps s (event_of event.now) t × IsIn self.new t) }
         ensures refused { (s : State) → IsIn self.old s → refusal_number result ≡ refusal s (event_of event.now) }
         ensures unchanged { refusal_number result ≢ None → self.new ≡ self.old }
-        ensures memory { (s : State) → IsIn self.old s → found_none result ≡ true → (t : State) × Starves s (event_of event.now) (λ q. false) t × IsIn self.new t }
+        ensures memory { (s : State) → IsIn self.old s → found_none result ≡ true → (which : ℕ → Bool) × (t : State) × Starves s (event_of event.now) which t × IsIn self.new t }
     {
         match event {
             Event::Open(id) => self.open(*id),
             Event::In(id, bytes) => self.receive(*id, bytes),
+            Event::Gone(id) => self.go(*id),
+            Event::Pump(id, max) => self.pump(*id, *max),
+            Event::Tick(ms) => self.tick(*ms),
             Event::Compact(revision) => self.compact(*revision),
         }
     }
 
     /// Handles an event: in the event that decides what the bytes of a connection ask, the reply is written and the
-    /// connection has ended. Refused, an event changes nothing; without memory an opening changes nothing, and a
-    /// connection that waits is dead where bytes come on it. Bytes on one that has ended want no memory. A compaction
-    /// that fails changes nothing.
+    /// connection has ended, or watches. Refused, an event changes nothing; without memory an opening changes nothing,
+    /// and a connection that waits is dead where bytes come on it, a watch where it is pumped. At a tick each watch has
+    /// its turn, and only one that found no memory for what it writes is dead. Bytes on one that has ended want no
+    /// memory. A compaction that fails changes nothing.
     pub fn on(&mut self, event: &Event) -> Result<(), HubFault>
         ensures follows { (s : State) → IsIn self.old s → (h : Happening) × (t : State) × Happened (event_of event.now) result h × Follows s h t × IsIn self.new t }
         ensures runs { (r s : State) (before : List Happening) → Runs r before s → IsIn self.old s → (h : Happening) × (t : State) × Happened (event_of event.now) result h × Runs r (before ++ h ∷ []) t × IsIn self.new t }
@@ -145,17 +229,14 @@ impl Hub {
     pub fn ended(&self, id: u64) -> bool
         ensures { (s : State) → IsIn self.now s → result ≡ ended_on s.connections id }
     {
-        match open_at(&self.connections, id) {
-            Some(is_open) => !is_open,
-            None => false,
-        }
+        ended_at(&self.connections, id).unwrap_or(false)
     }
 
     /// Whether a connection is open and what it asks isn't decided.
     pub fn wants(&self, id: u64) -> bool
         ensures { (s : State) → IsIn self.now s → result ≡ waiting_on s.connections id }
     {
-        open_at(&self.connections, id).unwrap_or(false)
+        waiting_at(&self.connections, id).unwrap_or(false)
     }
 
     /// The current revision and the compacted number.

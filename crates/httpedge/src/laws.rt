@@ -1,12 +1,12 @@
 //! Laws of what a hub does, which crates above build on. Each function does nothing of use; what it promises is the law.
 
-ghost use Rattle.std.specs.Prelude.{◌≡◌, ◌≢◌, ◌++◌, ℕ, Bool, true, false, List, Some, None, drop, option_map, take};
+ghost use Rattle.std.specs.Prelude.{◌≡◌, ◌≢◌, ◌++◌, ℕ, Bool, true, false, List, [], Some, None, drop, option_map, take};
 ghost use Rattle.std.specs.FinMap as fin;
 ghost use Rattle.schema.specs.TypesFile.{ServedShape};
 ghost use Rattle.history.specs.History.{History};
 ghost use Rattle.verbs.specs.Machine.{IsMachine};
 ghost use Rattle.httpedge.specs.Asks.{CallDecision, Asks};
-ghost use Rattle.httpedge.specs.Connections.{AllIsOut, Connection, Connections, IsUntaken, each, ended_on, has_gone, out_on, watching_on, written_on};
+ghost use Rattle.httpedge.specs.Connections.{AllIsOut, Connection, Connections, IsUntaken, each, ended_on, gone_on, has_gone, out_on, watching_on, written_on};
 ghost use Rattle.httpedge.specs.Decision.{undecided};
 ghost use Rattle.httpedge.specs.Runs.{Follows, Happening, HappensElsewhere, LeavesOut, Runs, Starves, Steps, bytes_at, peer_goes};
 ghost use Rattle.httpedge.specs.Steps.{Event, State, comes, start, ticks, with_bytes_taken};
@@ -56,6 +56,12 @@ pub fn others_stay()
 /// A connection that has ended stays so, whatever happens.
 pub fn ends_stay()
     ensures { (s t : State) (h : Happening) (id : ℕ) → Follows s h t → ended_on s.connections id ≡ true → ended_on t.connections id ≡ true }
+{}
+
+/// A connection whose peer has gone stays as it is, whatever happens, and nothing is out on it.
+pub fn gone_stays()
+    ensures stays { (s t : State) (h : Happening) (id : ℕ) (c : Connection) → Follows s h t → fin.get s.connections id ≡ Some c → has_gone c.standing ≡ true → fin.get t.connections id ≡ Some c }
+    ensures silent { (all : Connections) (id : ℕ) → gone_on all id ≡ true → out_on all id ≡ [] }
 {}
 
 /// A tick changes watches alone, also where some of them find no memory.

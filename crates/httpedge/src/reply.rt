@@ -2,7 +2,7 @@
 
 ghost use Rattle.std.specs.Prelude.{◌≡◌, [], IfOk, option_map, unwrap_or, string_bytes};
 ghost use Rattle.http.specs.StatusCode.{reason_phrase};
-ghost use Rattle.httpedge.specs.ReplyBytes.{phrase_of, allow_field, reply};
+ghost use Rattle.httpedge.specs.ReplyBytes.{phrase_of, allow_field, reply, watch_head};
 
 use http::StatusCode;
 use std::alloc::{AllocError, Global};
@@ -51,4 +51,16 @@ pub fn reply_bytes(
     let mut bytes = Vec::from_slice(alloc, head.as_bytes())?;
     bytes.extend_from_slice(body.as_bytes())?;
     Ok(bytes)
+}
+
+/// The bytes that a watch begins with: the status line, `Content-Type`, `Transfer-Encoding: chunked`,
+/// `Connection: close` and an empty line.
+pub(crate) fn watch_head(alloc: Global, code: u16) -> Result<Vec<u8>, AllocError>
+    ensures { IfOk result (λ v. v.items ≡ watch_head code) }
+{
+    let phrase = phrase_of(code);
+    let head = format!(in alloc;
+        "HTTP/1.1 {code} {phrase}\r\nContent-Type: application/json\r\nTransfer-Encoding: chunked\r\nConnection: close\r\n\r\n"
+    )?;
+    Vec::from_slice(alloc, head.as_bytes())
 }

@@ -1,5 +1,7 @@
-use Rattle.std.proofs.Common.{refl, sym, subst, ◌∙◌}
+use Rattle.std.proofs.Common.{refl, sym, ap, subst, ◌∙◌}
 use Rattle.verbs.specs.Seen.{call_of, denied_of}
+use Rattle.verbs.specs.Step.{planned}
+use Rattle.httpedge.specs.Steps.{answer_bytes}
 use Rattle.httpedge.specs.Decision.{refused, accepted}
 use Rattle.httpedge.specs.Pendings.{Finds}
 use Rattle.httpedge.proofs.connection.decided.Goals as goal
@@ -8,7 +10,12 @@ pub returns-in_ok-reply-in-Refused-clause-ok : goal.returns-in_ok-reply-in-Refus
 returns-in_ok-reply-in-Refused-clause-ok c = λ types m bytes stands finds.
     (refused (denied_of c.in-Refused.denied), subst (Finds types bytes) c.in-Refused.is finds, (refl, sym (c.of.ensures ∙ c.in_ok-reply-in-Refused.ensures)), stands)
 
-pub returns-in_ok-reply-in-Call-clause-ok : goal.returns-in_ok-reply-in-Call-clause-ok
-returns-in_ok-reply-in-Call-clause-ok c = λ types m bytes stands finds.
-    let served = c.in_ok-reply-in-Call.ensures.ok types m stands in
-    (accepted (call_of c.in-Call.call), subst (Finds types bytes) c.in-Call.is finds, (refl, sym (c.of-in-Call.ensures ∙ served.0)), served.1)
+pub returns-in_ok-served-in-Call-clause-ok : goal.returns-in_ok-served-in-Call-clause-ok
+returns-in_ok-served-in-Call-clause-ok c = λ types m bytes stands finds.
+    let served = c.in_ok-served-in-Call.ensures.ok types m stands in
+    let answer = (planned types m (call_of c.in-Call.call)).answer in (
+      accepted (call_of c.in-Call.call),
+      subst (Finds types bytes) c.in-Call.is finds,
+      c.answered.ensures types answer (served.0 ∙ ap (answer_bytes answer) served.1) served.1,
+      served.2,
+    )

@@ -9,12 +9,12 @@ pub returns-in-Head-clause-ok : goal.returns-in-Head-clause-ok
 returns-in-Head-clause-ok c = λ types m x stands holds.
     let is = subst (λ (d : conns.Connection). Holds types d x) c.in-Head.is holds in
     IfOk-weaker c.receive_head.result _ _ (λ d becomes.
-    subst (λ (y : Connection). ReceivedBy types m y y.standing c.args.bytes.now d c.receive_head.new.api) (sym is) (refl, becomes))
+    subst (λ (y : Connection). ReceivedBy types m c.args.last_tick y y.standing c.args.bytes.now d c.receive_head.new.api) (sym is) (refl, becomes))
     (c.receive_head.ensures.ok types m stands)
 
 pub returns-in-Body-clause-ok : goal.returns-in-Body-clause-ok
 returns-in-Body-clause-ok c = λ types m x stands holds.
     let waits = subst (λ (d : conns.Connection). Holds types d x) c.in-Body.is holds in
     IfOk-weaker c.receive_body.result _ _ (λ d becomes.
-    subst (λ (y : Connection). ReceivedBy types m y y.standing c.args.bytes.now d c.receive_body.new.api) (sym waits.1) (refl, becomes))
+    subst (λ (y : Connection). ReceivedBy types m c.args.last_tick y y.standing c.args.bytes.now d c.receive_body.new.api) (sym waits.1) (refl, becomes))
     (c.receive_body.ensures.ok types m waits.0 stands waits.2)

@@ -1,7 +1,7 @@
 use Rattle.std.proofs.Common.{rules, ◌≡◌, true, sym, subst, ◌∙◌}
 use Rattle.std.proofs.lemmas.Result.{on_ok_weaker}
 use Rattle.httpedge.specs.declared.connection.Connection as conns
-use Rattle.httpedge.specs.Held.{Holds, is_open_in}
+use Rattle.httpedge.specs.Held.{Holds, is_waiting_in}
 use Rattle.httpedge.proofs.Saying.{on_err_both, some_of}
 use Rattle.httpedge.proofs.connections.receive_at.Goals as goal
 
@@ -17,5 +17,5 @@ returns-in-Some-clause-dead c = λ types d x at holds.
     let new = c.receive_on.new.connection in
     let same = some_of (sym at ∙ sym c.in-Some.ensures.value) in
     let put = ((c.get_mut.follows.holds new).3 (search rules)).0 in
-    on_err_both c.receive_on.result (λ were dead. (subst (λ e. is_open_in e ≡ true) (sym same) were, (new, dead, put))) c.receive_on.ensures.waited
+    on_err_both c.receive_on.result (λ were dead. (subst (λ e. is_waiting_in e ≡ true) (sym same) were, (new, dead, put))) c.receive_on.ensures.waited
     (c.receive_on.ensures.dead types x (subst (λ (e : conns.Connection). Holds types e x) same holds))

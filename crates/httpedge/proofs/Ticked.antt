@@ -1,0 +1,334 @@
+-- Connections at a tick, one after the other.
+use Rattle.std.proofs.Common.{◌≡◌, ℕ, Bool, true, false, ◌&&◌, ◌||◌, cond, T, List, [], ◌∷◌, Option, Some, None, refl, sym, ap, ap₂, subst, ◌∙◌}
+use Rattle.std.specs.Prelude.{option_map, unwrap_or, nat_lt}
+use Rattle.std.specs.BTreeMap.{get, is_at}
+use Rattle.std.specs.BTreeSet.{BTreeSet, contains}
+use Rattle.std.specs.Cmp.{nat_cmp_total}
+use Rattle.std.specs.FinMap as fin
+use Rattle.std.specs.FinMap.Entries as entries
+use Rattle.std.specs.List.{AllByRecursion, filter, list_all, list_any}
+use Rattle.std.specs.List.Sorted.{IsStrictlySortedBy}
+use Rattle.std.specs.Ordering.{nat_cmp, eq_by_cmp, is_eq}
+use Rattle.std.specs.declared.cmp.Ordering.{Ordering}
+use Rattle.std.specs.declared.cmp.Ordering.TheVariants.{Less}
+use Rattle.std.proofs.lemmas.Map.Views.{any-filter_same}
+use Rattle.schema.specs.TypesFile.{ServedShape}
+use Rattle.verbs.specs.declared.api.Api.{Api}
+use Rattle.httpedge.specs.declared.connection.Connection as conns
+use Rattle.httpedge.specs.Connections.{Connection, Connections, Standing, waiting, watching, ended, gone, each, is_new, is_open, is_watching, open_count, open_on}
+use Rattle.httpedge.specs.Decision.{undecided}
+use Rattle.httpedge.specs.Held.{Holds, HoldsAt, Lists, PutAt, Represents, count_after, is_open_in}
+use Rattle.httpedge.specs.Runs.{Starves, Steps}
+use Rattle.httpedge.specs.Steps.{State, ticks, dead_or_ticked, refusal, unless_refused, with_tick, with_turn, writes_at}
+use Rattle.httpedge.specs.Ticks.{HoldsAll, TicksAll, TicksAt, TicksOne, due_on, put_where, ticked_all, ticked_at}
+use Rattle.httpedge.specs.Watches.{ticked}
+use Rattle.httpedge.proofs.Connected.{Entries, changed, got_each, ids, itself, put_there, sorted_same, tied_same}
+use Rattle.httpedge.proofs.Representing.{Held, OpensNone, count_moves, held_put, none_held, open_in, same_open, some_held, watching_open}
+use Rattle.httpedge.proofs.Staying.{dead_idle}
+
+wrong : false ≡ true → ⊥
+wrong e = cc
+
+-- ---- one connection
+
+-- a tick opens nothing
+pub tick_opens : (types : List ServedShape) (ms : ℕ) (b : Bool) (c : Connection) → is_open (dead_or_ticked types ms b c).standing ≡ true → is_open c.standing ≡ true
+tick_opens types ms b c now = go (is_watching c.standing) refl
+  where
+    go : (w : Bool) → is_watching c.standing ≡ w → is_open c.standing ≡ true
+    go true is = watching_open c.standing is
+    go false is = sym (ap (λ (x : Connection). is_open x.standing) (dead_idle types ms b c is)) ∙ now
+
+not_watching : (st : Standing) → is_open st ≡ false → is_watching st ≡ false
+not_watching (waiting front) is = refl
+not_watching (watching w) is = absurd (wrong (sym is))
+not_watching ended is = refl
+not_watching (gone had_ended) is = refl
+
+no_turn : (types : List ServedShape) (ms : ℕ) (b : Bool) (o : Option Connection) → open_in o ≡ false → option_map (dead_or_ticked types ms b) o ≡ o
+no_turn types ms b None is = refl
+no_turn types ms b (Some c) is = ap (λ (d : Connection). Some d) (dead_idle types ms b c (not_watching c.standing is))
+
+-- ---- the connection of an id
+
+pub none_ticks : (types : List ServedShape) (ms id : ℕ) (before : Connections) (old new : Held) → HoldsAll types old before → get nat_cmp old id ≡ None
+    → ((q : ℕ) → get nat_cmp new q ≡ get nat_cmp old q) → TicksAt types ms id before new false
+none_ticks types ms id before old new held at same =
+    let none = none_held types (get nat_cmp old id) (fin.get before id) (held id) at in (
+      subst (HoldsAll types new) (sym (ap (λ (o : Option Connection). put_where o (dead_or_ticked types ms false) before id) none))
+          (λ q. subst (λ (o : Option conns.Connection). HoldsAt types o (fin.get before q)) (sym (same q)) (held q)),
+      λ is. absurd (wrong is),
+    )
+
+pub some_ticks : (types : List ServedShape) (ms id : ℕ) (before : Connections) (old new : Held) (d e : conns.Connection) (found_none : Bool) → HoldsAll types old before → get nat_cmp old id ≡ Some d
+    → PutAt id e old new → ((c : Connection) → Holds types d c → Holds types e (dead_or_ticked types ms found_none c))
+    → ((c : Connection) → Holds types d c → found_none ≡ true → writes_at ms c.standing ≡ true) → TicksAt types ms id before new found_none
+some_ticks types ms id before old new d e found_none held at put turns due =
+    let found = some_held types (get nat_cmp old id) (fin.get before id) d (held id) at in
+    let f = dead_or_ticked types ms found_none in (
+      subst (HoldsAll types new) (sym (ap (λ (o : Option Connection). put_where o f before id) found.1))
+          (held_put types old new before id e (f found.0) held put (turns found.0 found.2)),
+      λ is. ap (λ (o : Option Connection). unwrap_or (option_map (λ c. writes_at ms c.standing) o) false) found.1 ∙ due found.0 found.2 is,
+    )
+
+-- ---- and how many are open then
+
+open_same : (types : List ServedShape) (o : Option conns.Connection) (p : Option Connection) → HoldsAt types o p → option_map is_open_in o ≡ option_map (λ c. is_open c.standing) p
+open_same types None None holds = refl
+open_same types None (Some c) holds = absurd holds
+open_same types (Some d) None holds = absurd holds
+open_same types (Some d) (Some c) holds = ap (λ (b : Bool). Some b) (same_open types d c holds)
+
+count_ticks : (types : List ServedShape) (ms : ℕ) (b : Bool) (before : Connections) (id count count' : ℕ) (was : Bool) (now : Option Bool) (o : Option Connection) → fin.get before id ≡ o
+    → count ≡ open_count before → was ≡ open_in o
+    → now ≡ option_map (λ c. is_open c.standing) (fin.get (put_where o (dead_or_ticked types ms b) before id) id) → count' ≡ count_after count was now
+    → count' ≡ open_count (put_where o (dead_or_ticked types ms b) before id)
+count_ticks types ms b before id count count' was now None got counted is then after = after ∙ ap (λ (w : Bool). count_after count w now) is ∙ counted
+count_ticks types ms b before id count count' was now (Some c) got counted is then after =
+    let c' = dead_or_ticked types ms b c in
+    count_moves before id c c' count count' got counted (tick_opens types ms b c)
+    (after ∙ ap₂ (λ (w : Bool) (n : Option Bool). count_after count w n) is (then ∙ ap (option_map (λ x. is_open x.standing)) (put_there before id c')))
+
+pub one_ticks : (types : List ServedShape) (ms id : ℕ) (before : Connections) (old new : Held) (count count' : ℕ) (was : Bool) (found_none : Bool) → HoldsAll types old before
+    → count ≡ open_count before → was ≡ unwrap_or (option_map is_open_in (get nat_cmp old id)) false → TicksAt types ms id before new found_none
+    → count' ≡ count_after count was (option_map is_open_in (get nat_cmp new id)) → TicksOne types ms id before new (count', found_none)
+one_ticks types ms id before old new count count' was found_none held counted is turns after = (
+  turns,
+  count_ticks types ms found_none before id count count' was (option_map is_open_in (get nat_cmp new id)) (fin.get before id) refl counted
+      (is ∙ ap (λ (o : Option Bool). unwrap_or o false) (open_same types (get nat_cmp old id) (fin.get before id) (held id)))
+      (open_same types (get nat_cmp new id) (fin.get (ticked_at types ms found_none before id) id) (turns.0 id)) after,
+)
+
+-- ---- one after the other
+
+abbrev pub lists : List ℕ → ℕ → Bool
+lists left q = list_any (is_at (nat_cmp q)) left
+
+-- these are left; each other had its turn, or found no memory
+abbrev pub SoFar : List ServedShape → ℕ → Connections → List ℕ → Connections → Bool → Type 0
+SoFar types ms before left after found_none =
+    (which : ℕ → Bool) × ((q : ℕ) → lists left q ≡ true → (fin.get after q ≡ fin.get before q) × (which q ≡ false))
+    × ((q : ℕ) → lists left q ≡ false → fin.get after q ≡ option_map (dead_or_ticked types ms (which q)) (fin.get before q))
+    × ((q : ℕ) → which q ≡ true → due_on ms before q ≡ true) × (found_none ≡ false → (q : ℕ) → which q ≡ false) × (found_none ≡ true → (q : ℕ) × (which q ≡ true))
+
+pub ticks_begin : (types : List ServedShape) (ms : ℕ) (before : Connections) (ids : BTreeSet ℕ) → Lists ids before → SoFar types ms before ids.keys before false
+ticks_begin types ms before old_ids listed = (
+  λ q. false,
+  λ q is. (refl, refl),
+  λ q is. sym (no_turn types ms false (fin.get before q) (closed q (open_on before q) refl is)),
+  λ q is. absurd (wrong is),
+  λ is q. refl,
+  λ is. absurd (wrong is),
+)
+  where
+    closed : (q : ℕ) (b : Bool) → open_on before q ≡ b → contains nat_cmp old_ids q ≡ false → open_on before q ≡ false
+    closed q true is none = absurd (wrong (sym none ∙ listed q is))
+    closed q false is none = is
+
+-- no id is left twice
+not_again : (id : ℕ) (left : List ℕ) → AllByRecursion (λ y. nat_cmp id y ≡ Less) left → lists left id ≡ false
+not_again id [] all = refl
+not_again id (x ∷ left) (first, rest) = ap₂ (λ (o : Ordering) (b : Bool). is_eq o || b) first (not_again id left rest)
+
+sorted_parts : (id : ℕ) (left : List ℕ) → IsStrictlySortedBy nat_cmp (id ∷ left) → AllByRecursion (λ y. nat_cmp id y ≡ Less) left × IsStrictlySortedBy nat_cmp left
+unfolding IsStrictlySortedBy
+sorted_parts id left sorted = sorted
+
+pub sorted_rest : (id : ℕ) (left : List ℕ) → IsStrictlySortedBy nat_cmp (id ∷ left) → IsStrictlySortedBy nat_cmp left
+sorted_rest id left sorted = (sorted_parts id left sorted).1
+
+got_where : (f : Connection → Connection) (all : Connections) (id q : ℕ) (o : Option Connection) → fin.get all id ≡ o
+    → fin.get (put_where o f all id) q ≡ cond (eq_by_cmp nat_cmp q id) (option_map f o) (fin.get all q)
+got_where f all id q None at = go (eq_by_cmp nat_cmp q id) refl
+  where
+    go : (b : Bool) → eq_by_cmp nat_cmp q id ≡ b → fin.get all q ≡ cond b None (fin.get all q)
+    go true e = ap (fin.get all) (tied_same q id e) ∙ at
+    go false e = refl
+got_where f all id q (Some c) at = fin.get-insert nat_cmp_total all id (f c) q
+
+some_more : (b c : Bool) → (b || c) ≡ false → (b ≡ false) × (c ≡ false)
+some_more true c is = absurd (wrong (sym is))
+some_more false c is = (refl, is)
+
+pub ticks_more : (types : List ServedShape) (ms : ℕ) (before : Connections) (id : ℕ) (left : List ℕ) (after : Connections) (found_none starved : Bool) → IsStrictlySortedBy nat_cmp (id ∷ left)
+    → SoFar types ms before (id ∷ left) after found_none → (starved ≡ true → due_on ms after id ≡ true)
+    → SoFar types ms before left (ticked_at types ms starved after id) (found_none || starved)
+ticks_more types ms before id left after found_none starved sorted (which, waits, had, due, none, some) late = (
+  which',
+  λ q is. waits_by q (eq_by_cmp nat_cmp q id) refl is,
+  λ q is. had_by q (eq_by_cmp nat_cmp q id) refl is,
+  λ q is. due_by q (eq_by_cmp nat_cmp q id) refl is,
+  λ is q. none_by q (eq_by_cmp nat_cmp q id) (some_more found_none starved is),
+  λ is. some_by found_none starved refl refl is,
+)
+  where
+    f : Bool → Connection → Connection
+    f = dead_or_ticked types ms
+
+    which' : ℕ → Bool
+    which' q = cond (eq_by_cmp nat_cmp q id) starved (which q)
+
+    here : lists (id ∷ left) id ≡ true
+    here = ap (λ (b : Bool). b || lists left id) (itself id)
+
+    now : (q : ℕ) → fin.get (ticked_at types ms starved after id) q ≡ cond (eq_by_cmp nat_cmp q id) (option_map (f starved) (fin.get after id)) (fin.get after q)
+    now q = got_where (f starved) after id q (fin.get after id) refl
+
+    first : (q : ℕ) → eq_by_cmp nat_cmp q id ≡ true → lists left q ≡ false
+    first q e = ap (lists left) (tied_same q id e) ∙ not_again id left (sorted_parts id left sorted).0
+
+    waits_by : (q : ℕ) (b : Bool) → eq_by_cmp nat_cmp q id ≡ b → lists left q ≡ true → (fin.get (ticked_at types ms starved after id) q ≡ fin.get before q) × (which' q ≡ false)
+    waits_by q true e is = absurd (wrong (sym (first q e) ∙ is))
+    waits_by q false e is =
+        let was = waits q (ap (λ (b : Bool). b || lists left q) e ∙ is) in
+        (now q ∙ ap (λ (b : Bool). cond b (option_map (f starved) (fin.get after id)) (fin.get after q)) e ∙ was.0, ap (λ (b : Bool). cond b starved (which q)) e ∙ was.1)
+
+    had_by : (q : ℕ) (b : Bool) → eq_by_cmp nat_cmp q id ≡ b → lists left q ≡ false → fin.get (ticked_at types ms starved after id) q ≡ option_map (f (which' q)) (fin.get before q)
+    had_by q true e is =
+        now q ∙ ap (λ (b : Bool). cond b (option_map (f starved) (fin.get after id)) (fin.get after q)) e
+        ∙ ap (option_map (f starved)) (waits id here).0 ∙ ap (λ (k : ℕ). option_map (f starved) (fin.get before k)) (sym (tied_same q id e))
+        ∙ ap (λ (b : Bool). option_map (f (cond b starved (which q))) (fin.get before q)) (sym e)
+    had_by q false e is =
+        now q ∙ ap (λ (b : Bool). cond b (option_map (f starved) (fin.get after id)) (fin.get after q)) e
+        ∙ had q (ap (λ (b : Bool). b || lists left q) e ∙ is)
+        ∙ ap (λ (b : Bool). option_map (f (cond b starved (which q))) (fin.get before q)) (sym e)
+
+    due_by : (q : ℕ) (b : Bool) → eq_by_cmp nat_cmp q id ≡ b → which' q ≡ true → due_on ms before q ≡ true
+    due_by q true e is =
+        ap (due_on ms before) (tied_same q id e) ∙ sym (ap (λ (o : Option Connection). unwrap_or (option_map (λ c. writes_at ms c.standing) o) false) (waits id here).0)
+        ∙ late (sym (ap (λ (b : Bool). cond b starved (which q)) e) ∙ is)
+    due_by q false e is = due q (sym (ap (λ (b : Bool). cond b starved (which q)) e) ∙ is)
+
+    none_by : (q : ℕ) (b : Bool) → (found_none ≡ false) × (starved ≡ false) → cond b starved (which q) ≡ false
+    none_by q true (one, more) = more
+    none_by q false (one, more) = none one q
+
+    some_by : (x y : Bool) → found_none ≡ x → starved ≡ y → (found_none || starved) ≡ true → (q : ℕ) × (which' q ≡ true)
+    some_by x true ex ey is = (id, ap (λ (b : Bool). cond b starved (which id)) (itself id) ∙ ey)
+    some_by true false ex ey is = older (some ex)
+      where
+        older : (q : ℕ) × (which q ≡ true) → (q : ℕ) × (which' q ≡ true)
+        older (q, was) = (q, by_id (eq_by_cmp nat_cmp q id) refl)
+          where
+            by_id : (b : Bool) → eq_by_cmp nat_cmp q id ≡ b → cond (eq_by_cmp nat_cmp q id) starved (which q) ≡ true
+            by_id true e = absurd (wrong (sym (waits q (ap (λ (b : Bool). b || lists left q) e)).1 ∙ was))
+            by_id false e = ap (λ (b : Bool). cond b starved (which q)) e ∙ was
+    some_by false false ex ey is = absurd (wrong (sym (ap₂ (λ (a b : Bool). a || b) ex ey) ∙ is))
+
+pub ticks_end : (types : List ServedShape) (ms : ℕ) (before after : Connections) (held : Held) (count : ℕ) (found_none : Bool) → HoldsAll types held after → count ≡ open_count after
+    → SoFar types ms before [] after found_none → TicksAll types ms before held (count, found_none)
+ticks_end types ms before after held count found_none holds counted (which, waits, had, due, none, some) =
+    let f = λ (q : ℕ) (c : Connection). dead_or_ticked types ms (which q) c in
+    let same : after ≡ ticked_all types ms which before =
+    fin.same_map nat_cmp_total fin.nat_cmp-IsAntisymmetric _ _ (λ q. had q refl ∙ sym (got_each f before q)) in (
+      which,
+      subst (HoldsAll types held) same holds,
+      counted ∙ ap open_count same,
+      none,
+      λ is. let found = some is in (found.0, found.1, due found.0 found.1),
+    )
+
+-- ---- the hub
+
+each_same : (f g : ℕ → Connection → Connection) (all : Connections) → ((q : ℕ) (c : Connection) → f q c ≡ g q c) → each f all ≡ each g all
+each_same f g all same = fin.same_map nat_cmp_total fin.nat_cmp-IsAntisymmetric _ _ (λ q. got_each f all q ∙ mapped q (fin.get all q) ∙ sym (got_each g all q))
+  where
+    mapped : (q : ℕ) (o : Option Connection) → option_map (f q) o ≡ option_map (g q) o
+    mapped q None = refl
+    mapped q (Some c) = ap (λ (d : Connection). Some d) (same q c)
+
+ids_same : (f : ℕ → Connection → Connection) (es : Entries) → ids (changed f es) ≡ ids es
+ids_same f [] = refl
+ids_same f (e ∷ es) = ap (λ (rest : List ℕ). e.0 ∷ rest) (ids_same f es)
+
+-- what becomes of connections makes no id known
+new_each : (f : ℕ → Connection → Connection) (all : Connections) (q : ℕ) → is_new (each f all) q ≡ is_new all q
+new_each f all q =
+    ap (λ (es : Entries). list_all (λ known. nat_lt known q) (ids es))
+    (fin.entries-from_sorted nat_cmp (changed f (fin.entries all)) (subst T (sym (sorted_same f (fin.entries all))) (fin.entries_sorted all)))
+    ∙ ap (λ (ks : List ℕ). list_all (λ known. nat_lt known q) ks) (ids_same f (fin.entries all))
+
+-- a tick opens none of them
+each_opens : (types : List ServedShape) (ms : ℕ) (which : ℕ → Bool) (all : Connections) → OpensNone all (ticked_all types ms which all)
+each_opens types ms which all q now =
+    go (fin.get all q) (sym (ap open_in (got_each (λ k c. dead_or_ticked types ms (which k) c) all q)) ∙ now)
+  where
+    go : (o : Option Connection) → open_in (option_map (λ c. dead_or_ticked types ms (which q) c) o) ≡ true → open_in o ≡ true
+    go None is = is
+    go (Some c) is = tick_opens types ms (which q) c is
+
+-- those that are still open are listed
+kept_listed : (types : List ServedShape) (ids ids' : BTreeSet ℕ) (held : Held) (all after : Connections) → Lists ids all → OpensNone all after → HoldsAll types held after
+    → ids'.keys ≡ filter (λ id. unwrap_or (option_map is_open_in (get nat_cmp held id)) false) ids.keys → Lists ids' after
+kept_listed types old_ids new_ids held all after listed opening holds kept q now =
+    ap (list_any (is_at (nat_cmp q))) kept
+    ∙ any-filter_same (is_at (nat_cmp q)) (λ id. unwrap_or (option_map is_open_in (get nat_cmp held id)) false) true
+    (λ k e. ap (λ (j : ℕ). unwrap_or (option_map is_open_in (get nat_cmp held j)) false) (sym (tied_same q k e)) ∙ is_open_there) old_ids.keys
+    ∙ listed q (opening q now)
+  where
+    is_open_there : unwrap_or (option_map is_open_in (get nat_cmp held q)) false ≡ true
+    is_open_there = ap (λ (o : Option Bool). unwrap_or o false) (open_same types (get nat_cmp held q) (fin.get after q) (holds q)) ∙ now
+
+-- the hub is in this state
+abbrev pub IsInState : Api → Held → ℕ → Option ℕ → ℕ → BTreeSet ℕ → State → Type 0
+IsInState api held count highest last_tick ids s = Represents api held count highest s × (last_tick ≡ s.last_tick) × Lists ids s.connections
+
+ticked_in : (s : State) (ms : ℕ) (which : ℕ → Bool) (api : Api) (old new : Held) (count count' : ℕ) (highest : Option ℕ) (ids ids' : BTreeSet ℕ) → Represents api old count highest s → Lists ids s.connections
+    → HoldsAll s.types new (ticked_all s.types ms which s.connections) → count' ≡ open_count (ticked_all s.types ms which s.connections)
+    → ids'.keys ≡ filter (λ id. unwrap_or (option_map is_open_in (get nat_cmp new id)) false) ids.keys
+    → IsInState api new count' highest ms ids' (with_tick s ms (ticked_all s.types ms which s.connections))
+ticked_in s ms which api old new count count' highest old_ids new_ids held listed holds counted kept =
+    let f = λ (q : ℕ) (c : Connection). dead_or_ticked s.types ms (which q) c in (
+      record { machine = held.machine; connections = holds; count_is = counted; highest_is = λ q. new_each f s.connections q ∙ held.highest_is q },
+      refl,
+      kept_listed s.types old_ids new_ids new s.connections (each f s.connections) listed (each_opens s.types ms which s.connections) holds kept,
+    )
+
+not_back : (s : State) (ms last_tick : ℕ) → last_tick ≡ s.last_tick → nat_lt ms last_tick ≡ false → refusal s (ticks ms) ≡ None
+not_back s ms last_tick same forward = ap (λ (b : Bool). cond b (Some 4) None) (ap (nat_lt ms) (sym same) ∙ forward)
+
+pub ticks_well : (s : State) (ms last_tick : ℕ) (api : Api) (old new : Held) (count : ℕ) (highest : Option ℕ) (ids ids' : BTreeSet ℕ) (r : ℕ × Bool) → Represents api old count highest s
+    → last_tick ≡ s.last_tick → Lists ids s.connections → nat_lt ms last_tick ≡ false → TicksAll s.types ms s.connections new r → r.1 ≡ false
+    → ids'.keys ≡ filter (λ id. unwrap_or (option_map is_open_in (get nat_cmp new id)) false) ids.keys
+    → (t : State) × Steps s (ticks ms) t × IsInState api new r.0 highest ms ids' t
+ticks_well s ms last_tick api old new count highest old_ids new_ids r held same listed forward (which, holds, counted, none, some) fine kept =
+    let g = λ (q : ℕ) (c : Connection). with_turn (ticked s.types ms) c in
+    let all : ticked_all s.types ms which s.connections ≡ each g s.connections =
+    each_same _ g s.connections (λ q c. ap (λ (b : Bool). dead_or_ticked s.types ms b c) (none fine q)) in (
+      with_tick s ms (each g s.connections),
+      (undecided, refl, sym (ap (λ (o : Option ℕ). unless_refused o s (with_tick s ms (each g s.connections))) (not_back s ms last_tick same forward))),
+      subst (λ (cs : Connections). IsInState api new r.0 highest ms new_ids (with_tick s ms cs)) all (ticked_in s ms which api old new count r.0 highest old_ids new_ids held listed holds counted kept),
+    )
+
+any_entry : (ms : ℕ) (which : ℕ → Bool) (q : ℕ) → which q ≡ true → (es : Entries) → unwrap_or (option_map (λ c. writes_at ms c.standing) (entries.find nat_cmp q es)) false ≡ true
+    → list_any (λ e. which e.0 && writes_at ms e.1.standing) es ≡ true
+any_entry ms which q found [] due = absurd (wrong due)
+any_entry ms which q found (e ∷ es) due = go (eq_by_cmp nat_cmp q e.0) (tied_same q e.0) due (any_entry ms which q found es)
+  where
+    later : (b : Bool) → (b || true) ≡ true
+    later true = refl
+    later false = refl
+
+    go : (b : Bool) → (b ≡ true → q ≡ e.0) → unwrap_or (option_map (λ c. writes_at ms c.standing) (cond b (Some e.1) (entries.find nat_cmp q es))) false ≡ true
+        → (unwrap_or (option_map (λ c. writes_at ms c.standing) (entries.find nat_cmp q es)) false ≡ true → list_any (λ e. which e.0 && writes_at ms e.1.standing) es ≡ true)
+        → (which e.0 && writes_at ms e.1.standing) || list_any (λ e. which e.0 && writes_at ms e.1.standing) es ≡ true
+    go true is here rest =
+        ap₂ (λ (a b : Bool). (a && b) || list_any (λ x. which x.0 && writes_at ms x.1.standing) es) (sym (ap which (is refl)) ∙ found) here
+    go false is there rest = ap (λ (b : Bool). (which e.0 && writes_at ms e.1.standing) || b) (rest there) ∙ later (which e.0 && writes_at ms e.1.standing)
+
+pub ticks_starve : (s : State) (ms last_tick : ℕ) (api : Api) (old new : Held) (count : ℕ) (highest : Option ℕ) (ids ids' : BTreeSet ℕ) (r : ℕ × Bool) → Represents api old count highest s
+    → last_tick ≡ s.last_tick → Lists ids s.connections → nat_lt ms last_tick ≡ false → TicksAll s.types ms s.connections new r → r.1 ≡ true
+    → ids'.keys ≡ filter (λ id. unwrap_or (option_map is_open_in (get nat_cmp new id)) false) ids.keys
+    → (which : ℕ → Bool) × (t : State) × Starves s (ticks ms) which t × IsInState api new r.0 highest ms ids' t
+ticks_starve s ms last_tick api old new count highest old_ids new_ids r held same listed forward (which, holds, counted, none, some) starved kept =
+    let found = some starved in (
+      which,
+      with_tick s ms (ticked_all s.types ms which s.connections),
+      (
+        not_back s ms last_tick same forward,
+        any_entry ms which found.0 found.1 (fin.entries s.connections)
+            (sym (ap (λ (o : Option Connection). unwrap_or (option_map (λ c. writes_at ms c.standing) o) false) (fin.get-entries s.connections found.0)) ∙ found.2),
+        refl,
+      ),
+      ticked_in s ms which api old new count r.0 highest old_ids new_ids held listed holds counted kept,
+    )

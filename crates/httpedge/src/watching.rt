@@ -1,0 +1,108 @@
+//! A watch, and what it writes at its turn.
+
+ghost use Rattle.std.specs.Prelude.{◌≡◌, ◌*◌, List, true, IfOk, OnErr, nat_le, option_map, string_bytes};
+ghost use Rattle.schema.specs.TypesFile.{ServedShape};
+ghost use Rattle.history.specs.History.{History};
+ghost use Rattle.verbs.specs.Seen.{Stands};
+ghost use Rattle.watchline.specs.Views.{watch_from};
+ghost use Rattle.httpedge.specs.Held.{Turns, left, watch_of};
+ghost use Rattle.httpedge.specs.ReplyBytes.{chunks};
+ghost use Rattle.httpedge.specs.Watches.{begun_at, is_due, is_over, line_list, pumped, ticked};
+
+use crate::chunks::{chunks, push_chunk, push_end};
+use crate::out::Out;
+use std::alloc::{AllocError, Global};
+use verbs::{Api, Fault};
+use watchline::{WatchCursor, WatchFrom};
+
+/// A watch: where it stands, the last tick before its opening, and the seconds after which it ends.
+#[derive(Debug, Drop)]
+pub(crate) struct Watch {
+    cursor: WatchCursor,
+    opened: u64,
+    timeout: u64,
+}
+
+/// Whether so many seconds are no more than these milliseconds.
+fn has_passed(seconds: u64, milliseconds: u64) -> bool
+    ensures { result ≡ nat_le (seconds * 1000) milliseconds }
+{
+    match seconds.checked_mul(1000) {
+        Some(needed) => needed <= milliseconds,
+        None => false,
+    }
+}
+
+/// The bytes of a tick's turn.
+fn tick_bytes(alloc: Global, line: Option<String>, has_ended: bool) -> Result<Vec<u8>, AllocError>
+    ensures { IfOk result (λ v. v.items ≡ chunks (line_list (option_map string_bytes line)) has_ended) }
+{
+    let mut bytes = Vec::new(alloc);
+    if let Some(line) = line {
+        push_chunk(alloc, &mut bytes, line.as_str())?;
+    }
+    push_end(&mut bytes, has_ended)?;
+    Ok(bytes)
+}
+
+impl Watch {
+    /// A watch that opens after this tick.
+    pub(crate) fn begun(last_tick: u64, from: WatchFrom) -> Watch
+        ensures { watch_of result ≡ begun_at last_tick (watch_from from) }
+    {
+        let timeout = from.timeout;
+        Watch {
+            cursor: WatchCursor::new(from),
+            opened: last_tick,
+            timeout,
+        }
+    }
+
+    fn is_over(&self, ms: u64) -> bool
+        ensures { result ≡ is_over ms (watch_of self.now) }
+    {
+        self.timeout > 0 && has_passed(self.timeout, ms.saturating_sub(self.opened))
+    }
+
+    /// Its turn at a pump; whether it has ended. Without memory nothing more is out.
+    pub(crate) fn pump(
+        &mut self,
+        alloc: Global,
+        api: &mut Api,
+        out: &mut Out,
+        max: usize,
+    ) -> Result<bool, Fault>
+        ensures ok { (types : List ServedShape) (m : History) → Stands api.old types m
+            → IfOk result (λ has_ended. Turns (pumped m max (watch_of self.old)) has_ended (watch_of self.new) (left out.old) (left out.new)) }
+        ensures err { OnErr result (left out.new ≡ left out.old) }
+        ensures stands { (types : List ServedShape) (m : History) → Stands api.old types m → Stands api.new types m }
+    {
+        let pumped = api.pump(&mut self.cursor, max)?;
+        let bytes = chunks(alloc, &pumped.lines, pumped.ended)?;
+        out.add(&bytes)?;
+        Ok(pumped.ended)
+    }
+
+    /// Its turn at a tick; whether it has ended. Without memory nothing more is out; where nothing is due it needs none.
+    pub(crate) fn tick(
+        &mut self,
+        alloc: Global,
+        api: &Api,
+        out: &mut Out,
+        ms: u64,
+    ) -> Result<bool, Fault>
+        ensures ok { (types : List ServedShape) (m : History) → Stands api.now types m
+            → IfOk result (λ has_ended. Turns (ticked types ms (watch_of self.old)) has_ended (watch_of self.new) (left out.old) (left out.new)) }
+        ensures err { OnErr result (left out.new ≡ left out.old) }
+        ensures due { OnErr result (is_due ms (watch_of self.old) ≡ true) }
+    {
+        let has_ended = self.is_over(ms);
+        let line = api.bookmark(&mut self.cursor)?;
+        if line.is_none() && !has_ended {
+            return Ok(false);
+        }
+        let bytes = tick_bytes(alloc, line, has_ended)?;
+        out.add(&bytes)?;
+        Ok(has_ended)
+    }
+}
