@@ -1,10 +1,10 @@
 -- The requests of a client (Kubernetes API Concepts, "Resource URIs", "Retrieving large results sets in chunks",
 -- "Efficient detection of changes", "Watch bookmarks"; their queries are forms of the URL Standard, section 5).
-use Rattle.std.specs.Prelude.{ℕ, List, [], ◌∷◌, ◌++◌, Option, Some, None, codes, decimal}
+use Rattle.std.specs.Prelude.{ℕ, List, [], ◌∷◌, ◌++◌, Option, Some, None, option_map, codes, decimal}
 use Rattle.form_urlencoded.specs.Form.{append_pair}
 use Rattle.wireclient.specs.Request.{request}
 use Rattle.decoder.specs.Wanted.{Wanted, api_version_of}
-use Rattle.reflector.specs.Client.{Cache, Asks, first, next, follow, Client}
+use Rattle.reflector.specs.Client.{Asks, first, next, follow, Client}
 
 -- what is mirrored, and how: the wanted objects that the selector's text selects, in pages of so many
 pub record Settings : Type 0 where
@@ -35,13 +35,13 @@ abbrev pub watch_query : Settings → ℕ → List ℕ
 watch_query s revision =
     with_selector s.selector (append_pair (append_pair (append_pair [] (codes "watch") (codes "true")) (codes "resourceVersion") (decimal revision)) (codes "allowWatchBookmarks") (codes "true"))
 
--- a client that follows has a cache; without one it would begin with a list
-abbrev pub query_of : Settings → Asks → Option Cache → List ℕ
-query_of s first cache = list_query s None
-query_of s (next revision token aside) cache = list_query s (Some token)
-query_of s follow None = list_query s None
-query_of s follow (Some now) = watch_query s now.revision
+-- by the revision of the cache; a client that follows has one, and without one it would begin with a list
+abbrev pub query_at : Settings → Asks → Option ℕ → List ℕ
+query_at s first revision = list_query s None
+query_at s (next r token aside) revision = list_query s (Some token)
+query_at s follow None = list_query s None
+query_at s follow (Some r) = watch_query s r
 
 -- the bytes that ask what the client asks next
 abbrev pub request_of : Settings → Client → List ℕ
-request_of s c = request (codes "GET") (path_of s.wanted ++ 63 ∷ query_of s c.asks c.cache) None
+request_of s c = request (codes "GET") (path_of s.wanted ++ 63 ∷ query_at s c.asks (option_map (λ now. now.revision) c.cache)) None

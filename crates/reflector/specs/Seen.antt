@@ -1,12 +1,12 @@
 -- What the crate's values say, without where they lie in memory.
-use Rattle.std.specs.Prelude.{ℕ, List, [], ◌∷◌, Option, Some, None, option_map, string_bytes}
+use Rattle.std.specs.Prelude.{List, [], ◌∷◌, Option, Some, None, option_map, string_bytes}
 use Rattle.std.specs.FinMap as fin
 use Rattle.indexer.specs.Kept.{Held}
 use Rattle.indexer.specs.Objects.{Place, Stored, stored_of}
 use Rattle.decoder.specs.Seen.{wanted_of}
 use Rattle.reflector.specs.Aside.{aside_of}
 use Rattle.reflector.specs.Client.{Asks, first, next, follow, Notice, added, updated, deleted}
-use Rattle.reflector.specs.Requests.{Settings, list_query, watch_query}
+use Rattle.reflector.specs.Requests.{Settings}
 use Rattle.reflector.specs.declared.settings.Settings as settings
 use Rattle.reflector.specs.declared.asks.Asks as asks
 use Rattle.reflector.specs.declared.asks.Asks.TheVariants as ask
@@ -34,10 +34,3 @@ told_of (Some n) = notice_seen n ∷ []
 -- the object that an indexer holds at a place, without its keys
 abbrev pub object_in : Held → Place → Option Stored
 object_in held p = option_map (λ h. h.0) (fin.get held p)
-
--- the query that asks this where the cache has a revision, or has none
-abbrev pub query_at : Settings → Asks → Option ℕ → List ℕ
-query_at s first revision = list_query s None
-query_at s (next r token aside) revision = list_query s (Some token)
-query_at s follow None = list_query s None
-query_at s follow (Some r) = watch_query s r

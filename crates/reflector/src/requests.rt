@@ -5,8 +5,8 @@ ghost use Rattle.form_urlencoded.specs.Form.{append_pair};
 ghost use Rattle.wireclient.specs.Request.{request};
 ghost use Rattle.decoder.specs.Seen.{wanted_of};
 ghost use Rattle.decoder.specs.Wanted.{api_version_of};
-ghost use Rattle.reflector.specs.Requests.{list_query, namespace_part, path_of, watch_query, with_selector, with_token};
-ghost use Rattle.reflector.specs.Seen.{asks_of, query_at, settings_of};
+ghost use Rattle.reflector.specs.Requests.{list_query, namespace_part, path_of, query_at, watch_query, with_selector, with_token};
+ghost use Rattle.reflector.specs.Seen.{asks_of, settings_of};
 
 use crate::asks::Asks;
 use crate::settings::Settings;
