@@ -1,3 +1,4 @@
 pub mod Texts
 pub mod Printed
 pub mod Read
+pub mod Agreed

@@ -1,8 +1,14 @@
-//! The function does nothing; what it promises is the law.
+//! Each function does nothing; what it promises is the law.
 
 ghost use Rattle.label_laws.specs.Labels.{LabelsAreOfContents};
+ghost use Rattle.label_laws.specs.Readers.{ReadersAgree};
 
 /// The labels that are read of an object's text are those of the content that the text was printed of.
 pub fn labels_are_of_contents()
     ensures { LabelsAreOfContents }
+{}
+
+/// Of a text that a client takes as an object, server and client read the same labels.
+pub fn readers_agree()
+    ensures { ReadersAgree }
 {}
