@@ -1,5 +1,6 @@
 #!/usr/bin/env python3
-"""Writes the stored run of ssa_replay: a script that meets each message that a PATCH can be told, and what it must print.
+"""Writes the stored run of ssa_replay: a script that meets each message that a PATCH can be told, and watches, and
+what it must print.
 
 Usage: bench/expected_replies.py   (writes crates/ssa_replay/data/messages.jsonl and crates/ssa_replay/stdout)
 
@@ -25,6 +26,7 @@ TABLE = [
     (409, "Conflict", "Conflict", [
         "version {} is not the stored one, {}", "version {} was given and there is no object",
         "Apply failed with {} conflict(s)"]),
+    (410, "Gone", "Expired", ["too old resource version: {} ({})"]),
     (411, "Length Required", "LengthRequired", ["Content-Length is needed"]),
     (413, "Payload Too Large", "RequestEntityTooLarge", ["body over 65536 bytes"]),
     (415, "Unsupported Media Type", "UnsupportedMediaType", ["media type not served"]),
@@ -75,9 +77,9 @@ def conflicts(*causes):
     return refused("Apply failed with {} conflict(s)", len(causes), details={"causes": causes})
 
 
-def widget(name, version, owners, spec=None, labels=None):
+def widget(name, version, owners, spec=None, labels=None, namespace="default"):
     """An object as it is printed; owners are pairs of a manager and its fields."""
-    metadata = {"name": name, "namespace": "default", "resourceVersion": str(version)}
+    metadata = {"name": name, "namespace": namespace, "resourceVersion": str(version)}
     if owners:
         metadata["managedFields"] = [
             {"apiVersion": API_VERSION, "fieldsType": "FieldsV1", "fieldsV1": fields, "manager": manager, "operation": "Apply"}
@@ -101,6 +103,23 @@ def reply(code, body, allow=None):
     if allow is not None:
         fields.append("Allow: " + allow)
     return "".join(field + "\r\n" for field in fields) + "\r\n" + body
+
+
+# ---- what a watch says
+
+HEAD = ("HTTP/1.1 200 OK\r\nContent-Type: application/json\r\nTransfer-Encoding: chunked\r\n"
+        "Connection: close\r\n\r\n")
+LAST_CHUNK = "0\r\n\r\n"
+
+
+def chunk(what, shown):
+    """The chunk of a line: what happened, and the text of its object."""
+    text = f'{{"type":"{what}","object":{shown}}}\n'
+    return f"{len(text):x}\r\n{text}\r\n"
+
+
+def bookmark(version):
+    return chunk("BOOKMARK", compact({"apiVersion": API_VERSION, "kind": "Widget", "metadata": {"resourceVersion": str(version)}}))
 
 
 # ---- the script
@@ -402,6 +421,62 @@ def sizes():
     apply("large", large(second), refused("object over 262144 bytes"), "bob")
 
 
+def watches():
+    """Watches of a namespace: one whose peer goes, one that a compaction overtakes, one that is refused; and its list."""
+    namespace = "/apis/demo.example/v1/namespaces/watched/widgets"
+
+    def get(query):
+        connection = opened()
+        comes(connection, request(HOST, target=namespace + query, method="GET"))
+        return connection
+
+    def watch(query):
+        connection = get("?watch=true" + query)
+        written[connection] = HEAD
+        return connection
+
+    def shown(version, replicas):
+        owners = [("alice", in_spec("replicas"))]
+        return widget("a", version, owners, {"replicas": replicas}, namespace="watched")
+
+    def apply_a(replicas, code):
+        version = next_revision()
+        apply("a", body_of(spec={"replicas": replicas}), (code, shown(version, replicas)), path=namespace + "/a")
+
+    def listed(*items):
+        return compact({"apiVersion": API_VERSION, "items": [json.loads(item) for item in items], "kind": "WidgetList",
+                        "metadata": {"resourceVersion": str(revision)}})
+
+    first = watch("&allowWatchBookmarks=true")
+    line({"tick": 500})
+    written[first] += bookmark(revision)
+    apply_a(1, 201)
+    apply_a(2, 200)
+    line({"pump": [first, 0]})
+    line({"pump": [first, 1]})
+    written[first] += chunk("ADDED", shown(revision - 1, 1))
+    line({"gone": first})
+    line({"pump": [first, 1]})
+    written[get("")] = reply(200, listed(shown(revision, 2)))
+
+    second = watch(f"&resourceVersion={revision}&timeoutSeconds=1")
+    third = watch(f"&resourceVersion={revision}")
+    deleting = opened()
+    comes(deleting, request(HOST, target=namespace + "/a", method="DELETE"))
+    written[deleting] = reply(200, shown(next_revision(), 2))
+    line({"pump": [second, 2]})
+    written[second] += chunk("DELETED", shown(revision, 2))
+    line({"tick": 1499})
+    line({"tick": 1500})
+    written[second] += LAST_CHUNK
+    line({"tick": 1499})
+    line({"compact": revision})
+    expired = refused("too old resource version: {} ({})", revision - 1, revision)
+    line({"pump": [third, 2]})
+    written[third] += chunk("ERROR", expired[1]) + LAST_CHUNK
+    written[get(f"?watch=true&resourceVersion={revision - 1}")] = reply(*expired)
+
+
 def connections():
     """So many connections that no more is served, till one has ended."""
     waiting = [connection for connection, text in written.items() if text == ""]
@@ -419,7 +494,7 @@ def connections():
 
 def main():
     for row in (six_lines, first_apply, hostile_heads, routes, body_limits_and_numbers, envelopes, parameters, manager_name_limits,
-                names, versions, all_conflicts_listed, lists, sizes, connections):
+                names, versions, all_conflicts_listed, lists, sizes, watches, connections):
         row()
     left = set(FOUND) - met
     assert not left, left

@@ -4,15 +4,15 @@ use Rattle.std.proofs.lemmas.Grind.{flat_map-append}
 use Rattle.std.proofs.lemmas.List.{take-append-drop}
 use Rattle.schema.specs.TypesFile.{ServedShape}
 use Rattle.httpedge.specs.Connections.{written_on}
-use Rattle.programs.specs.Replays.{PrintsFront, Run, Runs, connection_text, connections_text, start}
+use Rattle.programs.specs.Replays.{Plays, PrintsFront, Run, connection_text, connections_text, start}
 use Rattle.programs.specs.Script.{Event}
 
-pub at_event : (types : List ServedShape) (events : List Event) (i : ℕ) (q : Run) (text : List ℕ) → Runs (start types) (take i events) text q → PrintsFront types events text
+pub at_event : (types : List ServedShape) (events : List Event) (i : ℕ) (q : Run) (text : List ℕ) → Plays (start types) (take i events) text q → PrintsFront types events text
 at_event types events i q text ran =
     let rest = connections_text q.hub q.others in
     (take i events, drop i events, text ++ rest, rest, sym (take-append-drop i events), (q, text, ran, refl), refl)
 
-pub at_connection : (types : List ServedShape) (events : List Event) (i : ℕ) (q : Run) (text : List ℕ) → Runs (start types) events text q
+pub at_connection : (types : List ServedShape) (events : List Event) (i : ℕ) (q : Run) (text : List ℕ) → Plays (start types) events text q
     → PrintsFront types events (text ++ connections_text q.hub (take i q.others))
 at_connection types events i q text ran =
     let rest = connections_text q.hub (drop i q.others) in (

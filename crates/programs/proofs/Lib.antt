@@ -1,4 +1,6 @@
 mod FrontLemmas
+mod Kept
+mod PlayRuns
 mod ReplayWords
 mod RunLemmas
 mod ScriptLemmas

@@ -1,4 +1,4 @@
--- Runs grow at their end.
+-- Plays grow at their end.
 use Rattle.std.proofs.Common.{◌≡◌, ◌∙◌, ◌<◌, ◌+◌, ◌^◌, ℕ, ap, refl, sym, subst, arith, List, [], ◌∷◌, ◌++◌, length, map, take, Bool, true, false, Option, Some, None, append_assoc, append-nil}
 use Rattle.std.specs.Prelude.{is_none, nat_lt}
 use Rattle.std.specs.List.{slice_index_or}
@@ -6,15 +6,15 @@ use Rattle.std.proofs.lemmas.Bool.{lt-ltb, ltb-true}
 use Rattle.std.proofs.lemmas.List.{flat_map_more, map_more, take_more}
 use Rattle.httpedge.specs.Connections.{written_on}
 use Rattle.httpedge.specs.Steps.{State}
-use Rattle.programs.specs.Replays.{Does, Run, Runs, connection_text, connections_text, next_id}
+use Rattle.programs.specs.Replays.{Does, Run, Plays, connection_text, connections_text, next_id}
 use Rattle.programs.specs.Script.{Event}
 
-pub runs_more : (r : Run) (es : List Event) (e : Event) (text more : List ℕ) (p q : Run)
-    → Runs r es text p → Does p e more q → Runs r (es ++ e ∷ []) (text ++ more) q
-runs_more r [] e text more p q (is_empty, stays) does =
+pub plays_more : (r : Run) (es : List Event) (e : Event) (text more : List ℕ) (p q : Run)
+    → Plays r es text p → Does p e more q → Plays r (es ++ e ∷ []) (text ++ more) q
+plays_more r [] e text more p q (is_empty, stays) does =
     (q, more, [], subst (λ x. Does x e more q) stays does, (refl, refl), ap (λ x. x ++ more) is_empty ∙ sym (append-nil more))
-runs_more r (d ∷ es) e text more p q (s, first, rest, did, ran, is) does =
-    (s, first, rest ++ more, did, runs_more s es e rest more p q ran does, ap (λ x. x ++ more) is ∙ append_assoc first rest more)
+plays_more r (d ∷ es) e text more p q (s, first, rest, did, ran, is) does =
+    (s, first, rest ++ more, did, plays_more s es e rest more p q ran does, ap (λ x. x ++ more) is ∙ append_assoc first rest more)
 
 -- the line of a connection, and the bytes after it
 pub joined : (a b c bytes : List ℕ) → (a ++ (b ++ (32 ∷ (c ++ 10 ∷ []))) ++ bytes) ++ 10 ∷ [] ≡ a ++ (b ++ (32 ∷ (c ++ (10 ∷ (bytes ++ 10 ∷ [])))))

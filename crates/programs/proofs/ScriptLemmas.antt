@@ -14,8 +14,8 @@ use Rattle.std.proofs.lemmas.Slice.Eq.{bytes_eq-Decides}
 use Rattle.serde_json.specs.Data.{unsigned, negative, float, Data, null, boolean, number, string, array, object, Items, no_items, item, Members, no_members, member}
 use Rattle.serde_json.specs.Find.{as_array, as_bool, as_object, as_str}
 use Rattle.serde_json.specs.Read.{read as read_json}
-use Rattle.programs.specs.Script.{Apply, AreEvents, Event, apply, opens, comes, compacts, HasTarget, IsFirstBad, IsTarget, IsEventLine, is_filled, object_of}
-use Rattle.programs.specs.ScriptSteps.{apply_in, comes_in, event_in, event_named, event_of, if_target, is_last, is_last_item, is_target, next_item, next_named, number_in, only_member, with_items, with_rest}
+use Rattle.programs.specs.Script.{Apply, AreEvents, Event, apply, opens, comes, goes, pumps, ticks, compacts, HasTarget, IsFirstBad, IsTarget, IsEventLine, is_filled, object_of}
+use Rattle.programs.specs.ScriptSteps.{apply_in, comes_in, event_in, event_named, event_of, if_target, is_last, is_last_item, is_target, next_item, next_named, number_in, numbered, only_member, pumps_in, with_items, with_rest}
 
 some≢none : {X : Type 0} (x : X) → Some x ≡ None → ⊥
 some≢none x e = cc
@@ -185,40 +185,68 @@ comes_is ds e is =
     let end = last_item _ e t.0.1 t.2 in
     (k.0.0, t.0.0, sym end.1, first.1 ∙ ap₂ item (counted first.0 k.0.0 first.2) (second.1 ∙ ap₂ item (text second.0 t.0.0 second.2) end.0))
 
+pumps_is : (ds : Items) (e : Event) → pumps_in ds ≡ Some e → (k : ℕ) × (n : ℕ) × (e ≡ pumps k n) × (ds ≡ item (number (unsigned k)) (item (number (unsigned n)) no_items))
+pumps_is ds e is =
+    let k = and_then-Some _ _ e is in
+    let first = leading number_in ds k.0 k.1 in
+    let n = and_then-Some _ _ e k.2 in
+    let second = leading number_in k.0.1 n.0 n.1 in
+    let end = last_item _ e n.0.1 n.2 in
+    (k.0.0, n.0.0, sym end.1, first.1 ∙ ap₂ item (counted first.0 k.0.0 first.2) (second.1 ∙ ap₂ item (counted second.0 n.0.0 second.2) end.0))
+
 only : (ms : Members) (p : List ℕ × Data) → only_member ms ≡ Some p → ms ≡ member p.0 p.1 no_members
 only no_members p e = cc
 only (member k d ms) p e = let l = last (k, d) p ms e in ap₂ (λ (q : List ℕ × Data) r. member q.0 q.1 r) l.1 l.0
 
-named_is : (name : List ℕ) (d : Data) (e : Event) → event_named name d ≡ Some e → (object (member name d no_members) ≡ object_of e) × HasTarget e
-named_is name d e is = go (bytes_eq name (codes "apply")) (bytes_eq name (codes "open")) (bytes_eq name (codes "in")) (bytes_eq name (codes "compact")) refl refl refl refl is
-  where
-    whole : (k : List ℕ) (x : Data) → name ≡ k → d ≡ x → object (member name d no_members) ≡ object (member k x no_members)
-    whole k x n v = ap₂ (λ m y. object (member m y no_members)) n v
+-- the only member has the name k and the value x
+whole : (name k : List ℕ) (d x : Data) → name ≡ k → d ≡ x → object (member name d no_members) ≡ object (member k x no_members)
+whole name k d x n v = ap₂ (λ m y. object (member m y no_members)) n v
 
-    go : (a o i p : Bool) → bytes_eq name (codes "apply") ≡ a → bytes_eq name (codes "open") ≡ o → bytes_eq name (codes "in") ≡ i → bytes_eq name (codes "compact") ≡ p
+numbered_is : (name : List ℕ) (n : ℕ) (e : Event) → numbered name n ≡ Some e → (object (member name (number (unsigned n)) no_members) ≡ object_of e) × HasTarget e
+numbered_is name n e is = go (bytes_eq name (codes "open")) (bytes_eq name (codes "gone")) (bytes_eq name (codes "tick")) (bytes_eq name (codes "compact")) refl refl refl refl is
+  where
+    one : (k : List ℕ) (f : Event) → name ≡ k → f ≡ e → (object (member k (number (unsigned n)) no_members) ≡ object_of f) × HasTarget f
+        → (object (member name (number (unsigned n)) no_members) ≡ object_of e) × HasTarget e
+    one k f same is says =
+        subst (λ (x : Event). (object (member name (number (unsigned n)) no_members) ≡ object_of x) × HasTarget x) is
+        (whole name k (number (unsigned n)) (number (unsigned n)) same refl ∙ says.0, says.1)
+
+    go : (o g t p : Bool) → bytes_eq name (codes "open") ≡ o → bytes_eq name (codes "gone") ≡ g → bytes_eq name (codes "tick") ≡ t → bytes_eq name (codes "compact") ≡ p
+        → cond o (Some (opens n)) (cond g (Some (goes n)) (cond t (Some (ticks n)) (cond p (Some (compacts n)) None))) ≡ Some e
+        → (object (member name (number (unsigned n)) no_members) ≡ object_of e) × HasTarget e
+    go true g t p ot gt it pt h = one (codes "open") (opens n) ((bytes_eq-Decides name (codes "open")).0 ot) (cc) (refl, tt)
+    go false true t p ot gt it pt h = one (codes "gone") (goes n) ((bytes_eq-Decides name (codes "gone")).0 gt) (cc) (refl, tt)
+    go false false true p ot gt it pt h = one (codes "tick") (ticks n) ((bytes_eq-Decides name (codes "tick")).0 it) (cc) (refl, tt)
+    go false false false true ot gt it pt h = one (codes "compact") (compacts n) ((bytes_eq-Decides name (codes "compact")).0 pt) (cc) (refl, tt)
+    go false false false false ot gt it pt h = cc
+
+named_is : (name : List ℕ) (d : Data) (e : Event) → event_named name d ≡ Some e → (object (member name d no_members) ≡ object_of e) × HasTarget e
+named_is name d e is = go (bytes_eq name (codes "apply")) (bytes_eq name (codes "in")) (bytes_eq name (codes "pump")) refl refl refl is
+  where
+    go : (a i p : Bool) → bytes_eq name (codes "apply") ≡ a → bytes_eq name (codes "in") ≡ i → bytes_eq name (codes "pump") ≡ p
         → cond a (option_map apply (option_and_then apply_in (as_object d)))
-        (cond o (option_map opens (number_in d)) (cond i (option_and_then comes_in (as_array d)) (cond p (option_map compacts (number_in d)) None))) ≡ Some e
+        (cond i (option_and_then comes_in (as_array d)) (cond p (option_and_then pumps_in (as_array d)) (option_and_then (numbered name) (number_in d)))) ≡ Some e
         → (object (member name d no_members) ≡ object_of e) × HasTarget e
-    go true o i p at ot it pt h =
+    go true i p at it pt h =
         let a = map-Some apply _ e h in
         let ms = and_then-Some apply_in _ a.0 a.1 in
         let said = apply_is ms.0 a.0 ms.2 in
         subst (λ (x : Event). (object (member name d no_members) ≡ object_of x) × HasTarget x) a.2
-        (whole (codes "apply") _ ((bytes_eq-Decides name (codes "apply")).0 at) (inner d ms.0 ms.1 ∙ ap object said.0), said.1)
-    go false true i p at ot it pt h =
-        let k = map-Some opens _ e h in
-        subst (λ (x : Event). (object (member name d no_members) ≡ object_of x) × HasTarget x) k.2
-        (whole (codes "open") _ ((bytes_eq-Decides name (codes "open")).0 ot) (counted d k.0 k.1), tt)
-    go false false true p at ot it pt h =
+        (whole name (codes "apply") d _ ((bytes_eq-Decides name (codes "apply")).0 at) (inner d ms.0 ms.1 ∙ ap object said.0), said.1)
+    go false true p at it pt h =
         let ds = and_then-Some comes_in _ e h in
         let said = comes_is ds.0 e ds.2 in
         subst (λ (x : Event). (object (member name d no_members) ≡ object_of x) × HasTarget x) (sym said.2)
-        (whole (codes "in") _ ((bytes_eq-Decides name (codes "in")).0 it) (listed d ds.0 ds.1 ∙ ap array said.3), tt)
-    go false false false true at ot it pt h =
-        let c = map-Some compacts _ e h in
-        subst (λ (x : Event). (object (member name d no_members) ≡ object_of x) × HasTarget x) c.2
-        (whole (codes "compact") _ ((bytes_eq-Decides name (codes "compact")).0 pt) (counted d c.0 c.1), tt)
-    go false false false false at ot it pt h = cc
+        (whole name (codes "in") d _ ((bytes_eq-Decides name (codes "in")).0 it) (listed d ds.0 ds.1 ∙ ap array said.3), tt)
+    go false false true at it pt h =
+        let ds = and_then-Some pumps_in _ e h in
+        let said = pumps_is ds.0 e ds.2 in
+        subst (λ (x : Event). (object (member name d no_members) ≡ object_of x) × HasTarget x) (sym said.2)
+        (whole name (codes "pump") d _ ((bytes_eq-Decides name (codes "pump")).0 pt) (listed d ds.0 ds.1 ∙ ap array said.3), tt)
+    go false false false at it pt h =
+        let n = and_then-Some (numbered name) _ e h in
+        let said = numbered_is name n.0 e n.2 in
+        (whole name name d (number (unsigned n.0)) refl (counted d n.0 n.1) ∙ said.0, said.1)
 
 event_is : (d : Data) (e : Event) → event_in d ≡ Some e → (d ≡ object_of e) × HasTarget e
 event_is d e is =
@@ -237,6 +265,9 @@ event_said : (line : List ℕ) (e : Event) → IsEventLine line e → event_of l
 event_said line (apply a) says = rw (says.0, is_target_of a.target says.1) refl
 event_said line (opens k) says = rw says.0 refl
 event_said line (comes k text) says = rw says.0 refl
+event_said line (goes k) says = rw says.0 refl
+event_said line (pumps k max) says = rw says.0 refl
+event_said line (ticks ms) says = rw says.0 refl
 event_said line (compacts c) says = rw says.0 refl
 
 -- ---- lists of lines

@@ -17,3 +17,4 @@ tells_of_text text d (fault.ScriptFile e) reads is = absurd is
 tells_of_text text d (fault.Script n) reads is = absurd is
 tells_of_text text d (fault.Output e) reads is = absurd is
 tells_of_text text d fault.Memory reads is = tt
+tells_of_text text d fault.Store reads is = absurd is

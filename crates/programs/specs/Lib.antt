@@ -1,5 +1,7 @@
 pub mod ApplyLine
+pub mod Recorded
 pub mod ReplayCommand
+pub mod ReplayFaults
 pub mod ReplayProgram
 pub mod Replays
 pub mod Requests

@@ -17,7 +17,7 @@ status_of_kind kind.DisplayHelp = 0
 status_of_kind kind.DisplayVersion = 0
 status_of_kind _ = 2
 
--- the exit status: 2 for the words, 3 for a file or the types, 4 for a line of the script, 5 for memory;
+-- the exit status: 2 for the words, 3 for a file or the types, 4 for a line of the script, 5 for memory or the store;
 -- 1 where the replies cannot be written, 0 where help was asked for
 abbrev pub status_of : RunFault → ℕ
 status_of (fault.Words e) = status_of_kind (kind_of e)
@@ -28,6 +28,7 @@ status_of (fault.ScriptFile e) = 3
 status_of (fault.Script n) = 4
 status_of (fault.Output e) = 1
 status_of fault.Memory = 5
+status_of fault.Store = 5
 
 abbrev pub types_refusal_number : Refusal → ℕ
 types_refusal_number unknown_keyword = 1

@@ -1,4 +1,4 @@
--- The run of a script: its events are handed in order to one hub, at first without connections and objects, and what is printed of them.
+-- The play of a script: its events are handed in order to one hub, at first without connections and objects, and what is printed of them.
 use Rattle.std.specs.Prelude.{◌≡◌, ℕ, ◌+◌, nat_lt, if◌then◌else◌, List, [], ◌∷◌, ◌++◌, length, Option, Some, None, codes}
 use Rattle.std.specs.List.{flat_map}
 use Rattle.std.specs.Fmt.{decimal}
@@ -9,7 +9,7 @@ use Rattle.httpedge.specs.Runs as runs
 use Rattle.httpedge.specs.Steps as edge
 use Rattle.wireclient.specs.Reads as reads
 use Rattle.wireclient.specs.Reply as reply
-use Rattle.programs.specs.Script.{Apply, Event, apply, opens, comes, compacts}
+use Rattle.programs.specs.Script.{Apply, Event, apply, opens, comes, goes, pumps, ticks, compacts}
 use Rattle.programs.specs.Requests.{IsRequestOf}
 
 -- ---- what is printed
@@ -69,21 +69,24 @@ abbrev pub Does : Run → Event → List ℕ → Run → Type 0
 Does r (apply a) text q = Applies r a (next_id r.highest) text q
 Does r (opens id) text q = (text ≡ []) × ((t : edge.State) × runs.Steps r.hub (edge.opens id) t × (q ≡ noted r id (edge.refusal r.hub (edge.opens id)) t))
 Does r (comes id bytes) text q = Leads r (edge.comes id bytes) text q
+Does r (goes id) text q = Leads r (edge.goes id) text q
+Does r (pumps id max) text q = Leads r (edge.pumps id max) text q
+Does r (ticks ms) text q = Leads r (edge.ticks ms) text q
 Does r (compacts c) text q = Leads r (edge.compacts c) text q
 
 -- ---- all events
 
-abbrev pub Runs : Run → List Event → List ℕ → Run → Type 0
-Runs r [] text q = (text ≡ []) × (q ≡ r)
-Runs r (e ∷ es) text q = (p : Run) × (first : List ℕ) × (rest : List ℕ) × Does r e first p × Runs p es rest q × (text ≡ first ++ rest)
+abbrev pub Plays : Run → List Event → List ℕ → Run → Type 0
+Plays r [] text q = (text ≡ []) × (q ≡ r)
+Plays r (e ∷ es) text q = (p : Run) × (first : List ℕ) × (rest : List ℕ) × Does r e first p × Plays p es rest q × (text ≡ first ++ rest)
 
--- what was written on these connections
+-- what was written on these connections, also where their peers have gone
 abbrev pub connections_text : edge.State → List ℕ → List ℕ
 connections_text s ids = flat_map (λ id. connection_text id (written_on s.connections id)) ids
 
 -- what the events print: the replies to the applies, then what was written on the other connections
 abbrev pub Prints : List ServedShape → List Event → List ℕ → Type 0
-Prints types events text = (q : Run) × (replies : List ℕ) × Runs (start types) events replies q × (text ≡ replies ++ connections_text q.hub q.others)
+Prints types events text = (q : Run) × (replies : List ℕ) × Plays (start types) events replies q × (text ≡ replies ++ connections_text q.hub q.others)
 
 -- a front of what the first events print
 abbrev pub PrintsFront : List ServedShape → List Event → List ℕ → Type 0

@@ -15,11 +15,15 @@ pub record Apply : Type 0 where
   pub manager : List ℕ
   pub target : List ℕ
 
--- what happens: an apply, a connection that opens, a text's bytes that come on a connection, changes up to a revision that may be forgotten
+-- what happens: an apply; a connection that opens; a text's bytes that come on a connection; its peer goes; a watch may write so many lines;
+-- so many milliseconds have passed since the start; changes up to a revision may be forgotten
 pub data Event : Type 0 where
   apply : Apply → Event
   opens : ℕ → Event
   comes : ℕ → List ℕ → Event
+  goes : ℕ → Event
+  pumps : ℕ → ℕ → Event
+  ticks : ℕ → Event
   compacts : ℕ → Event
 
 -- the JSON object of an event
@@ -31,6 +35,9 @@ object_of (apply a) = object (member (codes "apply") (object
     (member (codes "target") (string a.target) no_members))))) no_members)
 object_of (opens k) = object (member (codes "open") (number (unsigned k)) no_members)
 object_of (comes k text) = object (member (codes "in") (array (item (number (unsigned k)) (item (string text) no_items))) no_members)
+object_of (goes k) = object (member (codes "gone") (number (unsigned k)) no_members)
+object_of (pumps k max) = object (member (codes "pump") (array (item (number (unsigned k)) (item (number (unsigned max)) no_items))) no_members)
+object_of (ticks ms) = object (member (codes "tick") (number (unsigned ms)) no_members)
 object_of (compacts c) = object (member (codes "compact") (number (unsigned c)) no_members)
 
 -- a target is of printable ASCII characters, without blanks and `?`
@@ -41,6 +48,9 @@ abbrev pub HasTarget : Event → Type 0
 HasTarget (apply a) = IsTarget a.target
 HasTarget (opens k) = Unit {0}
 HasTarget (comes k text) = Unit {0}
+HasTarget (goes k) = Unit {0}
+HasTarget (pumps k max) = Unit {0}
+HasTarget (ticks ms) = Unit {0}
 HasTarget (compacts c) = Unit {0}
 
 -- the line is the event's: it is the JSON text of the event's object

@@ -5,7 +5,7 @@ use Rattle.std.specs.Str.{bytes_eq}
 use Rattle.serde_json.specs.Data.{Data, Items, no_items, item, Members, no_members, member}
 use Rattle.serde_json.specs.Find.{as_array, as_bool, as_number, as_object, as_str, as_u64}
 use Rattle.serde_json.specs.Read.{read as read_json}
-use Rattle.programs.specs.Script.{Apply, Event, apply, opens, comes, compacts}
+use Rattle.programs.specs.Script.{Apply, Event, apply, opens, comes, goes, pumps, ticks, compacts}
 
 -- the first member's value, if the member has the name, and the members after it
 abbrev pub next_named : List ℕ → Members → Option (Data × Members)
@@ -60,13 +60,27 @@ comes_in ds =
     (with_items as_str (next_item k.1)))
     (with_items number_in (next_item ds))
 
+abbrev pub pumps_in : Items → Option Event
+pumps_in ds =
+    option_and_then (λ k. option_and_then (λ n. is_last_item (pumps k.0 n.0) n.1)
+    (with_items number_in (next_item k.1)))
+    (with_items number_in (next_item ds))
+
+-- an event that is told by one number
+abbrev pub numbered : List ℕ → ℕ → Option Event
+numbered name n =
+    if bytes_eq name (codes "open") then Some (opens n)
+    else if bytes_eq name (codes "gone") then Some (goes n)
+    else if bytes_eq name (codes "tick") then Some (ticks n)
+    else if bytes_eq name (codes "compact") then Some (compacts n)
+    else None
+
 abbrev pub event_named : List ℕ → Data → Option Event
 event_named name d =
     if bytes_eq name (codes "apply") then option_map apply (option_and_then apply_in (as_object d))
-    else if bytes_eq name (codes "open") then option_map opens (number_in d)
     else if bytes_eq name (codes "in") then option_and_then comes_in (as_array d)
-    else if bytes_eq name (codes "compact") then option_map compacts (number_in d)
-    else None
+    else if bytes_eq name (codes "pump") then option_and_then pumps_in (as_array d)
+    else option_and_then (numbered name) (number_in d)
 
 abbrev pub event_in : Data → Option Event
 event_in d = option_and_then (λ p. event_named p.0 p.1) (option_and_then only_member (as_object d))

@@ -5,8 +5,9 @@ ghost use Rattle.schema.specs.Seen.{Fails};
 ghost use Rattle.schema.specs.TypesFile.{ServedShape};
 ghost use Rattle.programs.specs.ReplayProgram.{IsRefusal, Tells, status_of};
 
+use crate::replay_fault::ReplayFault;
 use crate::replay_options::options;
-use crate::replaying::{ReplayFault, replay};
+use crate::replaying::replay;
 use crate::script::{Event, ScriptFault, read_script};
 use clap::error::ErrorKind;
 use schema::{Types, TypesFault};
@@ -45,11 +46,14 @@ pub enum RunFault {
     /// A growth of memory was refused.
     #[error("out of memory")]
     Memory,
+    /// The store refused a statement, for memory or for size.
+    #[error("the store failed")]
+    Store,
 }
 
 impl RunFault {
     /// The exit status that tells the fault: 0 where help was asked for, 1 for the output, 2 for other words, 3 for a file
-    /// or the types, 4 for a line of the script, 5 for memory.
+    /// or the types, 4 for a line of the script, 5 for memory or the store.
     pub fn status(&self) -> u8
         ensures { result ≡ status_of self.now }
     {
@@ -62,7 +66,7 @@ impl RunFault {
             | RunFault::Types(..)
             | RunFault::ScriptFile(_) => 3,
             RunFault::Script(_) => 4,
-            RunFault::Memory => 5,
+            RunFault::Memory | RunFault::Store => 5,
         }
     }
 }
@@ -89,6 +93,7 @@ impl From<ReplayFault> for RunFault {
     fn from(fault: ReplayFault) -> RunFault {
         match fault {
             ReplayFault::Memory => RunFault::Memory,
+            ReplayFault::Store => RunFault::Store,
             ReplayFault::Write(error) => RunFault::Output(error),
         }
     }

@@ -5,7 +5,7 @@ ghost use Rattle.serde_json.specs.View.{items_view, members_view, view};
 ghost use Rattle.serde_json.specs.Find.{as_array, as_bool, as_object, as_str};
 ghost use Rattle.programs.specs.ApplyLine.{apply_of, event_view};
 ghost use Rattle.programs.specs.Script.{AreEvents, IsFirstBad, apply, lines_of};
-ghost use Rattle.programs.specs.ScriptSteps.{apply_in, comes_in, event_in, event_named, event_of, is_target, next_item, next_named, number_in, only_member, with_items, with_rest};
+ghost use Rattle.programs.specs.ScriptSteps.{apply_in, comes_in, event_in, event_named, event_of, is_target, next_item, next_named, number_in, numbered, only_member, pumps_in, with_items, with_rest};
 
 use serde_json::{Map, Value};
 use std::alloc::{AllocError, AllocFailed, Global};
@@ -37,6 +37,12 @@ pub enum Event {
     In(u64, String),
     /// Changes up to a revision may be forgotten.
     Compact(u64),
+    /// The peer of a connection goes.
+    Gone(u64),
+    /// A watch may write so many lines.
+    Pump(u64, u64),
+    /// So many milliseconds have passed since the start.
+    Tick(u64),
 }
 
 fn into_text(value: Value) -> Option<String>
@@ -166,6 +172,32 @@ fn comes_in(items: Vec<Value>) -> Option<Event>
     Some(Event::In(connection, text))
 }
 
+/// A connection, and how many lines may be written on it.
+fn pumps_in(items: Vec<Value>) -> Option<Event>
+    ensures { option_map event_view result ≡ pumps_in (items_view items.items) }
+{
+    let mut items = items.into_iter();
+    let connection = next_number(&mut items)?;
+    let max = next_number(&mut items)?;
+    if items.next().is_some() {
+        return None;
+    }
+    Some(Event::Pump(connection, max))
+}
+
+/// An event that is told by one number.
+fn numbered(name: &str, number: u64) -> Option<Event>
+    ensures { option_map event_view result ≡ numbered name.now number }
+{
+    match name {
+        "open" => Some(Event::Open(number)),
+        "gone" => Some(Event::Gone(number)),
+        "tick" => Some(Event::Tick(number)),
+        "compact" => Some(Event::Compact(number)),
+        _ => None,
+    }
+}
+
 fn apply_of(value: Value) -> Option<Event>
     ensures { option_map event_view result ≡ option_map apply (option_and_then apply_in (as_object (view value))) }
 {
@@ -177,10 +209,9 @@ fn event_named(name: &str, value: Value) -> Option<Event>
 {
     match name {
         "apply" => apply_of(value),
-        "open" => Some(Event::Open(value.as_u64()?)),
         "in" => comes_in(into_items(value)?),
-        "compact" => Some(Event::Compact(value.as_u64()?)),
-        _ => None,
+        "pump" => pumps_in(into_items(value)?),
+        _ => numbered(name, value.as_u64()?),
     }
 }
 

@@ -1,15 +1,20 @@
-use Rattle.std.proofs.Common.{◌∙◌, ◌++◌, [], map, refl, subst, sym, take, ◌≡◌, Err}
+use Rattle.std.proofs.Common.{◌∙◌, ◌++◌, [], map, refl, subst, sym, take, ◌≡◌, Ok, Err, Result}
 use Rattle.std.specs.Io.KnownBytes.{Appends}
-use Rattle.std.specs.Result.{OnOk}
+use Rattle.std.specs.Result.{IsErrAnd, OnOk}
 use Rattle.std.proofs.KnownBytes.{Appends-nil, Appends-trans}
 use Rattle.std.proofs.lemmas.List.{take-map}
-use Rattle.std.proofs.lemmas.Result.{err_from_is_err_and, on_ok_weaker}
+use Rattle.std.proofs.lemmas.Result.{on_ok_weaker}
 use Rattle.schema.specs.Served.{types_view}
 use Rattle.programs.specs.ApplyLine.{event_view}
-use Rattle.programs.specs.Replays.{Runs, connections_text, start}
-use Rattle.programs.specs.declared.replaying.ReplayFault.{ReplayFault}
+use Rattle.programs.specs.Replays.{Plays, connections_text, start}
+use Rattle.programs.specs.ReplayFaults.{IsWant}
+use Rattle.programs.specs.declared.replay_fault.ReplayFault.{ReplayFault}
 use Rattle.programs.proofs.FrontLemmas.{at_connection, at_event}
 use Rattle.programs.proofs.replaying.replay.Goals as goal
+
+want_of : {T : Type 0} (r : Result T ReplayFault) (fault : ReplayFault) → IsErrAnd r (λ x. x ≡ fault) → IsErrAnd r IsWant → IsWant fault
+want_of (Ok x) fault is want = absurd is
+want_of (Err x) fault is want = subst IsWant is want
 
 pub returns-clause-ok : goal.returns-clause-ok
 returns-clause-ok g c =
@@ -19,24 +24,23 @@ returns-clause-ok g c =
     (c.deref.ensures.value ∙ all.3.2) (c.write_connections.ensures.ok all.0.hub all.3.0) in
     on_ok_weaker c.write_connections.result (λ more. (all.1 ++ stated, (all.0, all.1, all.2, refl), Appends-trans _ _ _ _ _ all.4 more)) written
 
-pub returns-in_err-run-clause-memory : goal.returns-in_err-run-clause-memory
-returns-in_err-run-clause-memory g c = λ e.
+pub returns-in_err-run-clause-starved : goal.returns-in_err-run-clause-starved
+returns-in_err-run-clause-starved g c = λ e.
     ([], at_event (types_view c.args.types) (map event_view c.args.events.now) 0 (start (types_view c.args.types)) [] (refl, refl), Appends-nil (g.W.Write.contents c.args.writer.now))
 
-pub returns-in_err-take_all-clause-memory : goal.returns-in_err-take_all-clause-memory
-returns-in_err-take_all-clause-memory g c = λ e.
+pub returns-in_err-take_all-clause-starved : goal.returns-in_err-take_all-clause-starved
+returns-in_err-take_all-clause-starved g c = λ e.
     let types = types_view c.args.types in
-    let p = err_from_is_err_and c.from_residual-in_err-take_all.result c.from_residual-in_err-take_all.ensures.1 in
-    let same = sym (subst (λ (x : ReplayFault). c.from_residual-in_err-take_all.result ≡ Err x) p.2 p.1) ∙ e in
-    let all = c.in_err-take_all.ensures.memory (start types) c.in_ok-run.ensures same in
-    let ran = subst (λ es. Runs (start types) es all.2 all.1) (sym (take-map event_view all.0 c.args.events.now)) all.3 in
+    let want = want_of c.from_residual-in_err-take_all.result _ c.from_residual-in_err-take_all.ensures.1 e in
+    let all = c.in_err-take_all.ensures.starved (start types) c.in_ok-run.ensures want in
+    let ran = subst (λ es. Plays (start types) es all.2 all.1) (sym (take-map event_view all.0 c.args.events.now)) all.3 in
     (all.2, at_event types (map event_view c.args.events.now) all.0 all.1 all.2 ran, all.4)
 
-pub returns-clause-memory : goal.returns-clause-memory
-returns-clause-memory g c = λ e.
+pub returns-clause-starved : goal.returns-clause-starved
+returns-clause-starved g c = λ e.
     let types = types_view c.args.types in
     let all = c.in_ok-take_all.ensures.ok (start types) c.in_ok-run.ensures in
-    let some = c.write_connections.ensures.memory all.0.hub all.3.0 e in
+    let some = c.write_connections.ensures.starved all.0.hub all.3.0 e in
     let more = subst (λ ids. Appends (g.W.Write.contents c.take_all.new.writer) (g.W.Write.contents c.write_connections.new.writer) (connections_text all.0.hub (take some.0 ids)))
     (c.deref.ensures.value ∙ all.3.2) some.1 in (
       all.1 ++ connections_text all.0.hub (take some.0 all.0.others),

@@ -8,7 +8,7 @@ use Rattle.programs.proofs.replaying.write_connections.Goals as goal
 
 pub loop-id-preserved : goal.loop-id-preserved
 loop-id-preserved g c = λ s stands.
-    let said = c.in_ok-lines.ensures ∙ ap (connection_text _) (c.out.ensures s stands.0 ∙ c.all_is_out.ensures.written s.connections _ stands.1) in
+    let said = c.in_ok-lines.ensures ∙ ap (connection_text _) (c.written.ensures s stands) in
     let more = subst (Appends (g.W.Write.contents c.loop-id.writer) (g.W.Write.contents c.write.new.writer)) (c.deref.ensures.value ∙ said) c.in_ok-write.ensures.ok in
     subst (Appends (g.W.Write.contents c.args.writer.now) (g.W.Write.contents c.write.new.writer))
     (one_more s c.args.ids.now c.loop-id.id-index 0 c.loop-id-test.true)

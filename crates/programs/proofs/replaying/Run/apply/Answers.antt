@@ -1,4 +1,4 @@
-use Rattle.std.proofs.Common.{[], refl, subst, sym}
+use Rattle.std.proofs.Common.{refl, subst, sym}
 use Rattle.programs.specs.ApplyLine.{apply_of}
 use Rattle.programs.specs.Replays.{Applies, Run}
 use Rattle.programs.proofs.RunLemmas.{next_is, none_next}

@@ -1,10 +1,11 @@
 use Rattle.std.proofs.Common.{◌∙◌, refl, subst}
-use Rattle.httpedge.specs.Runs.{Steps}
+use Rattle.std.specs.Result.{IfOk}
 use Rattle.httpedge.specs.Steps as edge
+use Rattle.programs.specs.Replays.{Leads, Run}
+use Rattle.programs.specs.Running.{RunStands}
 use Rattle.programs.proofs.replaying.Run.receive.Goals as goal
 
 pub returns : goal.returns
 returns c = λ r stands.
-    let t = (c.in_ok-is_taken.ensures r.hub stands.0).1 in
-    let steps = subst (λ bytes. Steps r.hub (edge.comes c.args.id bytes) t.0) (c.in_ok-bytes.ensures.items ∙ c.as_bytes.ensures.value) t.1 in
-    (record { hub = t.0; highest = r.highest; others = r.others }, (refl, (t.0, steps, refl)), (t.2, stands.1, stands.2))
+    subst (λ bytes. IfOk c.hand.result (λ v. (q : Run) × Leads r (edge.comes c.args.id bytes) v.items q × RunStands c.hand.new.self q))
+    (c.in_ok-bytes.ensures.items ∙ c.as_bytes.ensures.value) (c.hand.ensures r stands refl)

@@ -1,4 +1,5 @@
-use Rattle.std.proofs.Common.{[], subst}
+use Rattle.std.proofs.Common.{refl, subst}
+use Rattle.std.specs.Result.{IfOk}
 use Rattle.programs.specs.Replays.{Does, Run}
 use Rattle.programs.specs.Running.{RunStands}
 use Rattle.programs.specs.Script.{comes}
@@ -10,10 +11,19 @@ returns-in-Apply c = λ r stands. rw c.in-Apply.is (c.apply.ensures r stands)
 pub returns-in_ok-open-in-Open : goal.returns-in_ok-open-in-Open
 returns-in_ok-open-in-Open c = λ r stands. rw (c.in-Open.is, c.new.ensures.items) (c.in_ok-open-in-Open.ensures r stands)
 
-pub returns-in_ok-receive-in-In : goal.returns-in_ok-receive-in-In
-returns-in_ok-receive-in-In c = λ r stands.
-    rw (c.in-In.is, c.new-in-In.ensures.items)
-    (subst (λ bytes. (q : Run) × Does r (comes c.in-In.id bytes) [] q × RunStands c.receive.new.self q) c.as_str.ensures.value (c.in_ok-receive-in-In.ensures r stands))
+pub returns-in-In : goal.returns-in-In
+returns-in-In c = λ r stands.
+    rw c.in-In.is
+    (subst (λ bytes. IfOk c.receive.result (λ v. (q : Run) × Does r (comes c.in-In.id bytes) v.items q × RunStands c.receive.new.self q)) c.as_str.ensures.value (c.receive.ensures r stands))
 
-pub returns-in_ok-compact-in-Compact : goal.returns-in_ok-compact-in-Compact
-returns-in_ok-compact-in-Compact c = λ r stands. rw (c.in-Compact.is, c.new-in-Compact.ensures.items) (c.in_ok-compact-in-Compact.ensures r stands)
+pub returns-in-Gone : goal.returns-in-Gone
+returns-in-Gone c = λ r stands. rw c.in-Gone.is (c.go.ensures r stands)
+
+pub returns-in-Pump : goal.returns-in-Pump
+returns-in-Pump c = λ r stands. rw c.in-Pump.is (c.hand.ensures r stands refl)
+
+pub returns-in-Tick : goal.returns-in-Tick
+returns-in-Tick c = λ r stands. rw c.in-Tick.is (c.hand-in-Tick.ensures r stands refl)
+
+pub returns-in-Compact : goal.returns-in-Compact
+returns-in-Compact c = λ r stands. rw c.in-Compact.is (c.hand-in-Compact.ensures r stands refl)

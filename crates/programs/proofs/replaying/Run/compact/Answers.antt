@@ -1,7 +1,0 @@
-use Rattle.std.proofs.Common.{refl}
-use Rattle.programs.proofs.replaying.Run.compact.Goals as goal
-
-pub returns : goal.returns
-returns c = λ r stands.
-    let t = (c.in_ok-is_taken.ensures r.hub stands.0).1 in
-    (record { hub = t.0; highest = r.highest; others = r.others }, (refl, (t.0, t.1, refl)), (t.2, stands.1, stands.2))

@@ -1,0 +1,18 @@
+-- Why a play of a script ends before its last event.
+use Rattle.std.specs.Prelude.{⊤}
+use Rattle.verbs.specs.declared.fault.Fault as below
+use Rattle.verbs.specs.declared.fault.Fault.TheVariants as failed
+use Rattle.programs.specs.declared.replay_fault.ReplayFault.{ReplayFault}
+use Rattle.programs.specs.declared.replay_fault.ReplayFault.TheVariants.{Memory, Store, Write}
+
+-- what fails below
+abbrev pub replay_fault_of : below.Fault → ReplayFault
+replay_fault_of failed.Memory = Memory
+replay_fault_of failed.Store = Store
+replay_fault_of failed.Unreadable = Store
+
+-- memory was wanting, here or in the store; the writer took what was handed to it
+abbrev pub IsWant : ReplayFault → Type 0
+IsWant Memory = ⊤
+IsWant Store = ⊤
+IsWant (Write error) = ⊥

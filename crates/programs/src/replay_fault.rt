@@ -1,0 +1,56 @@
+//! Why a play of a script ends before its last event.
+
+use std::alloc::{AllocError, AllocFailed};
+use std::io;
+use thiserror::Error;
+use verbs::Fault;
+
+/// Why a play ended before its last event.
+#[derive(Debug, Drop, Error)]
+pub enum ReplayFault {
+    /// A growth of memory was refused.
+    #[error("out of memory")]
+    Memory,
+    /// The store refused a statement, for memory or for size.
+    #[error("the store failed")]
+    Store,
+    /// The writer refused a write.
+    #[error("{0}")]
+    Write(io::Error),
+}
+
+impl From<Fault> for ReplayFault {
+    ghost use Rattle.std.specs.Prelude.{◌≡◌};
+    ghost use Rattle.programs.specs.ReplayFaults.{replay_fault_of};
+
+    ghost from_gives = { λ f e. e ≡ replay_fault_of f };
+
+    fn from(fault: Fault) -> ReplayFault {
+        match fault {
+            Fault::Memory => ReplayFault::Memory,
+            Fault::Store | Fault::Unreadable => ReplayFault::Store,
+        }
+    }
+}
+
+impl From<AllocError> for ReplayFault {
+    ghost use Rattle.std.specs.Prelude.{◌≡◌};
+    ghost use Rattle.programs.specs.declared.replay_fault.ReplayFault.TheVariants.{Memory};
+
+    ghost from_gives = { λ _ e. e ≡ Memory };
+
+    fn from(_: AllocError) -> ReplayFault {
+        ReplayFault::Memory
+    }
+}
+
+impl<T: Drop> From<AllocFailed<T>> for ReplayFault {
+    ghost use Rattle.std.specs.Prelude.{◌≡◌};
+    ghost use Rattle.programs.specs.declared.replay_fault.ReplayFault.TheVariants.{Memory};
+
+    ghost from_gives = { λ _ e. e ≡ Memory };
+
+    fn from(_: AllocFailed<T>) -> ReplayFault {
+        ReplayFault::Memory
+    }
+}
