@@ -1,8 +1,13 @@
 mod Asking
 mod Fields
+mod Following
 mod Heading
 mod PrintedReplies
 mod PrintedRequests
 mod Queries
 mod Statuses
+mod Chunking
+mod PrintedWatches
+mod Silence
+mod Watching
 mod Written

@@ -49,7 +49,7 @@ head_text code phrase allow count = codes "HTTP/1.1 " ++ (code ++ (32 ∷ (phras
 
 -- ---- the same bytes
 
-status_line : (digits phrase rest : List ℕ) → ((digits ++ 32 ∷ phrase) ++ crlf) ++ rest ≡ digits ++ (32 ∷ (phrase ++ (crlf ++ rest)))
+pub status_line : (digits phrase rest : List ℕ) → ((digits ++ 32 ∷ phrase) ++ crlf) ++ rest ≡ digits ++ (32 ∷ (phrase ++ (crlf ++ rest)))
 status_line digits phrase rest = append_assoc (digits ++ 32 ∷ phrase) crlf rest ∙ append_assoc digits (32 ∷ phrase) (crlf ++ rest)
 
 length_line : (digits rest : List ℕ) → ((digits ++ crlf) ++ rest) ++ crlf ≡ digits ++ (crlf ++ (rest ++ crlf))
@@ -69,7 +69,7 @@ printed code phrase allow count =
 
 -- ---- a head of the grammar
 
-three_digits : (code : ℕ) → IsStatusCode code → length (decimal code) ≡ 3
+pub three_digits : (code : ℕ) → IsStatusCode code → length (decimal code) ≡ 3
 three_digits code is =
     let wide : code < 2 ^ 64 = omega (arith, is.1) in
     let most : length (decimal code) ≤ 3 = length-decimal-le 3 code (omega arith) (omega (arith, is.1)) wide in
@@ -83,7 +83,7 @@ three_digits code is =
     exactly (suc (suc zero)) few low value = absurd (omega (arith, low, value))
     exactly (suc (suc (suc k))) few low value = omega (arith, few)
 
-is_content_type : IsField (field (codes "Content-Type") (codes "application/json"))
+pub is_content_type : IsField (field (codes "Content-Type") (codes "application/json"))
 unfolding is_token_byte
 is_content_type = is_field (codes "Content-Type") (codes "application/json") (omega arith) refl (passes_each is_value_byte (codes "application/json") refl)
 
@@ -91,7 +91,7 @@ is_content_length : (digits : List ℕ) → AllPass is_value_byte digits → IsF
 unfolding is_token_byte
 is_content_length digits pass = is_field (codes "Content-Length") digits (omega arith) refl pass
 
-is_connection : IsField (field (codes "Connection") (codes "close"))
+pub is_connection : IsField (field (codes "Connection") (codes "close"))
 unfolding is_token_byte
 is_connection = is_field (codes "Connection") (codes "close") (omega arith) refl (passes_each is_value_byte (codes "close") refl)
 

@@ -20,15 +20,20 @@ use Rattle.verbs.specs.declared.reason.Reason.TheVariants as reason
 use Rattle.verbs.specs.declared.resource.Resource.{Resource}
 use Rattle.verbs.specs.declared.resource.Resource.TheVariants as resource
 use Rattle.verbs.specs.Admit.{Place, admitted, allowed, not_admitted, method_admitted, method_named, method_served, place_admitted, place_of, accepts_media, target_at}
-use Rattle.verbs.specs.Calls.{Call, Denied, Plan, Target}
+use Rattle.verbs.specs.Calls.{Answer, Call, Denied, Plan, Target}
 use Rattle.lists.specs.declared.refusal.Refusal.{Refusal as ListRefusal}
+use Rattle.lists.specs.Body.{Collection}
+use Rattle.lists.specs.Lists.{list_of}
+use Rattle.params.specs.Values.{Values, Watch}
+use Rattle.watchline.specs.Opening.{WatchFrom, opened}
+use Rattle.watchline.specs.Watches.{Source, from_history}
 use Rattle.params.specs.declared.params.Asked.TheVariants as asked
-use Rattle.verbs.specs.Envelope.{api_version_of, name_in}
+use Rattle.verbs.specs.Envelope.{api_version_of}
 use Rattle.verbs.specs.Validated as validated
 use Rattle.verbs.specs.Validated.{Validated}
 use Rattle.history.specs.History.{History, Key, Object, Objects, standing}
 use Rattle.verbs.specs.Machine.{no_state, state_of_live, state_said}
-use Rattle.verbs.specs.Naming.{marks_validated, names_validated, required_name}
+use Rattle.verbs.specs.Naming.{marks_validated, names_validated}
 use Rattle.verbs.specs.Options.{options_validated}
 use Rattle.verbs.specs.Parameters.{parameters_validated}
 use Rattle.verbs.specs.Reasons.{code_of}
@@ -262,7 +267,7 @@ if_fine false x y is other = other
 stored_fine : (body : Data) (current : ℕ) (k : Key) (status : ℕ) → IsStatusCode status → IsFine (step.stored_as body current k status)
 stored_fine body current k status is =
     let plan : Plan = record {
-      answer = record { status = status; body = compact_text body };
+      answer = record { status = status; body = compact_text body; watch = None };
       change = Some (record { revision = suc current; key = k; body = Some (compact_text body) });
     } in
     let left : Unit {0} → Validated Plan = λ u. validated.and_then (step.revisions_left current) (λ v. Ok plan) in
@@ -347,39 +352,65 @@ object_fine method.Put t current live k query o = with_body o (step.update_valid
 object_fine method.Patch t current live k query o = with_body o (step.apply_validated t current live k query) (apply_fine t current live k query)
 object_fine method.Delete t current live k query o = delete_fine t current live k query o
 
-list_fine : (t : ServedShape) (lists : step.Lists) (kind : ℕ) (namespace : Option (List ℕ)) (query : List ℕ) → IsFine (step.list_validated t lists kind namespace query)
-list_fine t lists kind namespace query =
-    checked (step.list_parameters query) (λ values. step.list_answered (lists (step.collection_of t kind namespace) values)) (λ values. answered (lists (step.collection_of t kind namespace) values))
-  where
-    answered : (r : Result (List ℕ) ListRefusal) → IsFine (step.list_answered r)
-    answered (Ok text) = fine _ (omega arith, omega arith)
-    answered (Err refusal) = denied _
+-- ---- lists and watches
 
-all_fine : (m : Method) (t : ServedShape) (lists : step.Lists) (kind : ℕ) (query : List ℕ) → IsFine (step.all_validated_by m t lists kind query)
-all_fine method.Get t lists kind query = list_fine t lists kind None query
-all_fine method.Post t lists kind query = denied _
-all_fine method.Put t lists kind query = denied _
-all_fine method.Patch t lists kind query = denied _
-all_fine method.Delete t lists kind query = denied _
+abbrev IsAnswer : Result Answer ListRefusal → Type 0
+IsAnswer (Ok a) = IsStatusCode a.status
+IsAnswer (Err refusal) = Unit {0}
 
-collection_fine : (m : Method) (t : ServedShape) (current : ℕ) (objects : Objects) (lists : step.Lists) (kind : ℕ) (namespace query : List ℕ) (o : Option Data)
+abbrev AreAnswers : step.Lists → Type 0
+AreAnswers lists = (of : Collection) (values : Values) → IsAnswer (lists of values)
+
+page_answer : (r : Result (List ℕ) ListRefusal) → IsAnswer (step.page_shown r)
+page_answer (Ok text) = (omega arith, omega arith)
+page_answer (Err refusal) = tt {0}
+
+watch_answer : (r : Result WatchFrom ListRefusal) → IsAnswer (step.watch_shown r)
+watch_answer (Ok from) = (omega arith, omega arith)
+watch_answer (Err refusal) = tt {0}
+
+shown : (s : Source) (of : Collection) (values : Values) (o : Option Watch) → IsAnswer (step.shown_by s of values o)
+shown s of values None = page_answer (list_of of values s.current s.compacted s.at)
+shown s of values (Some watch) = watch_answer (opened s of.kind of.namespace values watch)
+
+are_answers : (m : History) → AreAnswers (step.lists_of m)
+are_answers m = λ of values. shown (from_history m) of values values.watch
+
+answered : (r : Result Answer ListRefusal) → IsAnswer r → IsFine (step.list_answered r)
+answered (Ok a) is = fine _ is
+answered (Err refusal) is = denied _
+
+list_fine : (t : ServedShape) (lists : step.Lists) (kind : ℕ) (namespace : Option (List ℕ)) (query : List ℕ) → AreAnswers lists → IsFine (step.list_validated t lists kind namespace query)
+list_fine t lists kind namespace query are =
+    checked (parameters_validated asked.List query) (λ values. step.list_answered (lists (step.collection_of t kind namespace) values))
+    (λ values. answered (lists (step.collection_of t kind namespace) values) (are (step.collection_of t kind namespace) values))
+
+all_fine : (m : Method) (t : ServedShape) (lists : step.Lists) (kind : ℕ) (query : List ℕ) → AreAnswers lists → IsFine (step.all_validated_by m t lists kind query)
+all_fine method.Get t lists kind query are = list_fine t lists kind None query are
+all_fine method.Post t lists kind query are = denied _
+all_fine method.Put t lists kind query are = denied _
+all_fine method.Patch t lists kind query are = denied _
+all_fine method.Delete t lists kind query are = denied _
+
+collection_fine : (m : Method) (t : ServedShape) (current : ℕ) (objects : Objects) (lists : step.Lists) (kind : ℕ) (namespace query : List ℕ) (o : Option Data) → AreAnswers lists
     → IsFine (step.collection_validated_by m t current objects lists kind namespace query o)
-collection_fine method.Post t current objects lists kind namespace query o = with_body o (step.create_validated t current objects kind namespace query) (create_fine t current objects kind namespace query)
-collection_fine method.Get t current objects lists kind namespace query o = list_fine t lists kind (Some namespace) query
-collection_fine method.Put t current objects lists kind namespace query o = denied _
-collection_fine method.Patch t current objects lists kind namespace query o = denied _
-collection_fine method.Delete t current objects lists kind namespace query o = denied _
+collection_fine method.Post t current objects lists kind namespace query o are = with_body o (step.create_validated t current objects kind namespace query) (create_fine t current objects kind namespace query)
+collection_fine method.Get t current objects lists kind namespace query o are = list_fine t lists kind (Some namespace) query are
+collection_fine method.Put t current objects lists kind namespace query o are = denied _
+collection_fine method.Patch t current objects lists kind namespace query o are = denied _
+collection_fine method.Delete t current objects lists kind namespace query o are = denied _
 
-in_fine : (t : ServedShape) (current : ℕ) (objects : Objects) (lists : step.Lists) (call : Call) (namespace name : Option (List ℕ)) → IsFine (step.validated_in t current objects lists call namespace name)
-in_fine t current objects lists call None None = all_fine call.target.method t lists call.target.kind call.query
-in_fine t current objects lists call None (Some name) = denied _
-in_fine t current objects lists call (Some namespace) None = collection_fine call.target.method t current objects lists call.target.kind namespace call.query call.body
-in_fine t current objects lists call (Some namespace) (Some name) =
+in_fine : (t : ServedShape) (current : ℕ) (objects : Objects) (lists : step.Lists) (call : Call) (namespace name : Option (List ℕ)) → AreAnswers lists
+    → IsFine (step.validated_in t current objects lists call namespace name)
+in_fine t current objects lists call None None are = all_fine call.target.method t lists call.target.kind call.query are
+in_fine t current objects lists call None (Some name) are = denied _
+in_fine t current objects lists call (Some namespace) None are = collection_fine call.target.method t current objects lists call.target.kind namespace call.query call.body are
+in_fine t current objects lists call (Some namespace) (Some name) are =
     object_fine call.target.method t current (fin.get objects (step.key_at call namespace name)) (step.key_at call namespace name) call.query call.body
 
-at_fine : (o : Option ServedShape) (current : ℕ) (objects : Objects) (lists : step.Lists) (call : Call) → IsFine (step.validated_at o current objects lists call)
-at_fine None current objects lists call = denied _
-at_fine (Some t) current objects lists call = in_fine t current objects lists call call.target.namespace call.target.name
+at_fine : (o : Option ServedShape) (current : ℕ) (objects : Objects) (lists : step.Lists) (call : Call) → AreAnswers lists → IsFine (step.validated_at o current objects lists call)
+at_fine None current objects lists call are = denied _
+at_fine (Some t) current objects lists call are = in_fine t current objects lists call call.target.namespace call.target.name are
 
 plan_fine : (j : Validated Plan) → IsFine j → IsStatusCode (step.plan_for j).answer.status
 plan_fine (Ok p) is = is.is
@@ -387,4 +418,4 @@ plan_fine (Err d) is = code_is d.reason
 
 pub status_is : (types : List ServedShape) (m : History) (call : Call) → IsStatusCode (step.planned types m call).answer.status
 status_is types m call =
-    plan_fine (step.validated_over types m.current (standing m) (step.lists_of m) call) (at_fine (slice_get types call.target.kind) m.current (standing m) (step.lists_of m) call)
+    plan_fine (step.validated_over types m.current (standing m) (step.lists_of m) call) (at_fine (slice_get types call.target.kind) m.current (standing m) (step.lists_of m) call (are_answers m))

@@ -1,12 +1,17 @@
 //! Laws that join the two ends of the wire: what each end prints, the other reads. Each function does nothing; what it
 //! promises is the law.
 //!
-//! Stands on `httpedge` for the bytes of a reply and what a request's bytes say, on `wireclient` for the bytes of a
+//! Stands on `httpedge` for the bytes of a reply and of a watch and what a request's bytes say, on `wireclient` for the bytes of a
 //! request and the items that a reply's bytes hold.
 #![tactic(auto)]
 
 mod replies;
 mod requests;
+mod watches;
 
 pub use replies::{answers_are_read, refusals_are_read, replies_are_read};
 pub use requests::{bodies_are_read, queries_are_read, requests_are_read, requests_ask};
+pub use watches::{
+    ends_are_silent, turns_are_read, turns_are_written, watches_are_read, watches_begin,
+    watches_write_chunks,
+};

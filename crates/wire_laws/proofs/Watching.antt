@@ -1,0 +1,48 @@
+-- What the hub writes of a watch: its head, and then what each turn writes.
+use Rattle.std.proofs.Common.{◌≡◌, ℕ, Bool, false, cond, List, ◌++◌, Option, Some, None, ap, ap₂, subst, ◌∙◌}
+use Rattle.std.specs.Prelude.{◌==◌, is_some, nat_lt, option_map}
+use Rattle.std.specs.FinMap as fin
+use Rattle.verbs.specs.Calls.{Answer, Call}
+use Rattle.verbs.specs.Step.{planned}
+use Rattle.watchline.specs.Opening.{WatchFrom}
+use Rattle.httpedge.specs.Asks.{Asks}
+use Rattle.httpedge.specs.Connections.{Connection, Standing, waiting, watching, with_written}
+use Rattle.httpedge.specs.Decision.{accepted}
+use Rattle.httpedge.specs.ReplyBytes.{watch_head}
+use Rattle.httpedge.specs.Runs.{Steps}
+use Rattle.httpedge.specs.Steps.{State, after_turn, answer_bytes, answer_standing, answered, by_connection, carried_out, comes, pumps, received, standing_after, ticks, turn_bytes, unless_refused, with_connection, with_turn}
+use Rattle.httpedge.specs.Watches.{Turn, Watch, begun_at, pumped, ticked}
+use Rattle.httpedge.proofs.Connected.{got_each, put_there}
+use Rattle.httpedge.proofs.Deciding.{asks_one}
+use Rattle.httpedge.proofs.Outcomes.{ComesBy, ComesOn}
+
+pub begins : (s t : State) (id : ℕ) (bytes front : List ℕ) (c : Connection) (call : Call) (from : WatchFrom) → Steps s (comes id bytes) t → fin.get s.connections id ≡ Some c → c.standing ≡ waiting front
+    → Asks s.types (front ++ bytes) (accepted call) → (planned s.types s.machine call).answer.watch ≡ Some from
+    → fin.get t.connections id ≡ Some (with_written c (watch_head (planned s.types s.machine call).answer.status) (watching (begun_at s.last_tick from)))
+begins s t id bytes front c call from steps got stands asks opens =
+    let answer : Answer = (planned s.types s.machine call).answer in
+    let came : ComesBy s id (Some c) bytes t = subst (λ (o : Option Connection). ComesBy s id o bytes t) got steps in
+    let on : ComesOn s id c (waiting front) bytes t = subst (λ (st : Standing). ComesOn s id c st bytes t) stands (came.0, came.1, came.2) in
+    let same = asks_one s.types (front ++ bytes) on.0 (accepted call) on.1 asks in
+    ap (λ (x : State). fin.get x.connections id) (on.2 ∙ ap (received s id c (front ++ bytes)) same)
+    ∙ put_there s.connections id (answered s.last_tick c answer)
+    ∙ ap (λ (o : Option WatchFrom). Some (with_written c (answer_bytes answer o) (answer_standing s.last_tick o))) opens
+
+turn_is : (turn : Watch → Turn) (c : Connection) (w : Watch) → c.standing ≡ watching w → Some (with_turn turn c) ≡ Some (with_written c (turn_bytes (turn w)) (standing_after (turn w).next))
+turn_is turn c w stands = ap (λ (st : Standing). Some (after_turn turn c st)) stands
+
+pub pumps_write : (s t : State) (id max : ℕ) (c : Connection) (w : Watch) → Steps s (pumps id max) t → fin.get s.connections id ≡ Some c → c.standing ≡ watching w → (max == 0) ≡ false
+    → fin.get t.connections id ≡ Some (with_written c (turn_bytes (pumped s.machine max w)) (standing_after (pumped s.machine max w).next))
+pumps_write s t id max c w (asked, asks, is) got stands some =
+    let turn = pumped s.machine max in
+    ap (λ (x : State). fin.get x.connections id)
+    (is ∙ ap₂ (λ (o : Option Connection) (b : Bool). unless_refused (cond (is_some o) (cond b (Some 3) None) (Some 2)) s (by_connection s o (λ x. with_connection s id (with_turn turn x)))) got some)
+    ∙ put_there s.connections id (with_turn turn c) ∙ turn_is turn c w stands
+
+pub ticks_write : (s t : State) (ms id : ℕ) (c : Connection) (w : Watch) → Steps s (ticks ms) t → fin.get s.connections id ≡ Some c → c.standing ≡ watching w → nat_lt ms s.last_tick ≡ false
+    → fin.get t.connections id ≡ Some (with_written c (turn_bytes (ticked s.types ms w)) (standing_after (ticked s.types ms w).next))
+ticks_write s t ms id c w (asked, asks, is) got stands forward =
+    let turn = ticked s.types ms in
+    let f = λ (q : ℕ) (x : Connection). with_turn turn x in
+    ap (λ (x : State). fin.get x.connections id) (is ∙ ap (λ (b : Bool). unless_refused (cond b (Some 4) None) s (carried_out s (ticks ms) asked)) forward)
+    ∙ got_each f s.connections id ∙ ap (option_map (with_turn turn)) got ∙ turn_is turn c w stands
