@@ -2,6 +2,7 @@ mod Asking
 mod Fields
 mod Following
 mod Heading
+mod LineTexts
 mod PrintedReplies
 mod PrintedRequests
 mod Queries

@@ -1,12 +1,14 @@
 //! What the server writes of a watch, the client reads.
 
-ghost use Rattle.std.specs.Prelude.{◌≡◌, ◌++◌, ℕ, Bool, true, false, List, map, Some, nat_lt, ◌==◌};
+ghost use Rattle.std.specs.Prelude.{◌+◌, ◌≤◌, length, ◌≡◌, ◌++◌, ℕ, Bool, true, false, List, map, Some, nat_lt, ◌==◌};
 ghost use Rattle.std.specs.FinMap as fin;
-ghost use Rattle.std.specs.List.{All, flat_map};
+ghost use Rattle.std.specs.List.{All, flat_map, list_any};
 ghost use Rattle.http.specs.StatusCode.{IsStatusCode};
 ghost use Rattle.verbs.specs.Calls.{Call};
 ghost use Rattle.verbs.specs.Step.{planned};
+ghost use Rattle.watchline.specs.Lines.{line};
 ghost use Rattle.watchline.specs.Opening.{WatchFrom};
+ghost use Rattle.watchline.specs.declared.event.EventType.{EventType};
 ghost use Rattle.httpedge.specs.Asks.{Asks};
 ghost use Rattle.httpedge.specs.Connections.{Connection, ended_on, waiting, watching, watching_on, with_written, written_on};
 ghost use Rattle.httpedge.specs.Decision.{accepted};
@@ -16,7 +18,14 @@ ghost use Rattle.httpedge.specs.Steps.{State, comes, pumps, standing_after, tick
 ghost use Rattle.httpedge.specs.Watches.{Watch, begun_at, pumped, ticked};
 ghost use Rattle.wireclient.specs.Chunks.{IsLine};
 ghost use Rattle.wireclient.specs.Reads.{Items};
+ghost use Rattle.wireclient.specs.Reply.{max_line};
 ghost use Rattle.wire_laws.specs.Watched.{joined, told_of, with_feed};
+
+/// A line of a watch is a text that is a line to the client, with its line feed, where the text of its object has no line
+/// feed and leaves room for what stands around it.
+pub fn texts_are_lines()
+    ensures { (what : EventType) (text : List ℕ) → list_any (λ b. b == 10) text ≡ false → length text + 64 ≤ max_line → (shown : List ℕ) × IsLine shown × (line what text ≡ with_feed shown) }
+{}
 
 /// The head of a watch and its chunks, a chunk for each line, are read by the client as the status, each line, and the
 /// end where the watch has ended.
