@@ -1,5 +1,7 @@
 pub mod Feeds
+pub mod Kept
 pub mod Objects
+pub mod Pages
 pub mod Renumbered
 pub mod Said
 pub mod Told

@@ -193,7 +193,7 @@ module _ (s : Shape) (lawful : is_lawful s ≡ true) where
         let base = members_printed (print s state.content) in
         within_printed 16 (get_member (codes "metadata") base) (λ d is. found_depth 16 (codes "metadata") d base base_within is)
 
-    value_within : (of : Identity) (v : ℕ) → depth (object_value s of v state) ≤ 22
+    pub value_within : (of : Identity) (v : ℕ) → depth (object_value s of v state) ≤ 22
     unfolding object_value
     value_within of v =
         let base = members_printed (print s state.content) in

@@ -143,7 +143,7 @@ pub version_filled : (xs : List ℕ) (v : ℕ) → version_of xs ≡ Some v → 
 version_filled [] v is = absurd cc
 version_filled (x ∷ xs) v is = refl
 
-joined_filled : (front back : List ℕ) → unless_empty (front ++ codes "/" ++ back) ≡ Some (front ++ codes "/" ++ back)
+pub joined_filled : (front back : List ℕ) → unless_empty (front ++ codes "/" ++ back) ≡ Some (front ++ codes "/" ++ back)
 joined_filled [] back = refl
 joined_filled (x ∷ front) back = refl
 

@@ -1,13 +1,16 @@
-//! Laws of the lines of watches: what the server prints, the client reads, and what a watch tells is all there was to
-//! tell. Each function does nothing; what it promises is the law.
+//! Laws of the lines of watches and of the pages of lists: what the server prints, the client reads, and what a watch
+//! tells is all there was to tell. Each function does nothing; what it promises is the law.
 //!
-//! Stands on `watchline` for the lines, `decoder` for what a line says to a client, `ownership` for the texts of objects.
+//! Stands on `watchline` for the lines, `lists` for the pages, `decoder` for what either says to a client, `ownership`
+//! for the texts of objects.
 #![tactic(auto)]
 
 mod deletions;
 mod following;
 mod lines;
+mod page_laws;
 
 pub use deletions::deletions_show_the_object;
 pub use following::watches_tell_all;
 pub use lines::{lines_are_lines, lines_are_read, objects_are_read};
+pub use page_laws::pages_are_read;
