@@ -1,25 +1,33 @@
--- The objects of a page, among those of a store.
-use Rattle.std.proofs.Common.{◌≡◌, ℕ, zero, suc, ◌&&◌, ◌==◌, Bool, true, false, cond, List, [], ◌∷◌, take, filter, Option, Some, None, option_map, refl, sym, ap, subst, ◌∙◌, T, is_eq, is_lt, eqb-true}
+-- The objects of a page, among those that stand, and the page of an answer.
+use Rattle.std.proofs.Common.{◌≡◌, ℕ, zero, suc, ◌≤◌, ◌&&◌, ◌==◌, Bool, true, false, cond, List, [], ◌∷◌, take, filter, Option, Some, None, option_map, IsUtf8, refl, sym, ap, subst, ◌∙◌, T, is_eq, is_lt, eqb-true, arith}
 use Rattle.std.specs.Cmp.{tied_itself}
 use Rattle.std.specs.Cmp.Lexicographic.{bytes_decides}
 use Rattle.std.specs.FinMap as fin
 use Rattle.std.specs.FinMap.{find, is_sorted}
 use Rattle.std.specs.FinMap.Entries.{below_all}
 use Rattle.std.specs.List.{AllByRecursion}
+use Rattle.std.specs.declared.result.Result.{Result}
+use Rattle.std.specs.declared.result.Result.TheVariants.{Ok, Err}
 use Rattle.std.proofs.lemmas.Bool.{and_parts}
 use Rattle.history.specs.History.{Key, Object, Objects, is_same_key, key_cmp, text_cmp}
 use Rattle.history.specs.Page.{is_in_namespace, is_within}
 use Rattle.history.specs.Seen.{left_after, limited}
 use Rattle.history.proofs.Keys.{is_equal, key_cmp_total, text_cmp_antisymmetric, tied}
+use Rattle.history.proofs.Lists.{all-filter}
 use Rattle.history.proofs.Selecting.{entries-selected, fst, not_below, snd}
 use Rattle.params.specs.Values.{Values}
 use Rattle.selector.specs.Requirement.{selects}
-use Rattle.lists.specs.Body.{Collection}
+use Rattle.lists.specs.declared.refusal.Refusal.{Refusal}
+use Rattle.lists.specs.Body.{Collection, list_text}
 use Rattle.lists.specs.Labels.{labels_of, selection_of}
-use Rattle.lists.specs.Lists.{key_after, page_limit, page_of}
+use Rattle.lists.specs.Lists.{key_after, list_of, page_limit, page_of, text_at}
+use Rattle.lists.specs.Revision.{revision_of}
 use Rattle.lists.specs.Tokens.{whole_list}
+use Rattle.lists.proofs.Bounds.{revision_between}
+use Rattle.ownership.specs.ReadBack.{max_version}
 use Rattle.decoder.specs.Wanted.{Wanted, is_in}
-use Rattle.line_laws.specs.Listed.{AreKept, AreWanted, IsKept, IsWanted}
+use Rattle.line_laws.specs.Listed.{AreKept, AreWanted, IsKept, IsReadAsPage, IsWanted}
+use Rattle.line_laws.proofs.Pages.{page_is_read}
 
 abbrev Entries : Type 0
 Entries = List (Key × Object)
@@ -39,14 +47,6 @@ each_entry P (e ∷ es) up each = (each e.0 e.1 (ap (λ r. cond (is_eq r) (Some 
             let wrong : Some o ≡ None = sym is ∙ none in absurd cc
         by_test false other = each k o (ap (λ b. cond b (Some e.1) (find key_cmp k es)) other ∙ is)
 
-all_filtered : (P : Key × Object → Type 0) (q : Key × Object → Bool) (es : Entries) → AllByRecursion P es → AllByRecursion P (filter q es)
-all_filtered P q [] h = tt
-all_filtered P q (e ∷ es) h = go (q e) (all_filtered P q es h.1)
-  where
-    go : (b : Bool) → AllByRecursion P (filter q es) → AllByRecursion P (cond b (e ∷ filter q es) (filter q es))
-    go true others = (h.0, others)
-    go false others = others
-
 all_taken : (P : Key × Object → Type 0) (n : ℕ) (es : Entries) → AllByRecursion P es → AllByRecursion P (take n es)
 all_taken P zero es h = tt
 all_taken P (suc n) [] h = tt
@@ -54,7 +54,7 @@ all_taken P (suc n) (e ∷ es) h = (h.0, all_taken P n es h.1)
 
 all_left : (P : Key × Object → Type 0) (after : Option Key) (es : Entries) → AllByRecursion P es → AllByRecursion P (left_after after es)
 all_left P None es h = h
-all_left P (Some k) es h = all_filtered P (λ e. is_lt (key_cmp k e.0)) es h
+all_left P (Some k) es h = all-filter P (λ e. is_lt (key_cmp k e.0)) es h
 
 all_limited : (P : Key × Object → Type 0) (limit : Option ℕ) (es : Entries) → AllByRecursion P es → AllByRecursion P (limited limit es).found
 all_limited P None es h = h
@@ -86,9 +86,29 @@ module _ (wanted : Wanted) (of : Collection) (is : IsWanted wanted of) where
       go true within false others = others
       go false within b others = others
 
-  pub page_fits : (values : Values) (s : Objects) → AreKept of s → AreWanted wanted of (page_of of values s).found
+  page_fits : (values : Values) (s : Objects) → AreKept of s → AreWanted wanted of (page_of of values s).found
   page_fits values s kept =
       let after = option_map (key_after of.kind) values.token in
       let each = each_entry (λ k o. k.kind ≡ of.kind → IsKept of k o) (fin.entries s) (fin.entries_sorted s) (λ k o there same. kept k o same (fin.get-entries s k ∙ there)) in
       let whole = subst (AllByRecursion Fits) (sym (entries-selected (selection_of of.kind of.namespace values.selector) s)) (all_fit (λ e. selects values.selector (labels_of e.1.body)) (fin.entries s) each) in
       all_limited Fits (page_limit values.limit) (left_after after (whole_list of values.selector s)) (all_left Fits after (whole_list of values.selector s) whole)
+
+  -- ---- what is read
+
+  pub standing_read : (values : Values) (revision : ℕ) (s : Objects) → AreKept of s → revision ≤ max_version → IsUtf8 (list_text of revision (page_of of values s))
+      → IsReadAsPage wanted (list_text of revision (page_of of values s)) revision (page_of of values s)
+  standing_read values revision s kept low text = page_is_read wanted of is revision (page_of of values s) (page_fits values s kept) low text
+
+  pub answer_read : (values : Values) (current compacted : ℕ) (at : ℕ → Objects) (text : List ℕ) → ((r : ℕ) → compacted ≤ r → r ≤ current → AreKept of (at r)) → compacted ≤ current → current ≤ max_version
+      → list_of of values current compacted at ≡ Ok text → IsUtf8 text → (revision : ℕ) × (revision_of current compacted values ≡ Ok revision) × IsReadAsPage wanted text revision (page_of of values (at revision))
+  answer_read values current compacted at text kept order low says utf8 = go (revision_of current compacted values) refl says
+    where
+      go : (answer : Result ℕ Refusal) → revision_of current compacted values ≡ answer → text_at of values at answer ≡ Ok text
+          → (revision : ℕ) × (revision_of current compacted values ≡ Ok revision) × IsReadAsPage wanted text revision (page_of of values (at revision))
+      go (Ok r) revised shown =
+          let same : list_text of r (page_of of values (at r)) ≡ text = cc in
+          let between = revision_between current compacted order values r (sym revised) in
+          let high : r ≤ current = between.1 in
+          let within : r ≤ max_version = omega (arith, high, low) in
+          (r, revised, subst (λ t. IsReadAsPage wanted t r (page_of of values (at r))) same (standing_read values r (at r) (kept r between.0 high) within (subst IsUtf8 (sym same) utf8)))
+      go (Err refusal) revised shown = absurd cc

@@ -19,10 +19,10 @@ use Rattle.indexer.specs.Objects.{Stored}
 use Rattle.decoder.specs.declared.malformed.Malformed.TheVariants.{ApiVersion, Json, Kind, Version}
 use Rattle.decoder.specs.Members.{Read, ◌>>=◌, is_text, or_amiss, unless, unless_empty}
 use Rattle.decoder.specs.Objects.{object_of}
-use Rattle.decoder.specs.Pages.{Page, objects_of, page_in, page_of}
+use Rattle.decoder.specs.Pages.{Page, objects_of, page_of}
 use Rattle.decoder.specs.Wanted.{Wanted, api_version_of, is_in}
 use Rattle.decoder.proofs.Texts.{value_read}
-use Rattle.line_laws.specs.Listed.{AreReadAs, AreWanted, IsKept, IsReadAs, IsWanted, identity_of, page_with}
+use Rattle.line_laws.specs.Listed.{AreReadAs, AreWanted, IsKept, IsReadAs, IsReadAsPage, IsWanted, identity_of, page_with}
 use Rattle.line_laws.specs.Shown.{HasPlace, IsShown, IsStored}
 use Rattle.line_laws.proofs.Objects.{object_read}
 use Rattle.line_laws.proofs.Renumbered.{value_within}
@@ -170,10 +170,7 @@ module _ (wanted : Wanted) (of : Collection) (is : IsWanted wanted of) where
   all_items [] are = record { items = no_items; texts = refl; spelled = tt; whole = refl; shallow = zero-le; objects = []; are = refl; read_as = tt }
   all_items (e ∷ es) are = one_more e.0 e.1 are.0.0 are.0.1 es (all_items es are.1)
 
-  abbrev IsRead : ℕ → SeenPage → Type 0
-  IsRead revision page = (objects : List Stored) × (page_in wanted (list_text of revision page) ≡ Ok (page_with revision page.next objects)) × AreReadAs wanted page.found objects
-
-  pub page_is_read : (revision : ℕ) (page : SeenPage) → AreWanted wanted of page.found → revision ≤ max_version → IsUtf8 (list_text of revision page) → IsRead revision page
+  pub page_is_read : (revision : ℕ) (page : SeenPage) → AreWanted wanted of page.found → revision ≤ max_version → IsUtf8 (list_text of revision page) → IsReadAsPage wanted (list_text of revision page) revision page
   page_is_read revision page are low text =
       let found = all_items page.found are in
       let token = option_map (continued_at revision) page.next in

@@ -9,10 +9,11 @@ use Rattle.ownership.specs.Apply.{State}
 use Rattle.ownership.specs.ObjectText.{Identity}
 use Rattle.ownership.specs.ReadBack.{IsObjectText}
 use Rattle.history.specs.History.{Key, Object, Objects}
+use Rattle.history.specs.Seen.{SeenPage}
 use Rattle.indexer.specs.Objects.{Stored}
 use Rattle.lists.specs.Body.{Collection, continued_at}
 use Rattle.decoder.specs.OwnTexts.{object_in}
-use Rattle.decoder.specs.Pages.{Page}
+use Rattle.decoder.specs.Pages.{Page, page_in}
 use Rattle.decoder.specs.Wanted.{Wanted, api_version_of, is_in}
 
 -- the collection is what a client asks for: of the type, and in the namespace or in all
@@ -65,3 +66,8 @@ AreReadAs wanted (e ∷ es) (x ∷ xs) = IsReadAs wanted e.0 e.1 x × AreReadAs 
 -- the list's revision, the token by which it goes on after the key, if there is one, and these objects
 abbrev pub page_with : ℕ → Option Key → List Stored → Page
 page_with revision next objects = record { revision = revision; token = option_map (continued_at revision) next; objects = objects }
+
+-- a client reads the body as exactly this page of the revision
+abbrev pub IsReadAsPage : Wanted → List ℕ → ℕ → SeenPage → Type 0
+IsReadAsPage wanted text revision page =
+    (objects : List Stored) × (page_in wanted text ≡ Ok (page_with revision page.next objects)) × AreReadAs wanted page.found objects
