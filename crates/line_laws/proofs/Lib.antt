@@ -4,5 +4,7 @@ pub mod Objects
 pub mod Pages
 pub mod Renumbered
 pub mod Said
+pub mod Texts
 pub mod Told
 pub mod Values
+pub mod Waiting

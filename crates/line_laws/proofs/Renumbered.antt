@@ -95,7 +95,7 @@ value_over revision api_version kind meta new base is up =
     )
 
 module _ (s : Shape) (of : Identity) (state : State) (lawful : is_lawful s ≡ true) (content : IsContent s state.content) where
-  object_over : (v r : ℕ) → value_at r (object_value s of v state) ≡ Some (object_value s of r state)
+  pub object_over : (v r : ℕ) → value_at r (object_value s of v state) ≡ Some (object_value s of r state)
   unfolding object_value
   object_over v r =
       let base = members_printed (print s state.content) in

@@ -1,16 +1,13 @@
 -- What a client takes from a line.
-use Rattle.std.proofs.Common.{◌≡◌, ℕ, suc, ◌<◌, ◌≤◌, ◌^◌, pos, negsuc, Bool, true, false, List, [], ◌∷◌, ◌++◌, Option, Some, IsUtf8, refl, ap, ap₂, subst, ◌∙◌, arith}
+use Rattle.std.proofs.Common.{◌≡◌, ℕ, ◌<◌, ◌≤◌, ◌^◌, true, List, [], ◌∷◌, ◌++◌, Option, Some, IsUtf8, refl, ap, ap₂, subst, ◌∙◌, arith}
 use Rattle.std.specs.Prelude.{codes, decimal, option_and_then}
 use Rattle.std.specs.Cmp.Lexicographic.{bytes_decides}
 use Rattle.std.specs.Str.{bytes_eq}
 use Rattle.std.specs.declared.result.Result.TheVariants.{Ok}
-use Rattle.std.proofs.lemmas.Fmt.{IsAscii-decimal}
-use Rattle.std.proofs.lemmas.Str.{IsUtf8-append, IsUtf8-from_ascii}
-use Rattle.json.specs.Print.{quoted}
-use Rattle.json.proofs.Printed.Utf8.{are_ascii, IsUtf8-are_ascii, IsUtf8-boolean, IsUtf8-quoted}
-use Rattle.serde_json.specs.Data.{Num, unsigned, negative, float, Data, null, boolean, number, string, array, object, Items, no_items, item, Members, no_members, member}
-use Rattle.serde_json.specs.Written.{comma_if, compact_text, items_text, members_text, number_text}
-use Rattle.fieldpath.specs.Spelled.{IsSpelledNumber}
+use Rattle.std.proofs.lemmas.Str.{IsUtf8-append}
+use Rattle.json.proofs.Printed.Utf8.{are_ascii, IsUtf8-are_ascii}
+use Rattle.serde_json.specs.Data.{Data, null, boolean, number, string, array, object}
+use Rattle.serde_json.specs.Written.{compact_text}
 use Rattle.names.specs.Decimals.{version_of}
 use Rattle.names.proofs.Decimals.{exact}
 use Rattle.schema.specs.ObjectShape.{IsObjectShape}
@@ -31,61 +28,9 @@ use Rattle.watchline.specs.declared.event.EventType.{EventType}
 use Rattle.watchline.specs.declared.event.EventType.TheVariants as event
 use Rattle.watchline.specs.Lines.{bookmark_value, expired_message, expired_value, text_shown, type_of}
 use Rattle.line_laws.specs.Shown.{IsShown, line_value, shown, taken, version_shown}
-use Rattle.line_laws.proofs.Renumbered.{has_room, shows_text, text_is}
+use Rattle.line_laws.proofs.Renumbered.{has_room, object_over, shows_text, text_is}
+use Rattle.line_laws.proofs.Texts.{decimal_utf8, has_texts, renumbered_texts, text_utf8}
 use Rattle.line_laws.proofs.Values.{line_in_value}
-
--- ---- a compact text of texts
-
-number_utf8 : (n : Num) → IsSpelledNumber n → IsUtf8 (number_text n)
-number_utf8 (unsigned n) fits = IsUtf8-from_ascii (decimal n) (IsAscii-decimal n fits)
-number_utf8 (negative (pos n)) fits = absurd fits
-number_utf8 (negative (negsuc n)) fits =
-    let low : n < 2 ^ 63 = fits in
-    IsUtf8-append (45 ∷ []) (decimal (suc n)) (IsUtf8-are_ascii (45 ∷ []) refl) (IsUtf8-from_ascii (decimal (suc n)) (IsAscii-decimal (suc n) (omega (arith, low))))
-number_utf8 (float x) fits = IsUtf8-are_ascii [] refl
-
-comma_utf8 : (b : Bool) → IsUtf8 (comma_if b)
-comma_utf8 true = IsUtf8-are_ascii (44 ∷ []) refl
-comma_utf8 false = IsUtf8-are_ascii [] refl
-
--- each name and each text in it is UTF-8, and its numbers are within 64 bits
-abbrev mutual
-  HasTexts : Data → Type 0
-  HasTexts null = Unit {0}
-  HasTexts (boolean b) = Unit {0}
-  HasTexts (number n) = IsSpelledNumber n
-  HasTexts (string s) = IsUtf8 s
-  HasTexts (array ds) = ItemsHaveTexts ds
-  HasTexts (object ms) = MembersHaveTexts ms
-
-  ItemsHaveTexts : Items → Type 0
-  ItemsHaveTexts no_items = Unit {0}
-  ItemsHaveTexts (item d ds) = HasTexts d × ItemsHaveTexts ds
-
-  MembersHaveTexts : Members → Type 0
-  MembersHaveTexts no_members = Unit {0}
-  MembersHaveTexts (member k d ms) = IsUtf8 k × (HasTexts d × MembersHaveTexts ms)
-
-mutual
-  text_utf8 : (d : Data) → HasTexts d → IsUtf8 (compact_text d)
-  text_utf8 null h = IsUtf8-are_ascii _ refl
-  text_utf8 (boolean b) h = IsUtf8-boolean b
-  text_utf8 (number n) h = number_utf8 n h
-  text_utf8 (string s) h = IsUtf8-quoted s h
-  text_utf8 (array ds) h = IsUtf8-append (91 ∷ []) (items_text false ds) (IsUtf8-are_ascii (91 ∷ []) refl) (items_utf8 false ds h)
-  text_utf8 (object ms) h = IsUtf8-append (123 ∷ []) (members_text false ms) (IsUtf8-are_ascii (123 ∷ []) refl) (members_utf8 false ms h)
-
-  items_utf8 : (b : Bool) (ds : Items) → ItemsHaveTexts ds → IsUtf8 (items_text b ds)
-  items_utf8 b no_items h = IsUtf8-are_ascii (93 ∷ []) refl
-  items_utf8 b (item d ds) h = IsUtf8-append (comma_if b) (compact_text d ++ items_text true ds) (comma_utf8 b) (IsUtf8-append (compact_text d) (items_text true ds) (text_utf8 d h.0) (items_utf8 true ds h.1))
-
-  members_utf8 : (b : Bool) (ms : Members) → MembersHaveTexts ms → IsUtf8 (members_text b ms)
-  members_utf8 b no_members h = IsUtf8-are_ascii (125 ∷ []) refl
-  members_utf8 b (member k d ms) h =
-      let value = h.1 in
-      IsUtf8-append (comma_if b) (quoted k ++ 58 ∷ (compact_text d ++ members_text true ms)) (comma_utf8 b)
-      (IsUtf8-append (quoted k) (58 ∷ (compact_text d ++ members_text true ms)) (IsUtf8-quoted k h.0)
-      (IsUtf8-append (58 ∷ []) (compact_text d ++ members_text true ms) (IsUtf8-are_ascii (58 ∷ []) refl) (IsUtf8-append (compact_text d) (members_text true ms) (text_utf8 d value.0) (members_utf8 true ms value.1))))
 
 -- ---- a line of any kind
 
@@ -110,14 +55,25 @@ shown_text Added s of v state o shaped said = said.is_text ∙ text_is s of v st
 shown_text Modified s of v state o shaped said = said.is_text ∙ text_is s of v state
 shown_text Deleted s of v state o shaped said = shows_text s of v o.revision state o.body shaped said ∙ text_is s of o.revision state
 
+-- with its own version, or with that of the deletion
+shown_utf8 : (k : SeenKind) (s : Shape) (of : Identity) (v : ℕ) (state : State) (o : Object) → IsObjectShape s → IsObjectText s of v state o.body → o.revision ≤ max_version → IsUtf8 o.body
+    → IsUtf8 (compact_text (object_value s of (version_shown k v o.revision) state))
+shown_utf8 Added s of v state o shaped said low text = subst IsUtf8 (said.is_text ∙ text_is s of v state) text
+shown_utf8 Modified s of v state o shaped said low text = subst IsUtf8 (said.is_text ∙ text_is s of v state) text
+shown_utf8 Deleted s of v state o shaped said low text =
+    let spelled = (has_room s of v state shaped.1 said.placed.0).spelled in
+    let texts = has_texts (object_value s of v state) spelled (subst IsUtf8 (said.is_text ∙ text_is s of v state) text) in
+    text_utf8 (object_value s of o.revision state)
+    (renumbered_texts o.revision (object_value s of v state) (object_value s of o.revision state) low texts (object_over s of state shaped.1 said.placed.0 v o.revision))
+
 pub change_read : (wanted : Wanted) (s : Shape) (of : Identity) (v : ℕ) (state : State) (x : SeenChange) (o : Stored) → IsObjectShape s → IsObjectText s of v state x.object.body
-    → x.object.revision ≤ max_version → IsUtf8 (text_shown x.kind x.object) → object_of wanted (object_value s of (version_shown x.kind v x.object.revision) state) ≡ Ok o
+    → x.object.revision ≤ max_version → IsUtf8 x.object.body → object_of wanted (object_value s of (version_shown x.kind v x.object.revision) state) ≡ Ok o
     → line_in wanted (shown (type_of x.kind) (text_shown x.kind x.object)) ≡ Ok (taken x.kind o)
 change_read wanted s of v state x o shaped said low text is =
     let version = version_shown x.kind v x.object.revision in
     let same : text_shown x.kind x.object ≡ compact_text (object_value s of version state) = shown_text x.kind s of v state x.object shaped said in
     ap (λ t. line_in wanted (shown (type_of x.kind) t)) same
-    ∙ line_says wanted (type_of x.kind) (object_value s of version state) (taken x.kind o) (has_room s of version state shaped.1 said.placed.0) (subst IsUtf8 same text)
+    ∙ line_says wanted (type_of x.kind) (object_value s of version state) (taken x.kind o) (has_room s of version state shaped.1 said.placed.0) (shown_utf8 x.kind s of v state x.object shaped said low text)
     (object_line wanted x.kind (object_value s of version state) o is)
 
 pub object_shown : (s : Shape) (of : Identity) (v : ℕ) (state : State) (text : List ℕ) → IsObjectShape s → IsObjectText s of v state text
@@ -167,9 +123,6 @@ bookmark_fits api_version kind version = record { spelled = (refl, (tt, (tt, ((r
 
 ascii : (xs : List ℕ) → are_ascii xs ≡ true → IsUtf8 xs
 ascii = IsUtf8-are_ascii
-
-decimal_utf8 : (n : ℕ) → n ≤ max_version → IsUtf8 (decimal n)
-decimal_utf8 n low = IsUtf8-from_ascii (decimal n) (IsAscii-decimal n (in_word n low))
 
 bookmark_utf8 : (api_version kind version : List ℕ) → IsUtf8 api_version → IsUtf8 kind → IsUtf8 version → IsUtf8 (compact_text (bookmark_value api_version kind version))
 bookmark_utf8 api_version kind version a k v =

@@ -1,5 +1,5 @@
 -- A watch tells all: what its turns told and what is still to come are what there was to tell.
-use Rattle.std.proofs.Common.{◌≡◌, ℕ, zero, suc, ◌-◌, ◌<◌, ◌≤◌, Bool, true, false, cond, List, [], ◌∷◌, ◌++◌, length, take, drop, map, Option, None, Some, refl, sym, ap, ap₂, subst, ◌∙◌, arith, append_assoc, le-ltb, zero-le, take-append-drop}
+use Rattle.std.proofs.Common.{◌≡◌, ℕ, zero, suc, ◌-◌, ◌<◌, ◌≤◌, Bool, true, false, cond, List, [], ◌++◌, length, take, drop, map, Option, None, Some, refl, sym, ap, ap₂, subst, ◌∙◌, arith, append_assoc, le-ltb, zero-le, take-append-drop}
 use Rattle.std.specs.Prelude.{nat_lt}
 use Rattle.std.proofs.lemmas.List.{append_cancel_right, map-append}
 use Rattle.std.specs.FinMap as fin
@@ -11,22 +11,22 @@ use Rattle.history.proofs.Revisions.{rising-push, state_at-push}
 use Rattle.watchline.specs.Lines.{added, bookmark_line, line_of}
 use Rattle.watchline.specs.Watches.{Cursor, Marking, Turn, changes_left, changes_told, coming, entries_left, from_history, is_bookmark_due, left_by, left_past, moved, none_left, objects_left, position_by, pumped, telling, wanted}
 use Rattle.watchline.proofs.Onward.{leads_on, seen_split, stays_low, tells, told_low}
-use Rattle.line_laws.specs.Following.{AreAllowed, Event, Followed, IsAllowed, after, compaction, followed, mark, opened_at, turn, write}
+use Rattle.line_laws.specs.Following.{Event, Followed, IsAllowed, after, compaction, mark, opened_at, turn, write}
 
-abbrev Entries : Type 0
+abbrev pub Entries : Type 0
 Entries = List (Key × Object)
 
 -- all that there was to tell by now, of objects and of changes after a position
-abbrev Whole : Entries → Selection → ℕ → History → List (List ℕ)
+abbrev pub Whole : Entries → Selection → ℕ → History → List (List ℕ)
 Whole objects seen p h = map line_of (map added objects ++ seen_changes seen h.changes p h.current)
 
-record Tells (objects : Entries) (start : Cursor) (f : Followed) : Type 0 where
-  is : IsHistory f.history
-  same : wanted f.cursor ≡ wanted start
-  low : start.position ≤ f.cursor.position
-  high : f.cursor.position ≤ f.history.current
-  done : start.left ≡ none_left → f.cursor.left ≡ none_left
-  all : f.lines ++ map line_of (coming (from_history f.history) f.cursor) ≡ Whole objects (wanted start) start.position f.history
+pub record Tells (objects : Entries) (start : Cursor) (f : Followed) : Type 0 where
+  pub is : IsHistory f.history
+  pub same : wanted f.cursor ≡ wanted start
+  pub low : start.position ≤ f.cursor.position
+  pub high : f.cursor.position ≤ f.history.current
+  pub done : start.left ≡ none_left → f.cursor.left ≡ none_left
+  pub all : f.lines ++ map line_of (coming (from_history f.history) f.cursor) ≡ Whole objects (wanted start) start.position f.history
 
 -- ---- a turn
 
@@ -34,7 +34,7 @@ none_stays : (room : ℕ) → left_past room [] none_left ≡ none_left
 none_stays zero = refl
 none_stays (suc n) = ap (λ b. left_by (cond b (last_key (take (suc n) [])) None)) (le-ltb (suc n) 0 zero-le)
 
-left_stays : (h : History) (room : ℕ) (w : Cursor) → w.left ≡ none_left → (telling (from_history h) room w).next.left ≡ none_left
+pub left_stays : (h : History) (room : ℕ) (w : Cursor) → w.left ≡ none_left → (telling (from_history h) room w).next.left ≡ none_left
 left_stays h room w none =
     ap (λ l. left_past room (entries_left w.kind l (fin.entries (selected (wanted w) (state_at h.changes w.position)))) l) none ∙ none_stays room
 
@@ -81,13 +81,13 @@ turn_tells objects start room f may t =
 
 -- ---- a bookmark
 
-abbrev marked_line : List ℕ → List ℕ → Cursor → Marking
+abbrev pub marked_line : List ℕ → List ℕ → Cursor → Marking
 marked_line api_version kind w = record { line = Some (bookmark_line api_version kind w.position); next = moved w w.position w.position w.left }
 
-abbrev unmarked : Cursor → Marking
+abbrev pub unmarked : Cursor → Marking
 unmarked w = record { line = None; next = w }
 
-mark_tells : (objects : Entries) (start : Cursor) (api_version kind : List ℕ) (f : Followed) → Tells objects start f → Tells objects start (after (mark api_version kind) f)
+pub mark_tells : (objects : Entries) (start : Cursor) (api_version kind : List ℕ) (f : Followed) → Tells objects start f → Tells objects start (after (mark api_version kind) f)
 mark_tells objects start api_version kind f t = by_due (is_bookmark_due f.cursor) refl
   where
     by_due : (b : Bool) → is_bookmark_due f.cursor ≡ b → Tells objects start (after (mark api_version kind) f)
@@ -98,7 +98,7 @@ mark_tells objects start api_version kind f t = by_due (is_bookmark_due f.cursor
 -- ---- a write
 
 module _ (h : History) (k : Key) (body : Option (List ℕ)) (is : IsHistory h) where
-  rising_on : IsRising 0 (written h k body).changes (suc h.current)
+  pub rising_on : IsRising 0 (written h k body).changes (suc h.current)
   rising_on = rising-push 0 h.current h.changes (record { revision = suc h.current; key = k; body = body }) refl is.rising
 
   -- the same up to now, and then the write
@@ -123,7 +123,7 @@ module _ (h : History) (k : Key) (body : Option (List ℕ)) (is : IsHistory h) w
       ap₂ (λ es xs. map added es ++ xs) (objects_on w high) (seen_on (wanted w) w.position high)
       ∙ sym (append_assoc (map added (objects_left (from_history h) w)) (changes_left (from_history h) w) (seen_changes (wanted w) (written h k body).changes h.current (suc h.current)))
 
-write_tells : (objects : Entries) (start : Cursor) (k : Key) (body : Option (List ℕ)) (f : Followed) → suc f.history.current ≤ last_revision → Tells objects start f
+pub write_tells : (objects : Entries) (start : Cursor) (k : Key) (body : Option (List ℕ)) (f : Followed) → suc f.history.current ≤ last_revision → Tells objects start f
     → Tells objects start (after (write k body) f)
 write_tells objects start k body f may t =
     let h = f.history in
@@ -152,26 +152,18 @@ write_tells objects start k body f may t =
 
 -- ---- all of them
 
-step_tells : (objects : Entries) (start : Cursor) (e : Event) (f : Followed) → IsAllowed e f → Tells objects start f → Tells objects start (after e f)
+pub step_tells : (objects : Entries) (start : Cursor) (e : Event) (f : Followed) → IsAllowed e f → Tells objects start f → Tells objects start (after e f)
 step_tells objects start (turn room) f may t = turn_tells objects start room f may t
 step_tells objects start (mark api_version kind) f may t = mark_tells objects start api_version kind f t
 step_tells objects start (write k body) f may t = write_tells objects start k body f may t
 step_tells objects start (compaction r) f may t = record { is = record { rising = t.is.rising; low = may.1; high = t.is.high }; same = t.same; low = t.low; high = t.high; done = t.done; all = t.all }
 
-all_tell : (objects : Entries) (start : Cursor) (es : List Event) (f : Followed) → AreAllowed es f → Tells objects start f → Tells objects start (followed es f)
-all_tell objects start [] f may t = t
-all_tell objects start (e ∷ es) f may t = all_tell objects start es (after e f) may.1 (step_tells objects start e f may.0 t)
-
-begins_telling : (h : History) (w : Cursor) → IsHistory h → w.position ≤ h.current → Tells (objects_left (from_history h) w) w (opened_at h w)
+pub begins_telling : (h : History) (w : Cursor) → IsHistory h → w.position ≤ h.current → Tells (objects_left (from_history h) w) w (opened_at h w)
 begins_telling h w is high = record { is = is; same = refl; low = omega arith; high = high; done = λ none. none; all = refl }
 
-pub tells_all : (h : History) (w : Cursor) (events : List Event) → IsHistory h → w.position ≤ h.current → AreAllowed events (opened_at h w)
-    → (followed events (opened_at h w)).lines ++ map line_of (coming (from_history (followed events (opened_at h w)).history) (followed events (opened_at h w)).cursor)
-    ≡ map line_of (map added (objects_left (from_history h) w) ++ seen_changes (wanted w) (followed events (opened_at h w)).history.changes w.position (followed events (opened_at h w)).history.current)
-tells_all h w events is high may = (all_tell (objects_left (from_history h) w) w events (opened_at h w) may (begins_telling h w is high)).all
-
 -- without objects, up to where it stands
-only_changes : (objects : Entries) (w : Cursor) (f : Followed) → objects ≡ [] → w.left ≡ none_left → Tells objects w f → f.lines ≡ map line_of (seen_changes (wanted w) f.history.changes w.position f.cursor.position)
+pub only_changes : (objects : Entries) (w : Cursor) (f : Followed) → objects ≡ [] → w.left ≡ none_left → Tells objects w f
+    → f.lines ≡ map line_of (seen_changes (wanted w) f.history.changes w.position f.cursor.position)
 only_changes objects w f no_objects none t =
     let h = f.history in
     let told = seen_changes (wanted w) h.changes w.position f.cursor.position in
@@ -185,10 +177,3 @@ only_changes objects w f no_objects none t =
     ∙ ap (map line_of) (seen_split (wanted w) h.changes w.position f.cursor.position h.current h.current t.low t.high t.is.rising)
     ∙ map-append line_of told left
     )
-
-pub tells_changes : (h : History) (w : Cursor) (events : List Event) → IsHistory h → w.position ≤ h.current → w.left ≡ none_left → AreAllowed events (opened_at h w)
-    → (followed events (opened_at h w)).lines ≡ map line_of (seen_changes (wanted w) (followed events (opened_at h w)).history.changes w.position (followed events (opened_at h w)).cursor.position)
-tells_changes h w events is high none may =
-    only_changes (objects_left (from_history h) w) w (followed events (opened_at h w))
-    (ap (λ l. entries_left w.kind l (fin.entries (selected (wanted w) (state_at h.changes w.position)))) none) none
-    (all_tell (objects_left (from_history h) w) w events (opened_at h w) may (begins_telling h w is high))

@@ -1,22 +1,22 @@
 //! What a watch tells over a history that goes on.
 
-ghost use Rattle.std.specs.Prelude.{◌≡◌, ◌≤◌, ◌++◌, ℕ, List, map};
+ghost use Rattle.std.specs.Prelude.{◌≡◌, ◌++◌, List, map};
 ghost use Rattle.history.specs.History.{History, IsHistory};
 ghost use Rattle.history.specs.Seen.{seen_changes};
 ghost use Rattle.watchline.specs.Lines.{added, line_of};
 ghost use Rattle.watchline.specs.Watches.{Cursor, coming, from_history, none_left, objects_left, wanted};
-ghost use Rattle.line_laws.specs.Following.{AreAllowed, Event, followed, opened_at};
+ghost use Rattle.line_laws.specs.Following.{AreAllowed, Event, MayBegin, followed, opened_at};
 
 /// A watch tells all, once and in order: the lines of its turns, with those still to come, are the objects that were
 /// left and then each change that is seen after its position, whatever is written or forgotten between its turns. A
 /// watch that has told its objects has told exactly what is seen from the position where it was to the one where it
-/// stands.
+/// stands, also where it was opened at a version that is still to come.
 pub fn watches_tell_all()
-    ensures all { (h : History) (w : Cursor) (events : List Event) → IsHistory h → w.position ≤ h.current → AreAllowed events (opened_at h w)
+    ensures all { (h : History) (w : Cursor) (events : List Event) → IsHistory h → MayBegin h w → AreAllowed events (opened_at h w)
         → (followed events (opened_at h w)).lines ++ map line_of (coming (from_history (followed events (opened_at h w)).history) (followed events (opened_at h w)).cursor)
         ≡ map line_of (map added (objects_left (from_history h) w)
         ++ seen_changes (wanted w) (followed events (opened_at h w)).history.changes w.position (followed events (opened_at h w)).history.current) }
-    ensures changes { (h : History) (w : Cursor) (events : List Event) → IsHistory h → w.position ≤ h.current → w.left ≡ none_left → AreAllowed events (opened_at h w)
+    ensures changes { (h : History) (w : Cursor) (events : List Event) → IsHistory h → w.left ≡ none_left → AreAllowed events (opened_at h w)
         → (followed events (opened_at h w)).lines
         ≡ map line_of (seen_changes (wanted w) (followed events (opened_at h w)).history.changes w.position (followed events (opened_at h w)).cursor.position) }
 {}

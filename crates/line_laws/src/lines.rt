@@ -36,7 +36,7 @@ pub fn lines_are_read()
     ensures objects { (s : Shape) (of : Identity) (v : ℕ) (state : State) (text : List ℕ) → IsObjectShape s → IsObjectText s of v state text
         → IsShown (object_value s of v state) × (text ≡ compact_text (object_value s of v state)) }
     ensures changes { (wanted : Wanted) (s : Shape) (of : Identity) (v : ℕ) (state : State) (x : SeenChange) (o : Stored) → IsObjectShape s → IsObjectText s of v state x.object.body
-        → x.object.revision ≤ max_version → IsUtf8 (text_shown x.kind x.object) → object_of wanted (object_value s of (version_shown x.kind v x.object.revision) state) ≡ Ok o
+        → x.object.revision ≤ max_version → IsUtf8 x.object.body → object_of wanted (object_value s of (version_shown x.kind v x.object.revision) state) ≡ Ok o
         → line_in wanted (shown (type_of x.kind) (text_shown x.kind x.object)) ≡ Ok (taken x.kind o) }
     ensures bookmarks { (wanted : Wanted) (r : ℕ) → r ≤ max_version → IsUtf8 (api_version_of wanted) → IsUtf8 wanted.kind → (wanted.kind ≡ [] → ⊥)
         → line_in wanted (shown event.Bookmark (compact_text (bookmark_value (api_version_of wanted) wanted.kind (decimal r)))) ≡ Ok (reads.bookmark r) }

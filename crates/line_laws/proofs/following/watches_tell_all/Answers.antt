@@ -1,4 +1,4 @@
-use Rattle.line_laws.proofs.Told.{tells_all, tells_changes}
+use Rattle.line_laws.proofs.Waiting.{tells_all, tells_changes}
 use Rattle.line_laws.proofs.following.watches_tell_all.Goals as goal
 
 pub returns-clause-all : goal.returns-clause-all
