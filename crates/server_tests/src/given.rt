@@ -39,3 +39,12 @@ const PORT_TYPES: &str =
 pub fn api_with_ports(alloc: Global) -> Result<Api, Fail> {
     Ok(Api::new(alloc, types_of(alloc, PORT_TYPES)?)?)
 }
+
+/// The media type of a method's body.
+pub fn media_of(method: &str) -> &'static str {
+    if method == "PATCH" {
+        "application/apply-patch+yaml"
+    } else {
+        "application/json"
+    }
+}

@@ -10,6 +10,8 @@ mod connections;
 #[cfg(test)]
 mod given;
 #[cfg(test)]
+mod hub_rows;
+#[cfg(test)]
 mod list_rows;
 #[cfg(test)]
 mod recording;
@@ -19,3 +21,5 @@ mod replays;
 mod scripts;
 #[cfg(test)]
 mod single_objects;
+#[cfg(test)]
+mod watch_rows;

@@ -12,15 +12,13 @@ fn fresh_store_lists(rt: HostRuntime) -> Result<(), Fail> {
     let lines = r#"GET -  
 GET - resourceVersion=2 
 GET - resourceVersion=0&resourceVersionMatch=Exact 
-GET - resourceVersion=abc 
-GET - watch=true "#;
+GET - resourceVersion=abc "#;
     assert_eq!(rt;
         fresh_answers(rt.alloc(), lines)?.as_str(),
         r#"200 {"apiVersion":"demo.example/v1","items":[],"kind":"WidgetList","metadata":{"resourceVersion":"1"}}
 504 Too large resource version: 2, current: 1
 400 bad parameter: resourceVersionMatch
 400 bad parameter: resourceVersion
-400 bad parameter: watch
 "#
     );
     Ok(())

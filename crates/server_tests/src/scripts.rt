@@ -52,6 +52,29 @@ fn compaction_keeps_what_stands(rt: HostRuntime) -> Result<(), Fail> {
     Ok(())
 }
 
+/// A watch, an apply, and a peer that goes; what the hub refuses is skipped.
+const WATCHED: &str =
+    r#"{"open":1}
+{"in":[1,"GET /apis/demo.example/v1/widgets?watch=true&allowWatchBookmarks=true HTTP/1.1\r\nHost: localhost\r\n\r\n"]}
+{"tick":5}
+{"apply":{"body":{"apiVersion":"demo.example/v1","kind":"Widget","metadata":{"name":"w1"},"spec":{"image":"a","replicas":3}},"force":false,"manager":"alice","target":"/apis/demo.example/v1/namespaces/default/widgets/w1"}}
+{"pump":[1,0]}
+{"tick":4}
+{"pump":[1,10]}
+{"gone":1}
+{"gone":1}
+{"gone":7}
+{"pump":[1,10]}"#;
+
+#[test]
+fn bytes_of_a_gone_peer_are_printed(rt: HostRuntime) -> Result<(), Fail> {
+    let alloc = rt.alloc();
+    let watch = "connection 1 568\nHTTP/1.1 200 OK\r\nContent-Type: application/json\r\nTransfer-Encoding: chunked\r\nConnection: close\r\n\r\n71\r\n{\"type\":\"BOOKMARK\",\"object\":{\"apiVersion\":\"demo.example/v1\",\"kind\":\"Widget\",\"metadata\":{\"resourceVersion\":\"1\"}}}\n\r\n158\r\n{\"type\":\"ADDED\",\"object\":{\"apiVersion\":\"demo.example/v1\",\"kind\":\"Widget\",\"metadata\":{\"managedFields\":[{\"apiVersion\":\"demo.example/v1\",\"fieldsType\":\"FieldsV1\",\"fieldsV1\":{\"f:spec\":{\"f:image\":{},\"f:replicas\":{}}},\"manager\":\"alice\",\"operation\":\"Apply\"}],\"name\":\"w1\",\"namespace\":\"default\",\"resourceVersion\":\"2\"},\"spec\":{\"image\":\"a\",\"replicas\":3}}}\n\r\n";
+    let wanted = format!(in alloc; "201 {APPLIED}\n{watch}\n")?;
+    assert_eq!(rt; written(alloc, WATCHED)?, wanted);
+    Ok(())
+}
+
 /// The exit status where the replies of a script find no room.
 fn status_without_room(alloc: Global, script: &str) -> Result<u8, Fail> {
     let events = read_script(alloc, script)?;
@@ -66,7 +89,7 @@ fn status_without_room(alloc: Global, script: &str) -> Result<u8, Fail> {
 #[test]
 fn full_writer_is_told(rt: HostRuntime) -> Result<(), Fail> {
     assert_eq!(rt; status_without_room(rt.alloc(), GOOD)?, 1);
-    assert_eq!(rt; RunFault::Memory.status(), 5);
+    assert_eq!(rt; (RunFault::Memory.status(), RunFault::Store.status()), (5, 5));
     Ok(())
 }
 
@@ -87,10 +110,10 @@ fn lines_of_connections_read(rt: HostRuntime) -> Result<(), Fail> {
     assert_eq!(rt;
         shown(
             rt.alloc(),
-            "{\"open\":18446744073709551615}\n\n{\"in\":[3,\"GET / \\r\\n\"]}\n{\"compact\":7}"
+            "{\"open\":18446744073709551615}\n\n{\"in\":[3,\"GET / \\r\\n\"]}\n{\"compact\":7}\n{\"gone\":3}\n{\"pump\":[3,0]}\n{\"tick\":18446744073709551615}"
         )?
         .as_str(),
-        r#"[Open(18446744073709551615), In(3, "GET / \r\n"), Compact(7)]"#
+        r#"[Open(18446744073709551615), In(3, "GET / \r\n"), Compact(7), Gone(3), Pump(3, 0), Tick(18446744073709551615)]"#
     );
     Ok(())
 }
@@ -120,7 +143,6 @@ fn bad_lines_are_refused(rt: HostRuntime) -> Result<(), Fail> {
     let alloc = rt.alloc();
     let bad = r#"x
 {}
-{"tick":1}
 {"open":-1}
 {"open":1.0}
 {"open":18446744073709551616}
@@ -128,6 +150,18 @@ fn bad_lines_are_refused(rt: HostRuntime) -> Result<(), Fail> {
 {"compact":-1}
 {"compact":"1"}
 {"compact":[1]}
+{"gone":"1"}
+{"gone":[1]}
+{"tick":-1}
+{"tick":1.5}
+{"tick":18446744073709551616}
+{"pump":1}
+{"pump":[1]}
+{"pump":[1,"2"]}
+{"pump":["1",2]}
+{"pump":[1,-2]}
+{"pump":[1,2,3]}
+{"pump":[1,2],"tick":1}
 {"in":[1]}
 {"in":[1,2]}
 {"in":["1","GET"]}

@@ -1,18 +1,10 @@
 //! Single objects: got, created, updated, applied and deleted, with the replies that the rows of the specification name.
 
-use crate::given::{api_with_one_left, api_with_ports, fresh_api};
+use crate::given::{api_with_one_left, api_with_ports, fresh_api, media_of};
 use serde_json::Value;
 use std::alloc::Global;
 use std::test::Fail;
 use verbs::{Answer, Api, Body, Call, Target};
-
-fn media_of(method: &str) -> &'static str {
-    if method == "PATCH" {
-        "application/apply-patch+yaml"
-    } else {
-        "application/json"
-    }
-}
 
 /// What `METHOD` of a name asks, or of the collection, where the name is `-`.
 fn admitted(alloc: Global, api: &Api, method: &str, name: &str) -> Result<Target, Fail> {

@@ -1,0 +1,203 @@
+//! Watches: what is written on them at their opening, at each pump and at each tick, byte for byte.
+
+use crate::hub_rows::expect_rows;
+use std::test::Fail;
+
+/// A bookmark is due once each object is told; a write that changes nothing tells nothing.
+#[test]
+fn objects_then_bookmark(rt: HostRuntime) -> Result<(), Fail> {
+    let rows = r#"open 1 => -
+ask 2 POST namespaces/default/widgets {"apiVersion":"demo.example/v1","kind":"Widget","metadata":{"name":"w1"}} => -
+ask 3 POST namespaces/default/widgets {"apiVersion":"demo.example/v1","kind":"Widget","metadata":{"name":"w2"}} => -
+ask 4 POST namespaces/default/widgets {"apiVersion":"demo.example/v1","kind":"Widget","metadata":{"name":"w3"}} => -
+ask 1 GET namespaces/default/widgets?watch=true&allowWatchBookmarks=true => HTTP/1.1 200 OK|$Content-Type: application/json|$Transfer-Encoding: chunked|$Connection: close|$|$
+pump 1 2 => 90|${"type":"ADDED","object":{"apiVersion":"demo.example/v1","kind":"Widget","metadata":{"name":"w1","namespace":"default","resourceVersion":"2"}}}$|$90|${"type":"ADDED","object":{"apiVersion":"demo.example/v1","kind":"Widget","metadata":{"name":"w2","namespace":"default","resourceVersion":"3"}}}$|$
+tick 0 => -
+pump 1 1 => 90|${"type":"ADDED","object":{"apiVersion":"demo.example/v1","kind":"Widget","metadata":{"name":"w3","namespace":"default","resourceVersion":"4"}}}$|$
+tick 0 => 71|${"type":"BOOKMARK","object":{"apiVersion":"demo.example/v1","kind":"Widget","metadata":{"resourceVersion":"4"}}}$|$
+tick 0 => -
+pump 1 1 => -
+ask 5 PUT namespaces/default/widgets/w2 {"apiVersion":"demo.example/v1","kind":"Widget","spec":{"image":"a"}} => -
+ask 6 PUT namespaces/default/widgets/w2 {"apiVersion":"demo.example/v1","kind":"Widget","spec":{"image":"a"}} => -
+pump 1 5 => 141|${"type":"MODIFIED","object":{"apiVersion":"demo.example/v1","kind":"Widget","metadata":{"managedFields":[{"apiVersion":"demo.example/v1","fieldsType":"FieldsV1","fieldsV1":{"f:spec":{"f:image":{}}},"manager":"unknown","operation":"Update"}],"name":"w2","namespace":"default","resourceVersion":"5"},"spec":{"image":"a"}}}$|$
+tick 0 => -
+pump 1 5 => -"#;
+    expect_rows(rt.alloc(), rows)
+}
+
+/// Changes that a watch has still to tell are forgotten.
+#[test]
+fn compacted_under_a_watch(rt: HostRuntime) -> Result<(), Fail> {
+    let rows = r#"open 1 => -
+ask 2 POST namespaces/default/widgets {"apiVersion":"demo.example/v1","kind":"Widget","metadata":{"name":"w1"}} => -
+ask 3 POST namespaces/default/widgets {"apiVersion":"demo.example/v1","kind":"Widget","metadata":{"name":"w2"}} => -
+ask 4 POST namespaces/default/widgets {"apiVersion":"demo.example/v1","kind":"Widget","metadata":{"name":"w3"}} => -
+ask 1 GET namespaces/default/widgets?watch=true&allowWatchBookmarks=true => HTTP/1.1 200 OK|$Content-Type: application/json|$Transfer-Encoding: chunked|$Connection: close|$|$
+pump 1 2 => 90|${"type":"ADDED","object":{"apiVersion":"demo.example/v1","kind":"Widget","metadata":{"name":"w1","namespace":"default","resourceVersion":"2"}}}$|$90|${"type":"ADDED","object":{"apiVersion":"demo.example/v1","kind":"Widget","metadata":{"name":"w2","namespace":"default","resourceVersion":"3"}}}$|$
+ask 5 POST namespaces/default/widgets {"apiVersion":"demo.example/v1","kind":"Widget","metadata":{"name":"w4"}} => -
+compact 5 => -
+pump 1 2 => a9|${"type":"ERROR","object":{"apiVersion":"v1","code":410,"kind":"Status","message":"too old resource version: 4 (5)","metadata":{},"reason":"Expired","status":"Failure"}}$|$0|$|$
+stand 1 => 0 false true
+pump 1 2 => -
+tick 0 => -"#;
+    expect_rows(rt.alloc(), rows)
+}
+
+/// Objects that are left and changes share a pump.
+#[test]
+fn deletion_behind_objects(rt: HostRuntime) -> Result<(), Fail> {
+    let rows = r#"open 1 => -
+ask 2 POST namespaces/default/widgets {"apiVersion":"demo.example/v1","kind":"Widget","metadata":{"name":"w1"}} => -
+ask 3 POST namespaces/default/widgets {"apiVersion":"demo.example/v1","kind":"Widget","metadata":{"name":"w2"}} => -
+ask 4 POST namespaces/default/widgets {"apiVersion":"demo.example/v1","kind":"Widget","metadata":{"name":"w3"}} => -
+ask 1 GET namespaces/default/widgets?watch=true&allowWatchBookmarks=true => HTTP/1.1 200 OK|$Content-Type: application/json|$Transfer-Encoding: chunked|$Connection: close|$|$
+pump 1 2 => 90|${"type":"ADDED","object":{"apiVersion":"demo.example/v1","kind":"Widget","metadata":{"name":"w1","namespace":"default","resourceVersion":"2"}}}$|$90|${"type":"ADDED","object":{"apiVersion":"demo.example/v1","kind":"Widget","metadata":{"name":"w2","namespace":"default","resourceVersion":"3"}}}$|$
+ask 5 DELETE namespaces/default/widgets/w1 => -
+pump 1 2 => 90|${"type":"ADDED","object":{"apiVersion":"demo.example/v1","kind":"Widget","metadata":{"name":"w3","namespace":"default","resourceVersion":"4"}}}$|$92|${"type":"DELETED","object":{"apiVersion":"demo.example/v1","kind":"Widget","metadata":{"name":"w1","namespace":"default","resourceVersion":"5"}}}$|$
+tick 0 => -"#;
+    expect_rows(rt.alloc(), rows)
+}
+
+/// A watch ends by the tick at which its seconds have passed since the last tick before its opening, behind its bookmark.
+#[test]
+fn time_is_over(rt: HostRuntime) -> Result<(), Fail> {
+    let rows = r#"tick 500 => -
+ask 1 GET namespaces/default/widgets?watch=true&timeoutSeconds=1 => HTTP/1.1 200 OK|$Content-Type: application/json|$Transfer-Encoding: chunked|$Connection: close|$|$
+tick 1499 => -
+stand 1 => 0 false false
+tick 1500 => 0|$|$
+stand 1 => 0 false true
+pump 1 1 => -
+ask 2 GET namespaces/default/widgets?watch=true&timeoutSeconds=1&allowWatchBookmarks=true => -
+tick 2500 => -
+out 2 => HTTP/1.1 200 OK|$Content-Type: application/json|$Transfer-Encoding: chunked|$Connection: close|$|$71|${"type":"BOOKMARK","object":{"apiVersion":"demo.example/v1","kind":"Widget","metadata":{"resourceVersion":"1"}}}$|$0|$|$
+tick 2600 => -
+out 2 => -
+ask 3 GET namespaces/default/widgets?watch=true&timeoutSeconds=0 => -
+tick 18446744073709551615 => -
+stand 3 => 98 false false"#;
+    expect_rows(rt.alloc(), rows)
+}
+
+#[test]
+fn watch_leaves_selector(rt: HostRuntime) -> Result<(), Fail> {
+    let rows = r#"open 1 => -
+ask 2 PATCH namespaces/default/widgets/w1?fieldManager=alice {"apiVersion":"demo.example/v1","kind":"Widget","metadata":{"labels":{"tier":"web"}}} => -
+ask 1 GET namespaces/default/widgets?watch=true&resourceVersion=2&labelSelector=tier%3Dweb => HTTP/1.1 200 OK|$Content-Type: application/json|$Transfer-Encoding: chunked|$Connection: close|$|$
+ask 3 PATCH namespaces/default/widgets/w1?fieldManager=alice {"apiVersion":"demo.example/v1","kind":"Widget","metadata":{"labels":{"tier":"db"}}} => -
+ask 4 PATCH namespaces/default/widgets/w1?fieldManager=alice {"apiVersion":"demo.example/v1","kind":"Widget","metadata":{"labels":{"tier":"web"}}} => -
+pump 1 10 => 150|${"type":"DELETED","object":{"apiVersion":"demo.example/v1","kind":"Widget","metadata":{"labels":{"tier":"web"},"managedFields":[{"apiVersion":"demo.example/v1","fieldsType":"FieldsV1","fieldsV1":{"f:metadata":{"f:labels":{"f:tier":{}}}},"manager":"alice","operation":"Apply"}],"name":"w1","namespace":"default","resourceVersion":"3"}}}$|$14e|${"type":"ADDED","object":{"apiVersion":"demo.example/v1","kind":"Widget","metadata":{"labels":{"tier":"web"},"managedFields":[{"apiVersion":"demo.example/v1","fieldsType":"FieldsV1","fieldsV1":{"f:metadata":{"f:labels":{"f:tier":{}}}},"manager":"alice","operation":"Apply"}],"name":"w1","namespace":"default","resourceVersion":"4"}}}$|$"#;
+    expect_rows(rt.alloc(), rows)
+}
+
+#[test]
+fn bookmark_after_unseen_changes(rt: HostRuntime) -> Result<(), Fail> {
+    let rows = r#"open 1 => -
+ask 2 POST namespaces/default/widgets {"apiVersion":"demo.example/v1","kind":"Widget","metadata":{"name":"w1"}} => -
+ask 1 GET namespaces/default/widgets?watch=true&resourceVersion=2&allowWatchBookmarks=true => HTTP/1.1 200 OK|$Content-Type: application/json|$Transfer-Encoding: chunked|$Connection: close|$|$
+ask 3 POST namespaces/other/widgets {"apiVersion":"demo.example/v1","kind":"Widget","metadata":{"name":"a"}} => -
+ask 4 POST namespaces/other/widgets {"apiVersion":"demo.example/v1","kind":"Widget","metadata":{"name":"b"}} => -
+ask 5 POST namespaces/other/widgets {"apiVersion":"demo.example/v1","kind":"Widget","metadata":{"name":"c"}} => -
+tick 0 => -
+pump 1 10 => -
+tick 0 => 71|${"type":"BOOKMARK","object":{"apiVersion":"demo.example/v1","kind":"Widget","metadata":{"resourceVersion":"5"}}}$|$
+tick 0 => -"#;
+    expect_rows(rt.alloc(), rows)
+}
+
+/// A watch from a version that is still to come waits for what follows it.
+#[test]
+fn fresh_store_is_watched(rt: HostRuntime) -> Result<(), Fail> {
+    let rows = r#"ask 1 GET namespaces/default/widgets?watch=true&resourceVersion=2&allowWatchBookmarks=true => HTTP/1.1 200 OK|$Content-Type: application/json|$Transfer-Encoding: chunked|$Connection: close|$|$
+pump 1 10 => -
+tick 0 => -
+stand 1 => 0 false false
+ask 2 POST namespaces/default/widgets {"apiVersion":"demo.example/v1","kind":"Widget","metadata":{"name":"w1"}} => -
+pump 1 10 => -
+tick 0 => -
+ask 3 POST namespaces/default/widgets {"apiVersion":"demo.example/v1","kind":"Widget","metadata":{"name":"w2"}} => -
+pump 1 10 => 90|${"type":"ADDED","object":{"apiVersion":"demo.example/v1","kind":"Widget","metadata":{"name":"w2","namespace":"default","resourceVersion":"3"}}}$|$"#;
+    expect_rows(rt.alloc(), rows)
+}
+
+#[test]
+fn bookmark_at_the_first_tick(rt: HostRuntime) -> Result<(), Fail> {
+    let rows = r#"ask 1 GET widgets?watch=true&resourceVersion=0&allowWatchBookmarks=1 => HTTP/1.1 200 OK|$Content-Type: application/json|$Transfer-Encoding: chunked|$Connection: close|$|$
+tick 0 => 71|${"type":"BOOKMARK","object":{"apiVersion":"demo.example/v1","kind":"Widget","metadata":{"resourceVersion":"1"}}}$|$
+tick 0 => -
+pump 1 5 => -"#;
+    expect_rows(rt.alloc(), rows)
+}
+
+/// What the query of a watch is refused for, and what it may have.
+#[test]
+fn watches_are_refused(rt: HostRuntime) -> Result<(), Fail> {
+    let rows = r#"ask 2 POST namespaces/default/widgets {"apiVersion":"demo.example/v1","kind":"Widget","metadata":{"name":"w1"}} => -
+compact 2 => -
+ask 3 GET namespaces/default/widgets?watch=true&resourceVersion=1 => -
+out 3 => HTTP/1.1 410 Gone|$Content-Type: application/json|$Content-Length: 142|$Connection: close|$|${"apiVersion":"v1","code":410,"kind":"Status","message":"too old resource version: 1 (2)","metadata":{},"reason":"Expired","status":"Failure"}
+stand 3 => 0 false true
+ask 4 GET namespaces/default/widgets?watch=true&resourceVersion=2 => -
+out 4 => HTTP/1.1 200 OK|$Content-Type: application/json|$Transfer-Encoding: chunked|$Connection: close|$|$
+ask 5 GET namespaces/default/widgets?watch=yes => -
+out 5 => HTTP/1.1 400 Bad Request|$Content-Type: application/json|$Content-Length: 134|$Connection: close|$|${"apiVersion":"v1","code":400,"kind":"Status","message":"bad parameter: watch","metadata":{},"reason":"BadRequest","status":"Failure"}
+ask 6 GET namespaces/default/widgets?watch=1&resourceVersionMatch=Exact => -
+out 6 => HTTP/1.1 400 Bad Request|$Content-Type: application/json|$Content-Length: 149|$Connection: close|$|${"apiVersion":"v1","code":400,"kind":"Status","message":"bad parameter: resourceVersionMatch","metadata":{},"reason":"BadRequest","status":"Failure"}
+ask 7 GET namespaces/default/widgets?watch=true&allowWatchBookmarks=yes => -
+out 7 => HTTP/1.1 400 Bad Request|$Content-Type: application/json|$Content-Length: 148|$Connection: close|$|${"apiVersion":"v1","code":400,"kind":"Status","message":"bad parameter: allowWatchBookmarks","metadata":{},"reason":"BadRequest","status":"Failure"}
+ask 8 GET namespaces/default/widgets?watch=true&timeoutSeconds=01 => -
+out 8 => HTTP/1.1 400 Bad Request|$Content-Type: application/json|$Content-Length: 143|$Connection: close|$|${"apiVersion":"v1","code":400,"kind":"Status","message":"bad parameter: timeoutSeconds","metadata":{},"reason":"BadRequest","status":"Failure"}
+ask 9 GET namespaces/default/widgets?watch=true&limit=x&continue=y => -
+out 9 => HTTP/1.1 200 OK|$Content-Type: application/json|$Transfer-Encoding: chunked|$Connection: close|$|$
+ask 10 GET namespaces/default/widgets?watch=false => -
+out 10 => HTTP/1.1 200 OK|$Content-Type: application/json|$Content-Length: 215|$Connection: close|$|${"apiVersion":"demo.example/v1","items":[{"apiVersion":"demo.example/v1","kind":"Widget","metadata":{"name":"w1","namespace":"default","resourceVersion":"2"}}],"kind":"WidgetList","metadata":{"resourceVersion":"2"}}"#;
+    expect_rows(rt.alloc(), rows)
+}
+
+/// A watch over all namespaces, and one over one.
+#[test]
+fn both_list_paths(rt: HostRuntime) -> Result<(), Fail> {
+    let rows = r#"open 1 2 => -
+ask 3 POST namespaces/default/widgets {"apiVersion":"demo.example/v1","kind":"Widget","metadata":{"name":"w1"}} => -
+ask 4 POST namespaces/other/widgets {"apiVersion":"demo.example/v1","kind":"Widget","metadata":{"name":"a"}} => -
+ask 1 GET widgets?watch=true => HTTP/1.1 200 OK|$Content-Type: application/json|$Transfer-Encoding: chunked|$Connection: close|$|$
+ask 2 GET namespaces/other/widgets?watch=true => -
+pump 1 5 => 90|${"type":"ADDED","object":{"apiVersion":"demo.example/v1","kind":"Widget","metadata":{"name":"w1","namespace":"default","resourceVersion":"2"}}}$|$8d|${"type":"ADDED","object":{"apiVersion":"demo.example/v1","kind":"Widget","metadata":{"name":"a","namespace":"other","resourceVersion":"3"}}}$|$
+pump 2 5 => -
+out 2 => HTTP/1.1 200 OK|$Content-Type: application/json|$Transfer-Encoding: chunked|$Connection: close|$|$8d|${"type":"ADDED","object":{"apiVersion":"demo.example/v1","kind":"Widget","metadata":{"name":"a","namespace":"other","resourceVersion":"3"}}}$|$
+ask 5 DELETE namespaces/other/widgets/a => -
+pump 1 5 => 8f|${"type":"DELETED","object":{"apiVersion":"demo.example/v1","kind":"Widget","metadata":{"name":"a","namespace":"other","resourceVersion":"4"}}}$|$
+pump 2 5 => -
+out 2 => 8f|${"type":"DELETED","object":{"apiVersion":"demo.example/v1","kind":"Widget","metadata":{"name":"a","namespace":"other","resourceVersion":"4"}}}$|$"#;
+    expect_rows(rt.alloc(), rows)
+}
+
+#[test]
+fn gone_peers_get_nothing(rt: HostRuntime) -> Result<(), Fail> {
+    let rows = r#"ask 1 POST namespaces/default/widgets {"apiVersion":"demo.example/v1","kind":"Widget","metadata":{"name":"w1"}} => HTTP/1.1 201 Created|$Content-Type: application/json|$Content-Length: 117|$Connection: close|$|${"apiVersion":"demo.example/v1","kind":"Widget","metadata":{"name":"w1","namespace":"default","resourceVersion":"2"}}
+ask 2 GET namespaces/default/widgets?watch=true => -
+pump 2 1 => -
+gone 2 => -
+out 2 => -
+stand 2 => 0 false false
+pump 2 1 => -
+tick 0 => -
+in 2 x => -
+gone 2 => -
+take 2 5 => 0
+ask 3 GET namespaces/default/widgets/w1 => -
+gone 3 => -
+out 3 => -
+stand 3 => 0 false true"#;
+    expect_rows(rt.alloc(), rows)
+}
+
+#[test]
+fn watch_byte_by_byte(rt: HostRuntime) -> Result<(), Fail> {
+    let rows = r#"open 1 => -
+ask 2 POST namespaces/default/widgets {"apiVersion":"demo.example/v1","kind":"Widget","metadata":{"name":"w1"}} => -
+bytes 1 GET namespaces/default/widgets?watch=true => HTTP/1.1 200 OK|$Content-Type: application/json|$Transfer-Encoding: chunked|$Connection: close|$|$
+in 1 more => -
+pump 1 1 => 90|${"type":"ADDED","object":{"apiVersion":"demo.example/v1","kind":"Widget","metadata":{"name":"w1","namespace":"default","resourceVersion":"2"}}}$|$"#;
+    expect_rows(rt.alloc(), rows)
+}
