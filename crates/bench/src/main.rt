@@ -1,5 +1,6 @@
 //! `bench WORD..` times the layers: a number sets the size, and `selectors`, `indexer`, `reader`, `tables`, `hub`,
-//! `objects` or `client` runs that layer at it. What was done goes to standard output, the processor times to standard error.
+//! `objects` or `client` runs that layer at it. `bench script FILE..` plays the scripts of files through the hub. What was
+//! done goes to standard output, the processor times to standard error.
 #![tactic(auto)]
 
 mod connecting;
@@ -7,6 +8,7 @@ mod indexing;
 mod mirroring;
 mod objects;
 mod reading;
+mod scripting;
 mod selecting;
 mod serving;
 mod storing;
@@ -42,9 +44,15 @@ fn run_layer(
 fn main(rt: HostRuntime) -> anyhow::Result<()> {
     let words: Vec<String> = env::args(&rt)?.collect(rt.alloc())?;
     let mut size = 1_000;
+    let mut is_script = false;
     for word in words.iter().skip(1) {
+        if is_script {
+            scripting::run(&rt, rt.alloc(), word.as_str())?;
+            continue;
+        }
         match word.parse::<u32>() {
             Ok(number) => size = number,
+            Err(_) if word.as_str() == "script" => is_script = true,
             Err(_) => run_layer(&rt, rt.alloc(), word, size)?,
         }
     }

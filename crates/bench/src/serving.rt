@@ -21,10 +21,13 @@ const QUERY: &str = "fieldManager=alice";
 /// How many requests are served.
 const REQUESTS: u64 = 200;
 
-pub(crate) fn api_of_widgets(alloc: Global) -> anyhow::Result<Api> {
+pub(crate) fn types_of_widgets(alloc: Global) -> anyhow::Result<Types> {
     let value = Value::from_str(alloc, TYPES)?;
-    let types = Types::read(alloc, &value)?;
-    match Api::new(alloc, types) {
+    Ok(Types::read(alloc, &value)?)
+}
+
+pub(crate) fn api_of_widgets(alloc: Global) -> anyhow::Result<Api> {
+    match Api::new(alloc, types_of_widgets(alloc)?) {
         Ok(api) => Ok(api),
         Err(_) => bail!("out of memory"),
     }
