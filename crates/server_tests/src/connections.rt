@@ -103,6 +103,8 @@ pump 9 0 => UnknownId
 stand 9 => 0 false false
 pump 5 0 => NoLines
 pump 5 1 => -
+out 5 => -
+stand 5 => 0 true false
 tick 5 => -
 tick 4 => TickBack
 tick 5 => -
@@ -143,5 +145,29 @@ stand 2 => 0 false true
 take 3 5 => 0
 ask 4 GET namespaces/default/widgets/w2 => -
 out 4 => HTTP/1.1 404 Not Found|$Content-Type: application/json|$Content-Length: 149|$Connection: close|$|${"apiVersion":"v1","code":404,"kind":"Status","message":"widgets.demo.example \"w2\" not found","metadata":{},"reason":"NotFound","status":"Failure"}"#;
+    expect_rows(rt.alloc(), rows)
+}
+
+/// One that goes makes room, and the next one is served.
+#[test]
+fn served_after_a_peer_has_gone(rt: HostRuntime) -> Result<(), Fail> {
+    let rows = r#"open 1 1024 => -
+ask 1025 GET namespaces/default/widgets/w1 => -
+out 1025 => HTTP/1.1 503 Service Unavailable|$Content-Type: application/json|$Content-Length: 142|$Connection: close|$|${"apiVersion":"v1","code":503,"kind":"Status","message":"too many connections","metadata":{},"reason":"ServiceUnavailable","status":"Failure"}
+gone 1 => -
+ask 1026 GET namespaces/default/widgets/w1 => -
+out 1026 => HTTP/1.1 404 Not Found|$Content-Type: application/json|$Content-Length: 149|$Connection: close|$|${"apiVersion":"v1","code":404,"kind":"Status","message":"widgets.demo.example \"w1\" not found","metadata":{},"reason":"NotFound","status":"Failure"}
+stand 1026 => 0 false true"#;
+    expect_rows(rt.alloc(), rows)
+}
+
+/// A request that isn't whole keeps nobody waiting.
+#[test]
+fn nobody_waits_for_another(rt: HostRuntime) -> Result<(), Fail> {
+    let rows = r#"open 1 => -
+in 1 PATCH /apis/demo => -
+ask 2 GET namespaces/default/widgets/w1 => -
+out 2 => HTTP/1.1 404 Not Found|$Content-Type: application/json|$Content-Length: 149|$Connection: close|$|${"apiVersion":"v1","code":404,"kind":"Status","message":"widgets.demo.example \"w1\" not found","metadata":{},"reason":"NotFound","status":"Failure"}
+stand 1 => 0 true false"#;
     expect_rows(rt.alloc(), rows)
 }

@@ -201,3 +201,81 @@ in 1 more => -
 pump 1 1 => 90|${"type":"ADDED","object":{"apiVersion":"demo.example/v1","kind":"Widget","metadata":{"name":"w1","namespace":"default","resourceVersion":"2"}}}$|$"#;
     expect_rows(rt.alloc(), rows)
 }
+
+/// A bookmark tells a position that is compacted; the pump after it ends the watch.
+#[test]
+fn bookmark_below_the_compacted_number(rt: HostRuntime) -> Result<(), Fail> {
+    let rows = r#"open 1 => -
+ask 2 POST namespaces/default/widgets {"apiVersion":"demo.example/v1","kind":"Widget","metadata":{"name":"w1"}} => -
+ask 1 GET namespaces/default/widgets?watch=true&allowWatchBookmarks=true => HTTP/1.1 200 OK|$Content-Type: application/json|$Transfer-Encoding: chunked|$Connection: close|$|$
+pump 1 1 => 90|${"type":"ADDED","object":{"apiVersion":"demo.example/v1","kind":"Widget","metadata":{"name":"w1","namespace":"default","resourceVersion":"2"}}}$|$
+ask 3 POST namespaces/default/widgets {"apiVersion":"demo.example/v1","kind":"Widget","metadata":{"name":"w2"}} => -
+compact 3 => -
+tick 0 => 71|${"type":"BOOKMARK","object":{"apiVersion":"demo.example/v1","kind":"Widget","metadata":{"resourceVersion":"2"}}}$|$
+pump 1 1 => a9|${"type":"ERROR","object":{"apiVersion":"v1","code":410,"kind":"Status","message":"too old resource version: 2 (3)","metadata":{},"reason":"Expired","status":"Failure"}}$|$0|$|$
+stand 1 => 0 false true"#;
+    expect_rows(rt.alloc(), rows)
+}
+
+/// No bookmark comes before all changes up to its version were told.
+#[test]
+fn no_bookmark_past_unsent_changes(rt: HostRuntime) -> Result<(), Fail> {
+    let rows = r#"open 1 => -
+ask 2 POST namespaces/default/widgets {"apiVersion":"demo.example/v1","kind":"Widget","metadata":{"name":"w1"}} => -
+ask 1 GET namespaces/default/widgets?watch=true&resourceVersion=2&allowWatchBookmarks=true => HTTP/1.1 200 OK|$Content-Type: application/json|$Transfer-Encoding: chunked|$Connection: close|$|$
+ask 3 POST namespaces/default/widgets {"apiVersion":"demo.example/v1","kind":"Widget","metadata":{"name":"w2"}} => -
+ask 4 POST namespaces/default/widgets {"apiVersion":"demo.example/v1","kind":"Widget","metadata":{"name":"w3"}} => -
+ask 5 POST namespaces/other/widgets {"apiVersion":"demo.example/v1","kind":"Widget","metadata":{"name":"a"}} => -
+pump 1 1 => 90|${"type":"ADDED","object":{"apiVersion":"demo.example/v1","kind":"Widget","metadata":{"name":"w2","namespace":"default","resourceVersion":"3"}}}$|$
+tick 0 => -
+pump 1 1 => 90|${"type":"ADDED","object":{"apiVersion":"demo.example/v1","kind":"Widget","metadata":{"name":"w3","namespace":"default","resourceVersion":"4"}}}$|$
+tick 0 => -
+pump 1 1 => -
+tick 0 => 71|${"type":"BOOKMARK","object":{"apiVersion":"demo.example/v1","kind":"Widget","metadata":{"resourceVersion":"5"}}}$|$"#;
+    expect_rows(rt.alloc(), rows)
+}
+
+/// A selector picks the objects at the opening and the changes; sizes count bytes.
+#[test]
+fn selector_without_version(rt: HostRuntime) -> Result<(), Fail> {
+    let rows = r#"open 1 => -
+ask 2 POST namespaces/default/widgets {"apiVersion":"demo.example/v1","kind":"Widget","metadata":{"labels":{"tier":"web"},"name":"w1"}} => -
+ask 3 POST namespaces/default/widgets {"apiVersion":"demo.example/v1","kind":"Widget","metadata":{"labels":{"tier":"db"},"name":"w2"}} => -
+ask 1 GET namespaces/default/widgets?watch=true&labelSelector=tier%3Dweb => HTTP/1.1 200 OK|$Content-Type: application/json|$Transfer-Encoding: chunked|$Connection: close|$|$
+pump 1 5 => 151|${"type":"ADDED","object":{"apiVersion":"demo.example/v1","kind":"Widget","metadata":{"labels":{"tier":"web"},"managedFields":[{"apiVersion":"demo.example/v1","fieldsType":"FieldsV1","fieldsV1":{"f:metadata":{"f:labels":{"f:tier":{}}}},"manager":"unknown","operation":"Update"}],"name":"w1","namespace":"default","resourceVersion":"2"}}}$|$
+ask 4 PUT namespaces/default/widgets/w1 {"apiVersion":"demo.example/v1","kind":"Widget","metadata":{"labels":{"tier":"web"}},"spec":{"image":"é"}} => -
+ask 5 PUT namespaces/default/widgets/w2 {"apiVersion":"demo.example/v1","kind":"Widget","metadata":{"labels":{"tier":"db"}},"spec":{"image":"b"}} => -
+ask 6 DELETE namespaces/default/widgets/w1 => -
+ask 7 DELETE namespaces/default/widgets/w2 => -
+pump 1 5 => 182|${"type":"MODIFIED","object":{"apiVersion":"demo.example/v1","kind":"Widget","metadata":{"labels":{"tier":"web"},"managedFields":[{"apiVersion":"demo.example/v1","fieldsType":"FieldsV1","fieldsV1":{"f:metadata":{"f:labels":{"f:tier":{}}},"f:spec":{"f:image":{}}},"manager":"unknown","operation":"Update"}],"name":"w1","namespace":"default","resourceVersion":"4"},"spec":{"image":"é"}}}$|$181|${"type":"DELETED","object":{"apiVersion":"demo.example/v1","kind":"Widget","metadata":{"labels":{"tier":"web"},"managedFields":[{"apiVersion":"demo.example/v1","fieldsType":"FieldsV1","fieldsV1":{"f:metadata":{"f:labels":{"f:tier":{}}},"f:spec":{"f:image":{}}},"manager":"unknown","operation":"Update"}],"name":"w1","namespace":"default","resourceVersion":"6"},"spec":{"image":"é"}}}$|$"#;
+    expect_rows(rt.alloc(), rows)
+}
+
+/// Bytes that weren't taken stay before those of the next turn.
+#[test]
+fn take_of_a_watch(rt: HostRuntime) -> Result<(), Fail> {
+    let rows = r#"ask 2 GET namespaces/default/widgets?watch=true => -
+take 2 90 => 8
+ask 3 POST namespaces/default/widgets {"apiVersion":"demo.example/v1","kind":"Widget","metadata":{"name":"w1"}} => -
+pump 2 1 => -
+out 2 => lose|$|$90|${"type":"ADDED","object":{"apiVersion":"demo.example/v1","kind":"Widget","metadata":{"name":"w1","namespace":"default","resourceVersion":"2"}}}$|$"#;
+    expect_rows(rt.alloc(), rows)
+}
+
+/// A tick passes over connections that wait, have gone or have ended.
+#[test]
+fn ticks_are_for_watches(rt: HostRuntime) -> Result<(), Fail> {
+    let rows = r#"open 1 => -
+ask 2 GET namespaces/default/widgets?watch=true&allowWatchBookmarks=true&timeoutSeconds=1 => -
+gone 2 => -
+ask 3 GET namespaces/default/widgets?watch=true&timeoutSeconds=1 => -
+out 3 => HTTP/1.1 200 OK|$Content-Type: application/json|$Transfer-Encoding: chunked|$Connection: close|$|$
+tick 1000 => -
+out 3 => 0|$|$
+stand 1 => 0 true false
+stand 2 => 0 false false
+stand 3 => 0 false true
+tick 2000 => -
+out 3 => -"#;
+    expect_rows(rt.alloc(), rows)
+}
