@@ -120,7 +120,8 @@ in 5 GET => -"#;
 /// A watch is one of the open connections.
 #[test]
 fn too_many_connections(rt: HostRuntime) -> Result<(), Fail> {
-    let rows = r#"ask 1 GET widgets?watch=true => HTTP/1.1 200 OK|$Content-Type: application/json|$Transfer-Encoding: chunked|$Connection: close|$|$
+    let rows =
+        r#"ask 1 GET widgets?watch=true => HTTP/1.1 200 OK|$Content-Type: application/json|$Transfer-Encoding: chunked|$Connection: close|$|$
 open 2 1024 => -
 stand 1024 => 0 true false
 open 1025 => -
@@ -138,7 +139,8 @@ stand 1027 => 0 true false"#;
 
 #[test]
 fn bytes_are_taken(rt: HostRuntime) -> Result<(), Fail> {
-    let rows = r#"ask 2 PATCH namespaces/default/widgets/w1?fieldManager=alice {"apiVersion":"demo.example/v1","kind":"Widget","metadata":{"name":"w1"},"spec":{"image":"a","replicas":3}} => -
+    let rows =
+        r#"ask 2 PATCH namespaces/default/widgets/w1?fieldManager=alice {"apiVersion":"demo.example/v1","kind":"Widget","metadata":{"name":"w1"},"spec":{"image":"a","replicas":3}} => -
 take 2 96 => 317
 take 2 1000 => 0
 stand 2 => 0 false true

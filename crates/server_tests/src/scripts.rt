@@ -53,8 +53,7 @@ fn compaction_keeps_what_stands(rt: HostRuntime) -> Result<(), Fail> {
 }
 
 /// A watch, an apply, and a peer that goes; what the hub refuses is skipped.
-const WATCHED: &str =
-    r#"{"open":1}
+const WATCHED: &str = r#"{"open":1}
 {"in":[1,"GET /apis/demo.example/v1/widgets?watch=true&allowWatchBookmarks=true HTTP/1.1\r\nHost: localhost\r\n\r\n"]}
 {"tick":5}
 {"apply":{"body":{"apiVersion":"demo.example/v1","kind":"Widget","metadata":{"name":"w1"},"spec":{"image":"a","replicas":3}},"force":false,"manager":"alice","target":"/apis/demo.example/v1/namespaces/default/widgets/w1"}}
@@ -69,7 +68,8 @@ const WATCHED: &str =
 #[test]
 fn bytes_of_a_gone_peer_are_printed(rt: HostRuntime) -> Result<(), Fail> {
     let alloc = rt.alloc();
-    let watch = "connection 1 568\nHTTP/1.1 200 OK\r\nContent-Type: application/json\r\nTransfer-Encoding: chunked\r\nConnection: close\r\n\r\n71\r\n{\"type\":\"BOOKMARK\",\"object\":{\"apiVersion\":\"demo.example/v1\",\"kind\":\"Widget\",\"metadata\":{\"resourceVersion\":\"1\"}}}\n\r\n158\r\n{\"type\":\"ADDED\",\"object\":{\"apiVersion\":\"demo.example/v1\",\"kind\":\"Widget\",\"metadata\":{\"managedFields\":[{\"apiVersion\":\"demo.example/v1\",\"fieldsType\":\"FieldsV1\",\"fieldsV1\":{\"f:spec\":{\"f:image\":{},\"f:replicas\":{}}},\"manager\":\"alice\",\"operation\":\"Apply\"}],\"name\":\"w1\",\"namespace\":\"default\",\"resourceVersion\":\"2\"},\"spec\":{\"image\":\"a\",\"replicas\":3}}}\n\r\n";
+    let watch =
+        "connection 1 568\nHTTP/1.1 200 OK\r\nContent-Type: application/json\r\nTransfer-Encoding: chunked\r\nConnection: close\r\n\r\n71\r\n{\"type\":\"BOOKMARK\",\"object\":{\"apiVersion\":\"demo.example/v1\",\"kind\":\"Widget\",\"metadata\":{\"resourceVersion\":\"1\"}}}\n\r\n158\r\n{\"type\":\"ADDED\",\"object\":{\"apiVersion\":\"demo.example/v1\",\"kind\":\"Widget\",\"metadata\":{\"managedFields\":[{\"apiVersion\":\"demo.example/v1\",\"fieldsType\":\"FieldsV1\",\"fieldsV1\":{\"f:spec\":{\"f:image\":{},\"f:replicas\":{}}},\"manager\":\"alice\",\"operation\":\"Apply\"}],\"name\":\"w1\",\"namespace\":\"default\",\"resourceVersion\":\"2\"},\"spec\":{\"image\":\"a\",\"replicas\":3}}}\n\r\n";
     let wanted = format!(in alloc; "201 {APPLIED}\n{watch}\n")?;
     assert_eq!(rt; written(alloc, WATCHED)?, wanted);
     Ok(())
@@ -89,7 +89,10 @@ fn status_without_room(alloc: Global, script: &str) -> Result<u8, Fail> {
 #[test]
 fn full_writer_is_told(rt: HostRuntime) -> Result<(), Fail> {
     assert_eq!(rt; status_without_room(rt.alloc(), GOOD)?, 1);
-    assert_eq!(rt; (RunFault::Memory.status(), RunFault::Store.status()), (5, 5));
+    assert_eq!(rt;
+        (RunFault::Memory.status(), RunFault::Store.status()),
+        (5, 5)
+    );
     Ok(())
 }
 

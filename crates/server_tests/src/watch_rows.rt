@@ -108,7 +108,8 @@ tick 0 => -"#;
 /// A watch from a version that is still to come waits for what follows it.
 #[test]
 fn fresh_store_is_watched(rt: HostRuntime) -> Result<(), Fail> {
-    let rows = r#"ask 1 GET namespaces/default/widgets?watch=true&resourceVersion=2&allowWatchBookmarks=true => HTTP/1.1 200 OK|$Content-Type: application/json|$Transfer-Encoding: chunked|$Connection: close|$|$
+    let rows =
+        r#"ask 1 GET namespaces/default/widgets?watch=true&resourceVersion=2&allowWatchBookmarks=true => HTTP/1.1 200 OK|$Content-Type: application/json|$Transfer-Encoding: chunked|$Connection: close|$|$
 pump 1 10 => -
 tick 0 => -
 stand 1 => 0 false false
@@ -122,7 +123,8 @@ pump 1 10 => 90|${"type":"ADDED","object":{"apiVersion":"demo.example/v1","kind"
 
 #[test]
 fn bookmark_at_the_first_tick(rt: HostRuntime) -> Result<(), Fail> {
-    let rows = r#"ask 1 GET widgets?watch=true&resourceVersion=0&allowWatchBookmarks=1 => HTTP/1.1 200 OK|$Content-Type: application/json|$Transfer-Encoding: chunked|$Connection: close|$|$
+    let rows =
+        r#"ask 1 GET widgets?watch=true&resourceVersion=0&allowWatchBookmarks=1 => HTTP/1.1 200 OK|$Content-Type: application/json|$Transfer-Encoding: chunked|$Connection: close|$|$
 tick 0 => 71|${"type":"BOOKMARK","object":{"apiVersion":"demo.example/v1","kind":"Widget","metadata":{"resourceVersion":"1"}}}$|$
 tick 0 => -
 pump 1 5 => -"#;
@@ -132,7 +134,8 @@ pump 1 5 => -"#;
 /// What the query of a watch is refused for, and what it may have.
 #[test]
 fn watches_are_refused(rt: HostRuntime) -> Result<(), Fail> {
-    let rows = r#"ask 2 POST namespaces/default/widgets {"apiVersion":"demo.example/v1","kind":"Widget","metadata":{"name":"w1"}} => -
+    let rows =
+        r#"ask 2 POST namespaces/default/widgets {"apiVersion":"demo.example/v1","kind":"Widget","metadata":{"name":"w1"}} => -
 compact 2 => -
 ask 3 GET namespaces/default/widgets?watch=true&resourceVersion=1 => -
 out 3 => HTTP/1.1 410 Gone|$Content-Type: application/json|$Content-Length: 142|$Connection: close|$|${"apiVersion":"v1","code":410,"kind":"Status","message":"too old resource version: 1 (2)","metadata":{},"reason":"Expired","status":"Failure"}
@@ -174,7 +177,8 @@ out 2 => 8f|${"type":"DELETED","object":{"apiVersion":"demo.example/v1","kind":"
 
 #[test]
 fn gone_peers_get_nothing(rt: HostRuntime) -> Result<(), Fail> {
-    let rows = r#"ask 1 POST namespaces/default/widgets {"apiVersion":"demo.example/v1","kind":"Widget","metadata":{"name":"w1"}} => HTTP/1.1 201 Created|$Content-Type: application/json|$Content-Length: 117|$Connection: close|$|${"apiVersion":"demo.example/v1","kind":"Widget","metadata":{"name":"w1","namespace":"default","resourceVersion":"2"}}
+    let rows =
+        r#"ask 1 POST namespaces/default/widgets {"apiVersion":"demo.example/v1","kind":"Widget","metadata":{"name":"w1"}} => HTTP/1.1 201 Created|$Content-Type: application/json|$Content-Length: 117|$Connection: close|$|${"apiVersion":"demo.example/v1","kind":"Widget","metadata":{"name":"w1","namespace":"default","resourceVersion":"2"}}
 ask 2 GET namespaces/default/widgets?watch=true => -
 pump 2 1 => -
 gone 2 => -
