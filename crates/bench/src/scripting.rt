@@ -9,7 +9,11 @@ use std::fs;
 use std::rt::Files;
 use std::time::CpuClock;
 
-fn events_of<R: Files>(rt: &R, alloc: Global, path: &str) -> anyhow::Result<Vec<Event>> {
+fn events_of<R: Files + AllocGlobal>(
+    rt: &R,
+    alloc: Global,
+    path: &str,
+) -> anyhow::Result<Vec<Event>> {
     let text = fs::read_to_string(rt, path)?;
     Ok(read_script(alloc, text.as_str())?)
 }
@@ -22,7 +26,7 @@ fn written_by(alloc: Global, types: Types, events: &[Event]) -> anyhow::Result<V
 }
 
 /// Plays the script of a file over a fresh hub.
-pub(crate) fn run<R: Files + Print + Eprint + CpuClock>(
+pub(crate) fn run<R: Files + Print + Eprint + CpuClock + AllocGlobal>(
     rt: &R,
     alloc: Global,
     path: &str,
