@@ -3,6 +3,7 @@ mod Fields
 mod Following
 mod Heading
 mod LineTexts
+mod Listings
 mod PrintedReplies
 mod PrintedRequests
 mod Queries

@@ -3,13 +3,16 @@
 //!
 //! Stands on `httpedge` for the bytes of a reply and of a watch and what a request's bytes say, on `wireclient` for the bytes of a
 //! request and the items that a reply's bytes hold.
+//! Stands on `httpedge` for the bytes of a reply and what a request's bytes say, on `wireclient` for the bytes of a
+//! request and the items that a reply's bytes hold, on `verbs` for what a call is answered, and on `line_laws` for what
+//! a client reads in a page.
 #![tactic(auto)]
 
 mod replies;
 mod requests;
 mod watches;
 
-pub use replies::{answers_are_read, refusals_are_read, replies_are_read};
+pub use replies::{answers_are_read, lists_are_read, refusals_are_read, replies_are_read};
 pub use requests::{bodies_are_read, queries_are_read, requests_are_read, requests_ask};
 pub use watches::{
     ends_are_silent, texts_are_lines, turns_are_read, turns_are_written, watches_are_read,

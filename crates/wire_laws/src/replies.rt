@@ -1,14 +1,20 @@
 //! What the server prints, the client reads.
 
-ghost use Rattle.std.specs.Prelude.{◌≡◌, ◌≤◌, ℕ, List, [], ◌∷◌, length, None, Option};
+ghost use Rattle.std.specs.Prelude.{◌≡◌, ◌≤◌, ℕ, List, [], ◌∷◌, length, IsUtf8, None, Ok, Option, Some, slice_get};
 ghost use Rattle.http.specs.StatusCode.{IsStatusCode};
 ghost use Rattle.serde_json.specs.Written.{compact_text};
 ghost use Rattle.schema.specs.TypesFile.{ServedShape};
 ghost use Rattle.verbs.specs.Calls.{Call, Denied};
-ghost use Rattle.history.specs.History.{History};
+ghost use Rattle.history.specs.History.{History, state_at};
+ghost use Rattle.params.specs.Values.{Values};
+ghost use Rattle.lists.specs.Lists.{page_of};
+ghost use Rattle.lists.specs.Revision.{revision_of};
+ghost use Rattle.decoder.specs.Wanted.{Wanted};
+ghost use Rattle.line_laws.specs.Listed.{AreKept, IsReadAsPage, IsWanted};
+ghost use Rattle.verbs.specs.Machine.{IsMachine};
 ghost use Rattle.verbs.specs.Reasons.{code_of};
 ghost use Rattle.verbs.specs.Status.{status_value};
-ghost use Rattle.verbs.specs.Step.{planned};
+ghost use Rattle.verbs.specs.Step.{collection_of, planned};
 ghost use Rattle.httpedge.specs.Asks.{Asks};
 ghost use Rattle.httpedge.specs.Decision.{refused};
 ghost use Rattle.httpedge.specs.Refusals.{as_denied, too_many_connections};
@@ -16,6 +22,7 @@ ghost use Rattle.httpedge.specs.ReplyBytes.{reply};
 ghost use Rattle.httpedge.specs.Steps.{answer_reply, refusal_reply};
 ghost use Rattle.wireclient.specs.Reads.{Items, max_body};
 ghost use Rattle.wireclient.specs.Reply.{end, head, whole};
+ghost use Rattle.wire_laws.specs.Listings.{IsListing, listed_by};
 ghost use Rattle.wire_laws.specs.Printed.{IsAllowed};
 
 /// A reply that the server prints (RFC 9112, section 4), of any status, is read by the client as this status, this
@@ -45,4 +52,18 @@ pub fn answers_are_read()
         → Items (answer_reply (planned types m call).answer) (head (planned types m call).answer.status ∷ whole (planned types m call).answer.body ∷ end ∷ []) }
 {
     replies_are_read();
+}
+
+/// Each text of a served type that a machine has at a revision is that of the object of its key, at its version
+/// (`kept`). So a client that asks for the type reads the answer of a call that lists it as the page that was asked
+/// for: the list's revision, where the list goes on, and for each object, in order, what its text says (`pages`).
+pub fn lists_are_read()
+    ensures kept { (types : List ServedShape) (m : History) (t : ServedShape) (kind : ℕ) (namespace : Option (List ℕ)) (r : ℕ) → IsMachine types m → slice_get types kind ≡ Some t
+        → AreKept (collection_of t kind namespace) (state_at m.changes r) }
+    ensures pages { (wanted : Wanted) (types : List ServedShape) (m : History) (call : Call) (t : ServedShape) (values : Values) (revision : ℕ) → IsMachine types m
+        → IsListing types call t values → IsWanted wanted (listed_by t call) → revision_of m.current m.compacted values ≡ Ok revision → IsUtf8 (planned types m call).answer.body
+        → IsReadAsPage wanted (planned types m call).answer.body revision (page_of (listed_by t call) values (state_at m.changes revision)) }
+{
+    verbs::texts_say_states();
+    line_laws::pages_are_read();
 }

@@ -1,0 +1,108 @@
+-- What a machine keeps of a served type, and the answer of a call that lists it.
+use Rattle.std.proofs.Common.{◌≡◌, ℕ, ◌≤◌, true, true≢false, List, [], Option, None, Some, Result, Ok, Err, IsUtf8, sym, ap, subst, ◌∙◌}
+use Rattle.std.specs.Prelude.{slice_get}
+use Rattle.schema.specs.TypesFile.{ServedShape}
+use Rattle.names.specs.Names.{is_dns_label, is_dns_subdomain}
+use Rattle.history.specs.History.{History, IsHistory, Key, Object, Objects, standing, state_at}
+use Rattle.history.proofs.Wholes.{whole_is}
+use Rattle.ownership.specs.ReadBack.{IsObjectText, max_version}
+use Rattle.ownership.proofs.Taken.{same_some}
+use Rattle.params.specs.Values.{Values}
+use Rattle.lists.specs.declared.refusal.Refusal.{Refusal}
+use Rattle.lists.specs.Body.{Collection, list_text}
+use Rattle.lists.specs.Lists.{list_of, page_of, text_at}
+use Rattle.lists.specs.Revision.{revision_of}
+use Rattle.decoder.specs.Wanted.{Wanted}
+use Rattle.watchline.specs.Watches.{from_history}
+use Rattle.line_laws.specs.Listed.{AreKept, IsKept, IsReadAsPage, IsWanted}
+use Rattle.verbs.specs.Calls.{Call}
+use Rattle.verbs.specs.Machine.{IsMachine, IsTextAt, identity_of}
+use Rattle.verbs.specs.Promise.{TextsSayStates}
+use Rattle.verbs.specs.Step.{all_validated_by, collection_of, collection_validated_by, list_answered, list_validated, lists_of, page_shown, plan_for, planned, shown_by, validated_at, validated_in, validated_over}
+use Rattle.verbs.specs.Validated.{Validated, and_then}
+use Rattle.verbs.proofs.Said.{shapes_of}
+use Rattle.wire_laws.specs.Listings.{IsListing, listed_by}
+
+-- ---- what is kept
+
+no_label : (text : List ℕ) → is_dns_label text ≡ true → text ≡ [] → ⊥
+no_label text named none = true≢false (sym named ∙ ap is_dns_label none)
+
+no_subdomain : (text : List ℕ) → is_dns_subdomain text ≡ true → text ≡ [] → ⊥
+no_subdomain text named none = true≢false (sym named ∙ ap is_dns_subdomain none)
+
+text_kept : (types : List ServedShape) (t : ServedShape) (kind : ℕ) (namespace : Option (List ℕ)) (m : History) (k : Key) (o : Object) → IsMachine types m → slice_get types kind ≡ Some t → k.kind ≡ kind
+    → IsTextAt types k o.revision o.body → IsKept (collection_of t kind namespace) k o
+text_kept types t kind namespace m k o is served same x =
+    let own : x.t ≡ t = same_some x.t t (sym x.served ∙ ap (slice_get types) same ∙ served) in
+    record {
+      shape = t.shape;
+      shaped = shapes_of types is.shapes kind t served;
+      state = x.state;
+      says = subst (λ (u : ServedShape). IsObjectText u.shape (identity_of u k) o.revision x.state o.body) own x.says;
+      has_namespace = no_label k.namespace x.named.namespace;
+      has_name = no_subdomain k.name x.named.name;
+    }
+
+pub machine_keeps : TextsSayStates → (types : List ServedShape) (m : History) (t : ServedShape) (kind : ℕ) (namespace : Option (List ℕ)) (r : ℕ) → IsMachine types m → slice_get types kind ≡ Some t
+    → AreKept (collection_of t kind namespace) (state_at m.changes r)
+machine_keeps say types m t kind namespace r is served k o same there = text_kept types t kind namespace m k o is served same (say types m r k o is there).0
+
+-- ---- the answer
+
+abbrev page_text : ServedShape → Call → Values → ℕ → History → List ℕ
+page_text t call values revision m = list_text (listed_by t call) revision (page_of (listed_by t call) values (state_at m.changes revision))
+
+module _ (types : List ServedShape) (m : History) (call : Call) (t : ServedShape) (values : Values) (is : IsListing types call t values) where
+  validated_by : (namespace : Option (List ℕ))
+      → validated_in t m.current (standing m) (lists_of m) call namespace None ≡ list_validated t (lists_of m) call.target.kind namespace call.query
+  validated_by None = ap (λ how. all_validated_by how t (lists_of m) call.target.kind call.query) is.gets
+  validated_by (Some namespace) = ap (λ how. collection_validated_by how t m.current (standing m) (lists_of m) call.target.kind namespace call.query call.body) is.gets
+
+  list_is : list_validated t (lists_of m) call.target.kind call.target.namespace call.query ≡ list_answered (page_shown (list_of (listed_by t call) values m.current m.compacted (state_at m.changes)))
+  list_is =
+      ap (λ (v : Validated Values). and_then v (λ said. list_answered (lists_of m (listed_by t call) said))) is.says
+      ∙ ap (λ watch. list_answered (shown_by (from_history m) (listed_by t call) values watch)) is.unwatched
+
+  validated_is : validated_over types m.current (standing m) (lists_of m) call ≡ list_answered (page_shown (list_of (listed_by t call) values m.current m.compacted (state_at m.changes)))
+  validated_is =
+      ap (λ o. validated_at o m.current (standing m) (lists_of m) call) is.served
+      ∙ ap (λ name. validated_in t m.current (standing m) (lists_of m) call call.target.namespace name) is.unnamed
+      ∙ validated_by call.target.namespace ∙ list_is
+
+  module _ (revision : ℕ) (at : revision_of m.current m.compacted values ≡ Ok revision) where
+    pub text_is : list_of (listed_by t call) values m.current m.compacted (state_at m.changes) ≡ Ok (page_text t call values revision m)
+    text_is = ap (text_at (listed_by t call) values (state_at m.changes)) at
+
+    pub answer_is : (planned types m call).answer.body ≡ page_text t call values revision m
+    answer_is =
+        ap (λ v. (plan_for v).answer.body) validated_is
+        ∙ ap (λ text. (plan_for (list_answered (page_shown text))).answer.body) text_is
+
+-- ---- what a client reads
+
+abbrev revision_or_zero : Result ℕ Refusal → ℕ
+revision_or_zero (Ok r) = r
+revision_or_zero (Err e) = 0
+
+-- the law of pages, of such answers
+abbrev pub AnswersAreRead : Type 0
+AnswersAreRead =
+    (wanted : Wanted) (of : Collection) (values : Values) (current compacted : ℕ) (at : ℕ → Objects) (text : List ℕ) → IsWanted wanted of → ((r : ℕ) → compacted ≤ r → r ≤ current → AreKept of (at r))
+    → compacted ≤ current → current ≤ max_version → list_of of values current compacted at ≡ Ok text → IsUtf8 text
+    → (revision : ℕ) × (revision_of current compacted values ≡ Ok revision) × IsReadAsPage wanted text revision (page_of of values (at revision))
+
+pub list_read : TextsSayStates → AnswersAreRead → (wanted : Wanted) (types : List ServedShape) (m : History) (call : Call) (t : ServedShape) (values : Values) (revision : ℕ) → IsMachine types m
+    → IsListing types call t values → IsWanted wanted (listed_by t call) → revision_of m.current m.compacted values ≡ Ok revision → IsUtf8 (planned types m call).answer.body
+    → IsReadAsPage wanted (planned types m call).answer.body revision (page_of (listed_by t call) values (state_at m.changes revision))
+list_read say read wanted types m call t values revision is lists asks at text =
+    let of = listed_by t call in
+    let history : IsHistory m = whole_is is.first m is.whole in
+    let page = page_text t call values revision m in
+    let same : (planned types m call).answer.body ≡ page = answer_is types m call t values lists revision at in
+    let found = read wanted of values m.current m.compacted (state_at m.changes) page asks
+    (λ r low high. machine_keeps say types m t call.target.kind call.target.namespace r is lists.served) history.low history.high
+    (text_is types m call t values lists revision at) (subst IsUtf8 same text) in
+    let own : found.0 ≡ revision = ap revision_or_zero (sym found.1 ∙ at) in
+    subst (λ body. IsReadAsPage wanted body revision (page_of of values (state_at m.changes revision))) (sym same)
+    (subst (λ r. IsReadAsPage wanted page r (page_of of values (state_at m.changes r))) own found.2)
