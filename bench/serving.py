@@ -88,9 +88,14 @@ def best(program, folder, script):
     return min(play(program, folder, script) for _ in range(RUNS))
 
 
+PLAYED = {}
+
+
 def timed(program, folder, before, after, count):
     """The time of one of so many things that the longer script does more, and the peak memory of its play."""
-    base, _ = best(program, folder, before)
+    if id(before) not in PLAYED:
+        PLAYED[id(before)] = before, best(program, folder, before)
+    base, _ = PLAYED[id(before)][1]
     took, peak = best(program, folder, after)
     return max(0, took - base) / count, peak
 
@@ -135,9 +140,10 @@ def single_objects(program, folder):
     print("\nSingle objects, each request on a connection of its own; the objects beside it are of 1 KB\n")
     head("fields", "request", "requests", "in a store of 1", "a second", "in a store of 10,000", "a second")
     stores = store_of(0), store_of(10_000)
-    for fields, count in ((10, 2000), (100, 1000), (1000, 200)):
+    for fields, many in ((10, 4000), (100, 1500), (1000, 250)):
         for method in ("GET", "POST", "PUT", "PATCH", "DELETE"):
             cells = []
+            count = many * 4 if method == "GET" else many
             for made in stores:
                 one, _ = timed(program, folder, *requests_of(method, fields, count, made), count)
                 cells += [microseconds(one), f"{1e9 / max(1, one):,.0f}"]
@@ -150,9 +156,9 @@ def small_gets(program, folder):
     for objects in (1, 10_000):
         made = store_of(objects)
         script = made.copy()
-        for _ in range(5000):
+        for _ in range(20_000):
             script.request("GET", WIDGETS + "/w000000")
-        one, _ = timed(program, folder, made, script, 5000)
+        one, _ = timed(program, folder, made, script, 20_000)
         _, peak = play(program, folder, made)
         row(objects, f"{one / 1000:.1f} us", f"{1e9 / max(1, one):,.0f}", f"{peak:.0f} MiB")
 

@@ -19,14 +19,14 @@ KINDS = ("crate", "tests", "edits")
 
 
 def children():
-    """Returns each process's parent."""
+    """Returns each process's parent, the processor time that it took, and when it began."""
     parents = {}
     for name in os.listdir("/proc"):
         if name.isdigit():
             try:
                 with open(f"/proc/{name}/stat") as it:
                     fields = it.read().rpartition(")")[2].split()
-                parents[int(name)] = int(fields[1]), (int(fields[11]) + int(fields[12])) / TICKS
+                parents[int(name)] = int(fields[1]), (int(fields[11]) + int(fields[12])) / TICKS, fields[19]
             except (OSError, IndexError):
                 pass
     return parents
@@ -64,11 +64,15 @@ def main():
     seen, known = {}, {}
     while started.poll() is None:
         parents = children()
-        for pid, (_, taken) in parents.items():
-            if pid not in known and is_below(pid, started.pid, parents):
-                known[pid] = what(pid)
-            if known.get(pid):
-                seen[pid] = known[pid], taken
+        for pid, (_, taken, start) in parents.items():
+            # (a number is given again, and a process is rt's own until it becomes a prover)
+            run = pid, start
+            if run not in known and is_below(pid, started.pid, parents):
+                known[run] = what(pid)
+                if not known[run]:
+                    del known[run]
+            if run in known:
+                seen[run] = known[run], taken
         time.sleep(0.5)
     took = collections.defaultdict(lambda: dict.fromkeys(KINDS, 0.0))
     for (crate, kind), taken in seen.values():
