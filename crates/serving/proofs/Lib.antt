@@ -1,0 +1,4 @@
+mod Givens
+mod Hearing
+mod Joining
+mod Pieces

@@ -1,0 +1,7 @@
+use Rattle.std.proofs.Common.{map}
+use Rattle.serving.specs.Serving.{Does}
+use Rattle.serving.specs.Tidies.{PumpsAll}
+use Rattle.serving.proofs.server.Server.pump_watches.Given as goal
+
+abbrev pub invariant-loop-watch : goal.invariant-loop-watch
+invariant-loop-watch g l = Does (PumpsAll l.lines (map (λ w. w.0) l.yielded)) l.fn.self.hub l.self.hub

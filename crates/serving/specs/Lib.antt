@@ -1,0 +1,4 @@
+pub mod ServerSeen
+pub mod Serving
+pub mod Tidies
+pub mod Turns

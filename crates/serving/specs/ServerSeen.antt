@@ -1,0 +1,15 @@
+-- What callers see of a server.
+use Rattle.std.specs.Prelude.{ℕ, List, map}
+use Rattle.httpedge.specs.declared.hub.Hub.{Hub}
+use Rattle.serving.specs.declared.server.Limits.{Limits}
+use Rattle.serving.specs.declared.server.Server.{Server}
+
+abbrev pub hub_of : {W : Type 0} → Server W → Hub
+hub_of server = server.hub
+
+abbrev pub limits_of : {W : Type 0} → Server W → Limits
+limits_of server = server.limits
+
+-- the watches whose streams it keeps, in the order in which they opened
+abbrev pub watches_of : {W : Type 0} → Server W → List ℕ
+watches_of server = map (λ w. w.0) server.watches.items

@@ -1,0 +1,38 @@
+-- What is done with a hub.
+use Rattle.std.specs.Prelude.{◌≡◌, ℕ, false, List, [], Result, Ok, Err}
+use Rattle.httpedge.specs.Connections.{open_on, out_on}
+use Rattle.httpedge.specs.HubSeen.{IsIn}
+use Rattle.httpedge.specs.Runs.{Happening, Runs}
+use Rattle.httpedge.specs.Steps.{State, pumps}
+use Rattle.httpedge.specs.declared.hub.Hub.{Hub}
+use Rattle.serving.specs.Tidies.{Hands}
+use Rattle.serving.specs.Turns.{Turns}
+
+-- the hub before and after a turn of the connection, by the bytes heard and told
+abbrev pub Serves : ℕ → Hub → List ℕ → List ℕ → Hub → Type 0
+Serves id old heard told new = (s : State) → IsIn old s → (t : State) × Turns id s heard told t × IsIn new t
+
+-- the same of no bytes, after which the connection isn't open
+abbrev pub Goes : ℕ → Hub → Hub → Type 0
+Goes id old new = (s : State) → IsIn old s → (t : State) × Turns id s [] [] t × (open_on t.connections id ≡ false) × IsIn new t
+
+-- all that was written on the connection was taken; after an error it isn't open
+abbrev pub IsLeft : {A E : Type 0} → Result A E → ℕ → State → Type 0
+IsLeft (Ok a) id t = out_on t.connections id ≡ []
+IsLeft (Err e) id t = open_on t.connections id ≡ false
+
+-- what this relation of states says leads from the hub before to the hub after
+abbrev pub Does : (State → State → Type 0) → Hub → Hub → Type 0
+Does R old new = (s : State) → IsIn old s → (t : State) × R s t × IsIn new t
+
+-- the turn of a watch that may write so many lines, and ends so
+abbrev pub IsPumped : {A E : Type 0} → Result A E → ℕ → ℕ → List ℕ → State → State → Type 0
+IsPumped result id lines told s t = (mid : State) × Hands (pumps id lines) s mid × Turns id mid [] told t × IsLeft result id t
+
+-- a turn that ends so
+abbrev pub HasTurn : {A E : Type 0} → Result A E → ℕ → Hub → List ℕ → List ℕ → Hub → Type 0
+HasTurn result id old heard told new = (s : State) → IsIn old s → (t : State) × Turns id s heard told t × IsLeft result id t × IsIn new t
+
+-- events in turn lead from the hub before to the hub after
+abbrev pub Leads : Hub → Hub → Type 0
+Leads old new = (s : State) → IsIn old s → (hs : List Happening) × (t : State) × Runs s hs t × IsIn new t

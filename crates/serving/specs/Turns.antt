@@ -1,0 +1,34 @@
+-- The turn of a connection (RFC 9112, section 9): what came on it, and what its stream was given.
+use Rattle.std.specs.Prelude.{◌≡◌, ◌≢◌, ℕ, ◌==◌, if◌then◌else◌, List, [], ◌++◌, length, Option, Some, None}
+use Rattle.std.specs.FinMap as fin
+use Rattle.std.specs.List.{flat_map}
+use Rattle.httpedge.specs.Connections.{Connection}
+use Rattle.httpedge.specs.Runs.{Happening, Runs, happens, starves, takes}
+use Rattle.httpedge.specs.Steps.{Event, State, opens, comes, goes, pumps, ticks, compacts}
+
+-- the bytes that an event brings on a connection
+abbrev pub brought : ℕ → Event → List ℕ
+brought id (opens k) = []
+brought id (comes k bytes) = if k == id then bytes else []
+brought id (goes k) = []
+brought id (pumps k max) = []
+brought id (ticks ms) = []
+brought id (compacts c) = []
+
+abbrev pub came : ℕ → Happening → List ℕ
+came id (happens e) = brought id e
+came id (starves e found_none) = brought id e
+came id (takes k n) = []
+
+-- these bytes, a front of what was written on the connection, are those that were taken of it; of an unknown one there are none
+abbrev pub IsGiven : List ℕ → Option Connection → Type 0
+IsGiven given None = given ≡ []
+IsGiven given (Some c) = (c.taken ≡ length given) × ((rest : List ℕ) × (c.written ≡ given ++ rest))
+
+-- events in turn in which the bytes heard come on the connection, and those told are taken of it after the ones that its stream
+-- was given before; every other connection stays as it is
+abbrev pub Turns : ℕ → State → List ℕ → List ℕ → State → Type 0
+Turns id s heard told t =
+    (hs : List Happening) × Runs s hs t × (flat_map (came id) hs ≡ heard)
+    × ((given : List ℕ) → IsGiven given (fin.get s.connections id) → IsGiven (given ++ told) (fin.get t.connections id))
+    × ((other : ℕ) → other ≢ id → fin.get t.connections other ≡ fin.get s.connections other)

@@ -1,0 +1,144 @@
+//! The turn of one connection.
+
+ghost use Rattle.std.specs.Prelude.{◌≡◌, [], List, MatchResult, ℕ, OnOk};
+ghost use Rattle.std.specs.Io.KnownBytes.{Appends, Consumes};
+ghost use Rattle.httpedge.specs.Connections.{out_on};
+ghost use Rattle.httpedge.specs.HubSeen.{IsIn};
+ghost use Rattle.httpedge.specs.Steps.{State, pumps};
+ghost use Rattle.serving.specs.Serving.{Does, Goes, HasTurn, IsPumped, Serves};
+ghost use Rattle.serving.specs.Tidies.{Hands};
+
+use httpedge::{Event, Hub};
+use std::alloc::Global;
+use std::io;
+use std::io::{ErrorKind, Read, Write};
+
+/// The most bytes that are read at a time.
+const PIECE: usize = 4096;
+
+fn open(hub: &mut Hub, id: u64) -> io::Result<()>
+    ensures { Serves id hub.old [] [] hub.new }
+{
+    if hub.on(&Event::Open(id)).is_err() {
+        return Err(io::Error::from(ErrorKind::OutOfMemory));
+    }
+    Ok(())
+}
+
+fn receive(hub: &mut Hub, id: u64, piece: Vec<u8>)
+    ensures { Serves id hub.old piece.items [] hub.new }
+{
+    let _ = hub.on(&Event::In(id, piece));
+}
+
+fn send_lines(hub: &mut Hub, id: u64, max: u64)
+    ensures { Does (Hands (pumps id max)) hub.old hub.new }
+{
+    let _ = hub.on(&Event::Pump(id, max));
+}
+
+/// The peer of a connection has gone.
+pub(crate) fn leave(hub: &mut Hub, id: u64)
+    ensures { Goes id hub.old hub.new }
+{
+    let _ = hub.on(&Event::Gone(id));
+}
+
+/// Some of the bytes that a reader has next; an error where it has none.
+fn read_piece<R: Read>(alloc: Global, reader: &mut R) -> io::Result<Vec<u8>>
+    ensures { MatchResult result (λ piece. Consumes (R.remaining reader.old) (R.remaining reader.new) piece.items) (λ _. Consumes (R.remaining reader.old) (R.remaining reader.new) []) }
+{
+    let mut piece = vec![in alloc; 0u8; PIECE]?;
+    let count = reader.read(&mut piece)?;
+    if count == 0 {
+        return Err(io::Error::from(ErrorKind::UnexpectedEof));
+    }
+    piece.truncate(count);
+    Ok(piece)
+}
+
+/// Reads while the hub waits for bytes of the connection, and hands them to it in order.
+fn listen<R: Read>(alloc: Global, hub: &mut Hub, id: u64, reader: &mut R) -> io::Result<()>
+    ensures { (heard : List ℕ) × Consumes (R.remaining reader.old) (R.remaining reader.new) heard × Serves id hub.old heard [] hub.new }
+{
+    'pieces: for _ in 0..u64::MAX {
+        if !hub.wants(id) {
+            break;
+        }
+        match read_piece(alloc, reader) {
+            Ok(piece) => receive(hub, id, piece),
+            Err(error) if error.kind() == ErrorKind::Interrupted => {}
+            Err(error) => return Err(error),
+        }
+    }
+    Ok(())
+}
+
+/// Writes what is out on the connection, and takes it.
+fn tell<W: Write>(hub: &mut Hub, id: u64, writer: &mut W) -> io::Result<()>
+    ensures told { (told : List ℕ) × Appends (W.contents writer.old) (W.contents writer.new) told × Serves id hub.old [] told hub.new }
+    ensures all { OnOk result ((s : State) → IsIn hub.new s → out_on s.connections id ≡ []) }
+{
+    'writes: for _ in 0..u64::MAX {
+        let out = hub.out(id);
+        if out.is_empty() {
+            return Ok(());
+        }
+        match writer.write(out) {
+            Ok(0) => break,
+            Ok(count) => hub.take(id, count),
+            Err(error) if error.kind() == ErrorKind::Interrupted => {}
+            Err(error) => return Err(error),
+        }
+    }
+    Err(io::Error::from(ErrorKind::WriteZero))
+}
+
+fn converse<R: Read, W: Write>(
+    alloc: Global,
+    hub: &mut Hub,
+    id: u64,
+    reader: &mut R,
+    writer: &mut W,
+) -> io::Result<()>
+    ensures served { (heard : List ℕ) × (told : List ℕ) × Consumes (R.remaining reader.old) (R.remaining reader.new) heard
+        × Appends (W.contents writer.old) (W.contents writer.new) told × Serves id hub.old heard told hub.new }
+    ensures all { OnOk result ((s : State) → IsIn hub.new s → out_on s.connections id ≡ []) }
+{
+    open(hub, id)?;
+    listen(alloc, hub, id, reader)?;
+    tell(hub, id, writer)
+}
+
+/// The turn of a connection, whose stream is a reader and a writer: it opens, the hub gets what is read while it waits
+/// for more, and what is then out is written. Where the id is no new one, a read or write fails, or the reader ends
+/// before the request, the peer has gone.
+pub fn turn<R: Read, W: Write>(
+    alloc: Global,
+    hub: &mut Hub,
+    id: u64,
+    reader: &mut R,
+    writer: &mut W,
+) -> io::Result<()>
+    ensures { (heard : List ℕ) × (told : List ℕ) × Consumes (R.remaining reader.old) (R.remaining reader.new) heard
+        × Appends (W.contents writer.old) (W.contents writer.new) told × HasTurn result id hub.old heard told hub.new }
+{
+    let done = converse(alloc, hub, id, reader, writer);
+    if done.is_err() {
+        leave(hub, id);
+    }
+    done
+}
+
+/// The turn of a watch: the hub may write so many lines, and what is out is written. Where a write fails the peer has
+/// gone.
+pub fn pump<W: Write>(hub: &mut Hub, id: u64, max: u64, writer: &mut W) -> io::Result<()>
+    ensures { (told : List ℕ) × Appends (W.contents writer.old) (W.contents writer.new) told × Does (IsPumped result id max told) hub.old hub.new }
+{
+    send_lines(hub, id, max);
+    let done = tell(hub, id, writer);
+    if done.is_err() {
+        leave(hub, id);
+    }
+    done
+}

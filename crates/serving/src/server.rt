@@ -1,0 +1,118 @@
+//! The server: one connection after another, and the streams of its watches.
+
+ghost use Rattle.std.specs.Prelude.{[], List};
+ghost use Rattle.schema.specs.TypesFile.{ServedShape};
+ghost use Rattle.history.specs.History.{History};
+ghost use Rattle.verbs.specs.Seen.{Stands};
+ghost use Rattle.httpedge.specs.HubSeen.{IsIn};
+ghost use Rattle.httpedge.specs.Steps.{start, ticks};
+ghost use Rattle.serving.specs.ServerSeen.{hub_of, limits_of, watches_of};
+ghost use Rattle.serving.specs.Serving.{Does, Leads, Serves};
+ghost use Rattle.serving.specs.Tidies.{Compacts, Hands, PumpsAll, Tidies};
+
+use crate::conversing::{leave, pump, turn};
+use httpedge::{Event, Hub};
+use std::alloc::Global;
+use std::io;
+use std::io::{Read, Write};
+use verbs::Api;
+
+/// What a server keeps, and how much it writes at a time.
+#[derive(Clone, Copy, Debug)]
+pub struct Limits {
+    /// How many revisions before the current one are kept.
+    pub keep: u64,
+    /// How many lines a watch may write after each connection; one or more.
+    pub lines: u64,
+}
+
+fn tick(hub: &mut Hub, ms: u64)
+    ensures { Does (Hands (ticks ms)) hub.old hub.new }
+{
+    let _ = hub.on(&Event::Tick(ms));
+}
+
+/// Forgets what lies more than so many revisions before the current one.
+fn compact(hub: &mut Hub, keep: u64)
+    ensures { Does (Compacts keep) hub.old hub.new }
+{
+    let Ok((current, compacted)) = hub.marks() else {
+        return;
+    };
+    let revision = current.saturating_sub(keep);
+    if compacted < revision {
+        let _ = hub.on(&Event::Compact(revision));
+    }
+}
+
+/// A hub, and the streams of its watches in the order of their ids.
+#[derive(Drop)]
+pub struct Server<W: Drop> {
+    alloc: Global,
+    hub: Hub,
+    limits: Limits,
+    /// The highest id so far.
+    highest: u64,
+    watches: Vec<(u64, W)>,
+}
+
+impl<W: Write + Drop> Server<W> {
+    /// A server without connections.
+    pub fn new(alloc: Global, api: Api, limits: Limits) -> Server<W>
+        ensures { (types : List ServedShape) (m : History) → Stands api types m → IsIn (hub_of result) (start types m) }
+    {
+        Server {
+            alloc,
+            hub: Hub::new(alloc, api),
+            limits,
+            highest: 0,
+            watches: Vec::new(alloc),
+        }
+    }
+
+    /// Serves a connection: it gets the next id and has its turn. The stream of a watch is kept, any other is closed.
+    pub fn serve<R: Read + Drop>(&mut self, mut reader: R, mut writer: W)
+        ensures { Leads (hub_of self.old) (hub_of self.new) }
+    {
+        let Some(id) = self.highest.checked_add(1) else {
+            return;
+        };
+        self.highest = id;
+        let done = turn(self.alloc, &mut self.hub, id, &mut reader, &mut writer);
+        self.settle(id, writer, done);
+    }
+
+    /// What is done after each connection: the clock's tick, in milliseconds after the start; a compaction, where that
+    /// raises the compacted number; and the turn of each watch, in the order of their ids.
+    pub fn tidy(&mut self, ms: u64)
+        ensures { Does (Tidies (limits_of self.old).keep (limits_of self.old).lines (watches_of self.old) ms) (hub_of self.old) (hub_of self.new) }
+    {
+        tick(&mut self.hub, ms);
+        compact(&mut self.hub, self.limits.keep);
+        self.pump_watches();
+    }
+
+    fn pump_watches(&mut self)
+        ensures { Does (PumpsAll (limits_of self.old).lines (watches_of self.old)) (hub_of self.old) (hub_of self.new) }
+    {
+        let lines = self.limits.lines;
+        let watches = std::mem::replace(&mut self.watches, Vec::new(self.alloc));
+        for watch in watches {
+            let (id, mut writer) = watch;
+            let done = pump(&mut self.hub, id, lines, &mut writer);
+            self.settle(id, writer, done);
+        }
+    }
+
+    /// Keeps the stream of a watch that goes on; without memory for that its peer is sent away.
+    fn settle(&mut self, id: u64, writer: W, done: io::Result<()>)
+        ensures { Serves id (hub_of self.old) [] [] (hub_of self.new) }
+    {
+        if done.is_err() || self.hub.ended(id) {
+            return;
+        }
+        if self.watches.push((id, writer)).is_err() {
+            leave(&mut self.hub, id);
+        }
+    }
+}
