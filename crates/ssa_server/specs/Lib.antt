@@ -1,0 +1,2 @@
+pub mod ServerCommand
+pub mod Statuses

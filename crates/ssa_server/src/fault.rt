@@ -1,0 +1,70 @@
+//! Why a run of the program ended.
+
+ghost use Rattle.std.specs.Prelude.{◌≡◌};
+ghost use Rattle.ssa_server.specs.Statuses.{status_of};
+
+use programs::RunFault;
+use std::alloc::AllocError;
+use std::io;
+use thiserror::Error;
+use verbs::Fault;
+
+/// Why a run of the program did not end well.
+#[derive(Debug, Drop, Error)]
+pub enum ServerFault {
+    /// A fault of the words, the types file, the output or the memory.
+    #[error("{0}")]
+    Run(RunFault),
+    /// The option of this name has no number that it may have.
+    #[error("bad number: --{0}")]
+    Number(&'static str),
+    /// The port cannot be listened on.
+    #[error("socket: {0}")]
+    Socket(io::Error),
+}
+
+impl ServerFault {
+    /// The exit status that tells the fault: 2 for a bad number, 6 for the socket, else that of the run's fault.
+    pub fn status(&self) -> u8
+        ensures { result ≡ status_of self.now }
+    {
+        match self {
+            ServerFault::Run(fault) => fault.status(),
+            ServerFault::Number(_) => 2,
+            ServerFault::Socket(_) => 6,
+        }
+    }
+}
+
+impl From<RunFault> for ServerFault {
+    fn from(fault: RunFault) -> ServerFault {
+        ServerFault::Run(fault)
+    }
+}
+
+impl From<clap::Error> for ServerFault {
+    fn from(error: clap::Error) -> ServerFault {
+        ServerFault::Run(RunFault::from(error))
+    }
+}
+
+impl From<AllocError> for ServerFault {
+    fn from(_: AllocError) -> ServerFault {
+        ServerFault::Run(RunFault::Memory)
+    }
+}
+
+impl From<Fault> for ServerFault {
+    fn from(fault: Fault) -> ServerFault {
+        ServerFault::Run(match fault {
+            Fault::Memory => RunFault::Memory,
+            Fault::Store | Fault::Unreadable => RunFault::Store,
+        })
+    }
+}
+
+impl From<io::Error> for ServerFault {
+    fn from(error: io::Error) -> ServerFault {
+        ServerFault::Socket(error)
+    }
+}
