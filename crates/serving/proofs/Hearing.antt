@@ -1,5 +1,5 @@
 -- Pieces that are read and heard, or written and taken, one after another.
-use Rattle.std.proofs.Common.{◌≡◌, ℕ, true, false, List, [], ◌++◌, Option, Result, Ok, Err}
+use Rattle.std.proofs.Common.{◌≡◌, ℕ, true, false, List, [], ◌++◌, Option, Result, Ok, Err, subst}
 use Rattle.std.specs.Result.{OnOk, is_err}
 use Rattle.std.specs.Io.KnownBytes.{Appends, Consumes, Keeps}
 use Rattle.std.proofs.KnownBytes.{Appends-kept, Appends-nil, Appends-trans, Consumes-nil, Consumes-trans}
@@ -7,9 +7,9 @@ use Rattle.httpedge.specs.Connections.{out_on}
 use Rattle.httpedge.specs.HubSeen.{IsIn}
 use Rattle.httpedge.specs.Steps.{State, pumps}
 use Rattle.httpedge.specs.declared.hub.Hub.{Hub}
-use Rattle.serving.specs.Serving.{Does, Goes, HasTurn, IsPumped, Serves}
+use Rattle.serving.specs.Serving.{Does, Goes, HasTurn, IsPumped, Served, Serves}
 use Rattle.serving.specs.Tidies.{Hands}
-use Rattle.serving.proofs.Joining.{serves_none, serves_then, turns_then}
+use Rattle.serving.proofs.Joining.{serves_none, serves_then, turned, turns_then}
 
 -- what left the reader came on the connection
 abbrev pub Hears : ℕ → Option (List ℕ) → Option (List ℕ) → Hub → Hub → Type 0
@@ -112,3 +112,19 @@ over_badly r id a b d e x y z badly talks goes = (
   Appends-trans d e e talks.1 [] talks.3 (Appends-nil e),
   done_badly r id x y z talks.0 talks.1 badly talks.4 goes,
 )
+
+-- ---- a connection that is served
+
+pub served_none : (id : ℕ) (a d : Option (List ℕ)) (x : Hub) → Served id a a d x x
+served_none id a d x = (d, [], [], Consumes-nil a, Appends-nil d, serves_none id x)
+
+pub served_then : {A E : Type 0} (r : Result A E) (id next : ℕ) (a b d e : Option (List ℕ)) (x y z : Hub) → id ≡ next → Over r id a b d e x y → Serves id y [] [] z → Served next a b d x z
+served_then r id next a b d e x y z is over settled =
+    subst (λ (k : ℕ). Served k a b d x z) is (
+      e,
+      over.0 ++ [],
+      over.1 ++ [],
+      Consumes-trans a b b over.0 [] over.2 (Consumes-nil b),
+      Appends-trans d e e over.1 [] over.3 (Appends-nil e),
+      serves_then id x y z over.0 over.1 [] [] (turned r id x y over.0 over.1 over.4) settled,
+    )

@@ -1,5 +1,5 @@
 -- Turns of a connection join.
-use Rattle.std.proofs.Common.{◌≡◌, ◌≢◌, ◌<◌, ◌≤◌, ℕ, map, Bool, true, false, cond, T, List, [], ◌∷◌, ◌++◌, take, Option, Some, None, Result, Ok, Err, refl, sym, ap, ap₂, subst, ◌∙◌, append_assoc, append-nil}
+use Rattle.std.proofs.Common.{◌≡◌, ◌≢◌, ◌<◌, ◌≤◌, ℕ, zero, suc, map, Bool, true, false, cond, T, List, [], ◌∷◌, ◌++◌, take, Option, Some, None, Result, Ok, Err, refl, sym, ap, ap₂, subst, ◌∙◌, append_assoc, append-nil}
 use Rattle.std.specs.Prelude.{◌==◌, ◌-◌, nat_lt, is_some, option_map, unwrap_or}
 use Rattle.std.specs.FinMap as fin
 use Rattle.std.proofs.lemmas.Grind.{flat_map-append}
@@ -15,7 +15,8 @@ use Rattle.httpedge.specs.declared.fault.HubFault.TheVariants as fault
 use Rattle.httpedge.specs.declared.hub.Hub.{Hub}
 use Rattle.httpedge.proofs.Connected.{put_there}
 use Rattle.httpedge.proofs.Staying.{others}
-use Rattle.serving.specs.Serving.{Does, Goes, HasTurn, IsPumped, Leads, Serves}
+use Rattle.serving.specs.declared.server.Limits.{Limits}
+use Rattle.serving.specs.Serving.{Does, DoesRounds, Goes, HasTurn, IsPumped, Leads, Served, Serves, ServesOne}
 use Rattle.serving.specs.Tidies.{Compacts, Hands, HandsIf, Pumps, PumpsAll, Tidies, event_in}
 use Rattle.serving.specs.Turns.{IsGiven, Turns, brought, came}
 use Rattle.serving.proofs.Givens.{TakesNone, given_grows, given_stays}
@@ -156,10 +157,19 @@ serves_gone id x y left = λ s is.
     let one = left s is in
     (one.0, one.1, one.3)
 
-pub leads_had : {A E : Type 0} (r : Result A E) (id : ℕ) (x y : Hub) (heard told : List ℕ) → HasTurn r id x heard told y → Leads x y
-leads_had r id x y heard told had = λ s is.
+pub turned : {A E : Type 0} (r : Result A E) (id : ℕ) (x y : Hub) (heard told : List ℕ) → HasTurn r id x heard told y → Serves id x heard told y
+turned r id x y heard told had = λ s is.
     let one = had s is in
-    (one.1.0, one.0, one.1.1, one.3)
+    (one.0, one.1, one.3)
+
+pub one_none : (hub : Hub) → ServesOne hub hub
+one_none hub = (0, [], [], serves_none 0 hub)
+
+pub one_served : (id : ℕ) (a b d : Option (List ℕ)) (x y : Hub) → Served id a b d x y → ServesOne x y
+one_served id a b d x y served = (id, served.1, served.2, served.5)
+
+pub leads_one : (x y z : Hub) → Leads x y → ServesOne y z → Leads x z
+leads_one x y z before (id, heard, told, serves) = leads_then x y z before (leads_turn id y z heard told serves)
 
 -- ---- what is done after a connection
 
@@ -263,3 +273,19 @@ leads_tidied keep lines ids ms x y does = λ s is.
     let second = run_if _ _ one.1.0 one.1.1 one.1.3 in
     let third = run_pumps lines ids one.1.1 one.0 one.1.4 in
     (one.1.2.0 ∷ (second.0 ++ third.0), one.0, (one.1.0, one.1.2.2, runs_then one.1.0 one.1.1 one.0 second.0 third.0 second.1 third.1), one.2)
+
+-- ---- one connection after another
+
+pub rounds_none : (limits : Limits) (hub : Hub) → DoesRounds limits hub hub
+rounds_none limits hub = (zero, λ s is. (s, refl, is))
+
+pub rounds_more : (now limits : Limits) (ms : ℕ) (ids : List ℕ) (x y z v : Hub) → now ≡ limits → DoesRounds limits x y → ServesOne y z → Does (Tidies now.keep now.lines ids ms) z v
+    → DoesRounds limits x v
+rounds_more now limits ms ids x y z v same before (id, heard, told, serves) tidied = (
+  suc before.0,
+  λ s is.
+      let one = before.1 s is in
+      let two = serves one.0 one.2 in
+      let three = (subst (λ (m : Limits). Does (Tidies m.keep m.lines ids ms) z v) same tidied) two.0 two.2 in
+      (three.0, (one.0, one.1, (id, heard, told, ids, ms, two.0, two.1, three.1)), three.2),
+)

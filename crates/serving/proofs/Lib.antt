@@ -1,4 +1,5 @@
 mod Givens
 mod Hearing
 mod Joining
+mod Keeping
 mod Pieces

@@ -1,3 +1,4 @@
+pub mod Rounds
 pub mod ServerSeen
 pub mod Serving
 pub mod Tidies

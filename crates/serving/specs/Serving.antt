@@ -1,10 +1,13 @@
 -- What is done with a hub.
-use Rattle.std.specs.Prelude.{◌≡◌, ℕ, false, List, [], Result, Ok, Err}
+use Rattle.std.specs.Prelude.{◌≡◌, ℕ, false, List, [], Option, Result, Ok, Err}
+use Rattle.std.specs.Io.KnownBytes.{Appends, Consumes}
 use Rattle.httpedge.specs.Connections.{open_on, out_on}
 use Rattle.httpedge.specs.HubSeen.{IsIn}
 use Rattle.httpedge.specs.Runs.{Happening, Runs}
 use Rattle.httpedge.specs.Steps.{State, pumps}
 use Rattle.httpedge.specs.declared.hub.Hub.{Hub}
+use Rattle.serving.specs.declared.server.Limits.{Limits}
+use Rattle.serving.specs.Rounds.{Rounds}
 use Rattle.serving.specs.Tidies.{Hands}
 use Rattle.serving.specs.Turns.{Turns}
 
@@ -32,6 +35,19 @@ IsPumped result id lines told s t = (mid : State) × Hands (pumps id lines) s mi
 -- a turn that ends so
 abbrev pub HasTurn : {A E : Type 0} → Result A E → ℕ → Hub → List ℕ → List ℕ → Hub → Type 0
 HasTurn result id old heard told new = (s : State) → IsIn old s → (t : State) × Turns id s heard told t × IsLeft result id t × IsIn new t
+
+-- a connection was served: what left the reader came on it, and what the writer, which held these bytes, got was taken of it
+abbrev pub Served : ℕ → Option (List ℕ) → Option (List ℕ) → Option (List ℕ) → Hub → Hub → Type 0
+Served id unread left held old new =
+    (holds : Option (List ℕ)) × (heard : List ℕ) × (told : List ℕ) × Consumes unread left heard × Appends held holds told × Serves id old heard told new
+
+-- a turn of a connection
+abbrev pub ServesOne : Hub → Hub → Type 0
+ServesOne old new = (id : ℕ) × (heard : List ℕ) × (told : List ℕ) × Serves id old heard told new
+
+-- so many of them, each with what is done after it
+abbrev pub DoesRounds : Limits → Hub → Hub → Type 0
+DoesRounds limits old new = (n : ℕ) × Does (Rounds limits.keep limits.lines n) old new
 
 -- events in turn lead from the hub before to the hub after
 abbrev pub Leads : Hub → Hub → Type 0

@@ -1,25 +1,76 @@
 //! Connections of a listener, one after another.
 
-ghost use Rattle.serving.specs.ServerSeen.{hub_of};
-ghost use Rattle.serving.specs.Serving.{Leads};
+ghost use Rattle.std.specs.Prelude.{◌≡◌, OnOk};
+ghost use Rattle.serving.specs.ServerSeen.{hub_of, limits_of};
+ghost use Rattle.serving.specs.Serving.{DoesRounds, Leads, ServesOne};
 
 use crate::server::Server;
-use std::io;
 use std::io::{Read, Write};
-use std::net::{OpenListener, OpenStream};
+use std::net::{OpenListener, OpenStream, Shutdown};
 use std::rt::Clock;
-use std::time::Instant;
+use std::time::{Duration, Instant};
+use std::{io, thread};
+
+/// How many milliseconds a listener rests that could not accept, as where no descriptors are left.
+const PAUSE: u64 = 10;
+
+/// For how many milliseconds a peer may send nothing before its connection is closed.
+const QUIET: u64 = 100;
+
+/// For how many milliseconds at most a connection lingers.
+const LINGERS: u128 = 2000;
+
+/// The most bytes that are read at a time while a connection lingers.
+const PIECE: usize = 4096;
+
+/// Ends a connection on which all is written: what its peer still sends is ignored, since a connection that is closed
+/// with bytes unread may cost the peer its reply (RFC 9112, section 9.6).
+fn linger<C: Clock, S: Read + OpenStream>(clock: &C, stream: &mut S) -> io::Result<()> {
+    stream.shutdown(Shutdown::Write)?;
+    stream.set_read_timeout(Some(Duration::from_millis(QUIET)))?;
+    let begun = Instant::now(clock)?;
+    let mut piece = [0u8; PIECE];
+    for _ in 0..u64::MAX {
+        if stream.read(&mut piece)? == 0 || begun.elapsed(clock)?.as_millis() > LINGERS {
+            break;
+        }
+    }
+    Ok(())
+}
+
+/// Ends a connection, unless its stream is kept. Where it can't linger, it is closed at once.
+fn end<C: Clock, S: Read + OpenStream>(clock: &C, stream: &mut S, is_kept: bool) {
+    if !is_kept {
+        let _ = linger(clock, stream);
+    }
+}
+
+/// The next connection of the listener, which rests where it can't accept one.
+fn accept<C: Clock, L: OpenListener>(clock: &C, listener: &L) -> io::Result<L::Stream> {
+    match listener.accept() {
+        Ok((stream, _)) => Ok(stream),
+        Err(error) => {
+            thread::sleep(clock, Duration::from_millis(PAUSE));
+            Err(error)
+        }
+    }
+}
 
 /// Serves the next connection of the listener, whose stream is read and written by two handles.
-fn serve_next<S, L>(listener: &L, server: &mut Server<S>) -> io::Result<()>
+fn serve_next<C, S, L>(clock: &C, listener: &L, server: &mut Server<S>) -> io::Result<()>
 where
+    C: Clock,
     S: Read + Write + OpenStream + Drop,
     L: OpenListener<Stream = S>,
-    ensures { Leads (hub_of server.old) (hub_of server.new) }
+    ensures limits { limits_of server.new ≡ limits_of server.old }
+    ensures served { ServesOne (hub_of server.old) (hub_of server.new) }
 {
-    let (stream, _) = listener.accept()?;
-    let reader = stream.try_clone()?;
-    server.serve(reader, stream);
+    let stream = accept(clock, listener)?;
+    // Where it fails, a line of a watch only comes later.
+    let _ = stream.set_nodelay(true);
+    let mut reader = stream.try_clone()?;
+    let is_kept = server.serve(&mut reader, stream);
+    end(clock, &mut reader, is_kept);
     Ok(())
 }
 
@@ -35,7 +86,8 @@ where
     C: Clock,
     S: Read + Write + OpenStream + Drop,
     L: OpenListener<Stream = S>,
-    ensures { Leads (hub_of server.old) (hub_of server.new) }
+    ensures leads { Leads (hub_of server.old) (hub_of server.new) }
+    ensures rounds { OnOk result (DoesRounds (limits_of server.old) (hub_of server.old) (hub_of server.new)) }
 {
     let start = Instant::now(clock)?;
     let mut left = most;
@@ -43,7 +95,7 @@ where
         if left == 0 {
             break;
         }
-        if serve_next(listener, server).is_ok() {
+        if serve_next(clock, listener, server).is_ok() {
             left -= 1;
         }
         let ms = start.elapsed(clock)?.as_millis();

@@ -1,13 +1,13 @@
 //! The server: one connection after another, and the streams of its watches.
 
-ghost use Rattle.std.specs.Prelude.{[], List};
+ghost use Rattle.std.specs.Prelude.{◌≡◌, [], List};
 ghost use Rattle.schema.specs.TypesFile.{ServedShape};
 ghost use Rattle.history.specs.History.{History};
 ghost use Rattle.verbs.specs.Seen.{Stands};
 ghost use Rattle.httpedge.specs.HubSeen.{IsIn};
 ghost use Rattle.httpedge.specs.Steps.{start, ticks};
-ghost use Rattle.serving.specs.ServerSeen.{hub_of, limits_of, watches_of};
-ghost use Rattle.serving.specs.Serving.{Does, Leads, Serves};
+ghost use Rattle.serving.specs.ServerSeen.{hub_of, limits_of, next_of, watches_of, with_kept};
+ghost use Rattle.serving.specs.Serving.{Does, Served, Serves};
 ghost use Rattle.serving.specs.Tidies.{Compacts, Hands, PumpsAll, Tidies};
 
 use crate::conversing::{leave, pump, turn};
@@ -59,7 +59,10 @@ pub struct Server<W: Drop> {
 impl<W: Write + Drop> Server<W> {
     /// A server without connections.
     pub fn new(alloc: Global, api: Api, limits: Limits) -> Server<W>
-        ensures { (types : List ServedShape) (m : History) → Stands api types m → IsIn (hub_of result) (start types m) }
+        ensures hub { (types : List ServedShape) (m : History) → Stands api types m → IsIn (hub_of result) (start types m) }
+        ensures limits { limits_of result ≡ limits }
+        ensures next { next_of result ≡ 1 }
+        ensures watches { watches_of result ≡ [] }
     {
         Server {
             alloc,
@@ -70,22 +73,26 @@ impl<W: Write + Drop> Server<W> {
         }
     }
 
-    /// Serves a connection: it gets the next id and has its turn. The stream of a watch is kept, any other is closed.
-    pub fn serve<R: Read + Drop>(&mut self, mut reader: R, mut writer: W)
-        ensures { Leads (hub_of self.old) (hub_of self.new) }
+    /// Serves a connection: it gets the next id and has its turn. Answers whether its stream is kept, as that of a watch
+    /// is; any other is closed.
+    pub fn serve<R: Read>(&mut self, reader: &mut R, mut writer: W) -> bool
+        ensures limits { limits_of self.new ≡ limits_of self.old }
+        ensures served { Served (next_of self.old) (R.remaining reader.old) (R.remaining reader.new) (W.contents writer) (hub_of self.old) (hub_of self.new) }
+        ensures watches { watches_of self.new ≡ with_kept result (next_of self.old) (watches_of self.old) }
     {
         let Some(id) = self.highest.checked_add(1) else {
-            return;
+            return false;
         };
         self.highest = id;
-        let done = turn(self.alloc, &mut self.hub, id, &mut reader, &mut writer);
-        self.settle(id, writer, done);
+        let done = turn(self.alloc, &mut self.hub, id, reader, &mut writer);
+        self.settle(id, writer, done)
     }
 
     /// What is done after each connection: the clock's tick, in milliseconds after the start; a compaction, where that
     /// raises the compacted number; and the turn of each watch, in the order of their ids.
     pub fn tidy(&mut self, ms: u64)
-        ensures { Does (Tidies (limits_of self.old).keep (limits_of self.old).lines (watches_of self.old) ms) (hub_of self.old) (hub_of self.new) }
+        ensures limits { limits_of self.new ≡ limits_of self.old }
+        ensures tidies { Does (Tidies (limits_of self.old).keep (limits_of self.old).lines (watches_of self.old) ms) (hub_of self.old) (hub_of self.new) }
     {
         tick(&mut self.hub, ms);
         compact(&mut self.hub, self.limits.keep);
@@ -93,7 +100,8 @@ impl<W: Write + Drop> Server<W> {
     }
 
     fn pump_watches(&mut self)
-        ensures { Does (PumpsAll (limits_of self.old).lines (watches_of self.old)) (hub_of self.old) (hub_of self.new) }
+        ensures limits { limits_of self.new ≡ limits_of self.old }
+        ensures pumps { Does (PumpsAll (limits_of self.old).lines (watches_of self.old)) (hub_of self.old) (hub_of self.new) }
     {
         let lines = self.limits.lines;
         let watches = std::mem::replace(&mut self.watches, Vec::new(self.alloc));
@@ -104,15 +112,20 @@ impl<W: Write + Drop> Server<W> {
         }
     }
 
-    /// Keeps the stream of a watch that goes on; without memory for that its peer is sent away.
-    fn settle(&mut self, id: u64, writer: W, done: io::Result<()>)
-        ensures { Serves id (hub_of self.old) [] [] (hub_of self.new) }
+    /// Keeps the stream of a watch that goes on, and answers whether it does; without memory for that its peer is sent
+    /// away.
+    fn settle(&mut self, id: u64, writer: W, done: io::Result<()>) -> bool
+        ensures limits { limits_of self.new ≡ limits_of self.old }
+        ensures serves { Serves id (hub_of self.old) [] [] (hub_of self.new) }
+        ensures watches { watches_of self.new ≡ with_kept result id (watches_of self.old) }
     {
         if done.is_err() || self.hub.ended(id) {
-            return;
+            return false;
         }
         if self.watches.push((id, writer)).is_err() {
             leave(&mut self.hub, id);
+            return false;
         }
+        true
     }
 }

@@ -1,14 +1,20 @@
-use Rattle.serving.proofs.Joining.{leads_none, leads_then, leads_tidied}
+use Rattle.std.proofs.Common.{◌∙◌, refl}
+use Rattle.serving.proofs.Joining.{leads_none, leads_one, leads_then, leads_tidied, rounds_more, rounds_none}
 use Rattle.serving.proofs.listening.serve_all.Goals as goal
 
-pub returns-in_err-start : goal.returns-in_err-start
-returns-in_err-start g c = leads_none _
+pub returns-in_err-start-clause-leads : goal.returns-in_err-start-clause-leads
+returns-in_err-start-clause-leads g c = leads_none _
 
 pub connections-init : goal.connections-init
-connections-init g c = leads_none _
+connections-init g c = (leads_none _, refl, rounds_none _ _)
 
-pub returns-in_err-elapsed : goal.returns-in_err-elapsed
-returns-in_err-elapsed g c = leads_then _ _ _ c.connections.invariant c.serve_next.ensures
+pub returns-in_err-elapsed-clause-leads : goal.returns-in_err-elapsed-clause-leads
+returns-in_err-elapsed-clause-leads g c = leads_one _ _ _ c.connections.invariant.0 c.serve_next.ensures.served
 
 pub connections-preserved : goal.connections-preserved
-connections-preserved g c = leads_then _ _ _ (leads_then _ _ _ c.connections.invariant c.serve_next.ensures) (leads_tidied _ _ _ _ _ _ c.tidy.ensures)
+connections-preserved g c =
+    let same = c.serve_next.ensures.limits ∙ c.connections.invariant.1 in (
+      leads_then _ _ _ (leads_one _ _ _ c.connections.invariant.0 c.serve_next.ensures.served) (leads_tidied _ _ _ _ _ _ c.tidy.ensures.tidies),
+      c.tidy.ensures.limits ∙ same,
+      rounds_more _ _ _ _ _ _ _ _ same c.connections.invariant.2 c.serve_next.ensures.served c.tidy.ensures.tidies,
+    )

@@ -1,5 +1,8 @@
-use Rattle.serving.specs.Serving.{Leads}
+use Rattle.std.proofs.Common.{◌≡◌}
+use Rattle.serving.specs.ServerSeen.{hub_of, limits_of}
+use Rattle.serving.specs.Serving.{DoesRounds, Leads}
 use Rattle.serving.proofs.listening.serve_all.Given as goal
 
 abbrev pub invariant-connections : goal.invariant-connections
-invariant-connections g l = Leads l.fn.server.hub l.server.hub
+invariant-connections g l =
+    Leads (hub_of l.fn.server) (hub_of l.server) × (limits_of l.server ≡ limits_of l.fn.server) × DoesRounds (limits_of l.fn.server) (hub_of l.fn.server) (hub_of l.server)

@@ -1,8 +1,11 @@
-use Rattle.serving.proofs.Joining.{leads_none}
+use Rattle.serving.proofs.Joining.{one_none, one_served}
 use Rattle.serving.proofs.listening.serve_next.Goals as goal
 
-pub returns-in_err-stream : goal.returns-in_err-stream
-returns-in_err-stream g c = leads_none _
+pub returns-in_err-stream-clause-served : goal.returns-in_err-stream-clause-served
+returns-in_err-stream-clause-served g c = one_none _
 
-pub returns-in_err-reader : goal.returns-in_err-reader
-returns-in_err-reader g c = leads_none _
+pub returns-in_err-reader-clause-served : goal.returns-in_err-reader-clause-served
+returns-in_err-reader-clause-served g c = one_none _
+
+pub returns-clause-served : goal.returns-clause-served
+returns-clause-served g c = one_served _ _ _ _ _ _ c.serve-is_kept.ensures.served

@@ -1,4 +1,4 @@
-use Rattle.std.proofs.Common.{◌∙◌, ap, sym}
+use Rattle.std.proofs.Common.{◌∙◌, ap, refl, sym}
 use Rattle.std.specs.Vec.{vec_items}
 use Rattle.std.proofs.lemmas.Iterator.Adapters.{YieldsList-from_vec}
 use Rattle.std.proofs.lemmas.Iterator.Consumers.{YieldsList-end}
@@ -7,17 +7,22 @@ use Rattle.serving.proofs.Joining.{pumps_all, pumps_next, pumps_none}
 use Rattle.serving.proofs.server.Server.pump_watches.Goals as goal
 
 pub loop-watch-init : goal.loop-watch-init
-loop-watch-init g c = pumps_none c.args.self.now.limits.lines _
+loop-watch-init g c = (pumps_none c.args.self.now.limits.lines _, refl)
 
 pub loop-watch-preserved : goal.loop-watch-preserved
-loop-watch-preserved g c =
-    pumps_next c.pump-done.result c.args.self.now.limits.lines c.loop-watch.yielded c.in-Some.watch _ _ _ _ c.pump-done.ensures.0 c.loop-watch.invariant c.pump-done.ensures.2 c.settle.ensures
+loop-watch-preserved g c = (
+  pumps_next c.pump-done.result c.args.self.now.limits.lines c.loop-watch.yielded c.in-Some.watch _ _ _ _ c.pump-done.ensures.0 c.loop-watch.invariant.0 c.pump-done.ensures.2 c.settle.ensures.serves,
+  c.settle.ensures.limits ∙ c.loop-watch.invariant.1,
+)
 
-pub returns : goal.returns
-returns g c =
+pub returns-clause-pumps : goal.returns-clause-pumps
+returns-clause-pumps g c =
     let watches = c.replace-watches.result in
     let gives = c.into_iter-watch-iterator.ensures.into_iter_gives in
     let chain = YieldsList-from_vec watches.items gives.0 (gives.1 ∙ watches.ok.0) in
     let end = YieldsList-end chain c.loop-watch.yielded c.loop-watch.watch-iterator c.loop-watch.yielded_by c.next.result c.next.new.self c.in-None.is c.next.ensures.steps in
     pumps_all c.args.self.now.limits.lines c.loop-watch.yielded c.args.self.now.watches.items _ _ (sym (map-id c.loop-watch.yielded) ∙ end.0 ∙ ap vec_items c.replace-watches.ensures.value)
-    c.loop-watch.invariant
+    c.loop-watch.invariant.0
+
+pub returns-clause-limits : goal.returns-clause-limits
+returns-clause-limits g c = c.loop-watch.invariant.1

@@ -1,8 +1,13 @@
-use Rattle.serving.proofs.Joining.{leads_had, leads_none, leads_then, leads_turn}
+use Rattle.std.proofs.Common.{◌∙◌, ap}
+use Rattle.serving.specs.ServerSeen.{watches_of, with_kept}
+use Rattle.serving.proofs.Hearing.{served_none, served_then}
 use Rattle.serving.proofs.server.Server.serve.Goals as goal
 
-pub returns-in_default : goal.returns-in_default
-returns-in_default g c = leads_none _
+pub returns-in_default-clause-served : goal.returns-in_default-clause-served
+returns-in_default-clause-served g c = served_none _ _ _ _
 
-pub returns : goal.returns
-returns g c = leads_then _ _ _ (leads_had c.turn-done.result _ _ _ _ _ c.turn-done.ensures.4) (leads_turn _ _ _ _ _ c.settle.ensures)
+pub returns-clause-served : goal.returns-clause-served
+returns-clause-served g c = served_then c.turn-done.result _ _ _ _ _ _ _ _ _ c.in-Some.ensures.1 c.turn-done.ensures c.settle.ensures.serves
+
+pub returns-clause-watches : goal.returns-clause-watches
+returns-clause-watches g c = c.settle.ensures.watches ∙ ap (λ id. with_kept c.settle.result id (watches_of c.args.self.now)) c.in-Some.ensures.1
