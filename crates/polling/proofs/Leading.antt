@@ -1,0 +1,238 @@
+-- What happens in turn, joined.
+use Rattle.std.proofs.Common.{◌≡◌, ◌≢◌, ℕ, Bool, true, false, List, [], ◌∷◌, ◌++◌, take, drop, length, Option, Result, Ok, Err, refl, sym, ap, subst, ◌∙◌, append_assoc, append-nil, arith}
+use Rattle.std.specs.Prelude.{◌==◌, ⊤}
+use Rattle.std.specs.List.{flat_map}
+use Rattle.std.proofs.lemmas.Grind.{flat_map-append}
+use Rattle.std.proofs.lemmas.List.{take-append-drop}
+use Rattle.std.specs.Io.KnownBytes.{Appends, Consumes, Keeps}
+use Rattle.std.proofs.KnownBytes.{Appends-kept, Appends-nil, Appends-trans, Consumes-kept, Consumes-nil, Consumes-trans}
+use Rattle.std.specs.Prelude.{IsErrAnd, MatchResult}
+use Rattle.httpedge.specs.Connections.{out_on}
+use Rattle.httpedge.specs.HubSeen.{Happened, IsIn}
+use Rattle.httpedge.specs.Runs.{Follows, Happening, HappensElsewhere, IsElsewhere, Runs, happens, starves, takes}
+use Rattle.httpedge.specs.Steps.{Event, State, opens, comes, goes, pumps, ticks, compacts, with_bytes_taken}
+use Rattle.httpedge.specs.declared.fault.HubFault.{HubFault}
+use Rattle.httpedge.specs.declared.fault.HubFault.TheVariants as fault
+use Rattle.httpedge.specs.declared.hub.Hub.{Hub}
+use Rattle.polling.specs.Happens.{Brings, Each, Hears, IsAny, IsComing, IsOn, IsTaking, Leads, LeadsBy, LeadsOn, Tells, brought, came}
+
+wrong : false ≡ true → ⊥
+wrong e = cc
+
+pub clash : (b : Bool) → b ≡ false → b ≡ true → ⊥
+clash b isnt is = wrong (sym isnt ∙ is)
+
+-- ---- lists of what happens
+
+runs_then : (s mid t : State) (hs gs : List Happening) → Runs s hs mid → Runs mid gs t → Runs s (hs ++ gs) t
+runs_then s mid t [] gs is then = subst (λ (x : State). Runs x gs t) is then
+runs_then s mid t (h ∷ hs) gs (next, follows, rest) then = (next, follows, runs_then next mid t hs gs rest then)
+
+each_then : (P : Happening → Type 0) (hs gs : List Happening) → Each P hs → Each P gs → Each P (hs ++ gs)
+each_then P [] gs all more = more
+each_then P (h ∷ hs) gs (first, rest) more = (first, each_then P hs gs rest more)
+
+each_weaker : (P Q : Happening → Type 0) → ((h : Happening) → P h → Q h) → (hs : List Happening) → Each P hs → Each Q hs
+each_weaker P Q weaker [] all = tt
+each_weaker P Q weaker (h ∷ hs) (first, rest) = (weaker h first, each_weaker P Q weaker hs rest)
+
+-- ---- what leads from a hub to another
+
+pub leads_none : (P : Happening → Type 0) (x : Hub) → LeadsBy P x x
+leads_none P x = λ s is. ([], s, refl, tt, is)
+
+pub leads_then : (P : Happening → Type 0) (x y z : Hub) → LeadsBy P x y → LeadsBy P y z → LeadsBy P x z
+leads_then P x y z first second = λ s is.
+    let one = first s is in
+    let two = second one.1 one.4 in
+    (one.0 ++ two.0, two.1, runs_then s one.1 two.1 one.0 two.0 one.2 two.2, each_then P one.0 two.0 one.3 two.3, two.4)
+
+pub leads_weaker : (P Q : Happening → Type 0) (x y : Hub) → ((h : Happening) → P h → Q h) → LeadsBy P x y → LeadsBy Q x y
+leads_weaker P Q x y weaker leads = λ s is.
+    let one = leads s is in
+    (one.0, one.1, one.2, each_weaker P Q weaker one.0 one.3, one.4)
+
+pub leads_any : (id : ℕ) (x y : Hub) → LeadsOn id x y → Leads x y
+leads_any id x y leads = leads_weaker (IsOn id) IsAny x y (λ h on. tt) leads
+
+pub leads_same : (P : Happening → Type 0) (x y : Hub) → y ≡ x → LeadsBy P x y
+leads_same P x y same = subst (λ (z : Hub). LeadsBy P x z) (sym same) (leads_none P x)
+
+-- any, and any again
+pub any_then : (x y z : Hub) → Leads x y → Leads y z → Leads x z
+any_then x y z first second = leads_then IsAny x y z first second
+
+pub any_none : (x : Hub) → Leads x x
+any_none x = leads_none IsAny x
+
+pub any_same : (x y : Hub) → y ≡ x → Leads x y
+any_same x y same = leads_same IsAny x y same
+
+-- ---- one event
+
+-- an event that happened, or found no memory
+by_event : {A : Type 0} (e : Event) (r : Result A HubFault) (h : Happening) (P : Happening → Type 0) → P (happens e) → ((which : ℕ → Bool) → P (starves e which)) → Happened e r h → P h
+by_event e (Ok a) h P done none is = subst P (sym is) done
+by_event e (Err fault.IdNotAbove) h P done none is = subst P (sym is) done
+by_event e (Err fault.UnknownId) h P done none is = subst P (sym is) done
+by_event e (Err fault.NoLines) h P done none is = subst P (sym is) done
+by_event e (Err fault.TickBack) h P done none is = subst P (sym is) done
+by_event e (Err fault.CompactionRefused) h P done none is = subst P (sym is) done
+by_event e (Err fault.Memory) h P done none is = subst P (sym is.1) (none is.0)
+by_event e (Err fault.Store) h P done none is = subst P (sym is.1) (none is.0)
+
+-- what the hub says of an event
+abbrev pub FollowsBy : {A : Type 0} → Hub → Event → Result A HubFault → Hub → Type 0
+FollowsBy x e r y = (s : State) → IsIn x s → (h : Happening) × (t : State) × Happened e r h × Follows s h t × IsIn y t
+
+pub leads_event : {A : Type 0} (x y : Hub) (e : Event) (r : Result A HubFault) (P : Happening → Type 0) → P (happens e) → ((which : ℕ → Bool) → P (starves e which)) → FollowsBy x e r y
+    → LeadsBy P x y
+leads_event x y e r P done none follows = λ s is.
+    let one = follows s is in
+    (one.0 ∷ [], one.1, (one.1, one.3, refl), (by_event e r one.0 P done none one.2, tt), one.4)
+
+pub leads_on : {A : Type 0} (id : ℕ) (x y : Hub) (e : Event) (r : Result A HubFault) → ((other : ℕ) → other ≢ id → IsElsewhere e other) → FollowsBy x e r y → LeadsOn id x y
+leads_on id x y e r apart follows = leads_event x y e r (IsOn id) apart (λ which. apart) follows
+
+pub leads_by_any : {A : Type 0} (x y : Hub) (e : Event) (r : Result A HubFault) → FollowsBy x e r y → Leads x y
+leads_by_any x y e r follows = leads_event x y e r IsAny tt (λ which. tt) follows
+
+-- ---- bytes that come
+
+pub hears_none : (id : ℕ) (x : Hub) → Hears id [] x x
+hears_none id x = λ s is. ([], s, refl, tt, refl, is)
+
+pub hears_one : {A : Type 0} (id : ℕ) (piece : List ℕ) (x y : Hub) (r : Result A HubFault) → FollowsBy x (comes id piece) r y → Hears id piece x y
+hears_one id piece x y r follows = λ s is.
+    let one = follows s is in (
+      one.0 ∷ [],
+      one.1,
+      (one.1, one.3, refl),
+      (by_event (comes id piece) r one.0 (IsComing id) refl (λ which. refl) one.2, tt),
+      append-nil (came one.0) ∙ by_event (comes id piece) r one.0 (λ h. came h ≡ piece) refl (λ which. refl) one.2,
+      one.4,
+    )
+
+hears_then : (id : ℕ) (a b : List ℕ) (x y z : Hub) → Hears id a x y → Hears id b y z → Hears id (a ++ b) x z
+hears_then id a b x y z first second = λ s is.
+    let one = first s is in
+    let two = second one.1 one.5 in (
+      one.0 ++ two.0,
+      two.1,
+      runs_then s one.1 two.1 one.0 two.0 one.2 two.2,
+      each_then (IsComing id) one.0 two.0 one.3 two.3,
+      flat_map-append came one.0 two.0 ∙ ap (λ (l : List ℕ). l ++ flat_map came two.0) one.4 ∙ ap (λ (l : List ℕ). a ++ l) two.4,
+      two.5,
+    )
+
+brings_on : (id : ℕ) (e : Event) → Brings id e → (other : ℕ) → other ≢ id → IsElsewhere e other
+brings_on id (opens k) is = absurd is
+brings_on id (comes k bytes) is = λ other isnt. subst (λ (n : ℕ). other ≢ n) (sym is) isnt
+brings_on id (goes k) is = absurd is
+brings_on id (pumps k max) is = absurd is
+brings_on id (ticks ms) is = absurd is
+brings_on id (compacts c) is = absurd is
+
+coming_on : (id : ℕ) (h : Happening) → IsComing id h → IsOn id h
+coming_on id (happens e) is = brings_on id e is
+coming_on id (starves e which) is = brings_on id e is
+coming_on id (takes k n) is = absurd is
+
+pub hears_leads : (id : ℕ) (heard : List ℕ) (x y : Hub) → Hears id heard x y → LeadsOn id x y
+hears_leads id heard x y hears = λ s is.
+    let one = hears s is in
+    (one.0, one.1, one.2, each_weaker (IsComing id) (IsOn id) (coming_on id) one.0 one.3, one.5)
+
+-- ---- bytes that are taken
+
+pub tells_none : (id : ℕ) (x : Hub) → Tells id [] x x
+tells_none id x = λ s is. ([], s, refl, tt, refl, is)
+
+-- the law of the hub
+abbrev pub AreTaken : Type 0
+AreTaken = (s : State) (id n : ℕ) → out_on (with_bytes_taken s id n).connections id ≡ drop n (out_on s.connections id)
+
+pub tells_take : AreTaken → (id n : ℕ) (out : List ℕ) (x y : Hub) → ((s : State) → IsIn x s → out ≡ out_on s.connections id) → ((s : State) → IsIn x s → IsIn y (with_bytes_taken s id n))
+    → Tells id (take n out) x y
+tells_take law id n out x y outs taken = λ s is. (
+  takes id n ∷ [],
+  with_bytes_taken s id n,
+  (with_bytes_taken s id n, refl, refl),
+  (refl, tt),
+  sym (outs s is) ∙ sym (take-append-drop n out) ∙ ap (λ (l : List ℕ). take n out ++ drop n l) (outs s is) ∙ ap (λ (l : List ℕ). take n out ++ l) (sym (law s id n)),
+  taken s is,
+)
+
+tells_then : (id : ℕ) (a b : List ℕ) (x y z : Hub) → Tells id a x y → Tells id b y z → Tells id (a ++ b) x z
+tells_then id a b x y z first second = λ s is.
+    let one = first s is in
+    let two = second one.1 one.5 in (
+      one.0 ++ two.0,
+      two.1,
+      runs_then s one.1 two.1 one.0 two.0 one.2 two.2,
+      each_then (IsTaking id) one.0 two.0 one.3 two.3,
+      one.4 ∙ ap (λ (l : List ℕ). a ++ l) two.4 ∙ sym (append_assoc a b (out_on two.1.connections id)),
+      two.5,
+    )
+
+taking_on : (id : ℕ) (h : Happening) → IsTaking id h → IsOn id h
+taking_on id (happens e) is = absurd is
+taking_on id (starves e which) is = absurd is
+taking_on id (takes k n) is = λ other isnt. subst (λ (m : ℕ). other ≢ m) (sym is) isnt
+
+pub tells_leads : (id : ℕ) (told : List ℕ) (x y : Hub) → Tells id told x y → LeadsOn id x y
+tells_leads id told x y tells = λ s is.
+    let one = tells s is in
+    (one.0, one.1, one.2, each_weaker (IsTaking id) (IsOn id) (taking_on id) one.0 one.3, one.5)
+
+-- ---- with what a reader has left, or a writer holds
+
+-- what left the reader came on the connection
+abbrev pub HandsOver : ℕ → Option (List ℕ) → Option (List ℕ) → Hub → Hub → Type 0
+HandsOver id a b x y = (heard : List ℕ) × Consumes a b heard × Hears id heard x y
+
+pub hands_none : (id : ℕ) (a : Option (List ℕ)) (x : Hub) → HandsOver id a a x x
+hands_none id a x = ([], Consumes-nil a, hears_none id x)
+
+pub hands_then : (id : ℕ) (a b c : Option (List ℕ)) (x y z : Hub) (piece : List ℕ) → HandsOver id a b x y → Consumes b c piece → Hears id piece y z → HandsOver id a c x z
+hands_then id a b c x y z piece before read came =
+    (before.0 ++ piece, Consumes-trans a b c before.0 piece before.1 read, hears_then id before.0 piece x y z before.2 came)
+
+pub hands_more : (id : ℕ) (a b c : Option (List ℕ)) (x y z : Hub) → HandsOver id a b x y → HandsOver id b c y z → HandsOver id a c x z
+hands_more id a b c x y z before more = hands_then id a b c x y z more.0 before more.1 more.2
+
+empty_is : (piece : List ℕ) → (length piece == 0) ≡ true → piece ≡ []
+empty_is [] is = refl
+empty_is (n ∷ ns) is = grind (arith)
+
+-- a read that gave nothing
+pub hands_end : (id : ℕ) (a b : Option (List ℕ)) (x : Hub) (piece : List ℕ) → Consumes a b piece → (length piece == 0) ≡ true → HandsOver id a b x x
+hands_end id a b x piece read none = ([], subst (Consumes a b) (empty_is piece none) read, hears_none id x)
+
+pub hands_leads : (id : ℕ) (a b : Option (List ℕ)) (x y : Hub) → HandsOver id a b x y → LeadsOn id x y
+hands_leads id a b x y hands = hears_leads id hands.0 x y hands.2
+
+-- an error, where no byte left the reader
+pub none_left : {T E : Type 0} (P : T → Type 0) (Q : E → Type 0) (r : Result T E) (a b : Option (List ℕ)) → IsErrAnd r Q → Keeps a b → MatchResult r P (λ _. Consumes a b [])
+none_left P Q (Ok x) a b is keeps = absurd is
+none_left P Q (Err e) a b is keeps = Consumes-kept a a b [] (Consumes-nil a) keeps
+
+-- what the writer got was taken of the connection
+abbrev pub WritesOut : ℕ → Option (List ℕ) → Option (List ℕ) → Hub → Hub → Type 0
+WritesOut id a b x y = (told : List ℕ) × Appends a b told × Tells id told x y
+
+pub writes_none : (id : ℕ) (a : Option (List ℕ)) (x : Hub) → WritesOut id a a x x
+writes_none id a x = ([], Appends-nil a, tells_none id x)
+
+pub writes_then : (id : ℕ) (a b c : Option (List ℕ)) (x y z : Hub) (more : List ℕ) → WritesOut id a b x y → Appends b c more → Tells id more y z → WritesOut id a c x z
+writes_then id a b c x y z more before written taken =
+    (before.0 ++ more, Appends-trans a b c before.0 more before.1 written, tells_then id before.0 more x y z before.2 taken)
+
+pub writes_kept : (id : ℕ) (a b c : Option (List ℕ)) (x y : Hub) → WritesOut id a b x y → Keeps b c → WritesOut id a c x y
+writes_kept id a b c x y before kept = (before.0, Appends-kept a b c before.0 before.1 kept, before.2)
+
+pub writes_more : (id : ℕ) (a b c : Option (List ℕ)) (x y z : Hub) → WritesOut id a b x y → WritesOut id b c y z → WritesOut id a c x z
+writes_more id a b c x y z before more = writes_then id a b c x y z more.0 before more.1 more.2
+
+pub writes_leads : (id : ℕ) (a b : Option (List ℕ)) (x y : Hub) → WritesOut id a b x y → LeadsOn id x y
+writes_leads id a b x y writes = tells_leads id writes.0 x y writes.2

@@ -1,0 +1,5 @@
+use Rattle.polling.proofs.Leading.{any_then}
+use Rattle.polling.proofs.peers.Peers.settle.Goals as goal
+
+pub returns-then-is_risen : goal.returns-then-is_risen
+returns-then-is_risen c = any_then _ _ _ c.pump_watches.ensures c.compact.ensures

@@ -1,0 +1,5 @@
+use Rattle.polling.proofs.Leading.{any_none}
+use Rattle.polling.proofs.peers.Peers.take_report.Goals as goal
+
+pub returns-then-eq : goal.returns-then-eq
+returns-then-eq c = any_none _

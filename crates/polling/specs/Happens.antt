@@ -1,0 +1,80 @@
+-- What happens to a hub while its connections are served (RFC 9112, section 9): events, and bytes that are taken, in turn.
+use Rattle.std.specs.Prelude.{◌≡◌, ◌≢◌, ℕ, List, [], ◌∷◌, ◌++◌, ⊤}
+use Rattle.std.specs.List.{flat_map}
+use Rattle.httpedge.specs.Connections.{out_on}
+use Rattle.httpedge.specs.HubSeen.{IsIn}
+use Rattle.httpedge.specs.Runs.{Happening, HappensElsewhere, Runs, happens, starves, takes}
+use Rattle.httpedge.specs.Steps.{Event, State, opens, comes, goes, pumps, ticks, compacts}
+use Rattle.httpedge.specs.declared.hub.Hub.{Hub}
+
+-- each of them is so
+abbrev pub Each : (Happening → Type 0) → List Happening → Type 0
+Each P [] = ⊤
+Each P (h ∷ hs) = P h × Each P hs
+
+-- what happens in turn, each of it so, leads from the hub before to the hub after
+abbrev pub LeadsBy : (Happening → Type 0) → Hub → Hub → Type 0
+LeadsBy P old new = (s : State) → IsIn old s → (hs : List Happening) × (t : State) × Runs s hs t × Each P hs × IsIn new t
+
+abbrev pub IsAny : Happening → Type 0
+IsAny h = ⊤
+
+abbrev pub Leads : Hub → Hub → Type 0
+Leads old new = LeadsBy IsAny old new
+
+-- ---- on one connection
+
+-- on every other it happens elsewhere
+abbrev pub IsOn : ℕ → Happening → Type 0
+IsOn id h = (other : ℕ) → other ≢ id → HappensElsewhere h other
+
+abbrev pub LeadsOn : ℕ → Hub → Hub → Type 0
+LeadsOn id old new = LeadsBy (IsOn id) old new
+
+-- ---- bytes that come
+
+abbrev pub brought : Event → List ℕ
+brought (opens k) = []
+brought (comes k bytes) = bytes
+brought (goes k) = []
+brought (pumps k max) = []
+brought (ticks ms) = []
+brought (compacts c) = []
+
+-- the bytes that it brings
+abbrev pub came : Happening → List ℕ
+came (happens e) = brought e
+came (starves e found_none) = brought e
+came (takes k n) = []
+
+-- the event brings bytes on this connection
+abbrev pub Brings : ℕ → Event → Type 0
+Brings id (opens k) = ⊥
+Brings id (comes k bytes) = k ≡ id
+Brings id (goes k) = ⊥
+Brings id (pumps k max) = ⊥
+Brings id (ticks ms) = ⊥
+Brings id (compacts c) = ⊥
+
+abbrev pub IsComing : ℕ → Happening → Type 0
+IsComing id (happens e) = Brings id e
+IsComing id (starves e found_none) = Brings id e
+IsComing id (takes k n) = ⊥
+
+-- these bytes come on the connection in order, and nothing else happens
+abbrev pub Hears : ℕ → List ℕ → Hub → Hub → Type 0
+Hears id heard old new =
+    (s : State) → IsIn old s → (hs : List Happening) × (t : State) × Runs s hs t × Each (IsComing id) hs × (flat_map came hs ≡ heard) × IsIn new t
+
+-- ---- bytes that are taken
+
+abbrev pub IsTaking : ℕ → Happening → Type 0
+IsTaking id (happens e) = ⊥
+IsTaking id (starves e found_none) = ⊥
+IsTaking id (takes k n) = k ≡ id
+
+-- these bytes, the first of those that were out on the connection, are taken of it, the others are out still, and nothing else happens
+abbrev pub Tells : ℕ → List ℕ → Hub → Hub → Type 0
+Tells id told old new =
+    (s : State) → IsIn old s
+    → (hs : List Happening) × (t : State) × Runs s hs t × Each (IsTaking id) hs × (out_on s.connections id ≡ told ++ out_on t.connections id) × IsIn new t

@@ -1,0 +1,23 @@
+//! Serving many connections at once on one thread, by one hub: the system says which streams are ready.
+//!
+//! Promises: what leaves a connection's reader comes on that connection, in order; what its writer gets is taken of that
+//! connection, so it is the first of what was out on it, also where the writer fails; all else that happens to the hub is
+//! a run of its events. Which streams the system reports, and when, has no contract.
+//! Stands on `httpedge` for what the events lead to, on `verbs` for the machine, on `mio` for readiness.
+#![tactic(auto)]
+
+mod handing;
+mod options;
+mod peer;
+mod peers;
+mod reading;
+mod server;
+mod stream;
+mod writing;
+
+pub use options::Options;
+pub use peer::{Next, Peer};
+pub use reading::{Readout, hand_over};
+pub use server::Server;
+pub use stream::Stream;
+pub use writing::{Written, write_out};

@@ -1,0 +1,14 @@
+//! What a server is asked for.
+
+/// How connections are served.
+#[derive(Clone, Copy, Debug)]
+pub struct Options {
+    /// The port on loopback; 0 picks a free one.
+    pub port: u16,
+    /// How many revisions before the current one are kept.
+    pub keep: u64,
+    /// How many lines a watch may write at a time; one or more.
+    pub lines: u64,
+    /// After how many milliseconds a peer that keeps the server waiting is dropped.
+    pub patience: u64,
+}

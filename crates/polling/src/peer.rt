@@ -1,0 +1,180 @@
+//! One connection: what its peer keeps the server waiting for, and its turns.
+
+ghost use Rattle.std.specs.Prelude.{◌≡◌, [], false};
+ghost use Rattle.httpedge.specs.Connections.{out_on, waiting_on};
+ghost use Rattle.httpedge.specs.HubSeen.{IsIn};
+ghost use Rattle.httpedge.specs.Steps.{State};
+ghost use Rattle.polling.specs.Happens.{LeadsOn};
+ghost use Rattle.polling.specs.ServerSeen.{lingers};
+
+use crate::handing::send_lines;
+use crate::reading::{Readout, hand_over};
+use crate::stream::Stream;
+use crate::writing::{Written, write_out};
+use httpedge::Hub;
+use std::alloc::Global;
+use std::io::{Read, Write};
+use std::time::{Duration, Instant};
+
+/// How long, in milliseconds, a connection whose reply was written is read on, so that its peer isn't reset before it has
+/// read the reply.
+const LINGER: u64 = 2000;
+
+/// What a connection waits for after its turn.
+#[derive(Debug, Drop, Clone, Copy, PartialEq, Eq)]
+pub enum Next {
+    /// That its peer sends something.
+    Reads,
+    /// That its peer takes something, or sends something.
+    Writes,
+    /// Nothing: it has a turn again at once.
+    Again,
+    /// It is over.
+    Over,
+}
+
+/// A connection whose peer may have sent more has a turn again.
+fn again_if_more(readout: Readout, next: Next) -> Next {
+    if readout == Readout::More && next != Next::Over {
+        return Next::Again;
+    }
+    next
+}
+
+/// The stream of a connection, and how its peer stands to the server.
+#[derive(Drop)]
+pub struct Peer<S: Drop> {
+    /// Where its bytes come from, and go to.
+    pub stream: S,
+    /// All was written and no more is sent: what still comes is read until the peer closes.
+    is_lingering: bool,
+    /// The peer sends no more.
+    is_read_out: bool,
+    /// The peer took no more of what waits for it.
+    is_blocked: bool,
+    /// It watches, and may have more lines to write.
+    is_behind: bool,
+    /// Since when the peer keeps the server waiting.
+    since: Instant,
+}
+
+impl<S: Read + Write + Stream + Drop> Peer<S> {
+    /// A peer whose connection has just been opened.
+    pub fn new(stream: S, now: Instant) -> Peer<S>
+        ensures stream { result.stream ≡ stream }
+        ensures lingers { lingers result ≡ false }
+    {
+        Peer {
+            stream,
+            is_lingering: false,
+            is_read_out: false,
+            is_blocked: false,
+            is_behind: true,
+            since: now,
+        }
+    }
+
+    /// Whether its watch has more lines to write, and its peer takes them.
+    pub(crate) fn may_go_on(&self) -> bool {
+        self.is_behind && !self.is_blocked
+    }
+
+    /// Whether the server waits for the peer: for the rest of its request, to take what waits for it, or to close.
+    fn keeps_waiting(&self, hub: &Hub, id: u64) -> bool
+        ensures { (s : State) → IsIn hub.now s → waiting_on s.connections id ≡ false → out_on s.connections id ≡ [] → lingers self.now ≡ false → result ≡ false }
+    {
+        if self.is_lingering {
+            return true;
+        }
+        hub.wants(id) || !hub.out(id).is_empty()
+    }
+
+    /// Whether the server waits for the peer since more than so many milliseconds. For a watch on which nothing waits it
+    /// doesn't wait.
+    pub fn is_silent(&self, hub: &Hub, id: u64, now: Instant, patience: u64) -> bool
+        ensures { (s : State) → IsIn hub.now s → waiting_on s.connections id ≡ false → out_on s.connections id ≡ [] → lingers self.now ≡ false → result ≡ false }
+    {
+        if !self.keeps_waiting(hub, id) {
+            return false;
+        }
+        let limit = if self.is_lingering { LINGER } else { patience };
+        now.duration_since(self.since) > Duration::from_millis(limit)
+    }
+
+    /// The turn of a connection whose stream may be ready: what its peer sent is handed to the hub, and what is out on it
+    /// is written.
+    pub fn look(&mut self, alloc: Global, hub: &mut Hub, id: u64, now: Instant) -> Next
+        ensures { LeadsOn id hub.old hub.new }
+    {
+        if hub.wants(id) {
+            self.since = now;
+        }
+        let Ok(readout) = hand_over(alloc, hub, id, &mut self.stream) else {
+            return Next::Over;
+        };
+        self.is_read_out = readout == Readout::Closed;
+        again_if_more(readout, self.flush(hub, id, now))
+    }
+
+    /// The turn of a watch: where nothing waits it may write so many lines.
+    pub fn pump(&mut self, hub: &mut Hub, id: u64, lines: u64, now: Instant) -> Next
+        ensures { LeadsOn id hub.old hub.new }
+    {
+        self.is_behind = true;
+        if self.is_blocked {
+            return Next::Writes;
+        }
+        if !hub.out(id).is_empty() {
+            return self.flush(hub, id, now);
+        }
+        send_lines(hub, id, lines);
+        self.is_behind = !hub.out(id).is_empty();
+        self.flush(hub, id, now)
+    }
+
+    /// Writes what is out.
+    fn flush(&mut self, hub: &mut Hub, id: u64, now: Instant) -> Next
+        ensures { LeadsOn id hub.old hub.new }
+    {
+        let waiting = hub.out(id).len();
+        let written = write_out(hub, id, &mut self.stream);
+        if hub.out(id).len() < waiting {
+            self.since = now;
+        }
+        let Ok(written) = written else {
+            return Next::Over;
+        };
+        self.after_writing(hub, id, written, now)
+    }
+
+    fn after_writing(&mut self, hub: &Hub, id: u64, written: Written, now: Instant) -> Next {
+        match written {
+            Written::All => self.rest(hub, id, now),
+            Written::Some => Next::Again,
+            Written::Blocked => {
+                if !self.is_blocked {
+                    self.is_blocked = true;
+                    self.since = now;
+                }
+                Next::Writes
+            }
+        }
+    }
+
+    /// All was written: a connection that has ended lingers until its peer closes, and one whose peer sends no more is over.
+    fn rest(&mut self, hub: &Hub, id: u64, now: Instant) -> Next {
+        self.is_blocked = false;
+        if self.is_read_out {
+            return Next::Over;
+        }
+        if self.is_lingering || !hub.ended(id) {
+            return Next::Reads;
+        }
+        if self.stream.end().is_err() {
+            return Next::Over;
+        }
+        self.is_lingering = true;
+        self.since = now;
+        Next::Reads
+    }
+}

@@ -1,0 +1,399 @@
+//! The connections of a listener, by their ids, which are also the tokens of what the system reports.
+
+ghost use Rattle.std.specs.Prelude.{◌≡◌};
+ghost use Rattle.polling.specs.Happens.{Leads};
+
+use crate::handing::{compact, open, part, tick};
+use crate::options::Options;
+use crate::peer::{Next, Peer};
+use httpedge::Hub;
+use mio::net::{TcpListener, TcpStream};
+use mio::{Events, Interest, Poll, Token};
+use std::alloc::Global;
+use std::collections::BTreeMap;
+use std::io;
+use std::io::ErrorKind;
+use std::time::{Duration, Instant};
+
+/// The token of the listener. Ids rise from 1 and are never used again, so a report of a connection that is over finds
+/// nothing.
+pub(crate) const LISTENER: Token = Token(0);
+
+/// The most connections that are accepted in one turn.
+const ACCEPTS: u32 = 256;
+
+/// The milliseconds between two ticks.
+const TICK: u64 = 1000;
+
+/// What the system reports of a connection. It is told only of those that outlive their first look.
+#[derive(Debug, Drop, Clone, Copy, PartialEq, Eq)]
+enum Reported {
+    Nothing,
+    Reads,
+    ReadsAndWrites,
+}
+
+#[derive(Drop)]
+struct Entry {
+    peer: Peer<TcpStream>,
+    reported: Reported,
+    is_watch: bool,
+}
+
+impl Entry {
+    /// Whether it watches and may go on; it may begin to watch.
+    fn note(&mut self, begins: bool) -> bool {
+        if begins {
+            self.is_watch = true;
+            // Lines are short and each is written at once, so none may wait until the one before was received.
+            let _ = self.peer.stream.set_nodelay(true);
+        }
+        self.is_watch && self.peer.may_go_on()
+    }
+}
+
+/// The connections, and what is to be done with them.
+#[derive(Drop)]
+pub(crate) struct Peers {
+    alloc: Global,
+    options: Options,
+    poll: Poll,
+    listener: TcpListener,
+    pub(crate) hub: Hub,
+    entries: BTreeMap<u64, Entry>,
+    /// The watches, in the order in which they opened.
+    watches: Vec<u64>,
+    /// The connections that have a turn again at once.
+    again: Vec<u64>,
+    /// A watch has more lines to write, and its peer takes them.
+    has_lines: bool,
+    /// Connections may wait to be accepted.
+    accepts: bool,
+    /// One couldn't be accepted: the listener isn't reported again for it, so a close or a tick tries anew.
+    is_starved: bool,
+    /// The highest id so far.
+    highest: u64,
+    /// How many connections are over.
+    closed: u64,
+    /// The current revision at the last pump of all watches.
+    revision: u64,
+    started: Instant,
+    ticked: Instant,
+}
+
+impl Peers {
+    pub(crate) fn new(
+        alloc: Global,
+        options: Options,
+        poll: Poll,
+        listener: TcpListener,
+        hub: Hub,
+        now: Instant,
+    ) -> Peers
+        ensures { result.hub ≡ hub }
+    {
+        Peers {
+            alloc,
+            options,
+            poll,
+            listener,
+            hub,
+            entries: BTreeMap::new(alloc),
+            watches: Vec::new(alloc),
+            again: Vec::new(alloc),
+            has_lines: false,
+            accepts: true,
+            is_starved: false,
+            highest: 0,
+            closed: 0,
+            revision: 0,
+            started: now,
+            ticked: now,
+        }
+    }
+
+    /// How many connections are over.
+    pub(crate) fn closed(&self) -> u64 {
+        self.closed
+    }
+
+    /// The port that is listened on.
+    pub(crate) fn port(&self) -> io::Result<u16> {
+        Ok(self.listener.local_addr()?.port())
+    }
+
+    /// Waits until the system reports something, or something else is to be done.
+    pub(crate) fn wait(&mut self, events: &mut Events, now: Instant) -> io::Result<()>
+        ensures { self.new.hub ≡ self.old.hub }
+    {
+        let is_busy = self.accepts || self.has_lines || !self.again.is_empty();
+        let timeout = if is_busy {
+            Duration::ZERO
+        } else {
+            Duration::from_millis(TICK).saturating_sub(now.duration_since(self.ticked))
+        };
+        self.poll.poll(events, Some(timeout))
+    }
+
+    /// The system reports a connection, or the listener.
+    pub(crate) fn take_report(&mut self, token: Token, now: Instant)
+        ensures { Leads self.old.hub self.new.hub }
+    {
+        if token == LISTENER {
+            self.accepts = true;
+        } else {
+            self.look(token.0 as u64, now);
+        }
+    }
+
+    /// The turns of those that have one again.
+    pub(crate) fn look_again(&mut self, now: Instant)
+        ensures { Leads self.old.hub self.new.hub }
+    {
+        let again = std::mem::replace(&mut self.again, Vec::new(self.alloc));
+        for id in &again {
+            self.look(*id, now);
+        }
+    }
+
+    /// Accepts the connections that wait.
+    pub(crate) fn accept_all(&mut self, now: Instant)
+        ensures { Leads self.old.hub self.new.hub }
+    {
+        'accepts: for _ in 0..ACCEPTS {
+            if !self.accepts {
+                break;
+            }
+            self.accept(now);
+        }
+    }
+
+    fn accept(&mut self, now: Instant)
+        ensures { Leads self.old.hub self.new.hub }
+    {
+        let Some(stream) = self.next_stream() else {
+            return;
+        };
+        self.open(stream, now);
+    }
+
+    fn next_stream(&mut self) -> Option<TcpStream>
+        ensures { self.new.hub ≡ self.old.hub }
+    {
+        match self.listener.accept() {
+            Ok((stream, _)) => return Some(stream),
+            Err(e) if e.kind() == ErrorKind::WouldBlock => self.accepts = false,
+            // The peer went before it was accepted.
+            Err(e) if e.kind() == ErrorKind::ConnectionAborted => {}
+            Err(_) => {
+                self.accepts = false;
+                self.is_starved = true;
+            }
+        }
+        None
+    }
+
+    /// Pumps the watches once something was written, and then forgets what isn't kept: so no watch loses what came in
+    /// one turn.
+    pub(crate) fn settle(&mut self, now: Instant)
+        ensures { Leads self.old.hub self.new.hub }
+    {
+        let (revision, _) = self.hub.marks().unwrap_or((self.revision, 0));
+        let is_risen = revision != self.revision;
+        self.revision = revision;
+        self.pump_watches(is_risen, now);
+        if is_risen {
+            compact(&mut self.hub, self.options.keep);
+        }
+    }
+
+    /// What is done each second: the hub's tick, and the end of connections whose peers are silent.
+    pub(crate) fn tick(&mut self, now: Instant)
+        ensures { Leads self.old.hub self.new.hub }
+    {
+        let is_early = now.duration_since(self.ticked) < Duration::from_millis(TICK);
+        if is_early {
+            return;
+        }
+        self.ticked = now;
+        let ms = now.duration_since(self.started).as_millis();
+        tick(&mut self.hub, u64::try_from(ms).unwrap_or(u64::MAX));
+        self.pump_watches(true, now);
+        self.drop_silent(now);
+        self.accept_anew();
+    }
+
+    fn accept_anew(&mut self)
+        ensures { self.new.hub ≡ self.old.hub }
+    {
+        if self.is_starved {
+            self.is_starved = false;
+            self.accepts = true;
+        }
+    }
+
+    /// A connection has its first turn. For want of memory there is none, and the peer sees it closed.
+    fn open(&mut self, stream: TcpStream, now: Instant)
+        ensures { Leads self.old.hub self.new.hub }
+    {
+        let Some(id) = self.highest.checked_add(1) else {
+            return;
+        };
+        self.highest = id;
+        if !open(&mut self.hub, id) {
+            return;
+        }
+        let entry = Entry {
+            peer: Peer::new(stream, now),
+            reported: Reported::Nothing,
+            is_watch: false,
+        };
+        if self.entries.insert(id, entry).is_err() {
+            part(&mut self.hub, id);
+            return;
+        }
+        self.look(id, now);
+    }
+
+    fn look(&mut self, id: u64, now: Instant)
+        ensures { Leads self.old.hub self.new.hub }
+    {
+        let Some(entry) = self.entries.get_mut(&id) else {
+            return;
+        };
+        let next = entry.peer.look(self.alloc, &mut self.hub, id, now);
+        let begins = !entry.is_watch && !self.hub.wants(id) && !self.hub.ended(id);
+        self.has_lines |= entry.note(begins);
+        if !self.list_watch(id, begins) {
+            self.close(id);
+            return;
+        }
+        self.follow(id, next);
+    }
+
+    /// Whether a watch that begins is among the watches.
+    fn list_watch(&mut self, id: u64, begins: bool) -> bool
+        ensures { self.new.hub ≡ self.old.hub }
+    {
+        !begins || self.watches.push(id).is_ok()
+    }
+
+    /// Each watch has its turn; unless all do, those alone that have more lines.
+    fn pump_watches(&mut self, all: bool, now: Instant)
+        ensures { Leads self.old.hub self.new.hub }
+    {
+        if !all && !self.has_lines {
+            return;
+        }
+        self.has_lines = false;
+        for at in 0..self.watches.len() {
+            self.pump_at(at, all, now);
+        }
+        let entries = &self.entries;
+        self.watches.retain(|id| entries.contains_key(id));
+    }
+
+    fn pump_at(&mut self, at: usize, all: bool, now: Instant)
+        ensures { Leads self.old.hub self.new.hub }
+    {
+        let Some(id) = self.watches.get(at) else {
+            return;
+        };
+        let id = *id;
+        let Some(entry) = self.entries.get_mut(&id) else {
+            return;
+        };
+        if !all && !entry.peer.may_go_on() {
+            return;
+        }
+        let lines = self.options.lines;
+        let next = entry.peer.pump(&mut self.hub, id, lines, now);
+        self.has_lines |= entry.peer.may_go_on();
+        self.follow(id, next);
+    }
+
+    /// Does what a connection waits for after its turn.
+    fn follow(&mut self, id: u64, next: Next)
+        ensures { Leads self.old.hub self.new.hub }
+    {
+        let goes_on = self.await_next(id, next);
+        if !goes_on {
+            self.close(id);
+        }
+    }
+
+    /// Whether the connection goes on.
+    fn await_next(&mut self, id: u64, next: Next) -> bool
+        ensures { self.new.hub ≡ self.old.hub }
+    {
+        match next {
+            Next::Reads => self.report(id, Reported::Reads),
+            Next::Writes => self.report(id, Reported::ReadsAndWrites),
+            Next::Again => self.again.push(id).is_ok(),
+            Next::Over => false,
+        }
+    }
+
+    /// Has the system report this of the connection from now on, and at once what it is ready for by now. What it reports
+    /// already stays.
+    fn report(&mut self, id: u64, wanted: Reported) -> bool
+        ensures { self.new.hub ≡ self.old.hub }
+    {
+        let Some(entry) = self.entries.get_mut(&id) else {
+            return false;
+        };
+        let was = entry.reported;
+        if was == wanted || was == Reported::ReadsAndWrites {
+            return true;
+        }
+        entry.reported = wanted;
+        let interest = if wanted == Reported::Reads {
+            Interest::READABLE
+        } else {
+            Interest::READABLE | Interest::WRITABLE
+        };
+        let registry = self.poll.registry();
+        let token = Token(id as usize);
+        let stream = &mut entry.peer.stream;
+        let done = if was == Reported::Nothing {
+            registry.register(stream, token, interest)
+        } else {
+            registry.reregister(stream, token, interest)
+        };
+        done.is_ok()
+    }
+
+    /// The connections whose peers are silent; where memory is short, some of them.
+    fn silent(&self, now: Instant) -> Vec<u64> {
+        let mut silent = Vec::new(self.alloc);
+        for (id, entry) in &self.entries {
+            let patience = self.options.patience;
+            let is_silent = entry.peer.is_silent(&self.hub, *id, now, patience);
+            if is_silent && silent.push(*id).is_err() {
+                break;
+            }
+        }
+        silent
+    }
+
+    fn drop_silent(&mut self, now: Instant)
+        ensures { Leads self.old.hub self.new.hub }
+    {
+        let silent = self.silent(now);
+        for id in &silent {
+            self.close(*id);
+        }
+    }
+
+    /// A connection is over: its stream is closed, by which the system reports it no more.
+    fn close(&mut self, id: u64)
+        ensures { Leads self.old.hub self.new.hub }
+    {
+        if self.entries.remove(&id).is_none() {
+            return;
+        }
+        part(&mut self.hub, id);
+        self.closed = self.closed.saturating_add(1);
+        self.accept_anew();
+    }
+}

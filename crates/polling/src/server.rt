@@ -1,0 +1,98 @@
+//! The server: a listener on loopback, and the loop over what the system reports.
+
+ghost use Rattle.std.specs.Prelude.{IfOk, List};
+ghost use Rattle.schema.specs.TypesFile.{ServedShape};
+ghost use Rattle.history.specs.History.{History};
+ghost use Rattle.verbs.specs.Seen.{Stands};
+ghost use Rattle.httpedge.specs.HubSeen.{IsIn};
+ghost use Rattle.httpedge.specs.Steps.{start};
+ghost use Rattle.polling.specs.Happens.{Leads};
+ghost use Rattle.polling.specs.ServerSeen.{hub_of};
+
+use crate::options::Options;
+use crate::peers::{LISTENER, Peers};
+use httpedge::Hub;
+use mio::net::TcpListener;
+use mio::{Events, Interest, Poll};
+use std::alloc::AllocGlobal;
+use std::io;
+use std::net::{Ipv4Addr, Net, SocketAddr};
+use std::rt::Clock;
+use std::time::Instant;
+use verbs::Api;
+
+/// The most reports of the system that are taken in one turn.
+const EVENTS: usize = 1024;
+
+fn take_reports(peers: &mut Peers, events: &Events, now: Instant)
+    ensures { Leads peers.old.hub peers.new.hub }
+{
+    for event in events {
+        peers.take_report(event.token(), now);
+    }
+}
+
+/// A hub, and the connections of a listener.
+#[derive(Drop)]
+pub struct Server {
+    events: Events,
+    peers: Peers,
+}
+
+impl Server {
+    /// Listens on loopback, and serves nobody yet.
+    pub fn listen<R: Net + Clock + AllocGlobal>(
+        rt: &R,
+        api: Api,
+        options: Options,
+    ) -> io::Result<Server>
+        ensures { IfOk result (λ server. (types : List ServedShape) (m : History) → Stands api types m → IsIn (hub_of server) (start types m)) }
+    {
+        let alloc = rt.alloc();
+        let addr = SocketAddr::from((Ipv4Addr::LOCALHOST, options.port));
+        let mut listener = TcpListener::bind(rt, addr)?;
+        let poll = Poll::new(rt)?;
+        poll.registry()
+            .register(&mut listener, LISTENER, Interest::READABLE)?;
+        let events = Events::with_capacity(alloc, EVENTS)?;
+        let now = Instant::now(rt)?;
+        let hub = Hub::new(alloc, api);
+        let peers = Peers::new(alloc, options, poll, listener, hub, now);
+        Ok(Server { events, peers })
+    }
+
+    /// The port that it listens on.
+    pub fn port(&self) -> io::Result<u16> {
+        self.peers.port()
+    }
+
+    /// Waits until the system reports something, a second at most, and does what is to be done: each connection that is
+    /// reported has its turn, those that wait are accepted, the watches get what was written, and what isn't kept is
+    /// forgotten; each second is a tick.
+    pub fn turn<R: Clock>(&mut self, rt: &R) -> io::Result<()>
+        ensures { Leads (hub_of self.old) (hub_of self.new) }
+    {
+        let before = Instant::now(rt)?;
+        self.peers.wait(&mut self.events, before)?;
+        let now = Instant::now(rt)?;
+        self.peers.look_again(now);
+        take_reports(&mut self.peers, &self.events, now);
+        self.peers.accept_all(now);
+        self.peers.settle(now);
+        self.peers.tick(now);
+        Ok(())
+    }
+
+    /// Serves until so many connections are over.
+    pub fn serve<R: Clock>(&mut self, rt: &R, most: u64) -> io::Result<()>
+        ensures { Leads (hub_of self.old) (hub_of self.new) }
+    {
+        'turns: for _ in 0..u64::MAX {
+            if self.peers.closed() >= most {
+                break;
+            }
+            self.turn(rt)?;
+        }
+        Ok(())
+    }
+}
