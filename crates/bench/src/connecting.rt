@@ -1,6 +1,6 @@
 //! Connections of a hub: many of them one after another, and requests that come in pieces.
 
-use crate::serving::{PATH, api_of_widgets, is_served, on};
+use crate::serving::{PATH, is_served, on};
 use crate::timing::{spent, tell};
 use anyhow::bail;
 use httpedge::{Event, Hub, HubFault};
@@ -81,16 +81,16 @@ fn serve_rounds(alloc: Global, hub: &mut Hub, request: &[u8]) -> Result<u64, Hub
 }
 
 /// Times requests of so many bytes in pieces.
-fn time_pieces(
+pub(crate) fn time_pieces(
     rt: &(impl Print + Eprint + CpuClock),
     alloc: Global,
+    hub: &mut Hub,
     size: usize,
 ) -> anyhow::Result<()> {
     let request = request(alloc, size)?;
     let length = request.len();
-    let mut hub = Hub::new(alloc, api_of_widgets(alloc)?);
     let start = spent(rt)?;
-    let served = serve_rounds(alloc, &mut hub, &request).unwrap_or(0);
+    let served = serve_rounds(alloc, hub, &request).unwrap_or(0);
     let what = format!(in alloc; "byte of requests of {length} bytes in pieces of {PIECE}")?;
     tell(rt, &what, ROUNDS.saturating_mul(length as u64), start)?;
     println!(rt;
@@ -122,12 +122,22 @@ fn look_on(alloc: Global, hub: &mut Hub, first: u64, request: &str) -> Result<u6
     Ok(there)
 }
 
+/// Makes the object that is looked at.
+fn make_object(alloc: Global, hub: &mut Hub) -> anyhow::Result<()> {
+    let request = request(alloc, 1_000)?;
+    if let Err(_) = serve_in_pieces(alloc, hub, 1, &request) {
+        bail!("out of memory");
+    }
+    Ok(())
+}
+
 /// Times connections of one hub one after another, thousand by thousand.
-fn time_connections(
+pub(crate) fn time_connections(
     rt: &(impl Print + Eprint + CpuClock),
     alloc: Global,
     hub: &mut Hub,
 ) -> anyhow::Result<()> {
+    make_object(alloc, hub)?;
     let request = format!(in alloc; "GET {PATH} HTTP/1.1\r\nHost: localhost\r\n\r\n")?;
     let mut there: u64 = 0;
     for thousand in 1..=THOUSANDS {
@@ -142,22 +152,4 @@ fn time_connections(
         THOUSANDS.saturating_mul(THOUSAND)
     )?;
     Ok(())
-}
-
-/// A hub with an object.
-fn hub_with_object(alloc: Global) -> anyhow::Result<Hub> {
-    let mut hub = Hub::new(alloc, api_of_widgets(alloc)?);
-    let request = request(alloc, 1_000)?;
-    if let Err(_) = serve_in_pieces(alloc, &mut hub, 1, &request) {
-        bail!("out of memory");
-    }
-    Ok(hub)
-}
-
-/// Serves 10,000 connections one after another, and requests of 64,000 and of 6,400 bytes in pieces.
-pub(crate) fn run(rt: &(impl Print + Eprint + CpuClock), alloc: Global) -> anyhow::Result<()> {
-    let mut hub = hub_with_object(alloc)?;
-    time_connections(rt, alloc, &mut hub)?;
-    time_pieces(rt, alloc, 64_000)?;
-    time_pieces(rt, alloc, 6_400)
 }

@@ -31,10 +31,7 @@ fn run_layer(
         "indexer" => indexing::run(rt, alloc, count),
         "reader" => reading::run(rt, alloc, count),
         "tables" => storing::run(rt, alloc, count),
-        "hub" => {
-            serving::run(rt, alloc, count)?;
-            connecting::run(rt, alloc)
-        }
+        "hub" => serving::run(rt, alloc, count),
         "objects" => objects::run(rt, alloc, count),
         "client" => mirroring::run(rt, alloc, count),
         _ => bail!("no such layer: {layer}"),

@@ -1,5 +1,6 @@
 //! Requests through the hub, and the same applies without it.
 
+use crate::connecting::{time_connections, time_pieces};
 use crate::timing::{spent, tell};
 use anyhow::bail;
 use httpedge::{Event, Hub, HubFault};
@@ -142,11 +143,14 @@ fn apply_all(alloc: Global, api: &mut Api, bodies: Vec<Body>) -> Result<u64, Fau
     Ok(served)
 }
 
+/// Times applies of an object of so many fields through the hub.
 fn time_serving(
     rt: &(impl Print + Eprint + CpuClock),
+    alloc: Global,
     hub: &mut Hub,
-    requests: Vec<Vec<u8>>,
+    size: u64,
 ) -> anyhow::Result<()> {
+    let requests = requests(alloc, &bodies(alloc, size)?)?;
     let start = spent(rt)?;
     let served = serve_all(hub, requests).unwrap_or(0);
     tell(rt, "request through the hub", REQUESTS, start)?;
@@ -167,31 +171,51 @@ fn time_applies(
     Ok(())
 }
 
-fn run_hub(
-    rt: &(impl Print + Eprint + CpuClock),
-    alloc: Global,
-    bodies: &[String],
-) -> anyhow::Result<()> {
-    let mut hub = Hub::new(alloc, api_of_widgets(alloc)?);
-    time_serving(rt, &mut hub, requests(alloc, bodies)?)
-}
-
 fn run_applies(
     rt: &(impl Print + Eprint + CpuClock),
     alloc: Global,
-    bodies: &[String],
+    size: u64,
 ) -> anyhow::Result<()> {
+    let bodies = read(alloc, &bodies(alloc, size)?)?;
     let mut api = api_of_widgets(alloc)?;
-    time_applies(rt, alloc, &mut api, read(alloc, bodies)?)
+    time_applies(rt, alloc, &mut api, bodies)
 }
 
-/// Serves the requests over objects of so many fields, and makes the same applies from parsed bodies.
+/// What is timed on a hub of its own.
+#[derive(Clone, Copy, Debug)]
+enum Part {
+    /// Applies of an object of so many fields.
+    Applies(u64),
+    /// Connections one after another.
+    Connections,
+    /// Requests of so many bytes, in pieces.
+    Pieces(usize),
+}
+
+/// Times a part on a fresh hub. No other function here holds a hub, since one that drops it is expensive to prove.
+fn run_part(
+    rt: &(impl Print + Eprint + CpuClock),
+    alloc: Global,
+    part: Part,
+) -> anyhow::Result<()> {
+    let mut hub = Hub::new(alloc, api_of_widgets(alloc)?);
+    match part {
+        Part::Applies(size) => time_serving(rt, alloc, &mut hub, size),
+        Part::Connections => time_connections(rt, alloc, &mut hub),
+        Part::Pieces(size) => time_pieces(rt, alloc, &mut hub, size),
+    }
+}
+
+/// Serves applies of objects of so many fields, and makes the same applies from parsed bodies; then connections one after
+/// another, and requests in pieces.
 pub(crate) fn run(
     rt: &(impl Print + Eprint + CpuClock),
     alloc: Global,
     size: u64,
 ) -> anyhow::Result<()> {
-    let bodies = bodies(alloc, size)?;
-    run_hub(rt, alloc, &bodies)?;
-    run_applies(rt, alloc, &bodies)
+    run_part(rt, alloc, Part::Applies(size))?;
+    run_applies(rt, alloc, size)?;
+    run_part(rt, alloc, Part::Connections)?;
+    run_part(rt, alloc, Part::Pieces(64_000))?;
+    run_part(rt, alloc, Part::Pieces(6_400))
 }

@@ -1,6 +1,6 @@
 //! Answers to calls: each public call with ample memory, refusals in their order.
 
-use crate::given::{api_with_one_left, fresh_api};
+use crate::apis::{Given, Rows, answers};
 use serde_json::Value;
 use std::alloc::Global;
 use std::test::Fail;
@@ -67,22 +67,12 @@ fn push_answer(alloc: Global, all: &mut String, api: &mut Api, line: &str) -> Re
 }
 
 /// Does lines, and tells the answers, a line each.
-fn answers_of(alloc: Global, api: &mut Api, lines: &str) -> Result<String, Fail> {
+pub fn all_applied(alloc: Global, api: &mut Api, lines: &str) -> Result<String, Fail> {
     let mut all = String::new(alloc);
     for line in lines.split('\n') {
         push_answer(alloc, &mut all, api, line)?;
     }
     Ok(all)
-}
-
-/// The answers of a fresh API.
-fn fresh_answers(alloc: Global, lines: &str) -> Result<String, Fail> {
-    answers_of(alloc, &mut fresh_api(alloc)?, lines)
-}
-
-/// The answers of an API at which one revision is left.
-fn last_answers(alloc: Global, lines: &str) -> Result<String, Fail> {
-    answers_of(alloc, &mut api_with_one_left(alloc)?, lines)
 }
 
 #[test]
@@ -92,7 +82,7 @@ w1 fieldManager=m ,"spec":{"replicas":3}
 w1 fieldManager=m ,"spec":{"replicas":4}
 w2 fieldManager=m "#;
     assert_eq!(rt;
-        last_answers(rt.alloc(), lines)?.as_str(),
+        answers(rt.alloc(), Given::LastRevision, Rows::Applies, lines)?.as_str(),
         r#"201 9223372036854775807
 200 9223372036854775807
 503 revisions are used up
@@ -115,7 +105,7 @@ w1 fieldManager=b ,"spec":{"replicas":4}
 w1 fieldManager=b&force=true ,"spec":{"replicas":4}
 w1 fieldManager=b ,"spec":{"replicas":4}"#;
     assert_eq!(rt;
-        fresh_answers(rt.alloc(), lines)?.as_str(),
+        answers(rt.alloc(), Given::Widgets, Rows::Applies, lines)?.as_str(),
         r#"201 2
 400 .spec.nope: unknown field
 400 bad parameter: force
@@ -159,11 +149,10 @@ fn push_denied(alloc: Global, all: &mut String, api: &Api, line: &str) -> Result
 }
 
 /// Why each request is refused, a line each.
-fn all_denied(alloc: Global, lines: &str) -> Result<String, Fail> {
-    let api = fresh_api(alloc)?;
+pub fn all_denied(alloc: Global, api: &Api, lines: &str) -> Result<String, Fail> {
     let mut all = String::new(alloc);
     for line in lines.split('\n') {
-        push_denied(alloc, &mut all, &api, line)?;
+        push_denied(alloc, &mut all, api, line)?;
     }
     Ok(all)
 }
@@ -174,7 +163,7 @@ fn route_method_and_media_type(rt: HostRuntime) -> Result<(), Fail> {
 BREW /apis/demo.example/v1/namespaces/default/widgets/w1
 PATCH /apis/demo.example/v1/namespaces/default/widgets/w1"#;
     assert_eq!(rt;
-        all_denied(rt.alloc(), lines)?.as_str(),
+        answers(rt.alloc(), Given::Widgets, Rows::Refused, lines)?.as_str(),
         r#"404 NotFound, no such path, none
 405 MethodNotAllowed, method not served here, DELETE, GET, PATCH, PUT
 415 UnsupportedMediaType, media type not served, none

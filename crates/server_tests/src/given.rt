@@ -1,10 +1,9 @@
-//! What several tests are given: a types file of widgets, APIs over it, and the texts of bytes.
+//! What several tests are given: types files of widgets, and the texts of bytes.
 
 use schema::Types;
 use serde_json::Value;
 use std::alloc::Global;
 use std::test::Fail;
-use verbs::Api;
 
 /// One type, whose objects have an image, replicas and settings by name.
 pub const WIDGET_TYPES: &str =
@@ -15,30 +14,14 @@ pub fn types_of(alloc: Global, text: &str) -> Result<Types, Fail> {
     Ok(Types::read(alloc, &Value::from_str(alloc, text)?)?)
 }
 
-/// An API of widgets without objects.
-pub fn fresh_api(alloc: Global) -> Result<Api, Fail> {
-    Ok(Api::new(alloc, types_of(alloc, WIDGET_TYPES)?)?)
-}
-
-/// An API of widgets at which one revision is left.
-pub fn api_with_one_left(alloc: Global) -> Result<Api, Fail> {
-    let types = types_of(alloc, WIDGET_TYPES)?;
-    Ok(Api::new_at(alloc, types, 9_223_372_036_854_775_806)?)
-}
-
 /// The text that these bytes are.
 pub fn text_of(alloc: Global, bytes: &[u8]) -> Result<String, Fail> {
     Ok(String::from_str(alloc, str::from_utf8(bytes)?)?)
 }
 
 /// One type, whose objects have a list of ports by name.
-const PORT_TYPES: &str =
+pub const PORT_TYPES: &str =
     r#"{"types":[{"group":"demo.example","version":"v1","kind":"Widget","plural":"widgets","schema":{"type":"object","properties":{"spec":{"type":"object","properties":{"ports":{"type":"array","x-kubernetes-list-type":"map","x-kubernetes-list-map-keys":["name"],"items":{"type":"object","properties":{"name":{"type":"string"},"note":{"type":"string"},"port":{"type":"integer"}}}}}}}}}]}"#;
-
-/// An API of widgets with ports, without objects.
-pub fn api_with_ports(alloc: Global) -> Result<Api, Fail> {
-    Ok(Api::new(alloc, types_of(alloc, PORT_TYPES)?)?)
-}
 
 /// The media type of a method's body.
 pub fn media_of(method: &str) -> &'static str {

@@ -13,10 +13,11 @@
 //! The answer of an event is why the hub refuses it, or the bytes that then are out on connection 1, which are taken. A
 //! carriage return is shown as `|`, a line feed as `$`, nothing as `-`.
 
-use crate::given::{fresh_api, media_of, text_of};
+use crate::given::{WIDGET_TYPES, media_of, text_of, types_of};
 use httpedge::{Event, Hub, HubFault};
 use std::alloc::Global;
 use std::test::Fail;
+use verbs::Api;
 use wireclient::request_bytes;
 
 /// The test fails where rows are answered otherwise, and shows those as they are answered.
@@ -30,7 +31,8 @@ pub fn expect_rows(alloc: Global, rows: &str) -> Result<(), Fail> {
 }
 
 fn answered_otherwise(alloc: Global, rows: &str) -> Result<String, Fail> {
-    let mut hub = Hub::new(alloc, fresh_api(alloc)?);
+    let api = Api::new(alloc, types_of(alloc, WIDGET_TYPES)?)?;
+    let mut hub = Hub::new(alloc, api);
     all_otherwise(alloc, &mut hub, rows)
 }
 

@@ -4,6 +4,8 @@
 #![tactic(auto)]
 
 #[cfg(test)]
+mod apis;
+#[cfg(test)]
 mod calls;
 #[cfg(test)]
 mod connections;

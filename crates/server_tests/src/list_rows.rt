@@ -1,6 +1,6 @@
 //! Lists: their pages, versions and selectors, with the replies that the rows of the specification name.
 
-use crate::given::fresh_api;
+use crate::apis::{Given, Rows, answers};
 use crate::single_objects::{answered, call_of, fresh_answers};
 use serde_json::Value;
 use std::alloc::Global;
@@ -78,24 +78,23 @@ fn made(alloc: Global, api: &mut Api, line: &str) -> Result<(), Fail> {
     Ok(())
 }
 
-/// Three objects, at 2, 3 and 4, of which the second has another label.
-fn tiered(alloc: Global) -> Result<Api, Fail> {
-    let mut api = fresh_api(alloc)?;
+/// Makes three objects, at 2, 3 and 4, of which the second has another label.
+fn make_tiered(alloc: Global, api: &mut Api) -> Result<(), Fail> {
     let lines = r#"POST -  ,"metadata":{"labels":{"tier":"web"},"name":"w1"}
 POST -  ,"metadata":{"labels":{"tier":"db"},"name":"w2"}
 POST -  ,"metadata":{"labels":{"tier":"web"},"name":"w3"}"#;
     for line in lines.split('\n') {
-        made(alloc, &mut api, line)?;
+        made(alloc, api, line)?;
     }
-    Ok(api)
+    Ok(())
 }
 
-/// What is listed by each query, a line each.
-fn all_listed(alloc: Global, queries: &str) -> Result<String, Fail> {
-    let mut api = tiered(alloc)?;
+/// What is listed of three objects by each query, a line each.
+pub fn all_listed(alloc: Global, api: &mut Api, queries: &str) -> Result<String, Fail> {
+    make_tiered(alloc, api)?;
     let mut all = String::new(alloc);
     for query in queries.split('\n') {
-        push_listed(alloc, &mut all, &mut api, query)?;
+        push_listed(alloc, &mut all, api, query)?;
     }
     Ok(all)
 }
@@ -116,7 +115,7 @@ continue=4.default.w1&resourceVersion=4
 labelSelector=tier!%3Dweb
 labelSelector=nothing!%3Dweb&limit=3"#;
     assert_eq!(rt;
-        all_listed(rt.alloc(), queries)?.as_str(),
+        answers(rt.alloc(), Given::Widgets, Rows::Lists, queries)?.as_str(),
         r#"w1 w2 {"continue":"4.default.w2","resourceVersion":"4"}
 w3 {"resourceVersion":"4"}
 w1 {"continue":"4.default.w1","resourceVersion":"4"}

@@ -1,6 +1,7 @@
 //! Single objects: got, created, updated, applied and deleted, with the replies that the rows of the specification name.
 
-use crate::given::{api_with_one_left, api_with_ports, fresh_api, media_of};
+use crate::apis::{Given, Rows, answers};
+use crate::given::media_of;
 use serde_json::Value;
 use std::alloc::Global;
 use std::test::Fail;
@@ -70,7 +71,7 @@ fn push_answer(alloc: Global, all: &mut String, api: &mut Api, line: &str) -> Re
 }
 
 /// Does lines, and tells the answers, a line each.
-fn answers_of(alloc: Global, api: &mut Api, lines: &str) -> Result<String, Fail> {
+pub fn all_answered(alloc: Global, api: &mut Api, lines: &str) -> Result<String, Fail> {
     let mut all = String::new(alloc);
     for line in lines.split('\n') {
         push_answer(alloc, &mut all, api, line)?;
@@ -78,16 +79,9 @@ fn answers_of(alloc: Global, api: &mut Api, lines: &str) -> Result<String, Fail>
     Ok(all)
 }
 
+/// The answers of a fresh API.
 pub fn fresh_answers(alloc: Global, lines: &str) -> Result<String, Fail> {
-    answers_of(alloc, &mut fresh_api(alloc)?, lines)
-}
-
-fn port_answers(alloc: Global, lines: &str) -> Result<String, Fail> {
-    answers_of(alloc, &mut api_with_ports(alloc)?, lines)
-}
-
-fn last_answers(alloc: Global, lines: &str) -> Result<String, Fail> {
-    answers_of(alloc, &mut api_with_one_left(alloc)?, lines)
+    answers(alloc, Given::Widgets, Rows::Calls, lines)
 }
 
 #[test]
@@ -114,7 +108,7 @@ fn item_kept_for_other_owner_of_an_update(rt: HostRuntime) -> Result<(), Fail> {
     let lines = r#"PATCH w1 fieldManager=alice ,"spec":{"ports":[{"name":"web","port":80}]}
 PUT w1 fieldManager=carol ,"spec":{"ports":[{"name":"web","note":"x","port":80}]}
 PATCH w1 fieldManager=alice "#;
-    let answers = port_answers(rt.alloc(), lines)?;
+    let answers = answers(rt.alloc(), Given::Ports, Rows::Calls, lines)?;
     let last = answers.as_str().split('\n').nth(2).unwrap_or("");
     assert_eq!(rt;
         last,
@@ -193,7 +187,7 @@ PUT w1  ,"spec":{"replicas":1}
 DELETE w1  
 GET w1  "#;
     assert_eq!(rt;
-        last_answers(rt.alloc(), lines)?.as_str(),
+        answers(rt.alloc(), Given::LastRevision, Rows::Calls, lines)?.as_str(),
         r#"201 {"apiVersion":"demo.example/v1","kind":"Widget","metadata":{"name":"w1","namespace":"default","resourceVersion":"9223372036854775807"}}
 200 {"apiVersion":"demo.example/v1","kind":"Widget","metadata":{"name":"w1","namespace":"default","resourceVersion":"9223372036854775807"}}
 503 revisions are used up
