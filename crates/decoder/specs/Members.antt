@@ -11,7 +11,7 @@ use Rattle.names.specs.Decimals.{version_of}
 use Rattle.decoder.specs.declared.malformed.Malformed.{Malformed}
 use Rattle.decoder.specs.declared.malformed.Malformed.TheVariants.{Json, Object, ApiVersion, Kind, Metadata, Version}
 
--- what was read, or what is amiss
+-- what was read, or the error
 abbrev pub Read : Type 0 → Type 0
 Read A = Result A Malformed
 

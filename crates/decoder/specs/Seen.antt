@@ -32,7 +32,7 @@ line_seen (line.Deleted o) = deleted (stored_of o)
 line_seen (line.Bookmark r) = bookmark r
 line_seen line.Error = error
 
--- what a call that takes no memory returned is what is read, or what is amiss with it
+-- what a call that takes no memory returned is what is read, or its error
 abbrev pub Says : {X Y : Type 0} → (X → Y) → Result X Malformed → Read Y → Type 0
 Says view (Ok x) read = read ≡ Ok (view x)
 Says view (Err m) read = read ≡ Err m

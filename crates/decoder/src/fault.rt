@@ -7,10 +7,10 @@ use thiserror::Error;
 /// Why nothing was read.
 #[derive(Clone, Copy, Debug, PartialEq, Eq, Error)]
 pub enum DecodeFault {
-    /// This is amiss.
+    /// The reply is malformed, for this reason.
     #[error("malformed reply: {0}")]
     Malformed(Malformed),
-    /// There was no memory.
+    /// A growth of memory was refused.
     #[error("out of memory")]
     Memory,
 }

@@ -69,7 +69,7 @@ fn line_of(alloc: Global, wanted: &Wanted, value: &Value) -> Result<Line, Decode
     typed(alloc, wanted, name, subject)
 }
 
-/// What a line of a watch says (Kubernetes API Concepts, "Efficient detection of changes"), or the first thing amiss.
+/// What a line of a watch says (Kubernetes API Concepts, "Efficient detection of changes"), or its first error.
 pub fn read_line(alloc: Global, wanted: &Wanted, bytes: &[u8]) -> Result<Line, DecodeFault>
     ensures { Gives line_seen result (line_in (wanted_of wanted.now) bytes.now) }
 {

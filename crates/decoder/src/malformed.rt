@@ -1,8 +1,8 @@
-//! What is amiss with a reply.
+//! The errors of a malformed reply.
 
 use thiserror::Error;
 
-/// What is amiss with a list's body or a watch's line: the first of these, in the order in which it is read.
+/// What is wrong with a list's body or a watch's line: the first of these, in the order in which it is read.
 #[derive(Clone, Copy, Debug, PartialEq, Eq, Error)]
 pub enum Malformed {
     /// It is no JSON text, or nests deeper than 127.

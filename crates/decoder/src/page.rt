@@ -85,7 +85,7 @@ fn page_of(alloc: Global, wanted: &Wanted, value: &Value) -> Result<Page, Decode
 }
 
 /// What the body of a list's answer says (Kubernetes API Concepts, "Retrieving large results sets in chunks"), or
-/// the first thing amiss.
+/// its first error.
 pub fn read_page(alloc: Global, wanted: &Wanted, bytes: &[u8]) -> Result<Page, DecodeFault>
     ensures { Gives page_seen result (page_in (wanted_of wanted.now) bytes.now) }
 {

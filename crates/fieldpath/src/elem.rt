@@ -1,3 +1,4 @@
+//! Elements of paths, printed as their texts and read from them.
 ghost use Rattle.std.specs.Prelude.{◌≡◌, ◌++◌, Some, None, IfOk, OnOk, length, take, drop, if◌then◌else◌, option_map, string_bytes};
 ghost use Rattle.std.specs.Str.{bytes_eq};
 ghost use Rattle.serde_json.specs.Read.{read};

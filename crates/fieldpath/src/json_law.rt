@@ -1,3 +1,4 @@
+//! Laws of JSON texts, which crates above build on. Each function does nothing; what it promises is the law.
 ghost use Rattle.fieldpath.specs.Spelled.{CompactTextsReadBack, ReadingsAreSpelled};
 
 /// What a JSON text is read as is spelled: whole numbers within 64 bits, members in byte order of

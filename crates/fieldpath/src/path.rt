@@ -1,3 +1,4 @@
+//! Paths. What an element says stands in `elem`, its text in `elem_text`.
 ghost use Rattle.std.specs.Prelude.{◌≡◌, [], ◌∷◌, ◌++◌, flat_map, map, IfOk, Ok, OnOk, OnErr, string_bytes};
 ghost use Rattle.std.specs.Prelude.{refl};
 ghost use Rattle.std.specs.Cmp.{eq_by_cmp_equiv, partial_equiv_from_equiv, partial_order_from_total};

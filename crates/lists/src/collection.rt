@@ -1,3 +1,5 @@
+//! Which objects a list is of.
+
 /// The objects of a type, in one namespace or in all.
 #[derive(Clone, Copy, Debug)]
 pub struct Collection<'a> {

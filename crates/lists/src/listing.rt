@@ -1,3 +1,4 @@
+//! The text of a list, from the parameters that ask for it.
 ghost use Rattle.std.specs.Prelude.{◌≡◌, string_bytes};
 ghost use Rattle.history.specs.View.{state_in};
 ghost use Rattle.params.specs.Views.{values_of};

@@ -1,3 +1,5 @@
+//! Why a list is refused. The Status that tells it is made in `verbs`.
+
 /// Why a list is refused.
 #[derive(Clone, Copy, Debug, PartialEq, Eq)]
 pub enum Refusal {

@@ -1,7 +1,7 @@
 //! The parameters of a request's query (Kubernetes documentation, "Kubernetes API Concepts").
 //!
 //! A query is read as exactly the values that its verb knows, or refused with the first parameter at fault.
-//! A parameter that the verb doesn't know is read past; given twice it counts at its first place; an empty
+//! A parameter that the verb doesn't know is ignored; given twice it counts at its first place; an empty
 //! value is absence.
 //!
 //! Stands on `names` for versions, `selector` for label selectors, `form_urlencoded` for the query's pairs.

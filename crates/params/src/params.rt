@@ -248,7 +248,7 @@ impl Params {
         Query::read(alloc, query)?.truth(Parameter::Watch)
     }
 
-    /// Reads the parameters that what is asked knows; the others are read past. A parameter that is given
+    /// Reads the parameters that what is asked knows; the others are ignored. A parameter that is given
     /// twice counts at its first place, and an empty value is absence.
     ///
     /// Refused with the first parameter at fault: of a list `watch` itself, then single ones in byte order of

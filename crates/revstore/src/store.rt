@@ -1,3 +1,4 @@
+//! The store and its calls. How changes are kept stands in `revtable`.
 ghost use Rattle.std.specs.Prelude.{◌≡◌, ◌↔◌, suc, ◌-◌, ◌<◌, ◌≤◌, true, map, Err, IfOk, OnOk, OnErr, None, option_map};
 ghost use Rattle.std.specs.FinMap as fin;
 ghost use Rattle.history.specs.History.{last_revision, later};

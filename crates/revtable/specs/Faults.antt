@@ -10,7 +10,7 @@ abbrev pub fault_by : ErrorCode → Fault
 fault_by OutOfMemory = Memory
 fault_by _ = Store
 
--- want of memory as that, and everything else as a refusal of the statement
+-- out of memory as that, and everything else as a refusal of the statement
 abbrev pub fault_of : Error → Fault
 fault_of (SqliteFailure code) = fault_by code
 fault_of _ = Store

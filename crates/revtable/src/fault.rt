@@ -1,3 +1,5 @@
+//! Why a call on the table fails.
+
 use sqlite::{Error, ErrorCode};
 use std::alloc::{AllocError, AllocFailed};
 use thiserror::Error;

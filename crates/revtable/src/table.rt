@@ -1,3 +1,4 @@
+//! The table and its calls. The statements stand in `statements`, their rows in `reading`.
 ghost use Rattle.std.specs.Prelude.{◌≡◌, suc, ◌≤◌, true, map, IfOk, OnOk, OnErr, Some, None, option_map, length, false};
 ghost use Rattle.std.specs.FinMap as fin;
 ghost use Rattle.history.specs.History.{fresh, last_revision, later, standing, state_at, up_to, written};

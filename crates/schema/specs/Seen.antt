@@ -29,7 +29,7 @@ form_view form.Text = scalar_form text
 form_view form.Whole = scalar_form whole
 form_view form.Truth = scalar_form truth
 
--- a fault is the definition's refusal; want of memory says nothing of it
+-- a fault is the definition's refusal; out of memory says nothing of it
 abbrev pub Fails : {Y : Type 0} → TypesFault → Result Y Refusal → Type 0
 Fails fault.UnknownKeyword answer = answer ≡ Err unknown_keyword
 Fails fault.UnknownType answer = answer ≡ Err unknown_type

@@ -70,7 +70,7 @@ pub record ServedShape : Type 0 where
   pub plural : List ℕ
   pub shape : Shape
 
--- properties of these names at the top of a type's schema are read past
+-- properties of these names at the top of a type's schema are ignored
 abbrev pub is_envelope : List ℕ → Bool
 is_envelope = is_in (codes "apiVersion" ∷ codes "kind" ∷ codes "metadata" ∷ [])
 

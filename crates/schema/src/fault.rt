@@ -1,3 +1,5 @@
+//! Why a types file is refused.
+
 use std::alloc::{AllocError, AllocFailed};
 use thiserror::Error;
 

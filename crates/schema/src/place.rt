@@ -1,3 +1,5 @@
+//! What stands at a path. How a schema leads to a place stands in `step`.
+
 /// What stands at a path that a schema gives a place.
 #[derive(Clone, Copy, Debug, PartialEq, Eq)]
 pub enum Place {

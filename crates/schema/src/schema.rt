@@ -1,3 +1,5 @@
+//! Schemas as values. `read` makes them of JSON, `lawful` says which keep the rules, `step` and `place` walk them.
+
 /// How a list merges (Server-Side Apply, "Merge strategy").
 #[derive(Debug, Drop)]
 pub enum ListKind {

@@ -1,3 +1,4 @@
+//! One type that is served, and whether types have the same names.
 ghost use Rattle.std.specs.Prelude.{◌≡◌, map};
 ghost use Rattle.std.specs.List.{list_any};
 ghost use Rattle.schema.specs.Served.{served};

@@ -1,3 +1,4 @@
+//! The types that a server knows, looked up by number and by name. Reading a types file stands in `file`.
 ghost use Rattle.std.specs.Prelude.{◌≡◌, ◌≤◌, true, vec_len};
 ghost use Rattle.std.specs.List.{list_all};
 ghost use Rattle.schema.specs.ObjectTest.{is_object_shape};
