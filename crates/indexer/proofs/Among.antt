@@ -2,6 +2,8 @@
 use Rattle.std.proofs.Common.{◌≡◌, ℕ, zero, suc, ◌+◌, ◌<◌, Bool, true, false, cond, not, ◌&&◌, ◌||◌, List, [], ◌∷◌, ◌++◌, length, map, take, drop, drop-cons, add-one, take_all, length-drop, arith, ◌-◌, get_or, String, Global, Some, None, ltb, refl, sym, ap, ap₂, ◌∙◌}
 use Rattle.std.specs.Prelude.{string_bytes}
 use Rattle.std.specs.List.{list_any, prefix_len, position}
+use Rattle.std.specs.Rc.{rc_str_bytes}
+use Rattle.std.specs.declared.rc.RcStr.{RcStr}
 use Rattle.std.specs.Str.{bytes_eq}
 use Rattle.std.proofs.lemmas.List.{take_more, map-append}
 use Rattle.std.proofs.lemmas.Slice.Eq.{bytes_eq-Decides}
@@ -45,10 +47,10 @@ any-map f p [] = refl
 any-map f p (x ∷ xs) = ap (λ b. p (f x) || b) (any-map f p xs)
 
 -- a text and the keys to keep, where k is that text
-pub same_text : (texts : List (String Global)) (text k : List ℕ) (found : Bool) → found ≡ list_any (λ t. bytes_eq (string_bytes t) text) texts → bytes_eq text k ≡ true → found ≡ is_among (map string_bytes texts) k
+pub same_text : (texts : List (RcStr Global)) (text k : List ℕ) (found : Bool) → found ≡ list_any (λ t. bytes_eq (rc_str_bytes t) text) texts → bytes_eq text k ≡ true → found ≡ is_among (map rc_str_bytes texts) k
 same_text texts text k found is e =
     let same : text ≡ k = (bytes_eq-Decides text k).0 e in
-    is ∙ any-map string_bytes (λ t. bytes_eq t text) texts ∙ ap (λ t. is_among (map string_bytes texts) t) same
+    is ∙ any-map rc_str_bytes (λ t. bytes_eq t text) texts ∙ ap (λ t. is_among (map rc_str_bytes texts) t) same
 
 -- a text that is not to be kept, and one that is
 pub not_kept : (e kept found : Bool) → (e ≡ true → found ≡ kept) → found ≡ false → (e && not (not kept)) ≡ false

@@ -1,4 +1,5 @@
 pub mod Among
+pub mod ByText
 pub mod Flags
 pub mod Followed
 pub mod Held

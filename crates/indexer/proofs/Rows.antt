@@ -1,9 +1,11 @@
 -- Postings, index by index.
-use Rattle.std.proofs.Common.{◌≡◌, ◌≢◌, ℕ, zero, suc, ◌+◌, ◌<◌, ◌≤◌, Bool, true, false, ◌&&◌, ◌||◌, inl, inr, Option, Some, None, Bor, ap₂, add-one, List, [], ◌∷◌, ◌++◌, length, map, get_or, set, take, Vec, String, Global, refl, sym, ap, ◌∙◌, arith}
-use Rattle.std.specs.Prelude.{string_bytes, MatchOption, option_copied}
+use Rattle.std.proofs.Common.{◌≡◌, ◌≢◌, ℕ, zero, suc, ◌+◌, ◌<◌, ◌≤◌, Bool, true, false, ◌&&◌, ◌||◌, inl, inr, Option, Some, None, Bor, ap₂, add-one, List, [], ◌∷◌, ◌++◌, length, map, get_or, set, take, refl, sym, ap, ◌∙◌, arith}
+use Rattle.std.specs.Prelude.{MatchOption, option_copied}
 use Rattle.std.proofs.lemmas.Bool.Decides.{eqb_tells}
 use Rattle.indexer.specs.declared.object.ObjectKey.{ObjectKey}
+use Rattle.indexer.specs.declared.texts.Texts.{Texts}
 use Rattle.indexer.specs.Objects.{is_among, texts_at, under_at}
+use Rattle.indexer.specs.Texts.{bytes_in}
 use Rattle.indexer.specs.Postings.{Postings, under, under_in}
 use Rattle.indexer.proofs.Flags.{some_of}
 
@@ -30,12 +32,12 @@ under_at-push [] p (suc j) k q h = refl
 under_at-push (x ∷ ps) p zero k q h = refl
 under_at-push (x ∷ ps) p (suc j) k q h = under_at-push ps p j k q h
 
-pub texts_at-some : (keys : List (Vec (String Global) Global)) (i : ℕ) (v : Vec (String Global) Global) → i < length keys → v ≡ get_or keys i v → map string_bytes v.items ≡ texts_at keys i
+pub texts_at-some : (keys : List Texts) (i : ℕ) (v : Texts) → i < length keys → v ≡ get_or keys i v → bytes_in v ≡ texts_at keys i
 texts_at-some [] i v lt is = absurd (omega arith)
-texts_at-some (x ∷ keys) zero v lt is = ap (λ (w : Vec (String Global) Global). map string_bytes w.items) is
+texts_at-some (x ∷ keys) zero v lt is = ap bytes_in is
 texts_at-some (x ∷ keys) (suc i) v lt is = texts_at-some keys i v (omega arith) is
 
-pub texts_at-none : (keys : List (Vec (String Global) Global)) (i : ℕ) → length keys ≤ i → [] ≡ texts_at keys i
+pub texts_at-none : (keys : List Texts) (i : ℕ) → length keys ≤ i → [] ≡ texts_at keys i
 texts_at-none [] i le = refl
 texts_at-none (x ∷ keys) zero le = absurd (omega arith)
 texts_at-none (x ∷ keys) (suc i) le = texts_at-none keys i (omega arith)
@@ -47,18 +49,18 @@ under_at-past (p ∷ ps) (suc i) k q le = under_at-past ps i k q (omega arith)
 
 -- ---- the keys of the first indexes
 
-texts_at-take_same : (keys : List (Vec (String Global) Global)) (i : ℕ) (v : Vec (String Global) Global) → i < length keys → v ≡ get_or keys i v → map string_bytes v.items ≡ texts_at (take (suc i) keys) i
+texts_at-take_same : (keys : List Texts) (i : ℕ) (v : Texts) → i < length keys → v ≡ get_or keys i v → bytes_in v ≡ texts_at (take (suc i) keys) i
 texts_at-take_same [] i v lt is = absurd (omega arith)
-texts_at-take_same (x ∷ keys) zero v lt is = ap (λ (w : Vec (String Global) Global). map string_bytes w.items) is
+texts_at-take_same (x ∷ keys) zero v lt is = ap bytes_in is
 texts_at-take_same (x ∷ keys) (suc i) v lt is = texts_at-take_same keys i v (omega arith) is
 
-texts_at-take_here : (keys : List (Vec (String Global) Global)) (i : ℕ) → texts_at (take i keys) i ≡ []
+texts_at-take_here : (keys : List Texts) (i : ℕ) → texts_at (take i keys) i ≡ []
 texts_at-take_here [] zero = refl
 texts_at-take_here [] (suc i) = refl
 texts_at-take_here (x ∷ keys) zero = refl
 texts_at-take_here (x ∷ keys) (suc i) = texts_at-take_here keys i
 
-texts_at-take_other : (keys : List (Vec (String Global) Global)) (i j : ℕ) → j ≢ i → texts_at (take i keys) j ≡ texts_at (take (suc i) keys) j
+texts_at-take_other : (keys : List Texts) (i j : ℕ) → j ≢ i → texts_at (take i keys) j ≡ texts_at (take (suc i) keys) j
 texts_at-take_other [] zero j ne = refl
 texts_at-take_other [] (suc i) j ne = refl
 texts_at-take_other (x ∷ keys) zero zero ne = absurd (ne refl)
@@ -76,23 +78,23 @@ and_itself true = refl
 and_itself false = refl
 
 -- a key by one of the first indexes is a key
-pub among_first : (keys : List (Vec (String Global) Global)) (i j : ℕ) (k : List ℕ) → is_among (texts_at (take i keys) j) k ≡ (is_among (texts_at keys j) k && is_among (texts_at (take i keys) j) k)
+pub among_first : (keys : List Texts) (i j : ℕ) (k : List ℕ) → is_among (texts_at (take i keys) j) k ≡ (is_among (texts_at keys j) k && is_among (texts_at (take i keys) j) k)
 among_first [] zero j k = refl
 among_first [] (suc i) j k = refl
 among_first (x ∷ keys) zero j k = and_never (is_among (texts_at (x ∷ keys) j) k)
-among_first (x ∷ keys) (suc i) zero k = and_itself (is_among (map string_bytes x.items) k)
+among_first (x ∷ keys) (suc i) zero k = and_itself (is_among (bytes_in x) k)
 among_first (x ∷ keys) (suc i) (suc j) k = among_first keys i j k
 
 -- ---- one index after another
 
 -- n says which keys are to be added in each index
-pub added_some : (old ps : List Postings) (i : ℕ) (keys : List (Vec (String Global) Global)) (n : ℕ → List ℕ → Bool) (s : ObjectKey → Bool)
+pub added_some : (old ps : List Postings) (i : ℕ) (keys : List Texts) (n : ℕ → List ℕ → Bool) (s : ObjectKey → Bool)
     → ((j : ℕ) (k : List ℕ) (q : ObjectKey) → under_at ps j k q ≡ (under_at old j k q || ((is_among (texts_at (take i keys) j) k && n j k) && s q)))
     → (j : ℕ) (k : List ℕ) (q : ObjectKey) → under_at ps j k q ≡ (under_at old j k q || (((is_among (texts_at keys j) k && n j k) && is_among (texts_at (take i keys) j) k) && s q))
 added_some old ps i keys n s so j k q =
     so j k q ∙ ap (λ b. under_at old j k q || (b && s q)) (some_of (is_among (texts_at keys j) k) (is_among (texts_at (take i keys) j) k) (n j k) (among_first keys i j k))
 
-module _ (old ps : List Postings) (i : ℕ) (before after : Postings) (keys : List (Vec (String Global) Global)) (v : Vec (String Global) Global) (n : ℕ → List ℕ → Bool) (s : ObjectKey → Bool) where
+module _ (old ps : List Postings) (i : ℕ) (before after : Postings) (keys : List Texts) (v : Texts) (n : ℕ → List ℕ → Bool) (s : ObjectKey → Bool) where
   abbrev pub AddedSo : Type 0
   AddedSo = (j : ℕ) (k : List ℕ) (q : ObjectKey) → under_at ps j k q ≡ (under_at old j k q || ((is_among (texts_at (take i keys) j) k && n j k) && s q))
 
@@ -107,7 +109,7 @@ module _ (old ps : List Postings) (i : ℕ) (before after : Postings) (keys : Li
       none false = refl
 
   pub added : AddedSo → i < length ps → before ≡ get_or ps i before → i < length keys → v ≡ get_or keys i v
-      → ((k : List ℕ) (q : ObjectKey) → under after k q ≡ (under before k q || ((is_among (map string_bytes v.items) k && n i k) && s q)))
+      → ((k : List ℕ) (q : ObjectKey) → under after k q ≡ (under before k q || ((is_among (bytes_in v) k && n i k) && s q)))
       → (j : ℕ) (k : List ℕ) (q : ObjectKey) → under_at (set ps i after) j k q ≡ (under_at old j k q || ((is_among (texts_at (take (i + 1) keys) j) k && n j k) && s q))
   added so lt is within v-is adds j k q =
       rw add-one (elim (eqb_tells j i) [
@@ -116,7 +118,7 @@ module _ (old ps : List Postings) (i : ℕ) (before after : Postings) (keys : Li
       ])
 
   pub failed : AddedSo → i < length ps → before ≡ get_or ps i before → i < length keys → v ≡ get_or keys i v
-      → ((k : List ℕ) (q : ObjectKey) → (part : Bool) × (under after k q ≡ (under before k q || (((is_among (map string_bytes v.items) k && n i k) && part) && s q))))
+      → ((k : List ℕ) (q : ObjectKey) → (part : Bool) × (under after k q ≡ (under before k q || (((is_among (bytes_in v) k && n i k) && part) && s q))))
       → (j : ℕ) (k : List ℕ) (q : ObjectKey) → (part : Bool) × (under_at (set ps i after) j k q ≡ (under_at old j k q || (((is_among (texts_at keys j) k && n j k) && part) && s q)))
   failed so lt is within v-is adds j k q =
       elim (eqb_tells j i) [

@@ -1,7 +1,6 @@
 -- What stands under a key of an index after one change.
 use Rattle.std.proofs.Common.{◌≡◌, ℕ, Bool, true, false, cond, not, ◌&&◌, ◌||◌, List, [], ◌∷◌, length, arith, Option, None, refl, sym, ap, ap₂, ◌∙◌}
 use Rattle.std.specs.Prelude.{string_bytes}
-use Rattle.std.specs.BTreeMap.{get_by_text}
 use Rattle.std.specs.BTreeSet.{BTreeSet}
 use Rattle.std.specs.Ordering.{is_eq, ordering_then, nat_cmp}
 use Rattle.std.specs.Cmp.Lexicographic.{slice_cmp}
@@ -10,7 +9,7 @@ use Rattle.std.specs.Str.{bytes_eq}
 use Rattle.std.proofs.lemmas.Slice.Eq.{bytes_eq-Decides}
 use Rattle.indexer.specs.declared.object.ObjectKey.{ObjectKey}
 use Rattle.indexer.specs.Keys.{is_same, IsCopyOf}
-use Rattle.indexer.specs.Postings.{Postings, has_in, under}
+use Rattle.indexer.specs.Postings.{Postings, listed_at, has_in, under}
 
 pub or_false : (a b : Bool) → (a || (b && false)) ≡ a
 or_false true b = refl
@@ -54,31 +53,31 @@ gone false x y = refl
 
 module _ (text : List ℕ) (old new : Postings) (was now : Option (BTreeSet ObjectKey)) where
   abbrev pub Sets : Type 0
-  Sets = (k : List ℕ) → get_by_text new k ≡ cond (bytes_eq text k) now (get_by_text old k)
+  Sets = (k : List ℕ) → listed_at new k ≡ cond (bytes_eq text k) now (listed_at old k)
 
   -- the key that was found holds more now
-  pub adds_under : Sets → get_by_text old text ≡ was → (k : List ℕ) (q : ObjectKey) (here : Bool) → has_in now q ≡ (has_in was q || here) → under new k q ≡ (under old k q || (bytes_eq text k && here))
+  pub adds_under : Sets → listed_at old text ≡ was → (k : List ℕ) (q : ObjectKey) (here : Bool) → has_in now q ≡ (has_in was q || here) → under new k q ≡ (under old k q || (bytes_eq text k && here))
   adds_under sets before k q here h = ap (λ (o : Option (BTreeSet ObjectKey)). has_in o q) (sets k) ∙ go (bytes_eq text k) refl
     where
-      go : (t : Bool) → bytes_eq text k ≡ t → has_in (cond t now (get_by_text old k)) q ≡ (has_in (get_by_text old k) q || (t && here))
+      go : (t : Bool) → bytes_eq text k ≡ t → has_in (cond t now (listed_at old k)) q ≡ (has_in (listed_at old k) q || (t && here))
       go true e =
           let same : text ≡ k = (bytes_eq-Decides text k).0 e in
-          h ∙ ap (λ (o : Option (BTreeSet ObjectKey)). has_in o q || here) (sym before ∙ ap (get_by_text old) same)
-      go false e = sym (plain (has_in (get_by_text old k) q))
+          h ∙ ap (λ (o : Option (BTreeSet ObjectKey)). has_in o q || here) (sym before ∙ ap (listed_at old) same)
+      go false e = sym (plain (has_in (listed_at old k) q))
         where
           plain : (a : Bool) → (a || false) ≡ a
           plain true = refl
           plain false = refl
 
   -- the key that was found holds less now
-  pub takes_under : Sets → get_by_text old text ≡ was → (k : List ℕ) (q : ObjectKey) (here : Bool) → has_in now q ≡ (has_in was q && not here) → under new k q ≡ (under old k q && not (bytes_eq text k && here))
+  pub takes_under : Sets → listed_at old text ≡ was → (k : List ℕ) (q : ObjectKey) (here : Bool) → has_in now q ≡ (has_in was q && not here) → under new k q ≡ (under old k q && not (bytes_eq text k && here))
   takes_under sets before k q here h = ap (λ (o : Option (BTreeSet ObjectKey)). has_in o q) (sets k) ∙ go (bytes_eq text k) refl
     where
-      go : (t : Bool) → bytes_eq text k ≡ t → has_in (cond t now (get_by_text old k)) q ≡ (has_in (get_by_text old k) q && not (t && here))
+      go : (t : Bool) → bytes_eq text k ≡ t → has_in (cond t now (listed_at old k)) q ≡ (has_in (listed_at old k) q && not (t && here))
       go true e =
           let same : text ≡ k = (bytes_eq-Decides text k).0 e in
-          h ∙ ap (λ (o : Option (BTreeSet ObjectKey)). has_in o q && not here) (sym before ∙ ap (get_by_text old) same)
-      go false e = sym (plain (has_in (get_by_text old k) q))
+          h ∙ ap (λ (o : Option (BTreeSet ObjectKey)). has_in o q && not here) (sym before ∙ ap (listed_at old) same)
+      go false e = sym (plain (has_in (listed_at old k) q))
         where
           plain : (a : Bool) → (a && true) ≡ a
           plain true = refl

@@ -1,5 +1,6 @@
 pub mod Keys
 pub mod Postings
+pub mod Texts
 pub mod Objects
 pub mod Kept
 pub mod Names

@@ -9,7 +9,9 @@ use Rattle.std.specs.Str.{bytes_eq}
 use Rattle.std.specs.declared.cmp.Ordering.{Ordering}
 use Rattle.indexer.specs.declared.object.Object.{Object}
 use Rattle.indexer.specs.declared.object.ObjectKey.{ObjectKey}
+use Rattle.indexer.specs.declared.texts.Texts.{Texts}
 use Rattle.indexer.specs.Postings.{Postings, under}
+use Rattle.indexer.specs.Texts.{bytes_in}
 
 -- an object without where it lies in memory
 pub record Stored : Type 0 where
@@ -43,13 +45,17 @@ place_of_object o = (string_bytes o.namespace, string_bytes o.name)
 abbrev pub is_among : List (List ℕ) → List ℕ → Bool
 is_among texts k = list_any (λ t. bytes_eq t k) texts
 
--- the keys of an object in each index
+-- the keys of an object in each index, as its function gives them
 abbrev pub texts_of : List (Vec (String Global) Global) → List (List (List ℕ))
 texts_of keys = map (λ v. map string_bytes v.items) keys
 
+-- the same as they are kept
+abbrev pub kept_of : List Texts → List (List (List ℕ))
+kept_of keys = map bytes_in keys
+
 -- those in index number i
-abbrev pub texts_at : List (Vec (String Global) Global) → ℕ → List (List ℕ)
-texts_at keys i = slice_index_or (texts_of keys) i []
+abbrev pub texts_at : List Texts → ℕ → List (List ℕ)
+texts_at keys i = slice_index_or (kept_of keys) i []
 
 abbrev pub under_at : List Postings → ℕ → List ℕ → ObjectKey → Bool
 under_at [] i k q = false

@@ -1,10 +1,11 @@
 //! What is kept of an object.
 
 use crate::object::Object;
+use crate::texts::Texts;
 
 /// An object, and its keys in each index.
 #[derive(Debug, Drop)]
 pub(crate) struct Entry {
     pub(crate) object: Object,
-    pub(crate) keys: Vec<Vec<String>>,
+    pub(crate) keys: Vec<Texts>,
 }

@@ -11,6 +11,7 @@ ghost use Rattle.indexer.specs.declared.object.ObjectKey.{ObjectKey};
 use crate::entry::Entry;
 use crate::object::{Object, ObjectKey};
 use crate::postings::{Postings, add_all, remove_all};
+use crate::texts::{Texts, shared_by_each};
 use std::alloc::{AllocError, Global};
 use std::collections::{BTreeMap, btree_map};
 
@@ -18,8 +19,8 @@ use std::collections::{BTreeMap, btree_map};
 fn move_to(
     alloc: Global,
     postings: &mut Vec<Postings>,
-    had: &[Vec<String>],
-    keys: &[Vec<String>],
+    had: &[Texts],
+    keys: &[Texts],
     key: &ObjectKey,
 ) -> Result<(), AllocError>
     requires { (i : ℕ) (k : List ℕ) (q : ObjectKey) → is_same key.now q ≡ true → under_at postings.old.items i k q ≡ is_among (texts_at had.now i) k }
@@ -48,13 +49,14 @@ pub(crate) fn put(
     ensures was { IfOk result (λ o. option_map seen_of o ≡ fin.get (held_in objects.old) (place_of_object object)) }
     ensures err { OnErr result (held_in objects.new ≡ held_in objects.old) }
 {
+    let kept = shared_by_each(alloc, postings.as_slice(), keys)?;
     match objects.entry(ObjectKey::of(&object)?)? {
         btree_map::Entry::Occupied(mut held) => {
-            move_to(alloc, postings, &held.get().keys, &keys, held.key())?;
-            Ok(Some(held.insert(Entry { object, keys })))
+            move_to(alloc, postings, &held.get().keys, &kept, held.key())?;
+            Ok(Some(held.insert(Entry { object, keys: kept })))
         }
         btree_map::Entry::Vacant(room) => {
-            let held = room.insert_entry(Entry { object, keys });
+            let held = room.insert_entry(Entry { object, keys: kept });
             if let Err(refused) = move_to(alloc, postings, &[], &held.get().keys, held.key()) {
                 held.remove();
                 return Err(refused);

@@ -14,6 +14,7 @@ mod kept;
 mod law;
 mod object;
 mod postings;
+mod texts;
 
 pub use index_by::IndexBy;
 pub use indexer::{Indexer, NewError};

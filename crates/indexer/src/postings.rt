@@ -1,6 +1,7 @@
 //! One index: its keys, and the objects under each.
 
 ghost use Rattle.std.specs.Prelude.{◌≡◌, ◌↔◌, IfOk, true, ℕ, Bool, List, ◌&&◌, ◌||◌, not, map, length, ◌<◌, ◌≤◌, string_bytes, OnOk, OnErr, IfSome, option_copied};
+ghost use Rattle.std.specs.Rc.{rc_str_bytes};
 ghost use Rattle.std.specs.Str.{bytes_eq};
 ghost use Rattle.indexer.specs.Keys.{is_same};
 ghost use Rattle.std.specs.BTreeSet.{btree_set_len};
@@ -13,30 +14,32 @@ ghost use Rattle.indexer.specs.Postings.{has_in, under, under_in};
 ghost use Rattle.indexer.specs.declared.object.ObjectKey.{ObjectKey};
 
 use crate::object::ObjectKey;
+use crate::texts::Texts;
 use std::alloc::{AllocError, Global};
 use std::collections::{BTreeMap, BTreeSet};
+use std::rc::RcStr;
 
-pub(crate) type Postings = BTreeMap<String, BTreeSet<ObjectKey>>;
+pub(crate) type Postings = BTreeMap<RcStr, BTreeSet<ObjectKey>>;
 
 /// Puts the object under one key of the index.
 pub(crate) fn add(
     alloc: Global,
     postings: &mut Postings,
-    text: &str,
+    text: &RcStr,
     key: &ObjectKey,
 ) -> Result<(), AllocError>
-    ensures ok { OnOk result ((k : List ℕ) (q : ObjectKey) → under postings.new k q ≡ (under postings.old k q || (bytes_eq text.now k && is_same key.now q))) }
+    ensures ok { OnOk result ((k : List ℕ) (q : ObjectKey) → under postings.new k q ≡ (under postings.old k q || (bytes_eq (rc_str_bytes text.now) k && is_same key.now q))) }
     ensures err { OnErr result ((k : List ℕ) (q : ObjectKey) → under postings.new k q ≡ under postings.old k q) }
 {
     let copy = key.try_copy()?;
-    match postings.get_mut(text) {
+    match postings.get_mut(text.as_str()) {
         Some(keys) => {
             keys.insert(copy)?;
         }
         None => {
             let mut keys = BTreeSet::new(alloc);
             keys.insert(copy)?;
-            postings.insert(String::from_str(alloc, text)?, keys)?;
+            postings.insert(text.clone()?, keys)?;
         }
     }
     Ok(())
@@ -60,12 +63,12 @@ pub(crate) fn remove(postings: &mut Postings, text: &str, key: &ObjectKey)
 pub(crate) fn add_each(
     alloc: Global,
     postings: &mut Postings,
-    texts: &[String],
-    had: &[String],
+    texts: &[RcStr],
+    had: &[RcStr],
     key: &ObjectKey,
 ) -> Result<(), AllocError>
-    ensures ok { OnOk result ((k : List ℕ) (q : ObjectKey) → under postings.new k q ≡ (under postings.old k q || ((is_among (map string_bytes texts.now) k && not (is_among (map string_bytes had.now) k)) && is_same key.now q))) }
-    ensures err { OnErr result ((k : List ℕ) (q : ObjectKey) → (part : Bool) × (under postings.new k q ≡ (under postings.old k q || (((is_among (map string_bytes texts.now) k && not (is_among (map string_bytes had.now) k)) && part) && is_same key.now q)))) }
+    ensures ok { OnOk result ((k : List ℕ) (q : ObjectKey) → under postings.new k q ≡ (under postings.old k q || ((is_among (map rc_str_bytes texts.now) k && not (is_among (map rc_str_bytes had.now) k)) && is_same key.now q))) }
+    ensures err { OnErr result ((k : List ℕ) (q : ObjectKey) → (part : Bool) × (under postings.new k q ≡ (under postings.old k q || (((is_among (map rc_str_bytes texts.now) k && not (is_among (map rc_str_bytes had.now) k)) && part) && is_same key.now q)))) }
 {
     for text in texts {
         if !had.contains(text) {
@@ -76,13 +79,8 @@ pub(crate) fn add_each(
 }
 
 /// Takes the object from each of these keys that isn't one of those to keep.
-pub(crate) fn remove_each(
-    postings: &mut Postings,
-    texts: &[String],
-    kept: &[String],
-    key: &ObjectKey,
-)
-    ensures { (k : List ℕ) (q : ObjectKey) → under postings.new k q ≡ (under postings.old k q && not ((is_among (map string_bytes texts.now) k && not (is_among (map string_bytes kept.now) k)) && is_same key.now q)) }
+pub(crate) fn remove_each(postings: &mut Postings, texts: &[RcStr], kept: &[RcStr], key: &ObjectKey)
+    ensures { (k : List ℕ) (q : ObjectKey) → under postings.new k q ≡ (under postings.old k q && not ((is_among (map rc_str_bytes texts.now) k && not (is_among (map rc_str_bytes kept.now) k)) && is_same key.now q)) }
 {
     for text in texts {
         if !kept.contains(text) {
@@ -92,11 +90,11 @@ pub(crate) fn remove_each(
 }
 
 /// An object's keys in one index.
-fn keys_at(keys: &[Vec<String>], i: usize) -> &[String]
-    ensures { map string_bytes result.now ≡ texts_at keys.now i }
+fn keys_at(keys: &[Texts], i: usize) -> &[RcStr]
+    ensures { map rc_str_bytes result.now ≡ texts_at keys.now i }
 {
     match keys.get(i) {
-        Some(texts) => texts,
+        Some(texts) => texts.as_slice(),
         None => &[],
     }
 }
@@ -118,8 +116,8 @@ fn make_room(alloc: Global, postings: &mut Vec<Postings>, i: usize) -> Result<()
 pub(crate) fn add_all(
     alloc: Global,
     postings: &mut Vec<Postings>,
-    keys: &[Vec<String>],
-    had: &[Vec<String>],
+    keys: &[Texts],
+    had: &[Texts],
     key: &ObjectKey,
 ) -> Result<(), AllocError>
     ensures ok { OnOk result ((i : ℕ) (k : List ℕ) (q : ObjectKey) → under_at postings.new.items i k q ≡ (under_at postings.old.items i k q || ((is_among (texts_at keys.now i) k && not (is_among (texts_at had.now i) k)) && is_same key.now q))) }
@@ -127,7 +125,13 @@ pub(crate) fn add_all(
 {
     for (i, texts) in keys.iter().enumerate() {
         make_room(alloc, postings, i)?;
-        add_each(alloc, &mut postings[i], texts, keys_at(had, i), key)?;
+        add_each(
+            alloc,
+            &mut postings[i],
+            texts.as_slice(),
+            keys_at(had, i),
+            key,
+        )?;
     }
     Ok(())
 }
@@ -135,8 +139,8 @@ pub(crate) fn add_all(
 /// Takes the object from its keys in each index, but for those to keep.
 pub(crate) fn remove_all(
     postings: &mut Vec<Postings>,
-    keys: &[Vec<String>],
-    kept: &[Vec<String>],
+    keys: &[Texts],
+    kept: &[Texts],
     key: &ObjectKey,
 )
     ensures { (i : ℕ) (k : List ℕ) (q : ObjectKey) → under_at postings.new.items i k q ≡ (under_at postings.old.items i k q && not ((is_among (texts_at keys.now i) k && not (is_among (texts_at kept.now i) k)) && is_same key.now q)) }

@@ -2,6 +2,7 @@ pub mod Follows
 pub mod Reached
 pub mod Grows
 pub mod Lists
+pub mod Fitting
 pub mod Places
 pub mod Keyed
 pub mod Queries

@@ -4,6 +4,7 @@ pub mod Run
 pub mod Requests
 pub mod Follows
 pub mod Lists
+pub mod Fitting
 pub mod Replays
 pub mod Aside
 pub mod Seen

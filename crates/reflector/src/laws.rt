@@ -8,6 +8,7 @@ ghost use Rattle.reflector.specs.Client.{Client, Objects, first, follow, fresh, 
 ghost use Rattle.reflector.specs.Run.{again, asked, closed, hears_all, restarted, taken};
 ghost use Rattle.reflector.specs.Follows.{Server, Comes, Follows, GoesOn, IsLater, Watches};
 ghost use Rattle.reflector.specs.Lists.{ArePages, answered};
+ghost use Rattle.reflector.specs.Fitting.{AreFitting, revision_after_all};
 ghost use Rattle.reflector.specs.Events.{AllLead, AreLawful, AreRight, Event, start};
 ghost use Rattle.reflector.specs.Replays.{ArePlaced, HasRead, LeadFrom, Tells, TellsSince};
 
@@ -40,6 +41,14 @@ pub fn mirrors_the_server()
 /// objects at r.
 pub fn takes_whole_lists()
     ensures { (wanted : Wanted) (c : Client) (o : Objects) (r : ℕ) (bodies : List (List ℕ)) → c.asks ≡ first → ArePages wanted o r [] bodies → fin.len o ≤ max_objects → (answered wanted c bodies).cache ≡ Some (record { revision = r; objects = o }) }
+{}
+
+/// Items of a watch that fit are taken, all of them, where there is room for the server's objects at each revision: the
+/// client still asks, and has the objects to which they lead, at the last revision that they tell.
+pub fn takes_fitting_items()
+    ensures { (server : Server) (wanted : Wanted) (m : ℕ) (c : Client) (xs : List Told) (p : ℕ) → Follows server wanted m c xs p → c.asks ≡ follow → c.is_asking ≡ true → AreFitting wanted xs
+        → ((r : ℕ) → r ≤ server.top → fin.len (server.at r) ≤ max_objects)
+        → ((hears_all wanted c xs).is_asking ≡ true) × ((hears_all wanted c xs).cache ≡ Some (record { revision = revision_after_all wanted m xs; objects = server.at p })) }
 {}
 
 /// The notices that came with the items, replayed on the objects before them, give the objects after them: the same

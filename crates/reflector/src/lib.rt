@@ -28,7 +28,7 @@ mod taking;
 pub use informer::Informer;
 pub use laws::{
     follows_the_server, mirrors_the_server, notices_lead_on, notices_tell, notices_tell_exactly,
-    takes_whole_lists,
+    takes_fitting_items, takes_whole_lists,
 };
 pub use notice::Notice;
 pub use settings::{Settings, SettingsFault};

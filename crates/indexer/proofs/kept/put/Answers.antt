@@ -1,4 +1,4 @@
-use Rattle.std.proofs.Common.{rules, ◌≡◌, ◌∙◌, List, Vec, String, Global, cond, Some, None, ap, sym, subst}
+use Rattle.std.proofs.Common.{rules, ◌≡◌, ◌∙◌, List, ℕ, cond, Some, None, ap, sym, subst}
 use Rattle.std.specs.Prelude.{option_map}
 use Rattle.std.specs.BTreeMap.{BTreeMap, get, get_key, is_at, ContainsKey}
 use Rattle.std.specs.BTreeMap.Entry.{entry_key, entry_value, map_with_value, map_without_entry, MatchEntry}
@@ -7,9 +7,10 @@ use Rattle.std.specs.FinMap as fin
 use Rattle.std.specs.Map.{lookup}
 use Rattle.indexer.specs.declared.entry.Entry.{Entry}
 use Rattle.indexer.specs.declared.object.ObjectKey.{ObjectKey}
+use Rattle.indexer.specs.declared.texts.Texts.{Texts}
 use Rattle.indexer.specs.Keys.{key_cmp, is_same}
 use Rattle.indexer.specs.Kept.{held_in, seen_of, has_key}
-use Rattle.indexer.specs.Objects.{stored_of, texts_of, texts_at, is_among, under_at}
+use Rattle.indexer.specs.Objects.{place_of_object, stored_of, kept_of, texts_at, is_among, under_at}
 use Rattle.indexer.proofs.Held.{held_insert, held_same, get_held}
 use Rattle.indexer.proofs.Written.{place_key, found_copy, get_found, holds_written, none_removed, same_value}
 use Rattle.indexer.proofs.kept.put.Goals as goal
@@ -21,26 +22,27 @@ pub move_to-requires : goal.move_to-requires
 move_to-requires c = λ i k q same.
     let stored = found_copy c.in_ok-of.field-0 c.key.result.now (ap (key_cmp c.in_ok-of.field-0) (c.key.ensures ∙ ap (λ e. entry_key e) (sym c.in-Occupied.is)) ∙ c.in_ok-held.ensures.same_key) in
     c.requires i k q ∙ ap (λ o. has_key o i k) (get_found c.args.objects.now c.in_ok-of.field-0 c.key.result.now q (Some c.get.result.now) stored (sym c.in_ok-held.ensures.value ∙ ap (λ e. entry_value e) c.in-Occupied.is ∙ c.get.ensures) same)
-    ∙ ap (λ (ks : List (Vec (String Global) Global)). is_among (texts_at ks i) k) (sym c.deref.ensures.value)
+    ∙ ap (λ (ks : List Texts). is_among (texts_at ks i) k) (sym c.deref.ensures.value)
 
-written : (c : After-objects-in-Occupied-1) → c.objects-in-Occupied-1.given.0 ≡ map_with_value c.in_ok-held.field-0 (record { object = c.args.object; keys = c.args.keys })
+written : (c : After-objects-in-Occupied-1) → c.objects-in-Occupied-1.given.0 ≡ map_with_value c.in_ok-held.field-0 (record { object = c.args.object; keys = c.in_ok-kept.kept })
 written c =
-    let now : c.objects-in-Occupied-1.given.0 ≡ map_with_value (places.Entry.Occupied c.in-Occupied.held) (record { object = c.args.object; keys = c.args.keys }) = search rules in
-    now ∙ ap (λ e. map_with_value e (record { object = c.args.object; keys = c.args.keys })) (sym c.in-Occupied.is)
+    let now : c.objects-in-Occupied-1.given.0 ≡ map_with_value (places.Entry.Occupied c.in-Occupied.held) (record { object = c.args.object; keys = c.in_ok-kept.kept }) = search rules in
+    now ∙ ap (λ e. map_with_value e (record { object = c.args.object; keys = c.in_ok-kept.kept })) (sym c.in-Occupied.is)
 
 pub returns-in_ok-move_to-in-Occupied-clause-holds : goal.returns-in_ok-move_to-in-Occupied-clause-holds
 returns-in_ok-move_to-in-Occupied-clause-holds c =
     let stored = found_copy c.in_ok-of.field-0 c.key.result.now (ap (key_cmp c.in_ok-of.field-0) (c.key.ensures ∙ ap (λ e. entry_key e) (sym c.in-Occupied.is)) ∙ c.in_ok-held.ensures.same_key) in
-    let w : Entry = record { object = c.args.object; keys = c.args.keys } in
+    let w : Entry = record { object = c.args.object; keys = c.in_ok-kept.kept } in
     holds_written c.args.objects.now c.objects-in-Occupied-1.given.0 c.args.postings.now.items c.move_to.new.postings.items c.in_ok-of.field-0 c.key.result.now w c.requires stored
     (λ q. ap (λ (m : BTreeMap ObjectKey Entry). get key_cmp m q) (written c) ∙ (c.in_ok-held.ensures.update.0 w).0 q)
-    (λ i k q. c.in_ok-move_to-in-Occupied.ensures.ok i k q ∙ ap (λ (ks : List (Vec (String Global) Global)). cond (is_same c.key.result.now q) (is_among (texts_at ks i) k) (under_at c.args.postings.now.items i k q)) c.deref-in-Occupied.ensures.value)
+    (λ i k q. c.in_ok-move_to-in-Occupied.ensures.ok i k q ∙ ap (λ (ks : List Texts). cond (is_same c.key.result.now q) (is_among (texts_at ks i) k) (under_at c.args.postings.now.items i k q)) c.deref-in-Occupied.ensures.value)
 
 pub returns-in_ok-move_to-in-Occupied-clause-ok : goal.returns-in_ok-move_to-in-Occupied-clause-ok
 returns-in_ok-move_to-in-Occupied-clause-ok c =
-    let w : Entry = record { object = c.args.object; keys = c.args.keys } in
+    let w : Entry = record { object = c.args.object; keys = c.in_ok-kept.kept } in
     held_insert c.args.objects.now c.objects-in-Occupied-1.given.0 c.in_ok-of.field-0 w (ap (λ (m : BTreeMap ObjectKey Entry). m.entries) (written c) ∙ c.in_ok-held.ensures.update.1 w)
-    ∙ ap (λ p. fin.insert (held_in c.args.objects.now) p (stored_of c.args.object, texts_of c.args.keys.items)) (place_key c.args.object c.in_ok-of.field-0 c.in_ok-of.ensures)
+    ∙ ap (λ p. fin.insert (held_in c.args.objects.now) p (stored_of c.args.object, kept_of c.in_ok-kept.kept.items)) (place_key c.args.object c.in_ok-of.field-0 c.in_ok-of.ensures)
+    ∙ ap (λ (ks : List (List (List ℕ))). fin.insert (held_in c.args.objects.now) (place_of_object c.args.object) (stored_of c.args.object, ks)) c.in_ok-kept.ensures
 
 pub returns-in_ok-move_to-in-Occupied-clause-was : goal.returns-in_ok-move_to-in-Occupied-clause-was
 returns-in_ok-move_to-in-Occupied-clause-was c =
@@ -59,26 +61,27 @@ move_to-requires-in-Vacant c = λ i k q same.
     c.in-Vacant.is c.in_ok-held.ensures.found in
     c.requires i k q ∙ ap (λ o. has_key o i k) (get_found c.args.objects.now c.in_ok-of.field-0 c.key-in-Vacant.result.now q None new_key absent same)
 
-added : (c : After-objects-in_default-1) → c.objects-in_default-1.given.0 ≡ map_with_value c.in_ok-held.field-0 (record { object = c.args.object; keys = c.args.keys })
+added : (c : After-objects-in_default-1) → c.objects-in_default-1.given.0 ≡ map_with_value c.in_ok-held.field-0 (record { object = c.args.object; keys = c.in_ok-kept.kept })
 added c =
     let now : c.objects-in_default-1.given.0 ≡ c.insert_entry-held.result.map.now = search rules in
-    now ∙ c.insert_entry-held.ensures.1 ∙ ap (λ e. map_with_value e (record { object = c.args.object; keys = c.args.keys })) (sym c.in-Vacant.is)
+    now ∙ c.insert_entry-held.ensures.1 ∙ ap (λ e. map_with_value e (record { object = c.args.object; keys = c.in_ok-kept.kept })) (sym c.in-Vacant.is)
 
 pub returns-in_default-clause-holds : goal.returns-in_default-clause-holds
 returns-in_default-clause-holds c =
     let new_key = found_copy c.in_ok-of.field-0 c.key-in-Vacant.result.now
     (ap (key_cmp c.in_ok-of.field-0) (c.key-in-Vacant.ensures ∙ c.insert_entry-held.ensures.3 ∙ ap (λ e. entry_key e) (sym c.in-Vacant.is)) ∙ c.in_ok-held.ensures.same_key) in
-    let w : Entry = record { object = c.args.object; keys = c.args.keys } in
+    let w : Entry = record { object = c.args.object; keys = c.in_ok-kept.kept } in
     let kept = c.deref-in-Vacant.ensures.value ∙ ap (λ (e : Entry). e.keys.items) (same_value c.insert_entry-held.ensures.2 c.get-in-Vacant.ensures) in
     holds_written c.args.objects.now c.objects-in_default-1.given.0 c.args.postings.now.items c.move_to-in-Vacant.new.postings.items c.in_ok-of.field-0 c.key-in-Vacant.result.now w c.requires new_key
     (λ q. ap (λ (m : BTreeMap ObjectKey Entry). get key_cmp m q) (added c) ∙ (c.in_ok-held.ensures.update.0 w).0 q)
-    (λ i k q. c.in_default.ensures.ok i k q ∙ ap (λ (ks : List (Vec (String Global) Global)). cond (is_same c.key-in-Vacant.result.now q) (is_among (texts_at ks i) k) (under_at c.args.postings.now.items i k q)) kept)
+    (λ i k q. c.in_default.ensures.ok i k q ∙ ap (λ (ks : List Texts). cond (is_same c.key-in-Vacant.result.now q) (is_among (texts_at ks i) k) (under_at c.args.postings.now.items i k q)) kept)
 
 pub returns-in_default-clause-ok : goal.returns-in_default-clause-ok
 returns-in_default-clause-ok c =
-    let w : Entry = record { object = c.args.object; keys = c.args.keys } in
+    let w : Entry = record { object = c.args.object; keys = c.in_ok-kept.kept } in
     held_insert c.args.objects.now c.objects-in_default-1.given.0 c.in_ok-of.field-0 w (ap (λ (m : BTreeMap ObjectKey Entry). m.entries) (added c) ∙ c.in_ok-held.ensures.update.1 w)
-    ∙ ap (λ p. fin.insert (held_in c.args.objects.now) p (stored_of c.args.object, texts_of c.args.keys.items)) (place_key c.args.object c.in_ok-of.field-0 c.in_ok-of.ensures)
+    ∙ ap (λ p. fin.insert (held_in c.args.objects.now) p (stored_of c.args.object, kept_of c.in_ok-kept.kept.items)) (place_key c.args.object c.in_ok-of.field-0 c.in_ok-of.ensures)
+    ∙ ap (λ (ks : List (List (List ℕ))). fin.insert (held_in c.args.objects.now) (place_of_object c.args.object) (stored_of c.args.object, ks)) c.in_ok-kept.ensures
 
 pub returns-in_default-clause-was : goal.returns-in_default-clause-was
 returns-in_default-clause-was c =

@@ -1,7 +1,8 @@
-use Rattle.std.proofs.Common.{◌≡◌, ◌∙◌, ◌&&◌, not, cond, true, false, None, Option, Bool, ℕ, List, Vec, String, Global, ap, sym, refl}
+use Rattle.std.proofs.Common.{◌≡◌, ◌∙◌, ◌&&◌, not, cond, true, false, None, Option, Bool, ℕ, List, ap, sym, refl}
 use Rattle.std.specs.Prelude.{option_map}
 use Rattle.std.specs.BTreeMap.{get}
 use Rattle.indexer.specs.declared.entry.Entry.{Entry}
+use Rattle.indexer.specs.declared.texts.Texts.{Texts}
 use Rattle.indexer.specs.Keys.{key_cmp, is_same}
 use Rattle.indexer.specs.Kept.{seen_of, has_key}
 use Rattle.indexer.specs.Objects.{texts_at, is_among}
@@ -34,7 +35,7 @@ returns-in-Some-clause-holds c = λ i k q.
     let s = is_same key q in
     let m = is_among (texts_at c.deref.result.now i) k in
     let had : has_key (get key_cmp old key) i k ≡ m =
-    ap (λ o. has_key o i k) (sym c.remove-was.ensures.value ∙ c.in-Some.is) ∙ sym (ap (λ (ks : List (Vec (String Global) Global)). is_among (texts_at ks i) k) c.deref.ensures.value) in
+    ap (λ o. has_key o i k) (sym c.remove-was.ensures.value ∙ c.in-Some.is) ∙ sym (ap (λ (ks : List Texts). is_among (texts_at ks i) k) c.deref.ensures.value) in
     c.remove_all.ensures i k q
     ∙ ap (λ b. b && not ((m && not false) && s)) (c.requires i k q)
     ∙ taken_out u m s (λ e. ap (λ o. has_key o i k) (get_copy old key q (same_bytes key q e)) ∙ had)

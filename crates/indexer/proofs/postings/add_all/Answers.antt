@@ -1,4 +1,6 @@
-use Rattle.std.proofs.Common.{◌∙◌, ◌&&◌, ◌||◌, not, ap₂, map, take, List, ℕ, String, Global, arith, string_bytes}
+use Rattle.std.proofs.Common.{◌∙◌, ◌&&◌, ◌||◌, not, ap₂, map, take, List, ℕ, Global, arith}
+use Rattle.std.specs.Rc.{rc_str_bytes}
+use Rattle.std.specs.declared.rc.RcStr.{RcStr}
 use Rattle.std.proofs.lemmas.List.{length-set}
 use Rattle.std.proofs.lemmas.Result.{err_from_is_err_and}
 use Rattle.indexer.specs.Keys.{is_same}
@@ -21,7 +23,7 @@ loop-i-preserved c =
           (λ j k q. c.in_ok-make_room.ensures.same j k q ∙ c.loop-i.invariant.told j k q)
           c.in_ok-make_room.ensures.room c.index_mut.ensures.value c.loop-i-test.true c.index-keys-i.is
           (λ k q. c.in_ok-add_each.ensures.ok k q
-          ∙ ap₂ (λ (ts : List (String Global)) (hs : List (List ℕ)). under before k q || ((is_among (map string_bytes ts) k && not (is_among hs k)) && s q)) c.deref.ensures.value c.keys_at.ensures);
+          ∙ ap₂ (λ (ts : List (RcStr Global)) (hs : List (List ℕ)). under before k q || ((is_among (map rc_str_bytes ts) k && not (is_among hs k)) && s q)) c.as_slice.ensures c.keys_at.ensures);
     }
 
 pub returns-in_err-make_room-clause-err : goal.returns-in_err-make_room-clause-err
@@ -52,5 +54,5 @@ returns-in_err-add_each-clause-err c =
     (λ k q. (
       (c.in_err-add_each.ensures.err k q).0,
       (c.in_err-add_each.ensures.err k q).1
-          ∙ ap₂ (λ (ts : List (String Global)) (hs : List (List ℕ)). under before k q || (((is_among (map string_bytes ts) k && not (is_among hs k)) && (c.in_err-add_each.ensures.err k q).0) && s q)) c.deref.ensures.value c.keys_at.ensures,
+          ∙ ap₂ (λ (ts : List (RcStr Global)) (hs : List (List ℕ)). under before k q || (((is_among (map rc_str_bytes ts) k && not (is_among hs k)) && (c.in_err-add_each.ensures.err k q).0) && s q)) c.as_slice.ensures c.keys_at.ensures,
     )))

@@ -1,4 +1,5 @@
-use Rattle.std.proofs.Common.{◌≡◌, ℕ, List, ◌&&◌, ◌||◌, not, map, take, string_bytes}
+use Rattle.std.proofs.Common.{◌≡◌, ℕ, List, ◌&&◌, ◌||◌, not, map, take}
+use Rattle.std.specs.Rc.{rc_str_bytes}
 use Rattle.indexer.specs.declared.object.ObjectKey.{ObjectKey}
 use Rattle.indexer.specs.Keys.{is_same}
 use Rattle.indexer.specs.Objects.{is_among}
@@ -7,4 +8,4 @@ use Rattle.indexer.proofs.postings.add_each.Given as goal
 
 abbrev pub invariant-loop-text : goal.invariant-loop-text
 invariant-loop-text l =
-    (k : List ℕ) (q : ObjectKey) → under l.postings k q ≡ (under l.fn.postings k q || ((is_among (map string_bytes (take l.text-index l.texts)) k && not (is_among (map string_bytes l.had) k)) && is_same l.key q))
+    (k : List ℕ) (q : ObjectKey) → under l.postings k q ≡ (under l.fn.postings k q || ((is_among (map rc_str_bytes (take l.text-index l.texts)) k && not (is_among (map rc_str_bytes l.had) k)) && is_same l.key q))

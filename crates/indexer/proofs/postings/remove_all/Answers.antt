@@ -1,4 +1,5 @@
-use Rattle.std.proofs.Common.{◌<◌, ◌≢◌, ◌∙◌, ◌&&◌, not, ap, ap₂, sym, inl, inr, arith, length, map, ℕ, List, string_bytes}
+use Rattle.std.proofs.Common.{◌<◌, ◌≢◌, ◌∙◌, ◌&&◌, not, ap, ap₂, sym, inl, inr, arith, length, map, ℕ, List}
+use Rattle.std.specs.Rc.{rc_str_bytes}
 use Rattle.std.proofs.lemmas.Bool.{cases_lt}
 use Rattle.std.proofs.lemmas.Bool.Decides.{eqb_tells}
 use Rattle.std.proofs.lemmas.List.{length-set}
@@ -23,7 +24,7 @@ loop-i-preserved c =
         | inl e ↦
             rw e.1 (
             under_at-set_same ps i after k q within ∙ c.remove_each.ensures k q
-            ∙ ap (λ b. b && not ((is_among (map string_bytes c.keys_at.result.now) k && not (is_among (map string_bytes c.keys_at-in-loop-i.result.now) k)) && s q))
+            ∙ ap (λ b. b && not ((is_among (map rc_str_bytes c.keys_at.result.now) k && not (is_among (map rc_str_bytes c.keys_at-in-loop-i.result.now) k)) && s q))
             (ap (λ (p : Postings). under p k q) c.index_mut.ensures.value ∙ sym (under_at-is ps i before k q within) ∙ c.loop-i.invariant.left i k q (omega arith))
             ∙ ap₂ (λ (a b : List (List ℕ)). under_at old i k q && not ((is_among a k && not (is_among b k)) && s q)) c.keys_at.ensures c.keys_at-in-loop-i.ensures
             )
