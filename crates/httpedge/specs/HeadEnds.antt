@@ -1,4 +1,4 @@
--- Where the search for a head's end goes on when more bytes come.
+-- Where the search for a head's end goes on when more bytes come. Words of private clauses; where a head ends is said without them.
 use Rattle.std.specs.Prelude.{◌≡◌, ◌≤◌, ℕ, List, ◌++◌, drop, take, length, Option}
 use Rattle.httpedge.specs.declared.head_end.Place as places
 use Rattle.httpedge.specs.declared.head_end.Place.TheVariants as place

@@ -34,6 +34,15 @@ refusal_number (Err fault.CompactionRefused) = Some 5
 refusal_number (Err fault.Memory) = None
 refusal_number (Err fault.Store) = None
 
+-- which events ask the store: bytes, which may be a call, a pump, a compaction
+abbrev pub asks_store : Event → Bool
+asks_store (opens id) = false
+asks_store (comes id bytes) = true
+asks_store (goes id) = false
+asks_store (pumps id max) = true
+asks_store (ticks ms) = false
+asks_store (compacts c) = true
+
 -- no memory was found, or the store found none
 abbrev pub found_none : {A : Type 0} → Result A faults.HubFault → Bool
 found_none (Ok a) = false

@@ -1,4 +1,5 @@
--- What the code knows of a request whose head has come.
+-- What the code knows of a request whose head has come. Words of private clauses; of the public ones `IsIn` alone leads here, by what the hub
+-- holds.
 use Rattle.std.specs.Prelude.{◌≡◌, ℕ, List, ◌++◌, Option, Some, None, ⊤}
 use Rattle.schema.specs.TypesFile.{ServedShape}
 use Rattle.verbs.specs.Calls.{Target}

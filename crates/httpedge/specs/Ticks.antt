@@ -1,4 +1,5 @@
--- Connections at a tick, one after the other.
+-- Connections at a tick, one after the other. Words of private clauses, step by step as the code goes; what a tick makes of the hub is said
+-- without them.
 use Rattle.std.specs.Prelude.{◌≡◌, ℕ, Bool, true, false, List, Option, Some, None, option_map, unwrap_or}
 use Rattle.std.specs.BTreeMap.{BTreeMap, get}
 use Rattle.std.specs.FinMap as fin

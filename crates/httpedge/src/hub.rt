@@ -1,12 +1,12 @@
 //! The hub: connections over one API.
 
-ghost use Rattle.std.specs.Prelude.{◌≡◌, ◌≢◌, ◌++◌, ◌∷◌, [], ℕ, Bool, List, None, true, Ok, OnOk};
+ghost use Rattle.std.specs.Prelude.{◌≡◌, ◌≢◌, ◌++◌, ◌∷◌, [], ℕ, Bool, List, None, true, false, Err, Ok, OnOk};
 ghost use Rattle.schema.specs.TypesFile.{ServedShape};
 ghost use Rattle.history.specs.History.{History};
 ghost use Rattle.verbs.specs.Seen.{Stands};
 ghost use Rattle.httpedge.specs.Connections.{ended_on, out_on, waiting_on};
 ghost use Rattle.httpedge.specs.Held.{is_above};
-ghost use Rattle.httpedge.specs.HubSeen.{Happened, IsIn, event_of, found_none, refusal_number};
+ghost use Rattle.httpedge.specs.HubSeen.{Happened, IsIn, asks_store, event_of, found_none, refusal_number};
 ghost use Rattle.httpedge.specs.Runs.{Follows, Happening, Runs, Starves, Steps, takes};
 ghost use Rattle.httpedge.specs.Steps.{State, comes, compacts, goes, opens, pumps, refusal, start, ticks, with_bytes_taken};
 
@@ -68,6 +68,7 @@ impl Hub {
         ensures refused { (s : State) → IsIn self.old s → refusal_number result ≡ refusal s (opens id) }
         ensures unchanged { refusal_number result ≢ None → self.new ≡ self.old }
         ensures memory { (s : State) → IsIn self.old s → found_none result ≡ true → (which : ℕ → Bool) × (t : State) × Starves s (opens id) which t × IsIn self.new t }
+        ensures store { result ≢ Err HubFault.Store }
     {
         if !is_above(self.highest, id) {
             return Err(HubFault::IdNotAbove);
@@ -107,6 +108,7 @@ impl Hub {
         ensures refused { (s : State) → IsIn self.old s → refusal_number result ≡ refusal s (goes id) }
         ensures unchanged { refusal_number result ≢ None → self.new ≡ self.old }
         ensures memory { (s : State) → IsIn self.old s → found_none result ≡ true → (which : ℕ → Bool) × (t : State) × Starves s (goes id) which t × IsIn self.new t }
+        ensures store { result ≢ Err HubFault.Store }
     {
         let Some(was_open) = open_at(&self.connections, id) else {
             return Err(HubFault::UnknownId);
@@ -144,6 +146,7 @@ impl Hub {
         ensures refused { (s : State) → IsIn self.old s → refusal_number result ≡ refusal s (ticks ms) }
         ensures unchanged { refusal_number result ≢ None → self.new ≡ self.old }
         ensures memory { (s : State) → IsIn self.old s → found_none result ≡ true → (which : ℕ → Bool) × (t : State) × Starves s (ticks ms) which t × IsIn self.new t }
+        ensures store { result ≢ Err HubFault.Store }
     {
         if ms < self.last_tick {
             return Err(HubFault::TickBack);
@@ -184,6 +187,7 @@ impl Hub {
         ensures refused { (s : State) → IsIn self.old s → refusal_number result ≡ refusal s (event_of event.now) }
         ensures unchanged { refusal_number result ≢ None → self.new ≡ self.old }
         ensures memory { (s : State) → IsIn self.old s → found_none result ≡ true → (which : ℕ → Bool) × (t : State) × Starves s (event_of event.now) which t × IsIn self.new t }
+        ensures store { asks_store (event_of event.now) ≡ false → result ≢ Err HubFault.Store }
     {
         match event {
             Event::Open(id) => self.open(*id),
@@ -199,12 +203,14 @@ impl Hub {
     /// connection has ended, or watches. Refused, an event changes nothing; without memory an opening changes nothing,
     /// and a connection that waits is dead where bytes come on it, a watch where it is pumped. At a tick each watch has
     /// its turn, and only one that found no memory for what it writes is dead. Bytes on one that has ended want no
-    /// memory. A compaction that fails changes nothing.
+    /// memory. A compaction that fails changes nothing. The store is asked where bytes come, at a pump and at a
+    /// compaction: no other event fails by it.
     pub fn on(&mut self, event: &Event) -> Result<(), HubFault>
         ensures follows { (s : State) → IsIn self.old s → (h : Happening) × (t : State) × Happened (event_of event.now) result h × Follows s h t × IsIn self.new t }
         ensures runs { (r s : State) (before : List Happening) → Runs r before s → IsIn self.old s → (h : Happening) × (t : State) × Happened (event_of event.now) result h × Runs r (before ++ h ∷ []) t × IsIn self.new t }
         ensures refused { (s : State) → IsIn self.old s → refusal_number result ≡ refusal s (event_of event.now) }
         ensures unchanged { refusal_number result ≢ None → self.new ≡ self.old }
+        ensures store { asks_store (event_of event.now) ≡ false → result ≢ Err HubFault.Store }
     {
         self.step(event)
     }

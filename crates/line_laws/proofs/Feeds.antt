@@ -88,7 +88,7 @@ comma_has_none true = refl
 comma_has_none false = refl
 
 mutual
-  text_has_none : (d : Data) → IsSpelled d → HasNone (compact_text d)
+  pub text_has_none : (d : Data) → IsSpelled d → HasNone (compact_text d)
   text_has_none null s = refl
   text_has_none (boolean true) s = refl
   text_has_none (boolean false) s = refl

@@ -34,7 +34,7 @@ Entries = List (Key × Object)
 
 -- ---- what holds of each entry
 
-each_entry : (P : Key → Object → Type 0) (es : Entries) → T (is_sorted key_cmp es) → ((k : Key) (o : Object) → find key_cmp k es ≡ Some o → P k o) → AllByRecursion (λ e. P e.0 e.1) es
+pub each_entry : (P : Key → Object → Type 0) (es : Entries) → T (is_sorted key_cmp es) → ((k : Key) (o : Object) → find key_cmp k es ≡ Some o → P k o) → AllByRecursion (λ e. P e.0 e.1) es
 each_entry P [] up each = tt
 each_entry P (e ∷ es) up each = (each e.0 e.1 (ap (λ r. cond (is_eq r) (Some e.1) (find key_cmp e.0 es)) (tied_itself key_cmp_total e.0)), each_entry P es (snd _ _ up) later)
   where

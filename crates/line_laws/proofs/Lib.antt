@@ -1,9 +1,11 @@
 pub mod Feeds
 pub mod Kept
+pub mod Lengths
 pub mod Objects
 pub mod Pages
 pub mod Renumbered
 pub mod Said
+pub mod SeenBodies
 pub mod Texts
 pub mod Told
 pub mod Values

@@ -33,7 +33,7 @@ use Rattle.ownership.specs.ReadBack.{IsObjectText, max_version}
 use Rattle.ownership.proofs.Back.{text_read}
 use Rattle.ownership.proofs.Taken.{apart, cmp, found_depth, put_back, same_text}
 use Rattle.ownership.proofs.Textual.{value_textual}
-use Rattle.watchline.specs.Versions.{text_at, text_of, value_at, value_of, without}
+use Rattle.watchline.specs.Versions.{text_at_version, text_of, value_at, value_of, without}
 use Rattle.line_laws.specs.Shown.{IsShown}
 
 -- ---- members, put twice and taken out
@@ -107,17 +107,17 @@ module _ (s : Shape) (of : Identity) (state : State) (lawful : is_lawful s ≡ t
   clean : (r : ℕ) → has_float (object_value s of r state) ≡ false
   clean r = (value_textual s lawful of r state content).1
 
-  pub text_over : (v r : ℕ) (text : List ℕ) → read text ≡ Some (object_value s of v state) → text_at r text ≡ object_text s of r state
+  pub text_over : (v r : ℕ) (text : List ℕ) → read text ≡ Some (object_value s of v state) → text_at_version r text ≡ object_text s of r state
   unfolding object_text
   text_over v r text is =
       ap (λ o. unwrap_or (option_and_then text_of (option_and_then (value_at r) o)) text) is
       ∙ ap (λ o. unwrap_or (option_and_then text_of o) text) (object_over v r)
       ∙ ap (λ (b : Bool). unwrap_or (cond b None (Some (compact_text (object_value s of r state)))) text) (clean r)
 
-pub shows_text : (s : Shape) (of : Identity) (v r : ℕ) (state : State) (text : List ℕ) → IsObjectShape s → IsObjectText s of v state text → text_at r text ≡ object_text s of r state
+pub shows_text : (s : Shape) (of : Identity) (v r : ℕ) (state : State) (text : List ℕ) → IsObjectShape s → IsObjectText s of v state text → text_at_version r text ≡ object_text s of r state
 shows_text s of v r state text shaped said = text_over s of state shaped.1 said.placed.0 v r text (text_read s of v state text shaped said)
 
-pub shows_object : (s : Shape) (of : Identity) (v r : ℕ) (state : State) (text : List ℕ) → IsObjectShape s → IsObjectText s of v state text → r ≤ max_version → IsObjectText s of r state (text_at r text)
+pub shows_object : (s : Shape) (of : Identity) (v r : ℕ) (state : State) (text : List ℕ) → IsObjectShape s → IsObjectText s of v state text → r ≤ max_version → IsObjectText s of r state (text_at_version r text)
 shows_object s of v r state text shaped said low = record { placed = said.placed; numbered = low; is_text = shows_text s of v r state text shaped said }
 
 -- ---- how deep

@@ -49,7 +49,7 @@ object_line wanted Added (object ms) o is = ap (λ (r : Read Stored). r >>= λ x
 object_line wanted Modified (object ms) o is = ap (λ (r : Read Stored). r >>= λ x. Ok (reads.put x)) is
 object_line wanted Deleted (object ms) o is = ap (λ (r : Read Stored). r >>= λ x. Ok (reads.deleted x)) is
 
-shown_text : (k : SeenKind) (s : Shape) (of : Identity) (v : ℕ) (state : State) (o : Object) → IsObjectShape s → IsObjectText s of v state o.body
+pub shown_text : (k : SeenKind) (s : Shape) (of : Identity) (v : ℕ) (state : State) (o : Object) → IsObjectShape s → IsObjectText s of v state o.body
     → text_shown k o ≡ compact_text (object_value s of (version_shown k v o.revision) state)
 shown_text Added s of v state o shaped said = said.is_text ∙ text_is s of v state
 shown_text Modified s of v state o shaped said = said.is_text ∙ text_is s of v state
@@ -118,7 +118,7 @@ bookmark_is wanted r low some =
     ∙ ap₂ (λ p q. (unless p ApiVersion >>= λ u. unless q Kind) >>= λ u. or_amiss Version (version_of (decimal r))) (itself api_version) (itself kind)
     ∙ ap (or_amiss Version) (version_back r low)
 
-bookmark_fits : (api_version kind version : List ℕ) → IsShown (bookmark_value api_version kind version)
+pub bookmark_fits : (api_version kind version : List ℕ) → IsShown (bookmark_value api_version kind version)
 bookmark_fits api_version kind version = record { spelled = (refl, (tt, (tt, ((refl, (tt, tt)), tt)))); whole = refl; shallow = omega arith }
 
 ascii : (xs : List ℕ) → are_ascii xs ≡ true → IsUtf8 xs
@@ -138,7 +138,7 @@ bookmark_read wanted r low a k some =
 
 -- ---- errors
 
-expired_fits : (message : List ℕ) → IsShown (expired_value message)
+pub expired_fits : (message : List ℕ) → IsShown (expired_value message)
 expired_fits message = record { spelled = (refl, (tt, (omega arith, (tt, (tt, ((refl, tt), (tt, (tt, tt)))))))); whole = refl; shallow = omega arith }
 
 message_utf8 : (r c : ℕ) → r ≤ max_version → c ≤ max_version → IsUtf8 (expired_message r c)

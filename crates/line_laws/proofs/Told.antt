@@ -9,7 +9,7 @@ use Rattle.history.specs.Seen.{Selection, reached, seen_changes, selected}
 use Rattle.history.proofs.Following.{front_seen, seen_changes-push}
 use Rattle.history.proofs.Revisions.{rising-push, state_at-push}
 use Rattle.watchline.specs.Lines.{added, bookmark_line, line_of}
-use Rattle.watchline.specs.Watches.{Cursor, Marking, Turn, changes_left, changes_told, coming, entries_left, from_history, is_bookmark_due, left_by, left_past, moved, none_left, objects_left, position_by, pumped, telling, wanted}
+use Rattle.watchline.specs.Watches.{Cursor, Marking, Turn, changes_left, changes_told, coming, entries_left, from_history, is_bookmark_due, left_behind, left_past, moved, none_left, objects_left, position_by, pumped, telling, wanted}
 use Rattle.watchline.proofs.Onward.{leads_on, seen_split, stays_low, tells, told_low}
 use Rattle.line_laws.specs.Following.{Event, Followed, IsAllowed, after, compaction, mark, opened_at, turn, write}
 
@@ -32,7 +32,7 @@ pub record Tells (objects : Entries) (start : Cursor) (f : Followed) : Type 0 wh
 
 none_stays : (room : ℕ) → left_past room [] none_left ≡ none_left
 none_stays zero = refl
-none_stays (suc n) = ap (λ b. left_by (cond b (last_key (take (suc n) [])) None)) (le-ltb (suc n) 0 zero-le)
+none_stays (suc n) = ap (λ b. left_behind (cond b (last_key (take (suc n) [])) None)) (le-ltb (suc n) 0 zero-le)
 
 pub left_stays : (h : History) (room : ℕ) (w : Cursor) → w.left ≡ none_left → (telling (from_history h) room w).next.left ≡ none_left
 left_stays h room w none =
@@ -161,19 +161,25 @@ step_tells objects start (compaction r) f may t = record { is = record { rising 
 pub begins_telling : (h : History) (w : Cursor) → IsHistory h → w.position ≤ h.current → Tells (objects_left (from_history h) w) w (opened_at h w)
 begins_telling h w is high = record { is = is; same = refl; low = omega arith; high = high; done = λ none. none; all = refl }
 
--- without objects, up to where it stands
+-- once no object is left, up to where it stands
+pub told_up_to : (objects : Entries) (w : Cursor) (f : Followed) → f.cursor.left ≡ none_left → Tells objects w f
+    → f.lines ≡ map line_of (map added objects ++ seen_changes (wanted w) f.history.changes w.position f.cursor.position)
+told_up_to objects w f none t =
+    let h = f.history in
+    let changes = seen_changes (wanted w) h.changes w.position f.cursor.position in
+    let left = seen_changes (wanted w) h.changes f.cursor.position h.current in
+    let coming_is : coming (from_history h) f.cursor ≡ left =
+    ap (λ l. map added (entries_left f.cursor.kind l (fin.entries (selected (wanted f.cursor) (state_at h.changes f.cursor.position)))) ++ changes_left (from_history h) f.cursor) none
+    ∙ ap (λ s. seen_changes s h.changes f.cursor.position h.current) t.same in
+    append_cancel_right f.lines (map line_of (map added objects ++ changes)) (map line_of left) (
+    ap (λ xs. f.lines ++ map line_of xs) (sym coming_is) ∙ t.all
+    ∙ ap (λ xs. map line_of (map added objects ++ xs)) (seen_split (wanted w) h.changes w.position f.cursor.position h.current h.current t.low t.high t.is.rising)
+    ∙ ap (map line_of) (sym (append_assoc (map added objects) changes left))
+    ∙ map-append line_of (map added objects ++ changes) left
+    )
+
+-- without objects
 pub only_changes : (objects : Entries) (w : Cursor) (f : Followed) → objects ≡ [] → w.left ≡ none_left → Tells objects w f
     → f.lines ≡ map line_of (seen_changes (wanted w) f.history.changes w.position f.cursor.position)
 only_changes objects w f no_objects none t =
-    let h = f.history in
-    let told = seen_changes (wanted w) h.changes w.position f.cursor.position in
-    let left = seen_changes (wanted w) h.changes f.cursor.position h.current in
-    let coming_is : coming (from_history h) f.cursor ≡ left =
-    ap (λ l. map added (entries_left f.cursor.kind l (fin.entries (selected (wanted f.cursor) (state_at h.changes f.cursor.position)))) ++ changes_left (from_history h) f.cursor) (t.done none)
-    ∙ ap (λ s. seen_changes s h.changes f.cursor.position h.current) t.same in
-    append_cancel_right f.lines (map line_of told) (map line_of left) (
-    ap (λ xs. f.lines ++ map line_of xs) (sym coming_is) ∙ t.all
-    ∙ ap (λ es. map line_of (map added es ++ seen_changes (wanted w) h.changes w.position h.current)) no_objects
-    ∙ ap (map line_of) (seen_split (wanted w) h.changes w.position f.cursor.position h.current h.current t.low t.high t.is.rising)
-    ∙ map-append line_of told left
-    )
+    told_up_to objects w f (t.done none) t ∙ ap (λ es. map line_of (map added es ++ seen_changes (wanted w) f.history.changes w.position f.cursor.position)) no_objects

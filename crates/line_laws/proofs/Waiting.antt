@@ -1,16 +1,17 @@
 -- A watch that waits for a revision still to come tells nothing until it is there, and from then on as any other.
-use Rattle.std.proofs.Common.{◌≡◌, ℕ, suc, ◌-◌, ◌<◌, ◌≤◌, nat_lt, Bool, true, false, cond, List, [], ◌∷◌, ◌++◌, length, take, map, Option, ◌⊎◌, inl, inr, refl, sym, ap, ap₂, subst, ◌∙◌, arith, zero-le}
-use Rattle.std.proofs.lemmas.Bool.{cases_lt}
+use Rattle.std.proofs.Common.{◌≡◌, ℕ, suc, ◌-◌, ◌<◌, ◌≤◌, nat_lt, Bool, true, false, cond, List, [], ◌∷◌, ◌++◌, length, take, map, Option, ◌⊎◌, inl, inr, refl, sym, ap, ap₂, subst, ◌∙◌, arith, zero-le, true≢false}
+use Rattle.std.specs.Prelude.{◌&&◌}
+use Rattle.std.proofs.lemmas.Bool.{and_parts, cases_lt}
 use Rattle.std.proofs.lemmas.List.{take_all}
 use Rattle.std.specs.FinMap as fin
 use Rattle.history.specs.History.{Change, History, IsHistory, IsRising, Key, last_revision, later, state_at, up_to}
 use Rattle.history.specs.Seen.{SeenChange, Selection, reached, seen_among, seen_changes, selected}
 use Rattle.history.proofs.Revisions.{later-drops, rising_ends}
 use Rattle.watchline.specs.Lines.{added, line_of}
-use Rattle.watchline.specs.Watches.{Cursor, Turn, changes_left, coming, entries_left, from_history, is_bookmark_due, none_left, objects_left, position_by, pumped, telling, wanted}
+use Rattle.watchline.specs.Watches.{Cursor, Left, Turn, changes_left, coming, entries_left, from_history, is_bookmark_due, is_none_left, left_from, none_left, objects_left, position_by, pumped, telling, wanted}
 use Rattle.watchline.proofs.Onward.{none_between, tells, told_low}
 use Rattle.line_laws.specs.Following.{AreAllowed, Event, Followed, IsAllowed, MayBegin, after, compaction, followed, mark, opened_at, turn, write}
-use Rattle.line_laws.proofs.Told.{Entries, Tells, Whole, begins_telling, left_stays, marked_line, only_changes, rising_on, step_tells, unmarked, write_tells}
+use Rattle.line_laws.proofs.Told.{Entries, Tells, Whole, begins_telling, left_stays, marked_line, only_changes, rising_on, step_tells, told_up_to, unmarked, write_tells}
 
 -- it stands where it was opened, at or past the current revision, and has told nothing
 record Waits (start : Cursor) (f : Followed) : Type 0 where
@@ -145,9 +146,17 @@ module _ (objects : Entries) (start : Cursor) (no_objects : objects ≡ []) wher
 
   goes_changes : (f : Followed) → start.left ≡ none_left → Goes objects start f → f.lines ≡ map line_of (seen_changes (wanted start) f.history.changes start.position f.cursor.position)
   goes_changes f none (inl t) =
-      t.silent ∙ ap (map line_of) (sym (none_between (wanted start) f.history.changes start.position f.history.current t.is.rising))
+      t.silent ∙ ap (map line_of) (sym (none_between (wanted start) f.history.changes start.position))
       ∙ ap (λ q. map line_of (seen_changes (wanted start) f.history.changes start.position q)) (sym t.stays)
   goes_changes f none (inr t) = only_changes objects start f no_objects none t
+
+  goes_due : (f : Followed) → f.cursor.left ≡ none_left → Goes objects start f
+      → f.lines ≡ map line_of (map added objects ++ seen_changes (wanted start) f.history.changes start.position f.cursor.position)
+  goes_due f none (inl t) =
+      t.silent ∙ ap (map line_of) (sym (none_between (wanted start) f.history.changes start.position))
+      ∙ ap (λ q. map line_of (seen_changes (wanted start) f.history.changes start.position q)) (sym t.stays)
+      ∙ ap (λ es. map line_of (map added es ++ seen_changes (wanted start) f.history.changes start.position f.cursor.position)) (sym no_objects)
+  goes_due f none (inr t) = told_up_to objects start f none t
 
 begins_by : (h : History) (w : Cursor) → IsHistory h → w.left ≡ none_left → (h.current < w.position) ⊎ (w.position ≤ h.current) → Goes (objects_left (from_history h) w) w (opened_at h w)
 begins_by h w is none (inl below) = inl (record { is = is; same = refl; stays = refl; ahead = omega (arith, below); none = none; silent = refl })
@@ -175,3 +184,24 @@ pub tells_changes : (h : History) (w : Cursor) (events : List Event) → IsHisto
     → (followed events (opened_at h w)).lines ≡ map line_of (seen_changes (wanted w) (followed events (opened_at h w)).history.changes w.position (followed events (opened_at h w)).cursor.position)
 tells_changes h w events is none may =
     goes_changes (objects_left (from_history h) w) w (without_objects h w none) (followed events (opened_at h w)) none (goes_on h w events is none may)
+
+-- ---- where a bookmark is due
+
+is_none : (left : Left) → is_none_left left ≡ true → left ≡ none_left
+is_none none_left h = refl
+is_none (left_from place) h = absurd (true≢false (sym h))
+
+due_left : (w : Cursor) → is_bookmark_due w ≡ true → w.left ≡ none_left
+due_left w due =
+    let behind = and_parts w.bookmarks (is_none_left w.left && nat_lt w.told w.position) due in
+    is_none w.left (and_parts (is_none_left w.left) (nat_lt w.told w.position) behind.1).0
+
+pub marks_behind : (h : History) (w : Cursor) (events : List Event) → IsHistory h → MayBegin h w → AreAllowed events (opened_at h w) → is_bookmark_due (followed events (opened_at h w)).cursor ≡ true
+    → (followed events (opened_at h w)).lines
+    ≡ map line_of (map added (objects_left (from_history h) w) ++ seen_changes (wanted w) (followed events (opened_at h w)).history.changes w.position (followed events (opened_at h w)).cursor.position)
+marks_behind h w events is (inl none) may due =
+    let f = followed events (opened_at h w) in
+    goes_due (objects_left (from_history h) w) w (without_objects h w none) f (due_left f.cursor due) (goes_on h w events is none may)
+marks_behind h w events is (inr there) may due =
+    let f = followed events (opened_at h w) in
+    told_up_to (objects_left (from_history h) w) w f (due_left f.cursor due) (all_tell (objects_left (from_history h) w) w events (opened_at h w) may (begins_telling h w is there))

@@ -1,10 +1,10 @@
 //! What a watch tells over a history that goes on.
 
-ghost use Rattle.std.specs.Prelude.{◌≡◌, ◌++◌, List, map};
+ghost use Rattle.std.specs.Prelude.{◌≡◌, ◌++◌, List, map, true};
 ghost use Rattle.history.specs.History.{History, IsHistory};
 ghost use Rattle.history.specs.Seen.{seen_changes};
 ghost use Rattle.watchline.specs.Lines.{added, line_of};
-ghost use Rattle.watchline.specs.Watches.{Cursor, coming, from_history, none_left, objects_left, wanted};
+ghost use Rattle.watchline.specs.Watches.{Cursor, coming, from_history, is_bookmark_due, none_left, objects_left, wanted};
 ghost use Rattle.line_laws.specs.Following.{AreAllowed, Event, MayBegin, followed, opened_at};
 
 /// A watch tells all, once and in order: the lines of its turns, with those still to come, are the objects that were
@@ -19,4 +19,14 @@ pub fn watches_tell_all()
     ensures changes { (h : History) (w : Cursor) (events : List Event) → IsHistory h → w.left ≡ none_left → AreAllowed events (opened_at h w)
         → (followed events (opened_at h w)).lines
         ≡ map line_of (seen_changes (wanted w) (followed events (opened_at h w)).history.changes w.position (followed events (opened_at h w)).cursor.position) }
+{}
+
+/// A bookmark comes behind all that it tells of: where one is due, what the watch's turns have told by then are the
+/// objects that were left and each change that is seen up to the position, the revision that the bookmark tells.
+pub fn bookmarks_come_behind()
+    ensures { (h : History) (w : Cursor) (events : List Event) → IsHistory h → MayBegin h w → AreAllowed events (opened_at h w)
+        → is_bookmark_due (followed events (opened_at h w)).cursor ≡ true
+        → (followed events (opened_at h w)).lines
+        ≡ map line_of (map added (objects_left (from_history h) w)
+        ++ seen_changes (wanted w) (followed events (opened_at h w)).history.changes w.position (followed events (opened_at h w)).cursor.position) }
 {}

@@ -11,6 +11,6 @@ mod lines;
 mod page_laws;
 
 pub use deletions::deletions_show_the_object;
-pub use following::watches_tell_all;
+pub use following::{bookmarks_come_behind, watches_tell_all};
 pub use lines::{lines_are_lines, lines_are_read, objects_are_read};
 pub use page_laws::pages_are_read;

@@ -1,6 +1,7 @@
 //! Lists: their pages, versions and selectors, with the replies that the rows of the specification name.
 
 use crate::apis::{Given, Rows, answers};
+use crate::hub_rows::expect_rows;
 use crate::single_objects::{answered, call_of, fresh_answers};
 use serde_json::Value;
 use std::alloc::Global;
@@ -132,4 +133,25 @@ w1 w2 w3 {"resourceVersion":"4"}
 "#
     );
     Ok(())
+}
+
+/// The object stands at the revision before its deletion, as long as that isn't compacted.
+#[test]
+fn delete_with_precondition_in_lists(rt: HostRuntime) -> Result<(), Fail> {
+    let rows =
+        r#"ask 2 POST namespaces/default/widgets {"apiVersion":"demo.example/v1","kind":"Widget","metadata":{"name":"w1"}} => -
+ask 3 DELETE namespaces/default/widgets/w1 {"preconditions":{"resourceVersion":"1"}} => -
+out 3 => HTTP/1.1 409 Conflict|$Content-Type: application/json|$Content-Length: 146|$Connection: close|$|${"apiVersion":"v1","code":409,"kind":"Status","message":"version 1 is not the stored one, 2","metadata":{},"reason":"Conflict","status":"Failure"}
+ask 4 DELETE namespaces/default/widgets/w1 {"preconditions":{"resourceVersion":"2"}} => -
+out 4 => HTTP/1.1 200 OK|$Content-Type: application/json|$Content-Length: 117|$Connection: close|$|${"apiVersion":"demo.example/v1","kind":"Widget","metadata":{"name":"w1","namespace":"default","resourceVersion":"3"}}
+ask 5 GET namespaces/default/widgets/w1 => -
+out 5 => HTTP/1.1 404 Not Found|$Content-Type: application/json|$Content-Length: 149|$Connection: close|$|${"apiVersion":"v1","code":404,"kind":"Status","message":"widgets.demo.example \"w1\" not found","metadata":{},"reason":"NotFound","status":"Failure"}
+ask 6 GET namespaces/default/widgets?resourceVersion=2&resourceVersionMatch=Exact => -
+out 6 => HTTP/1.1 200 OK|$Content-Type: application/json|$Content-Length: 215|$Connection: close|$|${"apiVersion":"demo.example/v1","items":[{"apiVersion":"demo.example/v1","kind":"Widget","metadata":{"name":"w1","namespace":"default","resourceVersion":"2"}}],"kind":"WidgetList","metadata":{"resourceVersion":"2"}}
+ask 7 GET namespaces/default/widgets?resourceVersion=3&resourceVersionMatch=Exact => -
+out 7 => HTTP/1.1 200 OK|$Content-Type: application/json|$Content-Length: 98|$Connection: close|$|${"apiVersion":"demo.example/v1","items":[],"kind":"WidgetList","metadata":{"resourceVersion":"3"}}
+compact 3 => -
+ask 8 GET namespaces/default/widgets?resourceVersion=2&resourceVersionMatch=Exact => -
+out 8 => HTTP/1.1 410 Gone|$Content-Type: application/json|$Content-Length: 142|$Connection: close|$|${"apiVersion":"v1","code":410,"kind":"Status","message":"too old resource version: 2 (3)","metadata":{},"reason":"Expired","status":"Failure"}"#;
+    expect_rows(rt.alloc(), rows)
 }

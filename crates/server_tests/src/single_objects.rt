@@ -125,6 +125,7 @@ DELETE w1 dryRun=All {"preconditions":{"resourceVersion":"2"}}
 DELETE w1  {"preconditions":{"uid":"x"}}
 DELETE w1  {"dryRun":["All"]}
 DELETE w1  []
+DELETE w1  {"preconditions":""}
 DELETE w1  {"preconditions":{"resourceVersion":"2"},"dryRun":[],"propagationPolicy":"Orphan"}
 GET w1  
 DELETE w1  
@@ -134,6 +135,7 @@ PUT w1  "#;
         r#"201 {"apiVersion":"demo.example/v1","kind":"Widget","metadata":{"name":"w1","namespace":"default","resourceVersion":"2"}}
 409 version 1 is not the stored one, 2
 400 bad parameter: dryRun
+400 bad delete options
 400 bad delete options
 400 bad delete options
 400 bad delete options

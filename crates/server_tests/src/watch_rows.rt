@@ -255,6 +255,23 @@ pump 1 5 => 182|${"type":"MODIFIED","object":{"apiVersion":"demo.example/v1","ki
     expect_rows(rt.alloc(), rows)
 }
 
+/// A pump of one line finds the change that is seen behind several that aren't.
+#[test]
+fn changes_behind_unseen_ones(rt: HostRuntime) -> Result<(), Fail> {
+    let rows =
+        r#"ask 1 GET namespaces/default/widgets?watch=true&resourceVersion=1&labelSelector=tier%3Dweb => HTTP/1.1 200 OK|$Content-Type: application/json|$Transfer-Encoding: chunked|$Connection: close|$|$
+ask 2 POST namespaces/default/widgets {"apiVersion":"demo.example/v1","kind":"Widget","metadata":{"name":"a"}} => -
+ask 3 POST namespaces/default/widgets {"apiVersion":"demo.example/v1","kind":"Widget","metadata":{"name":"b"}} => -
+ask 4 POST namespaces/default/widgets {"apiVersion":"demo.example/v1","kind":"Widget","metadata":{"name":"c"}} => -
+ask 5 POST namespaces/default/widgets {"apiVersion":"demo.example/v1","kind":"Widget","metadata":{"name":"d"}} => -
+ask 6 POST namespaces/default/widgets {"apiVersion":"demo.example/v1","kind":"Widget","metadata":{"name":"e"}} => -
+ask 7 POST namespaces/default/widgets {"apiVersion":"demo.example/v1","kind":"Widget","metadata":{"name":"f"}} => -
+ask 8 POST namespaces/default/widgets {"apiVersion":"demo.example/v1","kind":"Widget","metadata":{"labels":{"tier":"web"},"name":"w1"}} => -
+pump 1 1 => 151|${"type":"ADDED","object":{"apiVersion":"demo.example/v1","kind":"Widget","metadata":{"labels":{"tier":"web"},"managedFields":[{"apiVersion":"demo.example/v1","fieldsType":"FieldsV1","fieldsV1":{"f:metadata":{"f:labels":{"f:tier":{}}}},"manager":"unknown","operation":"Update"}],"name":"w1","namespace":"default","resourceVersion":"8"}}}$|$
+pump 1 1 => -"#;
+    expect_rows(rt.alloc(), rows)
+}
+
 /// Bytes that weren't taken stay before those of the next turn.
 #[test]
 fn take_of_a_watch(rt: HostRuntime) -> Result<(), Fail> {

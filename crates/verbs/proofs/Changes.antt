@@ -6,6 +6,7 @@ use Rattle.std.specs.List.{AllByRecursion}
 use Rattle.schema.specs.TypesFile.{ServedShape}
 use Rattle.history.specs.History.{Key, Change, Object, Objects, History, IsHistory, changed, is_same_key, key_cmp, left_by, object_by, put_or_remove, standing, state_at, up_to, written}
 use Rattle.history.proofs.Keys.{get-put_or_remove, tied}
+use Rattle.history.proofs.Lists.{all-filter}
 use Rattle.history.proofs.Revisions.{changed-append, up_to-all}
 use Rattle.history.proofs.Wholes.{whole_is, whole_writes}
 use Rattle.ownership.proofs.Taken.{no_some, same_some}
@@ -21,7 +22,7 @@ standing_is m is = ap (changed fin.empty) (up_to-all 0 m.current m.current m.cha
 
 -- ---- one more change
 
-all_push : {X : Type 0} (P : X → Type 0) (xs : List X) (x : X) → AllByRecursion P xs → P x → AllByRecursion P (xs ++ x ∷ [])
+pub all_push : {X : Type 0} (P : X → Type 0) (xs : List X) (x : X) → AllByRecursion P xs → P x → AllByRecursion P (xs ++ x ∷ [])
 all_push P [] x all one = (one, tt)
 all_push P (y ∷ xs) x all one = (all.0, all_push P xs x all.1 one)
 
@@ -58,18 +59,10 @@ texts_changed : (types : List ServedShape) (cs : List Change) (s : Objects) → 
 texts_changed types [] s all are = all
 texts_changed types (c ∷ cs) s all are = texts_changed types cs (put_or_remove s c.key (left_by c)) (texts_put types s c.key c.revision c.body all are.0) are.1
 
-all_filter : (P : Change → Type 0) (own : Change → Bool) (cs : List Change) → AllByRecursion P cs → AllByRecursion P (filter own cs)
-all_filter P own [] all = all
-all_filter P own (c ∷ cs) all = go (own c) (all_filter P own cs all.1)
-  where
-    go : (b : Bool) → AllByRecursion P (filter own cs) → AllByRecursion P (cond b (c ∷ filter own cs) (filter own cs))
-    go true others = (all.0, others)
-    go false others = others
-
 pub texts_at : (types : List ServedShape) (m : History) (r : ℕ) → IsMachine types m → AreTexts types (state_at m.changes r)
 texts_at types m r is =
     texts_changed types (up_to r m.changes) fin.empty (λ k o there. no_some o (sym there ∙ fin.get-empty key_cmp k))
-    (all_filter (IsOfTypes types) (λ c. nat_le c.revision r) m.changes is.texts)
+    (all-filter (IsOfTypes types) (λ c. nat_le c.revision r) m.changes is.texts)
 
 pub standing_texts : (types : List ServedShape) (m : History) → IsMachine types m → AreTexts types (standing m)
 standing_texts types m is = texts_at types m m.current is

@@ -17,7 +17,7 @@ use Rattle.lists.proofs.Bounds.{list_same}
 use Rattle.params.specs.Values.{Values, Watch}
 use Rattle.watchline.specs.declared.opening.Initial.{Initial}
 use Rattle.watchline.specs.declared.opening.Initial.TheVariants.{Changes}
-use Rattle.watchline.specs.Opening.{WatchFrom, from_parts, initial_in, initial_of, opened, opened_by, starts}
+use Rattle.watchline.specs.Opening.{WatchFrom, from_parts, initial_in, initial_of, started, opened_by, starts}
 use Rattle.watchline.specs.Watches.{from_history, from_view}
 use Rattle.std.proofs.Math.Path.{fun_ext}
 use Rattle.history.proofs.Wholes.{whole_compacts, whole_fresh}
@@ -60,7 +60,7 @@ module _ (types : List ServedShape) (m : History) (is : IsMachine types m) where
     begins_seen None = ap (λ (initial : Initial). begins (Ok (m.current, initial))) initial_seen
     begins_seen (Some v) = ap (λ (initial : Initial). begins (cond (v == 0) (Ok (m.current, initial)) (cond (nat_lt v m.compacted) (Err (Expired v m.compacted)) (Ok (v, Changes))))) initial_seen
 
-    opened_seen : opened (from_view (view m)) kind namespace values watch ≡ opened (from_history m) kind namespace values watch
+    opened_seen : started (from_view (view m)) kind namespace values watch ≡ started (from_history m) kind namespace values watch
     opened_seen = begins_seen values.version
 
   shown_seen : (of : Collection) (values : Values) (watch : Option Watch) → shown_by (from_view (view m)) of values watch ≡ shown_by (from_history m) of values watch

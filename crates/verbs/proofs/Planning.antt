@@ -1,6 +1,8 @@
 -- What a call comes to at a machine.
 use Rattle.std.proofs.Common.{◌≡◌, Ok, Err, Bool, true, false, Option, Some, None, refl, sym, ap, ap₂, subst, ◌∙◌, List, ℕ, true≢false, ltb-true, ltb-false}
-use Rattle.std.specs.Prelude.{◌↔◌, ◌<◌, ◌≤◌, IfSome, OnOk, nat_lt, option_map, slice_get}
+use Rattle.std.specs.Prelude.{◌↔◌, ◌<◌, ◌≤◌, IfSome, IsUtf8, OnOk, String, nat_lt, option_map, slice_get, string_bytes, suc}
+use Rattle.std.specs.declared.alloc.Global.{Global}
+use Rattle.std.proofs.lemmas.Str.{IsUtf8-string_bytes}
 use Rattle.std.specs.declared.result.Result.{Result}
 use Rattle.std.specs.FinMap as fin
 use Rattle.schema.specs.TypesFile.{ServedShape}
@@ -16,8 +18,8 @@ use Rattle.verbs.specs.declared.calls.Plan.{Plan as ThePlan}
 use Rattle.verbs.specs.declared.change.Change.{Change as TheChange}
 use Rattle.verbs.specs.Json.{IsJsonBody}
 use Rattle.verbs.specs.Calls.{Call, Plan}
-use Rattle.verbs.specs.Machine.{AreTexts, IsMachine, IsNext, IsReadable, after, identity_of}
-use Rattle.verbs.proofs.Changes.{is_history, machine_next, standing_texts}
+use Rattle.verbs.specs.Machine.{AreTexts, AreUnicode, IsMachine, IsNext, IsReadable, after, identity_of}
+use Rattle.verbs.proofs.Changes.{all_push, is_history, machine_next, standing_texts}
 use Rattle.verbs.proofs.Machines.{compactions_keep_machines, lists_seen, standing_seen}
 use Rattle.verbs.proofs.Promise.{plans_come_next}
 use Rattle.verbs.specs.Seen.{Stands, body_seen, call_of, change_of, plan_of, types_of, objects_in}
@@ -62,12 +64,18 @@ planned_next types m call is p same =
     seen_change (IsNext types m) p.change
     (subst (λ (q : Plan). IfSome q.change (IsNext types m)) (sym same) (plans_come_next types m (call_of call) is (bodies_json call.body)))
 
-pub stands_next : (api new : Api) (types : List ServedShape) (m : History) (c : Change) → Stands api types m → IsNext types m c
+-- each body that is written is a string
+pub strings_utf8 : (body : Option (String Global)) → IfSome (option_map string_bytes body) IsUtf8
+strings_utf8 None = tt
+strings_utf8 (Some s) = IsUtf8-string_bytes s
+
+pub stands_next : (api new : Api) (types : List ServedShape) (m : History) (c : Change) → Stands api types m → IsNext types m c → IfSome c.body IsUtf8
     → types_of new ≡ types_of api → new.store ≡ written_in api.store c.key c.body → Stands new types (after m (Some c))
-stands_next api new types m c stands next serves store = record {
+stands_next api new types m c stands next text serves store = record {
   is_machine = machine_next types m c stands.is_machine next;
   serves = serves ∙ stands.serves;
   store = store ∙ ap (λ (v : View). written_in v c.key c.body) stands.store ∙ sym (view_writes m c.key c.body (is_history types m stands.is_machine));
+  unicode = all_push (λ (x : Change). IfSome x.body IsUtf8) m.changes (record { revision = suc m.current; key = c.key; body = c.body }) stands.unicode text;
 }
 
 pub on_ok : {X E A B : Type 0} (r : Result X E) → (A → B) → OnOk r A → OnOk r B
@@ -80,6 +88,7 @@ stands_compacted api new types m c stands serves low high store = record {
   is_machine = compactions_keep_machines types m c stands.is_machine low high;
   serves = serves ∙ stands.serves;
   store = store ∙ ap (compacted_in c) stands.store ∙ sym (view_compacts m c (is_history types m stands.is_machine) low);
+  unicode = stands.unicode;
 }
 
 -- ---- a compaction

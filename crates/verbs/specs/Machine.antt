@@ -1,6 +1,6 @@
 -- The machine: a history whose bodies are texts of objects, each of the type and key of its change
 -- (resourceVersion and its order: Kubernetes "API Concepts", "Resource versions").
-use Rattle.std.specs.Prelude.{◌≡◌, ℕ, suc, ◌≤◌, true, List, length, Option, Some, None, option_and_then, slice_get}
+use Rattle.std.specs.Prelude.{◌≡◌, ℕ, suc, ◌≤◌, true, IfSome, IsUtf8, List, length, Option, Some, None, option_and_then, slice_get}
 use Rattle.std.specs.FinMap as fin
 use Rattle.std.specs.List.{All, AllByRecursion}
 use Rattle.serde_json.specs.Read.{read}
@@ -96,6 +96,10 @@ pub record IsMachine (types : List ServedShape) (m : History) : Type 0 where
   pub whole : IsWhole first m
   pub shapes : AreObjectTypes types
   pub texts : AllByRecursion (IsOfTypes types) m.changes
+
+-- each body is Unicode, encoded in UTF-8 (RFC 8259, section 8.1)
+abbrev pub AreUnicode : List Change → Type 0
+AreUnicode = AllByRecursion (λ c. IfSome c.body IsUtf8)
 
 -- the machine after a call that made this change, or none
 abbrev pub after : History → Option Change → History

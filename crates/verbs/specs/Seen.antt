@@ -35,7 +35,7 @@ use Rattle.verbs.specs.declared.reason.Reason.{Reason}
 use Rattle.history.specs.History.{Change, Object, Objects, History}
 use Rattle.history.specs.Read.{key_of}
 use Rattle.history.specs.View.{View, state_in, view as view_of}
-use Rattle.verbs.specs.Machine.{ComesAfter, IsMachine}
+use Rattle.verbs.specs.Machine.{AreUnicode, ComesAfter, IsMachine}
 use Rattle.verbs.specs.declared.body.Body.{Body}
 use Rattle.serde_json.specs.Data.{Data}
 use Rattle.watchline.specs.Views.{watch_from}
@@ -133,8 +133,9 @@ store_of api = api.store
 abbrev pub ComesNext : Api → Change → Type 0
 ComesNext api c = ComesAfter (store_of api) c
 
--- the API serves these types, and of its store is seen what is seen of the machine
+-- the API serves these types, and of its store is seen what is seen of the machine, whose bodies are texts
 pub record Stands (api : Api) (types : List ServedShape) (m : History) : Type 0 where
   pub is_machine : IsMachine types m
   pub serves : types_of api ≡ types
   pub store : store_of api ≡ view_of m
+  pub unicode : AreUnicode m.changes

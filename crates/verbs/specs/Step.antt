@@ -28,7 +28,7 @@ use Rattle.params.specs.Values.{Values, Watch}
 use Rattle.params.specs.declared.params.Asked.{Asked}
 use Rattle.params.specs.declared.params.Asked.TheVariants as asked
 use Rattle.watchline.specs.Lines.{expired_message}
-use Rattle.watchline.specs.Opening.{WatchFrom, opened}
+use Rattle.watchline.specs.Opening.{WatchFrom, started}
 use Rattle.watchline.specs.Watches.{Source, from_history, from_view}
 use Rattle.verbs.specs.declared.method.Method.{Method}
 use Rattle.verbs.specs.declared.method.Method.TheVariants.{Get, Post, Put, Patch, Delete}
@@ -242,7 +242,7 @@ watch_shown (Err refusal) = Err refusal
 -- a watch where the parameters ask for one, and else a page
 abbrev pub shown_by : Source → Collection → Values → Option Watch → Result Answer Refusal
 shown_by s of values None = page_shown (list_of of values s.current s.compacted s.at)
-shown_by s of values (Some watch) = watch_shown (opened s of.kind of.namespace values watch)
+shown_by s of values (Some watch) = watch_shown (started s of.kind of.namespace values watch)
 
 abbrev pub lists_from : Source → Lists
 lists_from s = λ of values. shown_by s of values values.watch

@@ -4,7 +4,7 @@ use Rattle.schema.specs.TypesFile.{ServedShape}
 use Rattle.watchline.specs.Watches.{Cursor, Marking, bookmarked}
 use Rattle.verbs.specs.Envelope.{api_version_of}
 
--- a bookmark is an object of the watch's type
+-- a bookmark is an object of the watch's type; none is told of a type that isn't served, which no call opens a watch of
 abbrev pub bookmarked_as : Option ServedShape → Cursor → Marking
 bookmarked_as None w = record { line = None; next = w }
 bookmarked_as (Some t) w = bookmarked (api_version_of t) t.kind w

@@ -1,3 +1,5 @@
+//! The checks before a body is read: route, method, media type.
+
 ghost use Rattle.std.specs.Prelude.{◌≡◌, IfOk, Err, option_map, string_bytes};
 ghost use Rattle.verbs.specs.Admit.{not_admitted, method_served, place_admitted, target_at};
 ghost use Rattle.verbs.specs.Seen.{Admits, place_seen, target_of};

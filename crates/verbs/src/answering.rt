@@ -1,3 +1,5 @@
+//! What the writes share: their body, their refusals and the text that is stored.
+
 ghost use Rattle.std.specs.Prelude.{◌≡◌, IfOk, codes};
 ghost use Rattle.serde_json.specs.View.{view};
 ghost use Rattle.verbs.specs.declared.reason.Reason.TheVariants.{MethodNotAllowed, NotFound};

@@ -1,3 +1,5 @@
+//! The API over the store. What each method does stands in modules of its own.
+
 use crate::admitting::{Refusal, admitted};
 use crate::calls::{Call, Plan, Target};
 use crate::fault::Fault;

@@ -1,3 +1,5 @@
+//! Requests and answers as data.
+
 use crate::body::Body;
 use crate::change::Change;
 use crate::method::Method;

@@ -1,3 +1,5 @@
+//! What a call does to the objects.
+
 ghost use Rattle.std.specs.Prelude.{◌≤◌};
 ghost use Rattle.history.specs.History.{last_revision};
 

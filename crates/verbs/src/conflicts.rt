@@ -1,3 +1,5 @@
+//! The refusal of an apply that has conflicts.
+
 ghost use Rattle.std.specs.Prelude.{◌≡◌, IfOk, map, string_bytes};
 ghost use Rattle.serde_json.specs.View.{items_view, view};
 ghost use Rattle.schema.specs.Served as types;

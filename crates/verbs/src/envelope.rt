@@ -1,3 +1,5 @@
+//! What stands round an object's fields: `apiVersion`, `kind`, `metadata`.
+
 ghost use Rattle.std.specs.Prelude.{◌≡◌, ◌++◌, IfOk, OnOk, Some, codes, string_bytes, option_map, map};
 ghost use Rattle.schema.specs.Keywords.{is_in};
 ghost use Rattle.serde_json.specs.Find.{get_member};

@@ -1,3 +1,5 @@
+//! Why a step has no object to answer.
+
 ghost use Rattle.verbs.specs.Seen.{RefusesFor};
 
 use crate::call_refusal::CallRefusal;

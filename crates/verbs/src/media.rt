@@ -1,3 +1,5 @@
+//! Media types of bodies.
+
 ghost use Rattle.std.specs.Prelude.{◌≡◌, ◌==◌, option_map};
 ghost use Rattle.std.specs.List.{before_first};
 ghost use Rattle.verbs.specs.Admit.{is_apply, is_json, media_type, accepts_media, without_leading, without_trailing, is_blank};

@@ -1,3 +1,5 @@
+//! The methods that are served.
+
 ghost use Rattle.std.specs.Prelude.{◌≡◌};
 ghost use Rattle.verbs.specs.Admit.{method_named};
 

@@ -1,3 +1,5 @@
+//! The checks of names and metadata, in paths and bodies.
+
 ghost use Rattle.std.specs.Prelude.{◌≡◌, codes, option_map};
 ghost use Rattle.serde_json.specs.View.{members_view, view};
 ghost use Rattle.verbs.specs.declared.reason.Reason.TheVariants.{Invalid};

@@ -1,3 +1,5 @@
+//! The parameters of a call, and the refusal of a bad one.
+
 ghost use Rattle.std.specs.Prelude.{◌≡◌, ◌++◌, IfOk, codes, string_bytes};
 ghost use Rattle.params.specs.Parameters.{name_of};
 ghost use Rattle.params.specs.Views.{values_of};

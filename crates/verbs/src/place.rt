@@ -1,3 +1,5 @@
+//! The place in the routes that a path leads to.
+
 ghost use Rattle.std.specs.Prelude.{◌≡◌, option_map};
 ghost use Rattle.matchit.specs.Params.{AllText, named};
 ghost use Rattle.schema.specs.Served.{types_view};

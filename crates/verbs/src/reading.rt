@@ -1,3 +1,5 @@
+//! A body as an object's content, and the refusal of one that is none.
+
 ghost use Rattle.std.specs.Prelude.{◌≡◌, ◌++◌, IfOk, codes, string_bytes};
 ghost use Rattle.serde_json.specs.View.{view};
 ghost use Rattle.schema.specs.Served as types;

@@ -1,3 +1,5 @@
+//! The reasons of refusals, their status codes and texts.
+
 ghost use Rattle.std.specs.Prelude.{◌≡◌};
 ghost use Rattle.verbs.specs.Reasons.{code_of, reason_text};
 

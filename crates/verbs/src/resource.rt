@@ -1,3 +1,5 @@
+//! What a path leads to: one object, or those of a type.
+
 ghost use Rattle.std.specs.Prelude.{◌≡◌};
 ghost use Rattle.verbs.specs.Admit.{allowed, serves};
 

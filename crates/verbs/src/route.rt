@@ -1,3 +1,5 @@
+//! The paths of a type and its objects.
+
 ghost use Rattle.std.specs.Prelude.{◌≡◌};
 ghost use Rattle.verbs.specs.Admit.{routes};
 

@@ -1,3 +1,5 @@
+//! Texts put together.
+
 ghost use Rattle.std.specs.Prelude.{◌≡◌, ◌++◌, IfOk, string_bytes};
 
 use std::alloc::{AllocError, Global};

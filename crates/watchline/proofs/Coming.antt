@@ -24,7 +24,7 @@ use Rattle.watchline.specs.declared.opening.Initial.TheVariants.{NoObjects, Obje
 use Rattle.watchline.specs.Lines.{added, error_line, line_of}
 use Rattle.watchline.specs.Opening.{initial_of}
 use Rattle.watchline.specs.Views.{left_at, objects_at}
-use Rattle.watchline.specs.Watches.{Cursor, Left, Source, Turn, changes_left, changes_told, coming, entries_left, expiring, from_history, from_view, key_at, left_by, left_from, left_past, moved, objects_left, position_by, pumped, telling, wanted}
+use Rattle.watchline.specs.Watches.{Cursor, Left, Source, Turn, changes_left, changes_told, coming, entries_left, expiring, from_history, from_view, key_at, left_behind, left_from, left_past, moved, objects_left, position_by, pumped, telling, wanted}
 use Rattle.watchline.proofs.Putting.{lt-taken, room-taken, take-behind}
 
 abbrev pub Entries : Type 0
@@ -74,7 +74,7 @@ page_at v scope position revision max start page sound at is =
     (ap (state_in v) at ∙ state_min v position sound)
     )
 
-pub left_same : (left : Option TheStart) (next : Option Key) → option_map start_of left ≡ option_map place_of next → left_at left ≡ left_by next
+pub left_same : (left : Option TheStart) (next : Option Key) → option_map start_of left ≡ option_map place_of next → left_at left ≡ left_behind next
 left_same None None is = refl
 left_same None (Some k) is = absurd cc
 left_same (Some start) None is = absurd cc
@@ -114,7 +114,7 @@ module _ (s : Source) (w : Cursor) (room : ℕ) (objects : Entries) (changes : L
         (position_is ∙ ap₂ (λ b cs. position_by b s.current (reached w.position cs)) has_room told_are)
         (told_is ∙ ap (reached w.told) told_are) left_is
 
-pub past_some : (room : ℕ) (es : Entries) (left : Left) → (room ≡ 0 → ⊥) → left_past room es left ≡ left_by (next_of room es)
+pub past_some : (room : ℕ) (es : Entries) (left : Left) → (room ≡ 0 → ⊥) → left_past room es left ≡ left_behind (next_of room es)
 past_some zero es left h = absurd (h refl)
 past_some (suc n) es left h = refl
 

@@ -1,6 +1,7 @@
 -- What is left to be told after a turn, and what its position passes.
-use Rattle.std.proofs.Common.{◌≡◌, ℕ, zero, suc, ◌+◌, ◌-◌, ◌<◌, ◌≤◌, max, Bool, true, false, cond, List, [], ◌∷◌, ◌++◌, length, take, drop, map, filter, Option, Some, None, option_map, refl, sym, ap, ap₂, subst, ◌∙◌, arith, append_assoc, leb-true, leb-false, le-ltb, ltb-true, ltb-false, length-append, zero-le, drop_of_length-le, take-append-drop}
+use Rattle.std.proofs.Common.{◌≡◌, ◌⊎◌, inl, inr, ℕ, zero, suc, ◌+◌, ◌-◌, ◌<◌, ◌≤◌, max, Bool, true, false, cond, List, [], ◌∷◌, ◌++◌, length, take, drop, map, filter, Option, Some, None, option_map, refl, sym, ap, ap₂, subst, ◌∙◌, arith, append_assoc, leb-true, leb-false, le-ltb, ltb-true, ltb-false, length-append, zero-le, drop_of_length-le, take-append-drop}
 use Rattle.std.specs.Prelude.{nat_le, nat_lt, ◌&&◌, ◌==◌}
+use Rattle.std.proofs.lemmas.Bool.{lt-leb}
 use Rattle.std.proofs.lemmas.List.{append_cancel_left, append_cancel_right, drop-map, length-map, map-append, take_all}
 use Rattle.std.proofs.Math.Seq.{take-add}
 use Rattle.std.specs.FinMap as fin
@@ -12,7 +13,7 @@ use Rattle.history.proofs.Following.{front_seen, seen_changes-push}
 use Rattle.history.proofs.Leading.{more}
 use Rattle.history.proofs.Lists.{filter_both, filter_like}
 use Rattle.history.proofs.Paging.{listed_first, listed_past}
-use Rattle.history.proofs.Revisions.{later-drops, later-later, rising-filter, rising-later, rising_ends, up_to-below, up_to-split}
+use Rattle.history.proofs.Revisions.{later-drops, later-later, rising-filter, rising_ends, up_to-split}
 use Rattle.history.proofs.Selecting.{entries-selected}
 use Rattle.history.proofs.Views.{state_in_is}
 use Rattle.lists.specs.Labels.{labels_of, selection_of}
@@ -22,7 +23,7 @@ use Rattle.watchline.specs.declared.opening.Initial.TheVariants.{Changes, NoObje
 use Rattle.watchline.specs.Lines.{added, bookmark_line, line_of}
 use Rattle.watchline.specs.Opening.{WatchFrom, begun, told_of}
 use Rattle.watchline.specs.Turns.{PassesNothing, after_turns, lines_by, room_of}
-use Rattle.watchline.specs.Watches.{Cursor, Left, Marking, Turn, bookmarked, changes_left, changes_told, coming, entries_left, expiring, from_history, is_bookmark_due, key_at, left_by as left_behind, left_from, left_past, moved, none_left, objects_left, position_by, position_past, pumped, telling, wanted}
+use Rattle.watchline.specs.Watches.{Cursor, Left, Marking, Turn, bookmarked, changes_left, changes_told, coming, entries_left, expiring, from_history, is_bookmark_due, key_at, left_behind, left_from, left_past, moved, none_left, objects_left, position_by, position_past, pumped, telling, wanted}
 use Rattle.watchline.proofs.Coming.{Entries}
 use Rattle.watchline.proofs.Putting.{drop-add, drop-behind}
 
@@ -144,14 +145,16 @@ seen_split seen cs p q r top low high rise =
     ∙ seen_append seen (state_at cs p) (up_to q (later p cs)) (up_to r (later q (later p cs)))
     ∙ ap₂ (λ s ds. seen_changes seen cs p q ++ seen_among seen s (up_to r ds)) (state_in_is p q top cs rise low) (later-later p q cs low)
 
-pub none_between : (seen : Selection) (cs : List Change) (q top : ℕ) → IsRising 0 cs top → seen_changes seen cs q q ≡ []
-none_between seen cs q top rise = by_high (nat_le q top) refl
+none_after : (q : ℕ) (cs : List Change) → up_to q (later q cs) ≡ []
+none_after q [] = refl
+none_after q (c ∷ cs) = go (nat_lt q c.revision) refl (none_after q cs)
   where
-    by_high : (b : Bool) → nat_le q top ≡ b → seen_changes seen cs q q ≡ []
-    by_high true is =
-        let h : q ≤ top = leb-true q top is in
-        ap (seen_among seen (state_at cs q)) (up_to-below q q top (later q cs) (omega arith) (rising-later 0 q top cs zero-le h rise))
-    by_high false is = let h : top < q = leb-false q top is in none_past seen cs q top q (omega (arith, h)) rise
+    go : (b : Bool) → nat_lt q c.revision ≡ b → up_to q (later q cs) ≡ [] → up_to q (cond b (c ∷ later q cs) (later q cs)) ≡ []
+    go true above none = ap (λ b. cond b (c ∷ up_to q (later q cs)) (up_to q (later q cs))) (lt-leb c.revision q (ltb-true q c.revision above)) ∙ none
+    go false below none = none
+
+pub none_between : (seen : Selection) (cs : List Change) (q : ℕ) → seen_changes seen cs q q ≡ []
+none_between seen cs q = ap (seen_among seen (state_at cs q)) (none_after q cs)
 
 -- ---- where a turn of changes leads to: those of the front are told, and where room is left nothing else is to be seen
 
@@ -236,7 +239,7 @@ behind_below seen cs p n top true rise h few =
     let high : reached p (take n xs) ≤ top = front.high in
     let same : max (reached p (take n xs)) top ≡ top = omega (arith, high) in
     ap (seen_changes seen cs (reached p (take n xs))) same ∙ front.left ∙ drop_of_length-le xs (omega (arith, short))
-behind_below seen cs p n top false rise h few = none_between seen cs (reached p (take n (seen_changes seen cs p top))) top rise
+behind_below seen cs p n top false rise h few = none_between seen cs (reached p (take n (seen_changes seen cs p top)))
 
 behind_on : (seen : Selection) (cs : List Change) (p n top : ℕ) (b : Bool) → IsRising 0 cs top → (b ≡ true → length (seen_changes seen cs p top) < n)
     → seen_changes seen cs (reached p (take n (seen_changes seen cs p top))) (Stands seen cs p n top b) ≡ []
@@ -403,7 +406,7 @@ begins_passing h from is = by_initial from.initial refl
         let same : told_of from.initial from.position ≡ from.position = ap (λ i. told_of i from.position) t in
         record {
           behind = subst (λ n. n ≤ from.position) (sym same) (omega arith);
-          none = λ _. ap (λ n. seen_changes (wanted (begun from)) h.changes n from.position) same ∙ none_between (wanted (begun from)) h.changes from.position h.current is.rising;
+          none = λ _. ap (λ n. seen_changes (wanted (begun from)) h.changes n from.position) same ∙ none_between (wanted (begun from)) h.changes from.position;
         }
     by_initial SomeObjects t =
         let same : told_of from.initial from.position ≡ 0 = ap (λ i. told_of i from.position) t in
@@ -429,11 +432,11 @@ pub marked_passes : (h : History) (api_version kind : List ℕ) (w : Cursor) →
 marked_passes h api_version kind w is before = by_due (is_bookmark_due w)
   where
     by_due : (b : Bool) → PassesNothing h (cond b (marked_line api_version kind w) (unmarked w)).next
-    by_due true = record { behind = omega arith; none = λ _. none_between (wanted w) h.changes w.position h.current is.rising }
+    by_due true = record { behind = omega arith; none = λ _. none_between (wanted w) h.changes w.position }
     by_due false = before
 
-pub written_passes : (h : History) (k : Key) (body : Option (List ℕ)) (w : Cursor) → w.position ≤ h.current → PassesNothing h w → PassesNothing (written h k body) w
-written_passes h k body w high before =
+below_passes : (h : History) (k : Key) (body : Option (List ℕ)) (w : Cursor) → w.position ≤ h.current → PassesNothing h w → PassesNothing (written h k body) w
+below_passes h k body w high before =
     let low : w.told ≤ w.position = before.behind in
     let above : w.position < suc h.current = omega (arith, high) in
     let beyond : w.told < suc h.current = omega (arith, high, low) in
@@ -441,3 +444,14 @@ written_passes h k body w high before =
       behind = before.behind;
       none = λ some. seen_changes-push (wanted w) h.changes (record { revision = suc h.current; key = k; body = body }) w.told w.position beyond above ∙ before.none some;
     }
+
+-- between a revision and itself nothing stands, whatever is written
+level_passes : (h : History) (w : Cursor) → w.told ≡ w.position → PassesNothing h w
+level_passes h w level = record {
+  behind = subst (λ t. t ≤ w.position) (sym level) (omega arith);
+  none = λ _. ap (λ t. seen_changes (wanted w) h.changes t w.position) level ∙ none_between (wanted w) h.changes w.position;
+}
+
+pub written_passes : (h : History) (k : Key) (body : Option (List ℕ)) (w : Cursor) → (w.position ≤ h.current) ⊎ (w.told ≡ w.position) → PassesNothing h w → PassesNothing (written h k body) w
+written_passes h k body w (inl high) before = below_passes h k body w high before
+written_passes h k body w (inr level) before = level_passes (written h k body) w level

@@ -1,4 +1,5 @@
--- How the changes that a watch sees are read: a few at a time, until there are enough or none are left.
+-- How the changes that a watch sees are read: a few at a time, until there are enough or none are left. Words of private clauses, step by step
+-- as the code goes; what a pump reads is said without them.
 use Rattle.std.specs.Prelude.{ℕ, suc, ◌-◌, ◌<◌, ◌≤◌, if◌then◌else◌, List, [], ◌∷◌, length, Option, Some, None, option_map}
 use Rattle.std.specs.FinMap as fin
 use Rattle.std.specs.List.{AllByRecursion, flat_map}

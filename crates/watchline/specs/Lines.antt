@@ -7,7 +7,7 @@ use Rattle.history.specs.History.{Key, Object}
 use Rattle.history.specs.Seen.{SeenKind, Added, Modified, Deleted, SeenChange}
 use Rattle.watchline.specs.declared.event.EventType.{EventType}
 use Rattle.watchline.specs.declared.event.EventType.TheVariants as event
-use Rattle.watchline.specs.Versions.{text_at}
+use Rattle.watchline.specs.Versions.{text_at_version}
 
 abbrev pub type_text : EventType → List ℕ
 type_text event.Added = codes "ADDED"
@@ -31,10 +31,10 @@ type_of Deleted = event.Deleted
 abbrev pub text_shown : SeenKind → Object → List ℕ
 text_shown Added o = o.body
 text_shown Modified o = o.body
-text_shown Deleted o = text_at o.revision o.body
+text_shown Deleted o = text_at_version o.revision o.body
 
 abbrev pub deleted_line : ℕ → List ℕ → List ℕ
-deleted_line revision text = line event.Deleted (text_at revision text)
+deleted_line revision text = line event.Deleted (text_at_version revision text)
 
 abbrev pub line_of : SeenChange → List ℕ
 line_of x = line (type_of x.kind) (text_shown x.kind x.object)

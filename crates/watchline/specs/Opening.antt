@@ -72,6 +72,6 @@ opened_by from (Err refusal) = Err refusal
 abbrev pub initial_in : Source → ℕ → Option (List ℕ) → List Requirement → Initial
 initial_in s kind namespace requirements = initial_of (fin.entries (selected (selection_of kind namespace requirements) (s.at s.current)))
 
-abbrev pub opened : Source → ℕ → Option (List ℕ) → Values → Watch → Result WatchFrom Refusal
-opened s kind namespace values watch =
+abbrev pub started : Source → ℕ → Option (List ℕ) → Values → Watch → Result WatchFrom Refusal
+started s kind namespace values watch =
     opened_by (from_parts kind namespace values.selector watch) (starts s values.version (initial_in s kind namespace values.selector))

@@ -31,5 +31,5 @@ abbrev pub text_of : Data → Option (List ℕ)
 text_of d = if has_float d then None else Some (compact_text d)
 
 -- a text that is no object's stays as it is
-abbrev pub text_at : ℕ → List ℕ → List ℕ
-text_at revision text = unwrap_or (option_and_then text_of (option_and_then (value_at revision) (read text))) text
+abbrev pub text_at_version : ℕ → List ℕ → List ℕ
+text_at_version revision text = unwrap_or (option_and_then text_of (option_and_then (value_at revision) (read text))) text

@@ -77,14 +77,14 @@ coming s w = map added (objects_left s w) ++ changes_left s w
 abbrev pub changes_told : Source → ℕ → Cursor → List SeenChange
 changes_told s room w = take (room - length (objects_left s w)) (changes_left s w)
 
-abbrev pub left_by : Option Key → Left
-left_by None = none_left
-left_by (Some k) = left_from (Some (k.namespace, k.name))
+abbrev pub left_behind : Option Key → Left
+left_behind None = none_left
+left_behind (Some k) = left_from (Some (k.namespace, k.name))
 
 -- what is left of these after so many
 abbrev pub left_past : ℕ → List (Key × Object) → Left → Left
 left_past zero es left = left
-left_past (suc n) es left = left_by (next_of (suc n) es)
+left_past (suc n) es left = left_behind (next_of (suc n) es)
 
 abbrev pub position_by : Bool → ℕ → ℕ → ℕ
 position_by has_room current p = if has_room then max p current else p

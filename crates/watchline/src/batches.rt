@@ -76,6 +76,13 @@ fn next_changes(
     Ok((changes, next))
 }
 
+/// How many changes are read at first: as many as are to be found.
+fn first_batch(max: usize) -> usize
+    ensures { 0 < result }
+{
+    max.min(MAX_CHANGES).max(1)
+}
+
 /// The first of these, at most so many.
 fn cut(found: Vec<Seen>, max: usize) -> Vec<Seen>
     ensures { map change_seen result.items ≡ take max (map change_seen found.items) }
@@ -85,7 +92,8 @@ fn cut(found: Vec<Seen>, max: usize) -> Vec<Seen>
     found
 }
 
-/// The first that is seen after a revision, at most so much.
+/// The first that is seen after a revision, at most so much. Where little is seen of what is read, more is read at
+/// once: twice as many changes each time.
 pub(crate) fn seen_after(
     alloc: Global,
     store: &mut Store,
@@ -102,15 +110,16 @@ pub(crate) fn seen_after(
 {
     let mut found = Vec::new(alloc);
     let mut left = Some(after);
+    let mut batch = first_batch(max);
     while let Some(after) = left {
         if found.len() >= max {
             return Ok(cut(found, max));
         }
-        let room = (max - found.len()).min(MAX_CHANGES);
-        let (changes, next) = next_changes(store, kind, namespace, after, room)?;
+        let (changes, next) = next_changes(store, kind, namespace, after, batch)?;
         let mut more = seen_each(alloc, store, selector, changes)?;
         found.append(&mut more)?;
         left = next;
+        batch = batch.saturating_mul(2).min(MAX_CHANGES);
     }
     Ok(cut(found, max))
 }

@@ -1,3 +1,5 @@
+//! What a line of a watch tells: the event's type.
+
 ghost use Rattle.std.specs.Prelude.{◌≡◌};
 ghost use Rattle.watchline.specs.Lines.{type_text};
 

@@ -1,6 +1,6 @@
 //! Laws of watches. Each function does nothing; what it promises is the law.
 
-ghost use Rattle.std.specs.Prelude.{◌≡◌, ◌≤◌, ℕ, List, Option, drop, map, take};
+ghost use Rattle.std.specs.Prelude.{◌≡◌, ◌≤◌, ◌⊎◌, ℕ, List, Option, drop, map, take};
 ghost use Rattle.history.specs.History.{History, IsHistory, Key, written};
 ghost use Rattle.history.specs.Seen.{seen_changes};
 ghost use Rattle.history.specs.View.{view};
@@ -14,17 +14,8 @@ pub fn watches_by_views()
     ensures { (h : History) (room : ℕ) (w : Cursor) → IsHistory h → pumped (from_view (view h)) room w ≡ pumped (from_history h) room w }
 {}
 
-/// A turn tells the first of what is still to be told, as many as it has room for; what is left after it is what it
-/// had no room for.
-pub fn turns_lead_on()
-    ensures lines { (h : History) (room : ℕ) (w : Cursor) → IsHistory h → h.compacted ≤ w.position
-        → (pumped (from_history h) room w).lines ≡ map line_of (take room (coming (from_history h) w)) }
-    ensures left { (h : History) (room : ℕ) (w : Cursor) → IsHistory h → h.compacted ≤ w.position
-        → coming (from_history h) (pumped (from_history h) room w).next ≡ drop room (coming (from_history h) w) }
-{}
-
 /// Turns one after the other tell, in order and each thing once, as much of what is still to be told as they have room
-/// for in all: the objects that are left, then the changes.
+/// for in all: the objects that are left, then the changes. What is left after them is what they had no room for.
 pub fn turns_tell_in_order()
     ensures lines { (h : History) (rooms : List ℕ) (w : Cursor) → IsHistory h → h.compacted ≤ w.position
         → lines_by (from_history h) rooms w ≡ map line_of (take (room_of rooms) (coming (from_history h) w)) }
@@ -34,12 +25,13 @@ pub fn turns_tell_in_order()
 
 /// A position passes no change that is seen but what the turn tells. So between the last revision that a client was
 /// told and the position no seen change stands, from the opening on, over turns, bookmarks and writes: a bookmark
-/// tells no revision past a change that was not sent.
+/// tells no revision past a change that was not sent. A position past the current revision is the one that the client
+/// named, so it was told.
 pub fn positions_pass_nothing()
     ensures told { (h : History) (room : ℕ) (w : Cursor) → IsHistory h → h.compacted ≤ w.position
         → seen_changes (wanted w) h.changes w.position (pumped (from_history h) room w).next.position ≡ changes_told (from_history h) room w }
     ensures begins { (h : History) (from : WatchFrom) → IsHistory h → PassesNothing h (begun from) }
     ensures turns { (h : History) (room : ℕ) (w : Cursor) → IsHistory h → PassesNothing h w → PassesNothing h (pumped (from_history h) room w).next }
     ensures marks { (h : History) (api_version kind : List ℕ) (w : Cursor) → IsHistory h → PassesNothing h w → PassesNothing h (bookmarked api_version kind w).next }
-    ensures writes { (h : History) (k : Key) (body : Option (List ℕ)) (w : Cursor) → w.position ≤ h.current → PassesNothing h w → PassesNothing (written h k body) w }
+    ensures writes { (h : History) (k : Key) (body : Option (List ℕ)) (w : Cursor) → (w.position ≤ h.current) ⊎ (w.told ≡ w.position) → PassesNothing h w → PassesNothing (written h k body) w }
 {}

@@ -24,7 +24,7 @@ mod version;
 
 pub use cursor::{Pumped, WatchCursor};
 pub use event::EventType;
-pub use laws::{positions_pass_nothing, turns_lead_on, turns_tell_in_order, watches_by_views};
+pub use laws::{positions_pass_nothing, turns_tell_in_order, watches_by_views};
 pub use lines::line;
 pub use opening::{Initial, WatchFrom, start_watch};
 pub use status::expired_message;

@@ -11,7 +11,7 @@ ghost use Rattle.watchline.specs.Views.{change_seen};
 use crate::event::EventType;
 use crate::seen::{Seen, SeenKind};
 use crate::status::expired_text;
-use crate::version::text_at;
+use crate::version::text_at_version;
 use revtable::{Entry, Fault};
 use serde_json::{Value, json};
 use std::alloc::{AllocError, Global};
@@ -38,7 +38,7 @@ pub(crate) fn object_line(alloc: Global, entry: &Entry) -> Result<String, AllocE
 fn deleted_line(alloc: Global, body: &str, revision: u64) -> Result<String, Fault>
     ensures { IfOk result (λ s. string_bytes s ≡ deleted_line revision body.now) }
 {
-    let text = text_at(alloc, body, revision)?;
+    let text = text_at_version(alloc, body, revision)?;
     Ok(line(alloc, EventType::Deleted, text.as_str())?)
 }
 

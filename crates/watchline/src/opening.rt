@@ -3,7 +3,7 @@
 ghost use Rattle.std.specs.Prelude.{◌≡◌, IfOk, option_map, string_bytes};
 ghost use Rattle.lists.specs.Views.{Gives, collection_of};
 ghost use Rattle.params.specs.Views.{values_of, watch_view};
-ghost use Rattle.watchline.specs.Opening.{initial_in, opened, starts};
+ghost use Rattle.watchline.specs.Opening.{initial_in, started, starts};
 ghost use Rattle.watchline.specs.Watches.{from_view};
 ghost use Rattle.watchline.specs.Views.{watch_from};
 
@@ -105,7 +105,7 @@ pub fn start_watch(
     params: Params,
     watch: Watch,
 ) -> Result<WatchFrom, ListFault>
-    ensures opened { Gives watch_from result (opened (from_view store.old) (collection_of of.entry).kind (collection_of of.entry).namespace (values_of params) (watch_view watch)) }
+    ensures started { Gives watch_from result (started (from_view store.old) (collection_of of.entry).kind (collection_of of.entry).namespace (values_of params) (watch_view watch)) }
     ensures same { store.new ≡ store.old }
 {
     let (position, initial) = starts(alloc, store, of, params.version, &params.selector)?;

@@ -4,7 +4,7 @@ ghost use Rattle.std.specs.Prelude.{◌≡◌, IfOk, option_and_then, option_map
 ghost use Rattle.serde_json.specs.Find.{as_object, get_member};
 ghost use Rattle.serde_json.specs.Read.{read};
 ghost use Rattle.serde_json.specs.View.{members_view, view};
-ghost use Rattle.watchline.specs.Versions.{in_two, metadata_at, text_at, text_of, value_at, value_of, without};
+ghost use Rattle.watchline.specs.Versions.{in_two, metadata_at, text_at_version, text_of, value_at, value_of, without};
 
 use crate::floats::has_float;
 use revtable::Fault;
@@ -108,8 +108,8 @@ fn printed_at(alloc: Global, text: &str, revision: u64) -> Result<Option<String>
 }
 
 /// The object's text at a version: printed anew with it; a text that is no object's stays as it is.
-pub(crate) fn text_at(alloc: Global, text: &str, revision: u64) -> Result<String, Fault>
-    ensures { IfOk result (λ s. string_bytes s ≡ text_at revision text.now) }
+pub(crate) fn text_at_version(alloc: Global, text: &str, revision: u64) -> Result<String, Fault>
+    ensures { IfOk result (λ s. string_bytes s ≡ text_at_version revision text.now) }
 {
     match printed_at(alloc, text, revision)? {
         Some(printed) => Ok(printed),

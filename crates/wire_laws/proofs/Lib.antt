@@ -13,3 +13,4 @@ mod PrintedWatches
 mod Silence
 mod Watching
 mod Written
+mod TurnTexts

@@ -25,7 +25,7 @@ use Rattle.lists.specs.declared.refusal.Refusal.{Refusal as ListRefusal}
 use Rattle.lists.specs.Body.{Collection}
 use Rattle.lists.specs.Lists.{list_of}
 use Rattle.params.specs.Values.{Values, Watch}
-use Rattle.watchline.specs.Opening.{WatchFrom, opened}
+use Rattle.watchline.specs.Opening.{WatchFrom, started}
 use Rattle.watchline.specs.Watches.{Source, from_history}
 use Rattle.params.specs.declared.params.Asked.TheVariants as asked
 use Rattle.verbs.specs.Envelope.{api_version_of}
@@ -371,7 +371,7 @@ watch_answer (Err refusal) = tt {0}
 
 shown : (s : Source) (of : Collection) (values : Values) (o : Option Watch) → IsAnswer (step.shown_by s of values o)
 shown s of values None = page_answer (list_of of values s.current s.compacted s.at)
-shown s of values (Some watch) = watch_answer (opened s of.kind of.namespace values watch)
+shown s of values (Some watch) = watch_answer (started s of.kind of.namespace values watch)
 
 are_answers : (m : History) → AreAnswers (step.lists_of m)
 are_answers m = λ of values. shown (from_history m) of values values.watch

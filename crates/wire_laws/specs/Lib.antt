@@ -1,3 +1,4 @@
 pub mod Listings
 pub mod Printed
+pub mod TurnLines
 pub mod Watched

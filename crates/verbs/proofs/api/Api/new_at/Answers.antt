@@ -9,4 +9,5 @@ returns-clause-stands c = record {
   is_machine = machines_begin (types_view c.args.types) c.args.revision c.types_are_of_objects.ensures c.requires.from c.requires.to;
   serves = refl;
   store = c.new-2.ensures ∙ ap view c.in_ok-table.ensures;
+  unicode = tt;
 }

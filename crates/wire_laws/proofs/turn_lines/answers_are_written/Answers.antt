@@ -1,0 +1,12 @@
+use Rattle.std.proofs.Common.{Option, [], ◌∷◌, subst, sym}
+use Rattle.watchline.specs.Opening.{WatchFrom}
+use Rattle.verbs.specs.Step.{planned}
+use Rattle.httpedge.specs.Steps.{answer_bytes}
+use Rattle.wireclient.specs.Reads.{Items}
+use Rattle.wireclient.specs.Reply.{end, head, whole}
+use Rattle.wire_laws.proofs.turn_lines.answers_are_written.Goals as goal
+
+pub returns : goal.returns
+returns c = λ types m call none fits.
+    let answer = (planned types m call).answer in
+    subst (λ (o : Option WatchFrom). Items (answer_bytes answer o) (head answer.status ∷ whole answer.body ∷ end ∷ [])) (sym none) (c.answers_are_read.ensures types m call fits)
