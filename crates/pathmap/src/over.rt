@@ -1,3 +1,5 @@
+//! One map put over another.
+
 ghost use Rattle.std.specs.Prelude.{◌≡◌, true, false, List, ℕ, IfOk, OnOk, string_bytes};
 ghost use Rattle.std.specs.String.{string_cmp};
 ghost use Rattle.std.specs.Ordering.{is_eq, nat_cmp};
@@ -35,6 +37,34 @@ fn put_held(theirs: &Option<Held>, mine: &mut Option<Held>) -> Result<(), AllocE
     Ok(())
 }
 
+/// Stands a copy of `theirs` under a name.
+fn put_new(
+    theirs: &PathMap,
+    alloc: Global,
+    below: &mut BTreeMap<ElemText, PathMap>,
+    name: &ElemText,
+) -> Result<(), AllocError>
+    ensures here { OnOk result (content_at (string_bytes name.now) below.new.entries ≡ content theirs.now) }
+    ensures others { (g : List ℕ) → is_eq (slice_cmp nat_cmp g (string_bytes name.now)) ≡ false → at_name g below.new.entries ≡ at_name g below.old.entries }
+    ensures ordered { IsOrdered string_cmp below.old → IsOrdered string_cmp below.new }
+{
+    let made = theirs.try_copy(alloc)?;
+    drop(below.insert(name.try_copy()?, made)?);
+    Ok(())
+}
+
+/// Stands copies of all children where none stood.
+fn put_first(
+    theirs: &BTreeMap<ElemText, PathMap>,
+    alloc: Global,
+    below: &mut BTreeMap<ElemText, PathMap>,
+) -> Result<(), AllocError>
+    ensures { OnOk result (gather (contents_in below.new.entries) ≡ gather (contents_in theirs.now.entries)) }
+{
+    *below = copy_below(theirs, alloc)?;
+    Ok(())
+}
+
 #[cycle(put)]
 fn put_at(
     theirs: &PathMap,
@@ -49,9 +79,7 @@ fn put_at(
     if let Some(child) = below.get_mut(name) {
         return put_into(theirs, alloc, child);
     }
-    let made = theirs.try_copy(alloc)?;
-    drop(below.insert(name.try_copy()?, made)?);
-    Ok(())
+    put_new(theirs, alloc, below, name)
 }
 
 #[cycle(put)]
@@ -63,8 +91,7 @@ fn put_all(
     ensures { OnOk result (gather (contents_in below.new.entries) ≡ over (gather (contents_in theirs.now.entries)) (gather (contents_in below.old.entries))) }
 {
     if below.len() == 0 {
-        *below = copy_below(theirs, alloc)?;
-        return Ok(());
+        return put_first(theirs, alloc, below);
     }
     for (name, inner) in theirs.iter() {
         put_at(inner, alloc, below, name)?;

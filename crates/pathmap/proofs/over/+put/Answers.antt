@@ -1,9 +1,6 @@
-use Rattle.std.proofs.Common.{ap, ap₂, sym, subst, ◌∙◌, cond, Some, is_eq, nat_cmp, string_bytes, string_cmp, String, Global}
-use Rattle.std.specs.Cmp.Lexicographic.{slice_cmp}
-use Rattle.std.specs.Cmp.{tied_itself}
+use Rattle.std.proofs.Common.{ap, ap₂, sym, subst, ◌∙◌, string_bytes, string_cmp, String, Global}
 use Rattle.std.specs.List.Sorted.{IsStrictlySortedBy}
 use Rattle.std.specs.Map.{keys_of}
-use Rattle.std.proofs.lemmas.Cmp.{nat_list_cmp_total}
 use Rattle.std.proofs.lemmas.Map.Keys.{sorted_tail}
 use Rattle.pathmap.specs.Contents.{gather, over}
 use Rattle.pathmap.specs.Maps.{at_name, content, content_at, content_or_nothing, contents_in}
@@ -13,7 +10,7 @@ use Rattle.pathmap.proofs.Contents.{over-nothing}
 use Rattle.pathmap.proofs.Inserting.{on_ok}
 use Rattle.pathmap.proofs.Levels.{below_rolled, held_rolled, no_entries}
 use Rattle.pathmap.proofs.Merging.{content-out, gather_over, level, put_none, put_one, written}
-use Rattle.pathmap.proofs.Trees.{at_name-insert_entry, content-map, untouched}
+use Rattle.pathmap.proofs.Trees.{content-map}
 use Rattle.pathmap.proofs.over.+put.Goals as goal
 
 pub put_at-returns-in-Some-clause-others : goal.put_at-returns-in-Some-clause-others
@@ -23,22 +20,15 @@ pub put_at-returns-clause-here : goal.put_at-returns-clause-here
 put_at-returns-clause-here t c =
     let name = string_bytes c.args.name.now in
     let theirs = content c.args.theirs.now in
-    let es = c.get_mut.follows.lender-at-none.entries in
-    let made = c.in_ok-made.made in
-    let found = at_name-insert_entry name es c.in_ok-try_copy.field-0 made ∙ ap (λ s. cond (is_eq (slice_cmp nat_cmp name s)) (Some made) (at_name name es)) c.in_ok-try_copy.ensures
-    ∙ ap (λ b. cond b (Some made) (at_name name es)) (ap is_eq (tied_itself nat_list_cmp_total name)) in
-    ap (content_at name) c.in_ok-insert.ensures.entries ∙ ap content_or_nothing found ∙ c.in_ok-made.ensures
-    ∙ sym (ap (over theirs) (ap content_or_nothing (sym c.in_default.ensures.value)) ∙ over-nothing theirs)
+    on_ok c.put_new.result _ _ (λ did. did ∙ sym (ap (over theirs) (ap content_or_nothing (sym c.in_default.ensures.value)) ∙ over-nothing theirs)) c.put_new.ensures.here
 
 pub put_at-returns-clause-others : goal.put_at-returns-clause-others
-put_at-returns-clause-others t c = λ g apart.
-    ap (at_name g) c.in_ok-insert.ensures.entries ∙ untouched g c.get_mut.follows.lender-at-none.entries c.in_ok-try_copy.field-0 c.in_ok-made.made (ap (λ f. is_eq (slice_cmp nat_cmp g f)) c.in_ok-try_copy.ensures ∙ apart)
-    ∙ ap (λ m. at_name g m.entries) c.get_mut.follows.holds-at-none
+put_at-returns-clause-others t c = λ g apart. c.put_new.ensures.others g apart ∙ ap (λ m. at_name g m.entries) c.get_mut.follows.holds-at-none
 
 pub put_all-returns-then-len-eq0 : goal.put_all-returns-then-len-eq0
 put_all-returns-then-len-eq0 t c =
     let theirs = gather (contents_in c.args.theirs.now.entries) in
-    c.in_ok-below.ensures ∙ sym (over-nothing theirs) ∙ ap (λ es. over theirs (gather (contents_in es))) (sym (no_entries c.args.below.now.entries (sym c.len.ensures.len ∙ c.if-len-eq0.true)))
+    on_ok c.put_first.result _ _ (λ did. did ∙ sym (over-nothing theirs) ∙ ap (λ es. over theirs (gather (contents_in es))) (sym (no_entries c.args.below.now.entries (sym c.len.ensures.len ∙ c.if-len-eq0.true)))) c.put_first.ensures
 
 pub put_all-loop-name-preserved : goal.put_all-loop-name-preserved
 put_all-loop-name-preserved t c =
