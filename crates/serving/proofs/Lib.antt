@@ -3,3 +3,4 @@ mod Hearing
 mod Joining
 mod Keeping
 mod Pieces
+mod Rising

@@ -1,3 +1,4 @@
+pub mod Rising
 pub mod Rounds
 pub mod ServerSeen
 pub mod Serving

@@ -1,12 +1,12 @@
 //! The server: one connection after another, and the streams of its watches.
 
-ghost use Rattle.std.specs.Prelude.{◌≡◌, [], List};
+ghost use Rattle.std.specs.Prelude.{◌≡◌, ◌+◌, ◌++◌, ◌∷◌, [], List, map, true};
 ghost use Rattle.schema.specs.TypesFile.{ServedShape};
 ghost use Rattle.history.specs.History.{History};
 ghost use Rattle.verbs.specs.Seen.{Stands};
 ghost use Rattle.httpedge.specs.HubSeen.{IsIn};
 ghost use Rattle.httpedge.specs.Steps.{start, ticks};
-ghost use Rattle.serving.specs.ServerSeen.{hub_of, limits_of, next_of, watches_of, with_kept};
+ghost use Rattle.serving.specs.Rising.{are_rising};
 ghost use Rattle.serving.specs.Serving.{Does, Served, Serves};
 ghost use Rattle.serving.specs.Tidies.{Compacts, Hands, PumpsAll, Tidies};
 
@@ -45,7 +45,7 @@ fn compact(hub: &mut Hub, keep: u64)
     }
 }
 
-/// A hub, and the streams of its watches in the order of their ids.
+/// A hub, and the streams of its watches in the order of their ids, which are below the next one.
 #[derive(Drop)]
 pub struct Server<W: Drop> {
     alloc: Global,
@@ -54,9 +54,12 @@ pub struct Server<W: Drop> {
     /// The highest id so far.
     highest: u64,
     watches: Vec<(u64, W)>,
+    ghost in_order: { are_rising (map (λ w. w.0) watches.items ++ (highest + 1) ∷ []) ≡ true },
 }
 
 impl<W: Write + Drop> Server<W> {
+    ghost use Rattle.serving.specs.ServerSeen.{hub_of, limits_of, next_of, watches_of, with_kept};
+
     /// A server without connections.
     pub fn new(alloc: Global, api: Api, limits: Limits) -> Server<W>
         ensures hub { (types : List ServedShape) (m : History) → Stands api types m → IsIn (hub_of result) (start types m) }
@@ -88,19 +91,22 @@ impl<W: Write + Drop> Server<W> {
         self.settle(id, writer, done)
     }
 
-    /// What is done after each connection: the clock's tick, in milliseconds after the start; a compaction, where that
-    /// raises the compacted number; and the turn of each watch, in the order of their ids.
+    /// What is done after each connection: the clock's tick, in milliseconds after the start; the turn of each watch, in
+    /// the order of their ids; and then a compaction, where that raises the compacted number.
     pub fn tidy(&mut self, ms: u64)
         ensures limits { limits_of self.new ≡ limits_of self.old }
+        ensures order { are_rising (watches_of self.old) ≡ true }
         ensures tidies { Does (Tidies (limits_of self.old).keep (limits_of self.old).lines (watches_of self.old) ms) (hub_of self.old) (hub_of self.new) }
     {
+        let keep = self.limits.keep;
         tick(&mut self.hub, ms);
-        compact(&mut self.hub, self.limits.keep);
         self.pump_watches();
+        compact(&mut self.hub, keep);
     }
 
     fn pump_watches(&mut self)
         ensures limits { limits_of self.new ≡ limits_of self.old }
+        ensures order { are_rising (watches_of self.old) ≡ true }
         ensures pumps { Does (PumpsAll (limits_of self.old).lines (watches_of self.old)) (hub_of self.old) (hub_of self.new) }
     {
         let lines = self.limits.lines;
@@ -115,7 +121,9 @@ impl<W: Write + Drop> Server<W> {
     /// Keeps the stream of a watch that goes on, and answers whether it does; without memory for that its peer is sent
     /// away.
     fn settle(&mut self, id: u64, writer: W, done: io::Result<()>) -> bool
+        requires { are_rising (watches_of self.old ++ id ∷ next_of self.old ∷ []) ≡ true }
         ensures limits { limits_of self.new ≡ limits_of self.old }
+        ensures next { next_of self.new ≡ next_of self.old }
         ensures serves { Serves id (hub_of self.old) [] [] (hub_of self.new) }
         ensures watches { watches_of self.new ≡ with_kept result id (watches_of self.old) }
     {
