@@ -1,3 +1,4 @@
+mod CommandParts
 mod FrontLemmas
 mod Kept
 mod PlayRuns

@@ -7,7 +7,7 @@ use Rattle.std.proofs.lemmas.Slice.Eq.{bytes_eq-Decides}
 use Rattle.clap.specs.Built.{AddsArg, FitsChain, HasDistinctIds, IsAuto, IsParsedFrom, TakesValue}
 use Rattle.clap.specs.Facts.{args_of, groups_of}
 use Rattle.clap.specs.Matches.{first_value, found_of}
-use Rattle.clap.specs.Words.{FailsBy, HasKind, HasMatchesOf, Kinds, Text, app_of, fault_of, first_of, is_simple, is_simple_and_free, matches_of, new_app, rule_of, with_rule}
+use Rattle.clap.specs.Words.{FailsBy, HasKind, HasMatchesOf, Kinds, Text, app_of, fault_of, first_of, is_simple, is_simple_and_free, matches_of, rule_of, with_rule}
 use Rattle.clap.specs.declared.builder.arg.Arg.{Arg}
 use Rattle.clap.specs.declared.builder.command.Command.{Command}
 use Rattle.clap.specs.declared.builder.command.Command.TheViews.{out-Command}
@@ -16,7 +16,8 @@ use Rattle.clap.specs.declared.parser.matches.ArgMatches.{ArgMatches}
 use Rattle.clap.proofs.CallerLemmas.{required_in_chain}
 use Rattle.clap.proofs.OnLiterals.{clap_on_literals}
 use Rattle.clap.proofs.WalkLemmas.{first_value-rows}
-use Rattle.programs.specs.ReplayCommand.{IsReplayCommand, file_option, ssa_replay}
+use Rattle.programs.specs.Commands.{file_option, program}
+use Rattle.programs.specs.ReplayCommand.{IsReplayCommand, ssa_replay}
 
 is_plain : is_simple ssa_replay ≡ true
 unfolding clap_on_literals
@@ -52,9 +53,9 @@ two_ids x y differ (suc zero) (suc (suc k)) d e low high same = absurd (omega ar
 abbrev pub IsFileOption : Bor Text → Arg → Type 0
 IsFileOption name a = (a.id ≡ name) × (rule_of a ≡ file_option name.now) × ((name.now ≡ [] → ⊥) → (IsAuto a → ⊥) → FitsChain a) × TakesValue a
 
--- a command with nothing but its name
+-- a command without options
 abbrev pub IsBare : Command → Type 0
-IsBare c = (app_of c ≡ new_app (codes "ssa-replay")) × (args_of c ≡ []) × (groups_of c ≡ []) × ((out-Command c).has_globals ≡ false) × ((out-Command c).subcommand_negates_reqs ≡ false)
+IsBare c = (app_of c ≡ program (codes "ssa-replay")) × (args_of c ≡ []) × (groups_of c ≡ []) × ((out-Command c).has_globals ≡ false) × ((out-Command c).subcommand_negates_reqs ≡ false)
 
 module _ (start mid cmd : Command) (x y : Arg) (n k : Bor Text) (n_is : n.now ≡ codes "types") (k_is : k.now ≡ codes "script") (bare : IsBare start)
     (types : IsFileOption n x) (script : IsFileOption k y) (first : AddsArg start x mid) (second : AddsArg mid y cmd) where

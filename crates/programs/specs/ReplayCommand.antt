@@ -1,16 +1,13 @@
--- The words that `ssa-replay` takes (its command, as `clap` reads it): `--types FILE` and `--script FILE`, both needed.
-use Rattle.std.specs.Prelude.{◌≡◌, Some, true, codes, is_some}
+-- The words that `ssa-replay` takes (its command, as `clap` reads it): `--types FILE` and `--script FILE`, both required.
+use Rattle.std.specs.Prelude.{◌≡◌, true, codes, is_some}
 use Rattle.clap.specs.Built.{IsParsedFrom}
-use Rattle.clap.specs.Words.{App, Rule, Text, app_of, first_value, found_of, new_app, new_rule, with_rule}
-use Rattle.clap.specs.declared.builder.action.ArgAction.TheVariants.{Set}
+use Rattle.clap.specs.Words.{App, app_of, first_value, found_of, with_rule}
 use Rattle.clap.specs.declared.builder.command.Command.{Command}
 use Rattle.clap.specs.declared.parser.matches.ArgMatches.{ArgMatches}
-
-abbrev pub file_option : Text → Rule
-file_option name = record (new_rule name) { long = Some name; action = Some Set; value_names = 1; required = true }
+use Rattle.programs.specs.Commands.{file_option, program}
 
 abbrev pub ssa_replay : App
-ssa_replay = with_rule (with_rule (new_app (codes "ssa-replay")) (file_option (codes "types"))) (file_option (codes "script"))
+ssa_replay = with_rule (with_rule (program (codes "ssa-replay")) (file_option (codes "types"))) (file_option (codes "script"))
 
 -- a command as above, of which each parse has both values
 pub record IsReplayCommand (command : Command) : Type 0 where

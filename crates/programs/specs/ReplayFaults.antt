@@ -11,7 +11,7 @@ replay_fault_of failed.Memory = Memory
 replay_fault_of failed.Store = Store
 replay_fault_of failed.Unreadable = Store
 
--- memory was wanting, here or in the store; the writer took what was handed to it
+-- out of memory, here or in the store; the writer took what was handed to it
 abbrev pub IsWant : ReplayFault → Type 0
 IsWant Memory = ⊤
 IsWant Store = ⊤

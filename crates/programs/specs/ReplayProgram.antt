@@ -1,5 +1,5 @@
--- How `ssa-replay` tells what it found.
-use Rattle.std.specs.Prelude.{◌≡◌, ℕ, List, Some, None, Result, Ok, Err, ⊤}
+-- How a program tells what it found.
+use Rattle.std.specs.Prelude.{◌≡◌, ℕ, List, Option, Some, None, Result, Ok, Err, ⊤, string_bytes}
 use Rattle.clap.specs.Values.{kind_of}
 use Rattle.clap.specs.declared.error.kind.ErrorKind.{ErrorKind}
 use Rattle.clap.specs.declared.error.kind.ErrorKind.TheVariants as kind
@@ -9,8 +9,8 @@ use Rattle.schema.specs.TypesFile.{ServedShape, declared_types}
 use Rattle.schema.specs.declared.types.Types.{Types}
 use Rattle.serde_json.specs.Data.{Data}
 use Rattle.serde_json.specs.Read.{read as read_json}
-use Rattle.programs.specs.declared.replay_program.RunFault.{RunFault}
-use Rattle.programs.specs.declared.replay_program.RunFault.TheVariants as fault
+use Rattle.programs.specs.declared.run_fault.RunFault.{RunFault}
+use Rattle.programs.specs.declared.run_fault.RunFault.TheVariants as fault
 
 abbrev pub status_of_kind : ErrorKind → ℕ
 status_of_kind kind.DisplayHelp = 0
@@ -18,13 +18,14 @@ status_of_kind kind.DisplayVersion = 0
 status_of_kind _ = 2
 
 -- the exit status: 2 for the words, 3 for a file or the types, 4 for a line of the script, 5 for memory or the store;
--- 1 where the replies cannot be written, 0 where help was asked for
+-- 1 where the replies cannot be written, 0 where help or the version was asked for
 abbrev pub status_of : RunFault → ℕ
 status_of (fault.Words e) = status_of_kind (kind_of e)
-status_of (fault.TypesFile e) = 3
-status_of (fault.TypesText e) = 3
-status_of (fault.Types n e) = 3
-status_of (fault.ScriptFile e) = 3
+status_of fault.NotText = 2
+status_of (fault.TypesFile path e) = 3
+status_of (fault.TypesText path e) = 3
+status_of (fault.Types path n e) = 3
+status_of (fault.ScriptFile path e) = 3
 status_of (fault.Script n) = 4
 status_of (fault.Output e) = 1
 status_of fault.Memory = 5
@@ -38,16 +39,22 @@ types_refusal_number too_deep = 4
 types_refusal_number same_names = 5
 types_refusal_number not_the_form = 6
 
--- the fault tells the refusal, by its number
-abbrev pub IsRefusal : Result (List ServedShape) Refusal → RunFault → Type 0
-IsRefusal answer (fault.Types n e) = (r : Refusal) × (answer ≡ Err r) × (n ≡ types_refusal_number r)
-IsRefusal answer fault.Memory = ⊤
-IsRefusal answer _ = ⊥
+-- the number is that of the refusal
+abbrev pub IsNumberOf : Result (List ServedShape) Refusal → Option ℕ → Type 0
+IsNumberOf answer (Some n) = (r : Refusal) × (answer ≡ Err r) × (n ≡ types_refusal_number r)
+IsNumberOf answer None = ⊤
 
--- what is told of the text of a types file: the types that it declares, or that it is no JSON, or the number of its refusal
-abbrev pub Tells : List ℕ → Result Types RunFault → Type 0
-Tells text (Ok types) = (d : Data) × (read_json text ≡ Some d) × (declared_types d ≡ Ok (types_view types))
-Tells text (Err (fault.TypesText e)) = read_json text ≡ None
-Tells text (Err (fault.Types n e)) = (d : Data) × (read_json text ≡ Some d) × IsRefusal (declared_types d) (fault.Types n e)
-Tells text (Err fault.Memory) = ⊤
-Tells text (Err _) = ⊥
+-- the fault tells the file's path and the number of the refusal
+abbrev pub IsRefusal : List ℕ → Result (List ServedShape) Refusal → RunFault → Type 0
+IsRefusal path answer (fault.Types named n e) = (string_bytes named ≡ path) × IsNumberOf answer (Some n)
+IsRefusal path answer fault.Memory = ⊤
+IsRefusal path answer _ = ⊥
+
+-- what is told of the text of a types file: the types that it declares; or, with the file's path, that it is no JSON, or
+-- the number of its refusal
+abbrev pub Tells : List ℕ → List ℕ → Result Types RunFault → Type 0
+Tells path text (Ok types) = (d : Data) × (read_json text ≡ Some d) × (declared_types d ≡ Ok (types_view types))
+Tells path text (Err (fault.TypesText named e)) = (string_bytes named ≡ path) × (read_json text ≡ None)
+Tells path text (Err (fault.Types named n e)) = (d : Data) × (read_json text ≡ Some d) × IsRefusal path (declared_types d) (fault.Types named n e)
+Tells path text (Err fault.Memory) = ⊤
+Tells path text (Err _) = ⊥

@@ -1,4 +1,4 @@
--- What each step of reading a line finds.
+-- What each step of reading a line finds. Words of private clauses, step by step as the code goes; what a line says is said without them.
 use Rattle.std.specs.Prelude.{◌&&◌, ◌==◌, ℕ, Bool, not, nat_le, List, Option, Some, None, option_and_then, option_map, if◌then◌else◌, codes}
 use Rattle.std.specs.List.{list_all}
 use Rattle.std.specs.Str.{bytes_eq}

@@ -1,4 +1,5 @@
-//! The bodies of the programs: each program's `main` only calls its own here.
+//! The bodies of the programs, of which each `main` only calls its own, and what programs share: words, command lines,
+//! types files, faults and exit statuses.
 //!
 //! Promises: the values of a program's words are those of `clap`'s exact matches; a script reads as exactly the events
 //! of its lines, or as the number of its first bad line; a play of events writes the replies of one hub to the
@@ -7,17 +8,25 @@
 //! reading of a reply, on `verbs` and `schema` for the types file and the API, on `clap` for the words.
 #![tactic(auto)]
 
+mod arguments;
+mod commands;
 mod laws;
 mod recording;
 mod replay_fault;
 mod replay_options;
 mod replay_program;
 mod replaying;
+mod run_fault;
 mod script;
+mod types_file;
 
+pub use arguments::words;
+pub use commands::{file_option, program};
 pub use laws::plays_are_runs;
 pub use replay_fault::ReplayFault;
 pub use replay_options::{ReplayOptions, options};
-pub use replay_program::{RunFault, ssa_replay, types_in};
+pub use replay_program::ssa_replay;
 pub use replaying::replay;
+pub use run_fault::{RunFault, end_with};
 pub use script::{ApplyLine, Event, ScriptFault, read_script};
+pub use types_file::{read_types, types_in};

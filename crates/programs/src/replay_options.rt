@@ -1,12 +1,24 @@
-//! The words of `ssa-replay`.
-ghost use Rattle.std.specs.Prelude.{◌≡◌, IfOk, Some, [], codes, map};
-ghost use Rattle.clap.specs.Words.{FailsBy, fault_of, first_of, matches_of, rule_of};
-ghost use Rattle.clap.specs.Built.{FitsChain, IsAuto, TakesValue};
-ghost use Rattle.programs.specs.ReplayCommand.{IsReplayCommand, file_option, ssa_replay};
+//! The command line of `ssa-replay`.
+ghost use Rattle.std.specs.Prelude.{◌≡◌, IfOk, Some, codes, map};
+ghost use Rattle.clap.specs.Words.{FailsBy, fault_of, first_of, matches_of};
+ghost use Rattle.programs.specs.ReplayCommand.{IsReplayCommand, ssa_replay};
 
-use clap::{Arg, ArgAction, Command, Error};
+use crate::commands::{file_option, program};
+use clap::{Command, Error};
 use std::alloc::{AllocError, Global};
 use std::convert::AsStr;
+
+const ABOUT: &str =
+    "Plays a script of events over an API server in memory and prints what it answers";
+
+const NOTES: &str = "Example:
+  ssa-replay --types crates/ssa_replay/data/types.json --script crates/ssa_replay/data/script.jsonl
+
+Exit status: 0 done, 1 output failed, 2 wrong usage, 3 bad types file or unreadable file, 4 bad line of the script, 5 out of memory";
+
+const TYPES_HELP: &str = "The types to serve, one JSON object {\"types\":[..]}";
+
+const SCRIPT_HELP: &str = "The events to play, one JSON object a line, like {\"open\":1}";
 
 /// What the words of `ssa-replay` name.
 #[derive(Clone, Copy, Debug)]
@@ -17,26 +29,14 @@ pub struct ReplayOptions<'a> {
     pub script: &'a str,
 }
 
-/// `--<name> FILE`, which is needed.
-fn file_option<'a>(alloc: Global, name: &'a str) -> Arg<'a>
-    ensures id { result.id ≡ name.entry }
-    ensures rule { rule_of result ≡ file_option name.entry.now }
-    ensures fits { (name.entry.now ≡ [] → ⊥) → (IsAuto result → ⊥) → FitsChain result }
-    ensures takes { TakesValue result }
-{
-    Arg::new(alloc, name)
-        .long(name)
-        .value_name("FILE")
-        .action(ArgAction::Set)
-        .required(true)
-}
-
 fn replay_command<'a>(alloc: Global) -> Result<Command<'a>, AllocError>
     ensures { IfOk result IsReplayCommand }
 {
-    let types = file_option(alloc, "types");
-    let script = file_option(alloc, "script");
-    Command::new(alloc, "ssa-replay").arg(types)?.arg(script)
+    let types = file_option(alloc, "types", TYPES_HELP);
+    let script = file_option(alloc, "script", SCRIPT_HELP);
+    program(alloc, "ssa-replay", ABOUT, NOTES)
+        .arg(types)?
+        .arg(script)
 }
 
 /// Reads the words of `ssa-replay`, the program's name first: `--types FILE --script FILE`.

@@ -222,7 +222,7 @@ fn event_in(value: Value) -> Option<Event>
     event_named(name.as_str(), value)
 }
 
-/// The event whose line this is, or None where it is none's.
+/// The event of a line, or None where the line is bad.
 fn read_line(alloc: Global, line: &str) -> Result<Option<Event>, AllocError>
     ensures { IfOk result (λ o. option_map event_view o ≡ event_of line.now) }
 {
@@ -236,7 +236,7 @@ fn read_line(alloc: Global, line: &str) -> Result<Option<Event>, AllocError>
 /// Why a script has no events.
 #[derive(Clone, Copy, Debug, PartialEq, Eq, Error)]
 pub enum ScriptFault {
-    /// This line, counted from 1, is the first that is no event's.
+    /// The first bad line, counted from 1.
     #[error("line {0}: bad event")]
     BadEvent(usize),
     /// A growth of memory was refused.

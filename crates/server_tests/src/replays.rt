@@ -66,6 +66,39 @@ fn words_are_told_first(rt: HostRuntime) -> Result<(), Fail> {
     Ok(())
 }
 
+/// What is printed where help or the version is asked for.
+fn said(rt: &HostRuntime, words: &str) -> Result<String, Fail> {
+    let recording = Recording::new(rt);
+    run_on(&recording, words)?;
+    recording.output()
+}
+
+const HELP: &str = "Plays a script of events over an API server in memory and prints what it answers
+
+Usage: ssa-replay --types <FILE> --script <FILE>
+
+Options:
+      --types <FILE>   The types to serve, one JSON object {\"types\":[..]}
+      --script <FILE>  The events to play, one JSON object a line, like {\"open\":1}
+  -h, --help           Print help
+  -V, --version        Print version
+
+Example:
+  ssa-replay --types crates/ssa_replay/data/types.json --script crates/ssa_replay/data/script.jsonl
+
+Exit status: 0 done, 1 output failed, 2 wrong usage, 3 bad types file or unreadable file, 4 bad line of the script, 5 out of memory
+";
+
+#[test]
+fn help_and_version_are_printed(rt: HostRuntime) -> Result<(), Fail> {
+    assert_eq!(rt; said(&rt, "ssa-replay --help")?.as_str(), HELP);
+    assert_eq!(rt;
+        said(&rt, "ssa-replay --version")?.as_str(),
+        "ssa-replay 0.1.0\n"
+    );
+    Ok(())
+}
+
 /// What is printed of a types file.
 fn told_of_types(rt: &HostRuntime, types: &str) -> Result<String, Fail> {
     fs::write(rt, TYPES, types)?;
@@ -100,9 +133,11 @@ fn printed(rt: &HostRuntime, script: &str) -> Result<String, Fail> {
 fn faults_are_told_in_order(rt: HostRuntime) -> Result<(), Fail> {
     assert_eq!(rt;
         shown(&rt, WORDS)?.as_str(),
-        "3 types file: No such file or directory (os error 2)\n"
+        "3 types file replayed-types.json: No such file or directory (os error 2)\n"
     );
-    assert!(rt; told_of_types(&rt, "[")?.starts_with("3 types file: not JSON: "));
+    assert!(rt;
+        told_of_types(&rt, "[")?.starts_with("3 types file replayed-types.json: not JSON: ")
+    );
     let refused =
         r#"{"types":[{"group":"g","version":"v","kind":"K","plural":"p","schema":{"type":"object","nope":1}}]}
 {"types":[{"group":"g","version":"v","kind":"K","plural":"p","schema":{"type":"number"}}]}
@@ -111,16 +146,16 @@ fn faults_are_told_in_order(rt: HostRuntime) -> Result<(), Fail> {
 {}"#;
     assert_eq!(rt;
         told_of_all(&rt, refused)?.as_str(),
-        r#"3 types file: refusal 1: unknown keyword
-3 types file: refusal 2: unknown type
-3 types file: refusal 3: list or map kind that does not fit
-3 types file: refusal 5: two types with one name
-3 types file: refusal 6: not the form of a types file
+        r#"3 types file replayed-types.json: refusal 1: unknown keyword
+3 types file replayed-types.json: refusal 2: unknown type
+3 types file replayed-types.json: refusal 3: list or map kind that does not fit
+3 types file replayed-types.json: refusal 5: two types with one name
+3 types file replayed-types.json: refusal 6: not the form of a types file
 "#
     );
     assert_eq!(rt;
         told_of_types(&rt, WIDGET_TYPES)?.as_str(),
-        "3 script: No such file or directory (os error 2)\n"
+        "3 script replayed-script.jsonl: No such file or directory (os error 2)\n"
     );
     assert_eq!(rt;
         told_of_script(&rt, "\n\n \n")?.as_str(),

@@ -6,13 +6,17 @@ use std::alloc::{AllocError, Global};
 use std::io::Write;
 use std::test::Fail;
 
+/// The path of a types file, which only faults tell.
+const TYPES: &str = "widgets.json";
+
 /// A line that applies a body.
 const GOOD: &str = r#"{"apply":{"body":null,"force":false,"manager":"alice","target":"/x"}}"#;
 
 /// Replays a script over widgets.
 fn replays<W: Write>(alloc: Global, script: &str, writer: &mut W) -> Result<(), Fail> {
     let events = read_script(alloc, script)?;
-    Ok(replay(alloc, types_in(alloc, WIDGET_TYPES)?, &events, writer)?)
+    let types = types_in(alloc, TYPES, WIDGET_TYPES)?;
+    Ok(replay(alloc, types, &events, writer)?)
 }
 
 /// What is written of a script.
@@ -78,8 +82,9 @@ fn bytes_of_a_gone_peer_are_printed(rt: HostRuntime) -> Result<(), Fail> {
 /// The exit status where the replies of a script find no room.
 fn status_without_room(alloc: Global, script: &str) -> Result<u8, Fail> {
     let events = read_script(alloc, script)?;
+    let types = types_in(alloc, TYPES, WIDGET_TYPES)?;
     let mut room: &mut [u8] = &mut [];
-    match replay(alloc, types_in(alloc, WIDGET_TYPES)?, &events, &mut room) {
+    match replay(alloc, types, &events, &mut room) {
         Ok(()) => Err("it was written".into()),
         Err(fault) => Ok(RunFault::from(fault).status()),
     }
@@ -207,7 +212,7 @@ fn nested_types(alloc: Global, depth: usize) -> Result<String, Fail> {
 
 /// Why a types file is refused; nothing where it is read.
 fn fault_of(alloc: Global, types: &str) -> Result<String, Fail> {
-    match types_in(alloc, types) {
+    match types_in(alloc, TYPES, types) {
         Ok(_) => Ok(String::new(alloc)),
         Err(fault) => Ok(format!(in alloc; "{fault}")?),
     }
@@ -223,7 +228,7 @@ fn sixteen_levels_are_read(rt: HostRuntime) -> Result<(), Fail> {
     assert_eq!(rt; fault_at(rt.alloc(), 16)?.as_str(), "");
     assert_eq!(rt;
         fault_at(rt.alloc(), 17)?.as_str(),
-        "types file: refusal 4: schema deeper than 16"
+        "types file widgets.json: refusal 4: schema deeper than 16"
     );
     Ok(())
 }

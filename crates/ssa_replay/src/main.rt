@@ -1,10 +1,12 @@
-//! `ssa-replay --types FILE --script FILE` runs a script over the API and prints the replies.
+//! `ssa-replay --types FILE --script FILE` plays a script over the API and prints the replies.
 #![tactic(auto)]
 
+use programs::{end_with, ssa_replay, words};
 use std::process::ExitCode;
-use std::{env, io};
 
-fn main(rt: HostRuntime) -> io::Result<ExitCode> {
-    let words: Vec<String> = env::args(&rt)?.collect(rt.alloc())?;
-    Ok(programs::ssa_replay(&rt, &words))
+fn main(rt: HostRuntime) -> ExitCode {
+    match words(&rt) {
+        Ok(words) => ssa_replay(&rt, &words),
+        Err(fault) => end_with(&rt, &fault),
+    }
 }

@@ -6,7 +6,7 @@ use Rattle.programs.proofs.replay_options.replay_command.Goals as goal
 
 pub returns : goal.returns
 returns c =
-    let bare = c.new.ensures in
+    let bare = c.program.ensures in
     let types = c.file_option-types.ensures in
     let script = c.file_option-script.ensures in
     IfOk-weaker c.arg-2.result _ IsReplayCommand (λ cmd second. command_is _ _ cmd _ _ _ _ refl refl

@@ -1,0 +1,17 @@
+-- The parts of a program's command line, as `clap` reads it.
+use Rattle.std.specs.Prelude.{Some, true}
+use Rattle.clap.specs.Simple.{on_top}
+use Rattle.clap.specs.Words.{App, Rule, Text, new_app, new_rule}
+use Rattle.clap.specs.declared.builder.action.ArgAction.TheVariants.{Set}
+
+-- a command with a version
+abbrev pub versioned : App → App
+versioned = on_top (λ s. record s { has_version = true })
+
+-- a command with a name and a version, which has no option yet
+abbrev pub program : Text → App
+program name = versioned (new_app name)
+
+-- `--<name> FILE`, which is required
+abbrev pub file_option : Text → Rule
+file_option name = record (new_rule name) { long = Some name; action = Some Set; value_names = 1; required = true }

@@ -1,0 +1,128 @@
+//! Why a program's run ends before it is done, the exit status that tells it, and where it is printed.
+ghost use Rattle.std.specs.Prelude.{◌≡◌};
+ghost use Rattle.std.specs.Process.{exit_status};
+ghost use Rattle.programs.specs.ReplayProgram.{status_of};
+
+use crate::replay_fault::ReplayFault;
+use crate::script::ScriptFault;
+use clap::error::ErrorKind;
+use schema::TypesFault;
+use std::alloc::{AllocError, Global};
+use std::io;
+use std::process::ExitCode;
+use thiserror::Error;
+
+/// Why a run of a program did not end well. A fault of a file has its path.
+#[derive(Debug, Drop, Error)]
+pub enum RunFault {
+    /// The words are not those of the program, or ask for its help or its version.
+    #[error("{0}")]
+    Words(clap::Error),
+    /// One of the words is no UTF-8 text.
+    #[error("an argument is not UTF-8")]
+    NotText,
+    /// The types file cannot be read.
+    #[error("types file {0}: {1}")]
+    TypesFile(String, io::Error),
+    /// The types file is no JSON text.
+    #[error("types file {0}: not JSON: {1}")]
+    TypesText(String, serde_json::Error),
+    /// The types file declares no types: the number of its refusal, 1 to 6, and the refusal.
+    #[error("types file {0}: refusal {1}: {2}")]
+    Types(String, u8, TypesFault),
+    /// The script cannot be read.
+    #[error("script {0}: {1}")]
+    ScriptFile(String, io::Error),
+    /// The first bad line of the script, counted from 1.
+    #[error("line {0}: bad event")]
+    Script(usize),
+    /// The replies cannot be written.
+    #[error("standard output: {0}")]
+    Output(io::Error),
+    /// A growth of memory was refused.
+    #[error("out of memory")]
+    Memory,
+    /// The store refused a statement, for memory or for size.
+    #[error("the store failed")]
+    Store,
+}
+
+impl RunFault {
+    /// The exit status that tells the fault: 0 where help or the version was asked for, 1 for the output, 2 for other
+    /// words, 3 for a file or the types, 4 for a line of the script, 5 for memory or the store.
+    pub fn status(&self) -> u8
+        ensures { result ≡ status_of self.now }
+    {
+        match self {
+            RunFault::Words(error) if !error.use_stderr() => 0,
+            RunFault::Output(_) => 1,
+            RunFault::Words(_) => 2,
+            RunFault::NotText => 2,
+            RunFault::TypesFile(..)
+            | RunFault::TypesText(..)
+            | RunFault::Types(..)
+            | RunFault::ScriptFile(..) => 3,
+            RunFault::Script(_) => 4,
+            RunFault::Memory | RunFault::Store => 5,
+        }
+    }
+}
+
+impl From<AllocError> for RunFault {
+    fn from(_: AllocError) -> RunFault {
+        RunFault::Memory
+    }
+}
+
+impl From<clap::Error> for RunFault {
+    fn from(error: clap::Error) -> RunFault {
+        match error.kind() {
+            ErrorKind::OutOfMemory => RunFault::Memory,
+            _ => RunFault::Words(error),
+        }
+    }
+}
+
+impl From<ScriptFault> for RunFault {
+    fn from(fault: ScriptFault) -> RunFault {
+        match fault {
+            ScriptFault::BadEvent(line) => RunFault::Script(line),
+            ScriptFault::Memory => RunFault::Memory,
+        }
+    }
+}
+
+impl From<ReplayFault> for RunFault {
+    fn from(fault: ReplayFault) -> RunFault {
+        match fault {
+            ReplayFault::Memory => RunFault::Memory,
+            ReplayFault::Store => RunFault::Store,
+            ReplayFault::Write(error) => RunFault::Output(error),
+        }
+    }
+}
+
+/// The path of a file that could not be read, for the fault that names it.
+pub(crate) fn unread_path(
+    alloc: Global,
+    path: &str,
+    error: &io::Error,
+) -> Result<String, RunFault> {
+    if error.kind() == io::ErrorKind::OutOfMemory {
+        return Err(RunFault::Memory);
+    }
+    Ok(String::from_str(alloc, path)?)
+}
+
+/// Prints a fault, and answers the exit status that tells it. Help and the version go to the standard output, all else
+/// to the standard error.
+pub fn end_with<R: Print + Eprint>(rt: &R, fault: &RunFault) -> ExitCode
+    ensures { exit_status result ≡ status_of fault.now }
+{
+    // Where nothing can be printed, the status still tells the fault.
+    let _ = match fault {
+        RunFault::Words(error) => error.print(rt),
+        _ => rt.eprintln(fault),
+    };
+    ExitCode::from(fault.status())
+}

@@ -1,0 +1,76 @@
+//! Types files: the types that a file declares, or the fault that names the file.
+ghost use Rattle.std.specs.Prelude.{◌≡◌, ℕ, List, Result, None, Err, string_bytes};
+ghost use Rattle.schema.specs.Refusals.{Refusal};
+ghost use Rattle.schema.specs.Seen.{Fails};
+ghost use Rattle.schema.specs.TypesFile.{ServedShape};
+ghost use Rattle.serde_json.specs.Read.{read as read_json};
+ghost use Rattle.programs.specs.ReplayProgram.{IsNumberOf, IsRefusal, Tells};
+
+use crate::run_fault::{RunFault, unread_path};
+use schema::{Types, TypesFault};
+use serde_json::Value;
+use std::alloc::Global;
+use std::fs;
+use std::rt::Files;
+
+/// The number of a refusal; none where memory was refused.
+fn refusal_number(fault: &TypesFault) -> Option<u8>
+    ensures { (answer : Result (List ServedShape) Refusal) → Fails fault.now answer → IsNumberOf answer result }
+{
+    match fault {
+        TypesFault::UnknownKeyword => Some(1),
+        TypesFault::UnknownType => Some(2),
+        TypesFault::Misfit => Some(3),
+        TypesFault::TooDeep => Some(4),
+        TypesFault::SameNames => Some(5),
+        TypesFault::NotTheForm => Some(6),
+        TypesFault::Memory => None,
+    }
+}
+
+fn refused(alloc: Global, path: &str, fault: TypesFault) -> RunFault
+    ensures { (answer : Result (List ServedShape) Refusal) → Fails fault answer → IsRefusal path.now answer result }
+{
+    let Some(number) = refusal_number(&fault) else {
+        return RunFault::Memory;
+    };
+    match String::from_str(alloc, path) {
+        Ok(path) => RunFault::Types(path, number, fault),
+        Err(_) => RunFault::Memory,
+    }
+}
+
+fn not_json(alloc: Global, path: &str, error: serde_json::Error) -> RunFault
+    ensures { (text : List ℕ) → read_json text ≡ None → Tells path.now text (Err result) }
+{
+    match String::from_str(alloc, path) {
+        Ok(path) => RunFault::TypesText(path, error),
+        Err(_) => RunFault::Memory,
+    }
+}
+
+/// The types that the text of a types file declares; a fault names the file by its path.
+pub fn types_in(alloc: Global, path: &str, text: &str) -> Result<Types, RunFault>
+    ensures { Tells path.now text.now result }
+{
+    let value = match Value::from_str(alloc, text) {
+        Ok(value) => value,
+        Err(error) if error.is_memory() => return Err(RunFault::Memory),
+        Err(error) => return Err(not_json(alloc, path, error)),
+    };
+    match Types::read(alloc, &value) {
+        Ok(types) => Ok(types),
+        Err(fault) => Err(refused(alloc, path, fault)),
+    }
+}
+
+/// Reads a types file.
+pub fn read_types<R: Files + AllocGlobal>(rt: &R, path: &str) -> Result<Types, RunFault> {
+    match fs::read_to_string(rt, path) {
+        Ok(text) => types_in(rt.alloc(), path, text.as_str()),
+        Err(error) => {
+            let path = unread_path(rt.alloc(), path, &error)?;
+            Err(RunFault::TypesFile(path, error))
+        }
+    }
+}
