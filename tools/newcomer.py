@@ -1,12 +1,14 @@
 #!/usr/bin/env python3
 """Runs the commands of README's section "A server, by curl" against a server that was built, and compares what they print;
-then makes the same requests by urllib, of a fresh server, and compares their replies.
+then makes the same requests by urllib, of a fresh server, and compares their replies. All of it twice: of a server that
+serves one connection after another, and of one that serves many at once.
 
     tools/newcomer.py [PROGRAM]
 
 PROGRAM is crates/ssa_server/out/ssa_server where none is named. In README a line "$ COMMAND" is run by bash, and the lines
 behind it are what it prints. The server gets a free port in place of README's. The status is 1 where something differs.
 """
+import itertools
 import json
 import os
 import shlex
@@ -37,8 +39,8 @@ def commands():
 class Server:
     """The server of README's first command, on a free port."""
 
-    def __init__(self, program, command):
-        words = [program, *shlex.split(command)[1:]]
+    def __init__(self, program, command, mode):
+        words = [program, *shlex.split(command)[1:], *mode]
         words[words.index(README_PORT)] = "0"
         self.process = subprocess.Popen(words, cwd=TOP, stdout=subprocess.PIPE, text=True)
         self.said = self.process.stdout.readline().rstrip("\n")
@@ -127,12 +129,12 @@ def main(words):
     os.environ["no_proxy"] = "127.0.0.1"
     (start, said), (setting, _), *rows = commands()
     count = 0
-    for ask in (by_curl, by_urllib):
-        with Server(os.path.realpath(program), start) as server:
+    for mode, ask in itertools.product(([], ["--concurrent"]), (by_curl, by_urllib)):
+        with Server(os.path.realpath(program), start, mode) as server:
             count += differs(start, server.said.replace(server.port, README_PORT), said)
             base = setting.partition("=")[2].replace(README_PORT, server.port)
             count += ask(base, rows)
-    print(f"{len(rows)} commands by curl and by urllib, {count} differences")
+    print(f"{len(rows)} commands by curl and by urllib, of both modes, {count} differences")
     return int(count > 0)
 
 

@@ -1,19 +1,22 @@
--- The words that `ssa-server` takes (its command, as `clap` reads it): `--types FILE`, which is needed, and numbers.
-use Rattle.std.specs.Prelude.{◌≡◌, ℕ, ◌==◌, if◌then◌else◌, Option, Some, None, Result, Ok, true, codes}
+-- The words that `ssa-server` takes (its command, as `clap` reads it): `--types FILE`, which is required, numbers, and a flag.
+use Rattle.std.specs.Prelude.{◌≡◌, ℕ, ◌==◌, if◌then◌else◌, Bool, Option, Some, None, Result, Ok, true, false, codes}
 use Rattle.std.specs.Str.Parse.{ParsesUnsigned}
-use Rattle.clap.specs.Words.{App, Rule, Text, new_app, new_rule, with_rule}
-use Rattle.clap.specs.declared.builder.action.ArgAction.TheVariants.{Set}
-
-abbrev pub file_option : Text → Rule
-file_option name = record (new_rule name) { long = Some name; action = Some Set; value_names = 1; required = true }
+use Rattle.clap.specs.Words.{App, Rule, Text, new_rule, with_rule}
+use Rattle.clap.specs.declared.builder.action.ArgAction.TheVariants.{Set, SetTrue}
+use Rattle.programs.specs.Commands.{file_option, program}
 
 abbrev pub number_option : Text → Rule
 number_option name = record (new_rule name) { long = Some name; action = Some Set; value_names = 1 }
 
+abbrev pub flag_option : Text → Rule
+flag_option name = record (new_rule name) { long = Some name; action = Some SetTrue }
+
+abbrev with_numbers : App → App
+with_numbers app = with_rule (with_rule (with_rule (with_rule app (number_option (codes "port"))) (number_option (codes "keep"))) (number_option (codes "pump"))) (number_option (codes "serve"))
+
 abbrev pub ssa_server : App
 ssa_server =
-    with_rule (with_rule (with_rule (with_rule (with_rule (new_app (codes "ssa-server"))
-    (file_option (codes "types"))) (number_option (codes "port"))) (number_option (codes "keep"))) (number_option (codes "pump"))) (number_option (codes "serve"))
+    with_rule (with_rule (with_numbers (with_rule (program (codes "ssa-server")) (file_option (codes "types")))) (flag_option (codes "concurrent"))) (number_option (codes "patience"))
 
 abbrev parsed : ℕ → Result ℕ ℕ
 parsed n = Ok n
@@ -29,3 +32,7 @@ count_of n = if n == 0 then 18446744073709551615 else n
 
 abbrev pub IsCount : Option Text → ℕ → Type 0
 IsCount text n = (k : ℕ) × IsNumberOr 0 text k × (n ≡ count_of k)
+
+-- whether a flag is given, as the text of its value tells it
+abbrev pub IsFlag : Option Text → Bool → Type 0
+IsFlag text given = (text ≡ None → given ≡ false) × (text ≡ Some (codes "true") → given ≡ true) × (text ≡ Some (codes "false") → given ≡ false)

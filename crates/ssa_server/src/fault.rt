@@ -5,7 +5,7 @@ ghost use Rattle.ssa_server.specs.Statuses.{status_of};
 
 use programs::RunFault;
 use std::alloc::AllocError;
-use std::io;
+use std::io::{self, ErrorKind};
 use thiserror::Error;
 use verbs::Fault;
 
@@ -65,6 +65,9 @@ impl From<Fault> for ServerFault {
 
 impl From<io::Error> for ServerFault {
     fn from(error: io::Error) -> ServerFault {
-        ServerFault::Socket(error)
+        match error.kind() {
+            ErrorKind::OutOfMemory => ServerFault::Run(RunFault::Memory),
+            _ => ServerFault::Socket(error),
+        }
     }
 }

@@ -2,25 +2,23 @@
 
 use crate::fault::ServerFault;
 use crate::words::{ServerOptions, options};
-use programs::{RunFault, types_in};
-use schema::Types;
+use programs::{RunFault, end_with, read_types};
 use serving::{Limits, Server, serve_all};
-use std::fs;
-use std::io::ErrorKind;
 use std::net::{Ipv4Addr, SocketAddr, TcpListener};
 use std::process::ExitCode;
 use verbs::Api;
 
-fn read_types(rt: &HostRuntime, path: &str) -> Result<Types, ServerFault> {
-    match fs::read_to_string(rt, path) {
-        Ok(text) => Ok(types_in(rt.alloc(), text.as_str())?),
-        Err(error) if error.kind() == ErrorKind::OutOfMemory => Err(RunFault::Memory.into()),
-        Err(error) => Err(RunFault::TypesFile(error).into()),
-    }
+/// Tells the port that is listened on.
+fn tell_port(rt: &HostRuntime, port: u16) -> Result<(), ServerFault> {
+    Ok(println!(rt; "listening on 127.0.0.1:{port}").map_err(RunFault::Output)?)
 }
 
-/// Listens on loopback, tells the port, and serves.
-fn serve(rt: &HostRuntime, api: Api, options: &ServerOptions<'_>) -> Result<(), ServerFault> {
+/// Serves one connection after another.
+fn serve_in_turn(
+    rt: &HostRuntime,
+    api: Api,
+    options: &ServerOptions<'_>,
+) -> Result<(), ServerFault> {
     let limits = Limits {
         keep: options.keep,
         lines: options.pump,
@@ -28,27 +26,49 @@ fn serve(rt: &HostRuntime, api: Api, options: &ServerOptions<'_>) -> Result<(), 
     let mut server = Server::new(rt.alloc(), api, limits);
     let listener = TcpListener::bind(rt, SocketAddr::from((Ipv4Addr::LOCALHOST, options.port)))?;
     let port = listener.local_addr()?.port();
-    println!(rt; "listening on 127.0.0.1:{port}").map_err(RunFault::Output)?;
+    tell_port(rt, port)?;
     Ok(serve_all(rt, &listener, &mut server, options.serve)?)
+}
+
+/// Serves many connections at once.
+fn serve_at_once(
+    rt: &HostRuntime,
+    api: Api,
+    options: &ServerOptions<'_>,
+) -> Result<(), ServerFault> {
+    let asked = polling::Options {
+        port: options.port,
+        keep: options.keep,
+        lines: options.pump,
+        patience: options.patience,
+    };
+    let mut server = polling::Server::listen(rt, api, asked)?;
+    let port = server.port()?;
+    tell_port(rt, port)?;
+    Ok(server.serve(rt, options.serve)?)
 }
 
 fn run(rt: &HostRuntime, words: &[String]) -> Result<(), ServerFault> {
     let options = options(rt.alloc(), words)?;
     let types = read_types(rt, options.types)?;
     let api = Api::new(rt.alloc(), types)?;
-    serve(rt, api, &options)
+    if options.concurrent {
+        serve_at_once(rt, api, &options)
+    } else {
+        serve_in_turn(rt, api, &options)
+    }
 }
 
 /// Runs `ssa-server` on its words, the program's name first. Answers the exit status; a fault is printed on the
 /// standard error.
 pub fn ssa_server(rt: &HostRuntime, words: &[String]) -> ExitCode {
-    let Err(fault) = run(rt, words) else {
-        return ExitCode::SUCCESS;
-    };
-    // Where the standard error takes nothing, the status still names the fault.
-    let _ = match &fault {
-        ServerFault::Run(RunFault::Words(error)) => error.print(rt),
-        fault => rt.eprintln(fault),
-    };
-    ExitCode::from(fault.status())
+    match run(rt, words) {
+        Ok(()) => ExitCode::SUCCESS,
+        Err(ServerFault::Run(fault)) => end_with(rt, &fault),
+        Err(fault) => {
+            // Where the standard error takes nothing, the status still names the fault.
+            let _ = rt.eprintln(&fault);
+            ExitCode::from(fault.status())
+        }
+    }
 }

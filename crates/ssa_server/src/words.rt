@@ -3,13 +3,38 @@
 ghost use Rattle.std.specs.Prelude.{◌≡◌, [], IfOk, Some, codes, map};
 ghost use Rattle.clap.specs.Built.{FitsChain, IsAuto};
 ghost use Rattle.clap.specs.Matches.{first_value, found_of};
-ghost use Rattle.clap.specs.Words.{app_of, first_of, matches_of, rule_of};
-ghost use Rattle.ssa_server.specs.ServerCommand.{IsCount, IsNumberOr, count_of, file_option, number_option, ssa_server};
+ghost use Rattle.clap.specs.Words.{app_of, first_of, matches_of, one_of, rule_of};
+ghost use Rattle.ssa_server.specs.ServerCommand.{IsCount, IsFlag, IsNumberOr, count_of, flag_option, number_option, ssa_server};
 
 use crate::fault::ServerFault;
 use clap::{Arg, ArgAction, ArgMatches, Command};
+use programs::{file_option, program};
 use std::alloc::{AllocError, Global};
 use std::convert::AsStr;
+
+const ABOUT: &str = "Serves the types of a file on loopback, with objects in memory";
+
+const NOTES: &str = "Example:
+  ssa-server --types crates/ssa_replay/data/types.json --port 8001
+
+Exit status: 0 so many connections were served, 1 output failed, 2 wrong usage, 3 bad types file or unreadable file, 5 out of memory, 6 the port can't be listened on";
+
+const TYPES_HELP: &str = "The types to serve, one JSON object {\"types\":[..]}";
+
+const PORT_HELP: &str = "The port to listen on; 0, as where it isn't given, picks a free one";
+
+const KEEP_HELP: &str =
+    "How many revisions before the current one are kept, 1000 where it isn't given";
+
+const PUMP_HELP: &str = "How many lines a watch gets at a time at most, 500 where it isn't given";
+
+const SERVE_HELP: &str =
+    "After how many connections to end; 0, as where it isn't given, is the highest number";
+
+const CONCURRENT_HELP: &str = "Serve many connections at once, not one after another";
+
+const PATIENCE_HELP: &str =
+    "With --concurrent: how many milliseconds to wait for a peer that sends or takes nothing, 30000 where it isn't given";
 
 /// What the words of `ssa-server` name.
 #[derive(Clone, Copy, Debug)]
@@ -20,27 +45,18 @@ pub struct ServerOptions<'a> {
     pub port: u16,
     /// How many revisions before the current one are kept.
     pub keep: u64,
-    /// How many lines a watch may write after each connection.
+    /// How many lines a watch may write at a time.
     pub pump: u64,
     /// How many connections are served.
     pub serve: u64,
-}
-
-/// `--<name> FILE`, which is needed.
-fn file_option<'a>(alloc: Global, name: &'a str) -> Arg<'a>
-    ensures id { result.id ≡ name.entry }
-    ensures rule { rule_of result ≡ file_option name.entry.now }
-    ensures fits { (name.entry.now ≡ [] → ⊥) → (IsAuto result → ⊥) → FitsChain result }
-{
-    Arg::new(alloc, name)
-        .long(name)
-        .value_name("FILE")
-        .action(ArgAction::Set)
-        .required(true)
+    /// Whether connections are served at once, not one after another.
+    pub concurrent: bool,
+    /// How many milliseconds a peer may keep the server waiting, where connections are served at once.
+    pub patience: u64,
 }
 
 /// `--<name> N`
-fn number_option<'a>(alloc: Global, name: &'a str) -> Arg<'a>
+fn number_option<'a>(alloc: Global, name: &'a str, help: &'a str) -> Arg<'a>
     ensures id { result.id ≡ name.entry }
     ensures rule { rule_of result ≡ number_option name.entry.now }
     ensures fits { (name.entry.now ≡ [] → ⊥) → (IsAuto result → ⊥) → FitsChain result }
@@ -48,23 +64,40 @@ fn number_option<'a>(alloc: Global, name: &'a str) -> Arg<'a>
     Arg::new(alloc, name)
         .long(name)
         .value_name("N")
+        .help(help)
         .action(ArgAction::Set)
+}
+
+/// `--<name>`
+fn flag_option<'a>(alloc: Global, name: &'a str, help: &'a str) -> Arg<'a>
+    ensures id { result.id ≡ name.entry }
+    ensures rule { rule_of result ≡ flag_option name.entry.now }
+    ensures fits { (name.entry.now ≡ [] → ⊥) → (IsAuto result → ⊥) → FitsChain result }
+{
+    Arg::new(alloc, name)
+        .long(name)
+        .help(help)
+        .action(ArgAction::SetTrue)
 }
 
 fn server_command<'a>(alloc: Global) -> Result<Command<'a>, AllocError>
     ensures { IfOk result (λ c. app_of c ≡ ssa_server) }
 {
-    let types = file_option(alloc, "types");
-    let port = number_option(alloc, "port");
-    let keep = number_option(alloc, "keep");
-    let pump = number_option(alloc, "pump");
-    let serve = number_option(alloc, "serve");
-    Command::new(alloc, "ssa-server")
+    let types = file_option(alloc, "types", TYPES_HELP);
+    let port = number_option(alloc, "port", PORT_HELP);
+    let keep = number_option(alloc, "keep", KEEP_HELP);
+    let pump = number_option(alloc, "pump", PUMP_HELP);
+    let serve = number_option(alloc, "serve", SERVE_HELP);
+    let concurrent = flag_option(alloc, "concurrent", CONCURRENT_HELP);
+    let patience = number_option(alloc, "patience", PATIENCE_HELP);
+    program(alloc, "ssa-server", ABOUT, NOTES)
         .arg(types)?
         .arg(port)?
         .arg(keep)?
         .arg(pump)?
-        .arg(serve)
+        .arg(serve)?
+        .arg(concurrent)?
+        .arg(patience)
 }
 
 /// The number of an option; where it isn't given, another one.
@@ -75,6 +108,17 @@ fn number(matches: &ArgMatches<'_>, name: &'static str, other: u64) -> Result<u6
         None => Ok(other),
         Some(text) => text.parse().map_err(|_| ServerFault::Number(name)),
     }
+}
+
+/// The number of an option that isn't to be 0; where it isn't given, another one.
+fn positive(matches: &ArgMatches<'_>, name: &'static str, other: u64) -> Result<u64, ServerFault>
+    ensures { IfOk result (λ n. IsNumberOr other (first_value (found_of matches.now) name.now) n) }
+{
+    let number = number(matches, name, other)?;
+    if number == 0 {
+        return Err(ServerFault::Number(name));
+    }
+    Ok(number)
 }
 
 fn port_of(number: u64) -> Result<u16, ServerFault>
@@ -99,6 +143,8 @@ pub fn options<'a, S: AsStr>(
     ensures keep { IfOk result (λ o. IsNumberOr 1000 (first_of (codes "keep") (matches_of ssa_server (map S.text words.entry.now))) o.keep) }
     ensures pump { IfOk result (λ o. IsNumberOr 500 (first_of (codes "pump") (matches_of ssa_server (map S.text words.entry.now))) o.pump) }
     ensures serve { IfOk result (λ o. IsCount (first_of (codes "serve") (matches_of ssa_server (map S.text words.entry.now))) o.serve) }
+    ensures concurrent { IfOk result (λ o. IsFlag (one_of (codes "concurrent") (matches_of ssa_server (map S.text words.entry.now))) o.concurrent) }
+    ensures patience { IfOk result (λ o. IsNumberOr 30000 (first_of (codes "patience") (matches_of ssa_server (map S.text words.entry.now))) o.patience) }
 {
     let matches = server_command(alloc)?.try_get_matches_from(words)?;
     let Some(types) = matches.get_str("types") else {
@@ -107,16 +153,17 @@ pub fn options<'a, S: AsStr>(
     let port = number(&matches, "port", 0)?;
     let port = port_of(port)?;
     let keep = number(&matches, "keep", 1000)?;
-    let pump = number(&matches, "pump", 500)?;
-    if pump == 0 {
-        return Err(ServerFault::Number("pump"));
-    }
+    let pump = positive(&matches, "pump", 500)?;
     let serve = number(&matches, "serve", 0)?;
+    let concurrent = matches.get_flag("concurrent");
+    let patience = positive(&matches, "patience", 30000)?;
     Ok(ServerOptions {
         types,
         port,
         keep,
         pump,
         serve: count_of(serve),
+        concurrent,
+        patience,
     })
 }

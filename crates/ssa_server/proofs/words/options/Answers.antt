@@ -1,5 +1,5 @@
 use Rattle.std.proofs.Common.{◌∙◌, codes, refl, sym}
-use Rattle.ssa_server.proofs.ServerWords.{number_by, text_is, value_is}
+use Rattle.ssa_server.proofs.ServerWords.{flag_by, flag_is, number_by, text_is, value_is}
 use Rattle.ssa_server.proofs.words.options.Goals as goal
 
 pub returns-clause-types : goal.returns-clause-types
@@ -19,3 +19,11 @@ returns-clause-pump g c = number_by _ _ 500 _ _ (value_is _ c.in_ok-server_comma
 pub returns-clause-serve : goal.returns-clause-serve
 returns-clause-serve g c =
     (c.in_ok-serve.serve, number_by _ _ 0 _ _ (value_is _ c.in_ok-server_command.ensures _ _ c.in_ok-matches.ensures.matches (codes "serve")) refl c.in_ok-serve.ensures, c.count_of.ensures)
+
+pub returns-clause-concurrent : goal.returns-clause-concurrent
+returns-clause-concurrent g c =
+    flag_by _ _ _ (flag_is _ c.in_ok-server_command.ensures _ _ c.in_ok-matches.ensures.matches (codes "concurrent")) (c.get_flag-concurrent.ensures.none, c.get_flag-concurrent.ensures.value, c.get_flag-concurrent.ensures.other)
+
+pub returns-clause-patience : goal.returns-clause-patience
+returns-clause-patience g c =
+    number_by _ _ 30000 _ _ (value_is _ c.in_ok-server_command.ensures _ _ c.in_ok-matches.ensures.matches (codes "patience")) refl c.in_ok-patience.ensures

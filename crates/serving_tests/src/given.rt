@@ -1,0 +1,69 @@
+//! What several tests are given: an API of widgets, requests, and the replies that they get.
+
+use schema::Types;
+use serde_json::Value;
+use std::alloc::Global;
+use std::test::Fail;
+use verbs::Api;
+
+/// One type, whose objects have an image and replicas.
+const WIDGET_TYPES: &str =
+    r#"{"types":[{"group":"demo.example","version":"v1","kind":"Widget","plural":"widgets","schema":{"type":"object","properties":{"spec":{"type":"object","properties":{"image":{"type":"string"},"replicas":{"type":"integer"}}}}}}]}"#;
+
+/// The list of all widgets.
+pub const LIST: &str = "GET /apis/demo.example/v1/widgets HTTP/1.1\r\nHost: localhost\r\n\r\n";
+
+/// Its reply where there is none.
+pub const NO_ITEMS: &str =
+    "HTTP/1.1 200 OK\r\nContent-Type: application/json\r\nContent-Length: 98\r\nConnection: close\r\n\r\n{\"apiVersion\":\"demo.example/v1\",\"items\":[],\"kind\":\"WidgetList\",\"metadata\":{\"resourceVersion\":\"1\"}}";
+
+/// The first apply.
+pub const APPLY: &str =
+    "PATCH /apis/demo.example/v1/namespaces/default/widgets/w1?fieldManager=alice HTTP/1.1\r\nHost: localhost\r\nContent-Type: application/apply-patch+yaml\r\nContent-Length: 107\r\n\r\n{\"apiVersion\":\"demo.example/v1\",\"kind\":\"Widget\",\"metadata\":{\"name\":\"w1\"},\"spec\":{\"image\":\"a\",\"replicas\":3}}";
+
+/// Its reply.
+pub const CREATED: &str =
+    "HTTP/1.1 201 Created\r\nContent-Type: application/json\r\nContent-Length: 317\r\nConnection: close\r\n\r\n{\"apiVersion\":\"demo.example/v1\",\"kind\":\"Widget\",\"metadata\":{\"managedFields\":[{\"apiVersion\":\"demo.example/v1\",\"fieldsType\":\"FieldsV1\",\"fieldsV1\":{\"f:spec\":{\"f:image\":{},\"f:replicas\":{}}},\"manager\":\"alice\",\"operation\":\"Apply\"}],\"name\":\"w1\",\"namespace\":\"default\",\"resourceVersion\":\"2\"},\"spec\":{\"image\":\"a\",\"replicas\":3}}";
+
+/// A watch of all widgets.
+pub const WATCH: &str =
+    "GET /apis/demo.example/v1/widgets?watch=true HTTP/1.1\r\nHost: localhost\r\n\r\n";
+
+/// What it gets once the first apply was served.
+pub const ADDED: &str =
+    "HTTP/1.1 200 OK\r\nContent-Type: application/json\r\nTransfer-Encoding: chunked\r\nConnection: close\r\n\r\n158\r\n{\"type\":\"ADDED\",\"object\":{\"apiVersion\":\"demo.example/v1\",\"kind\":\"Widget\",\"metadata\":{\"managedFields\":[{\"apiVersion\":\"demo.example/v1\",\"fieldsType\":\"FieldsV1\",\"fieldsV1\":{\"f:spec\":{\"f:image\":{},\"f:replicas\":{}}},\"manager\":\"alice\",\"operation\":\"Apply\"}],\"name\":\"w1\",\"namespace\":\"default\",\"resourceVersion\":\"2\"},\"spec\":{\"image\":\"a\",\"replicas\":3}}}\n\r\n";
+
+/// The list as it was before the first apply.
+pub const BEFORE: &str =
+    "GET /apis/demo.example/v1/widgets?resourceVersion=1&resourceVersionMatch=Exact HTTP/1.1\r\nHost: localhost\r\n\r\n";
+
+/// Its reply once revisions before the current one are forgotten.
+pub const EXPIRED: &str =
+    "HTTP/1.1 410 Gone\r\nContent-Type: application/json\r\nContent-Length: 142\r\nConnection: close\r\n\r\n{\"apiVersion\":\"v1\",\"code\":410,\"kind\":\"Status\",\"message\":\"too old resource version: 1 (2)\",\"metadata\":{},\"reason\":\"Expired\",\"status\":\"Failure\"}";
+
+/// An API of widgets without objects.
+pub fn fresh_api(alloc: Global) -> Result<Api, Fail> {
+    let types = Types::read(alloc, &Value::from_str(alloc, WIDGET_TYPES)?)?;
+    Ok(Api::new(alloc, types)?)
+}
+
+/// The text that these bytes are.
+pub fn text_of(alloc: Global, bytes: &[u8]) -> Result<String, Fail> {
+    Ok(String::from_str(alloc, str::from_utf8(bytes)?)?)
+}
+
+/// The test fails unless this holds.
+pub fn expect(holds: bool, otherwise: &'static str) -> Result<(), Fail> {
+    if !holds {
+        return Err(Fail::from(otherwise));
+    }
+    Ok(())
+}
+
+/// The test fails unless this text was wanted, and shows it.
+pub fn expect_text(text: String, wanted: &str) -> Result<(), Fail> {
+    if text.as_str() != wanted {
+        return Err(Fail::new(text));
+    }
+    Ok(())
+}

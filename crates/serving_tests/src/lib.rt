@@ -1,0 +1,21 @@
+//! Tests of turns of connections, one after another (`serving`) and many at once (`polling`), by public calls alone: over
+//! memory, where streams fail, and over loopback within this process.
+//!
+//! Each call stands in a helper with no clause, so that a test carries few facts; one function of each module holds a hub
+//! or a server, since each function that drops one is expensive to prove.
+#![tactic(auto)]
+
+#[cfg(test)]
+mod given;
+#[cfg(test)]
+mod loopback;
+#[cfg(test)]
+mod polled_loopback;
+#[cfg(test)]
+mod polled_streams;
+#[cfg(test)]
+mod polled_turns;
+#[cfg(test)]
+mod streams;
+#[cfg(test)]
+mod turns;
