@@ -1,3 +1,5 @@
+//! Laws: what is written of a set as FieldsV1 is read as this set, and the other way round.
+
 ghost use Rattle.fieldset.specs.BothWays.{ReadHavePlaces, ReadIsWritten, WrittenIsRead};
 
 /// What is written of a set of placed paths is read as this set.

@@ -1,3 +1,5 @@
+//! Why a value is no FieldsV1 value of a set of paths.
+
 use std::alloc::{AllocError, AllocFailed};
 use thiserror::Error;
 

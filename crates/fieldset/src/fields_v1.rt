@@ -1,3 +1,5 @@
+//! FieldsV1 both ways: a set of paths as a JSON value under a schema, and the set that such a value says.
+
 ghost use Rattle.std.specs.Prelude.{◌≡◌, List, ℕ, map, codes, IfOk, OnOk, option_and_then, string_bytes};
 ghost use Rattle.std.specs.Option.{option_map};
 ghost use Rattle.serde_json.specs.Data.{Members, no_members, put};

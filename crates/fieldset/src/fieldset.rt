@@ -1,3 +1,5 @@
+//! Finite sets of paths, and their equations.
+
 ghost use Rattle.std.specs.Prelude.{◌≡◌, IfOk, OnOk, OnErr, IsTrue, ◌↔◌};
 ghost use Rattle.std.specs.FinSet as set;
 ghost use Rattle.pathmap.specs.Contents.{dom, in_order};

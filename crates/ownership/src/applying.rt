@@ -1,3 +1,5 @@
+//! Server-Side Apply: conflicts, what force takes over, and the object afterwards.
+
 ghost use Rattle.std.specs.Prelude.{◌≡◌, IfOk, false, map};
 ghost use Rattle.schema.specs.Shape.{Shape};
 ghost use Rattle.pathmap.specs.Beside.{changed as changed_paths};

@@ -1,3 +1,5 @@
+//! What an apply is refused for.
+
 use crate::manager::Manager;
 use fieldpath::Path;
 use std::alloc::{AllocError, AllocFailed};

@@ -1,3 +1,5 @@
+//! Why a text is not read back as an object.
+
 use std::alloc::{AllocError, AllocFailed};
 use thiserror::Error;
 

@@ -1,3 +1,5 @@
+//! Laws of the texts of objects.
+
 ghost use Rattle.ownership.specs.ReadBack.{OneForOne};
 
 /// An object's text says one version, one content and its owners: no other object of the type and key has this text.

@@ -1,3 +1,5 @@
+//! Who writes: a name, an operation and a subresource.
+
 ghost use Rattle.std.specs.Prelude.{◌≡◌, IfOk};
 ghost use Rattle.ownership.specs.Owners.{is_same, manager_cmp, manager_of, operation_text};
 ghost use Rattle.ownership.specs.Managers.{manager_view};

@@ -1,3 +1,5 @@
+//! Who owns which paths, over all managers of an object.
+
 ghost use Rattle.std.specs.Prelude.{◌≡◌, ◌++◌, IfOk, IfSome, OnOk, filter, map, not, option_map};
 ghost use Rattle.std.specs.FinSet as set;
 ghost use Rattle.ownership.specs.Results.{conflict_of};

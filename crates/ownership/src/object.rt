@@ -1,3 +1,5 @@
+//! An object's text, both ways: its version, its content and who owns what.
+
 ghost use Rattle.std.specs.Prelude.{◌≡◌, true, IfOk, OnOk, option_map, option_and_then, string_bytes};
 ghost use Rattle.std.specs.FinMap as fin;
 ghost use Rattle.serde_json.specs.Data.{object, put, string};

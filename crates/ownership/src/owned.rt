@@ -1,3 +1,5 @@
+//! The content of an object and who owns it. What a write does to it stands in `applying` and `updating`.
+
 ghost use Rattle.std.specs.Prelude.{◌≡◌};
 ghost use Rattle.std.specs.FinMap as fin;
 ghost use Rattle.pathmap.specs.Contents.{nothing};

@@ -1,3 +1,5 @@
+//! Whether two objects have the same content and the same owners.
+
 ghost use Rattle.std.specs.Prelude.{◌≡◌, ◌↔◌, IfOk, IsTrue};
 ghost use Rattle.ownership.specs.Managers.{pair, pairs};
 ghost use Rattle.ownership.specs.Results.{state_of};

@@ -1,3 +1,5 @@
+//! Updates (POST and PUT): the new content, and who owns what afterwards.
+
 ghost use Rattle.std.specs.Prelude.{◌≡◌, IfOk};
 ghost use Rattle.std.specs.FinSet as set;
 ghost use Rattle.ownership.specs.Owners.{WroteByNone, manager_of, owned_by, update_operation};

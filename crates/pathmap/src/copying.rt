@@ -1,3 +1,5 @@
+//! Copies of a map.
+
 ghost use Rattle.std.specs.Prelude.{◌≡◌, IfOk};
 ghost use Rattle.pathmap.specs.Contents.{gather};
 ghost use Rattle.pathmap.specs.Maps.{at_top, content, contents_in};

@@ -1,3 +1,5 @@
+//! What stands at one path.
+
 ghost use Rattle.std.specs.Prelude.{◌≡◌, IfOk};
 ghost use Rattle.pathmap.specs.Beside.{same_standing};
 ghost use Rattle.pathmap.specs.Maps.{standing};

@@ -1,3 +1,5 @@
+//! One more path.
+
 ghost use Rattle.std.specs.Prelude.{◌≡◌, false, List, ℕ, map, OnOk, OnErr, string_bytes};
 ghost use Rattle.std.specs.String.{string_cmp};
 ghost use Rattle.std.specs.Ordering.{is_eq, nat_cmp};

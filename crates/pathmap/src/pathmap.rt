@@ -1,3 +1,5 @@
+//! The map itself, as a trie over the texts of elements. Each call on it stands in a module of its own.
+
 ghost use Rattle.std.specs.Prelude.{◌≡◌};
 ghost use Rattle.pathmap.specs.Contents.{gather, here, nothing};
 ghost use Rattle.pathmap.specs.Maps.{content, contents_in, standing};

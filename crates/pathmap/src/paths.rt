@@ -1,3 +1,5 @@
+//! The paths of a map, in order.
+
 ghost use Rattle.std.specs.Prelude.{◌≡◌, [], ◌∷◌, ◌++◌, map, is_some, if◌then◌else◌, IfOk, OnOk};
 ghost use Rattle.pathmap.specs.Contents.{dom, gather, in_order};
 ghost use Rattle.pathmap.specs.Maps.{content, contents_in};

@@ -1,3 +1,5 @@
+//! The parts of a map that another map picks: what both have, what it lacks, what differs.
+
 ghost use Rattle.std.specs.Prelude.{◌≡◌, ◌∷◌, false, IfOk, OnOk, List, ℕ, None, is_some, string_bytes};
 ghost use Rattle.std.specs.String.{string_cmp};
 ghost use Rattle.std.specs.Ordering.{is_eq, nat_cmp};

@@ -1,3 +1,5 @@
+//! A map without the paths of a set.
+
 ghost use Rattle.std.specs.Prelude.{◌≡◌, true, false, List, ℕ, string_bytes};
 ghost use Rattle.std.specs.String.{string_cmp};
 ghost use Rattle.std.specs.Ordering.{is_eq, nat_cmp};

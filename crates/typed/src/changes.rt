@@ -1,3 +1,5 @@
+//! How a content differs from another: what was added, changed and removed.
+
 ghost use Rattle.std.specs.Prelude.{◌≡◌, IfOk};
 ghost use Rattle.std.specs.FinSet as set;
 ghost use Rattle.pathmap.specs.Beside.{changed, without};

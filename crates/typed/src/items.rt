@@ -1,3 +1,5 @@
+//! The items of sets and of map lists: which element each is.
+
 ghost use Rattle.std.specs.Prelude.{◌≡◌, ℕ, List, [], None, Err, Ok, IfOk, OnOk, false, if◌then◌else◌, option_map, string_bytes};
 ghost use Rattle.fieldpath.specs.Elements.{list_item_text, name_text, set_item_text};
 ghost use Rattle.pathmap.specs.Contents.{Content, gather, nothing};

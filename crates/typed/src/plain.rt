@@ -1,3 +1,5 @@
+//! Atomic values: their JSON without what counts as absent.
+
 ghost use Rattle.std.specs.Prelude.{◌≡◌, [], Err, Ok, IfErr, OnOk, if◌then◌else◌, map};
 ghost use Rattle.serde_json.specs.Data.{Data, object};
 ghost use Rattle.serde_json.specs.View.{items_view, members_view, view};

@@ -1,3 +1,5 @@
+//! Laws: what is printed of a content reads back as it, and has no float.
+
 ghost use Rattle.typed.specs.Fitting.{ContentsArePlaced, FieldsV1IsTextual, OversAreContents, PrintedIsTextual, ReadingsAreContents, RemainsAreContents};
 ghost use Rattle.typed.specs.Placed.{HavePlaces, PrintedHasNoFloat, ReadingsArePlaced, RoundTrip};
 

@@ -1,3 +1,5 @@
+//! The content that a JSON value spells under a schema, or its first fault.
+
 ghost use Rattle.std.specs.Prelude.{◌≡◌, []};
 ghost use Rattle.serde_json.specs.View.{items_view, members_view, view};
 ghost use Rattle.pathmap.specs.Contents.{gather};

@@ -1,3 +1,5 @@
+//! Contents of objects. Reading and printing stand in modules of their own.
+
 ghost use Rattle.std.specs.Prelude.{◌≡◌, IfOk, option_map};
 ghost use Rattle.serde_json.specs.View.{view};
 ghost use Rattle.schema.specs.Shape.{shape};
