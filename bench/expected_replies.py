@@ -37,6 +37,7 @@ TABLE = [
         "object over 262144 bytes"]),
     (431, "Request Header Fields Too Large", "RequestHeaderFieldsTooLarge", ["request head too large"]),
     (501, "Not Implemented", "NotImplemented", ["Transfer-Encoding is not served"]),
+    (504, "Gateway Timeout", "Timeout", ["Too large resource version: {}, current: {}"]),
     # "revisions are used up" stands after 9223372036854775805 changes: no script has so many.
     (503, "Service Unavailable", "ServiceUnavailable", ["too many connections"]),
     (505, "HTTP Version Not Supported", "HTTPVersionNotSupported", ["HTTP/1.1 is needed"]),
@@ -127,7 +128,9 @@ def bookmark(version):
 lines = []      # of the script
 replies = []    # to the applies, in order
 written = {}    # by connection, without those of applies
+gone = set()    # connections whose peer has gone
 last_id = 0
+last_tick = 0
 revision = 1
 
 
@@ -145,6 +148,18 @@ def next_revision():
 
 def line(event):
     lines.append(json.dumps(event, separators=(",", ":")))
+
+
+def tick(ms):
+    """A tick so many milliseconds after the last one."""
+    global last_tick
+    last_tick += ms
+    line({"tick": last_tick})
+
+
+def goes(connection):
+    line({"gone": connection})
+    gone.add(connection)
 
 
 def body_of(**members):
@@ -421,65 +436,236 @@ def sizes():
     apply("large", large(second), refused("object over 262144 bytes"), "bob")
 
 
-def watches():
-    """Watches of a namespace: one whose peer goes, one that a compaction overtakes, one that is refused; and its list."""
-    namespace = "/apis/demo.example/v1/namespaces/watched/widgets"
+class Namespace:
+    """Requests of the widgets of one namespace, and watches of them. A row of its own has one of its own."""
 
-    def get(query):
+    def __init__(self, name):
+        self.name = name
+        self.path = f"/apis/demo.example/v1/namespaces/{name}/widgets"
+
+    def object(self, name, version, replicas=None, labels=None):
+        """An object whose fields alice owns."""
+        fields = {}
+        if labels is not None:
+            fields["f:metadata"] = {"f:labels": {"f:" + key: {} for key in labels}}
+        if replicas is not None:
+            fields["f:spec"] = {"f:replicas": {}}
+        spec = None if replicas is None else {"replicas": replicas}
+        return widget(name, version, [("alice", fields)] if fields else [], spec, labels, self.name)
+
+    def get(self, query):
         connection = opened()
-        comes(connection, request(HOST, target=namespace + query, method="GET"))
+        comes(connection, request(HOST, target=self.path + query, method="GET"))
         return connection
 
-    def watch(query):
-        connection = get("?watch=true" + query)
+    def watch(self, query):
+        connection = self.get("?watch=true" + query)
         written[connection] = HEAD
         return connection
 
-    def shown(version, replicas):
-        owners = [("alice", in_spec("replicas"))]
-        return widget("a", version, owners, {"replicas": replicas}, namespace="watched")
-
-    def apply_a(replicas, code):
-        version = next_revision()
-        apply("a", body_of(spec={"replicas": replicas}), (code, shown(version, replicas)), path=namespace + "/a")
-
-    def listed(*items):
+    def list(self, *items):
+        """The text of a list of these at the current revision."""
         return compact({"apiVersion": API_VERSION, "items": [json.loads(item) for item in items], "kind": "WidgetList",
                         "metadata": {"resourceVersion": str(revision)}})
 
-    first = watch("&allowWatchBookmarks=true")
-    line({"tick": 500})
-    written[first] += bookmark(revision)
-    apply_a(1, 201)
-    apply_a(2, 200)
-    line({"pump": [first, 0]})
-    line({"pump": [first, 1]})
-    written[first] += chunk("ADDED", shown(revision - 1, 1))
-    line({"gone": first})
-    line({"pump": [first, 1]})
-    written[get("")] = reply(200, listed(shown(revision, 2)))
+    def post(self, *names):
+        for name in names:
+            body = compact(body_of(metadata={"name": name}))
+            connection = opened()
+            comes(connection, request(HOST + ["Content-Type: application/json", f"Content-Length: {len(body)}"], body, self.path, "POST"))
+            written[connection] = reply(201, self.object(name, next_revision()))
 
-    second = watch(f"&resourceVersion={revision}&timeoutSeconds=1")
-    third = watch(f"&resourceVersion={revision}")
-    deleting = opened()
-    comes(deleting, request(HOST, target=namespace + "/a", method="DELETE"))
-    written[deleting] = reply(200, shown(next_revision(), 2))
-    line({"pump": [second, 2]})
-    written[second] += chunk("DELETED", shown(revision, 2))
-    line({"tick": 1499})
-    line({"tick": 1500})
+    def delete(self, name, before):
+        """A deletion; before makes the object by its version."""
+        connection = opened()
+        comes(connection, request(HOST, target=f"{self.path}/{name}", method="DELETE"))
+        written[connection] = reply(200, before(next_revision()))
+
+    def patch(self, name, code, replicas=None, labels=None):
+        body = body_of(**({} if labels is None else {"metadata": {"labels": labels}}), **({} if replicas is None else {"spec": {"replicas": replicas}}))
+        apply(name, body, (code, self.object(name, next_revision(), replicas, labels)), path=f"{self.path}/{name}")
+
+
+def pump(connection, most, *chunks):
+    """A pump, and the chunks that it writes."""
+    line({"pump": [connection, most]})
+    written[connection] += "".join(chunks)
+
+
+def watches():
+    """Watches of a namespace: one whose peer goes, one that a compaction overtakes, one that is refused; and its list."""
+    watched = Namespace("watched")
+
+    def shown(version, replicas):
+        return watched.object("a", version, replicas)
+
+    first = watched.watch("&allowWatchBookmarks=true")
+    tick(500)
+    written[first] += bookmark(revision)
+    watched.patch("a", 201, 1)
+    watched.patch("a", 200, 2)
+    pump(first, 0)
+    pump(first, 1, chunk("ADDED", shown(revision - 1, 1)))
+    goes(first)
+    pump(first, 1)
+    written[watched.get("")] = reply(200, watched.list(shown(revision, 2)))
+
+    second = watched.watch(f"&resourceVersion={revision}&timeoutSeconds=1")
+    third = watched.watch(f"&resourceVersion={revision}")
+    watched.delete("a", lambda version: shown(version, 2))
+    pump(second, 2, chunk("DELETED", shown(revision, 2)))
+    tick(999)
+    tick(1)
     written[second] += LAST_CHUNK
-    line({"tick": 1499})
+    line({"tick": last_tick - 1})
     line({"compact": revision})
     expired = refused("too old resource version: {} ({})", revision - 1, revision)
-    line({"pump": [third, 2]})
-    written[third] += chunk("ERROR", expired[1]) + LAST_CHUNK
-    written[get(f"?watch=true&resourceVersion={revision - 1}")] = reply(*expired)
+    pump(third, 2, chunk("ERROR", expired[1]), LAST_CHUNK)
+    written[watched.get(f"?watch=true&resourceVersion={revision - 1}")] = reply(*expired)
+
+
+def objects_then_bookmark():
+    """A bookmark is due once each object is told; an apply that changes nothing tells nothing."""
+    row = Namespace("objects-then-bookmark")
+    row.post("w1", "w2", "w3")
+    at = revision
+    watch = row.watch("&allowWatchBookmarks=true")
+    pump(watch, 2, chunk("ADDED", row.object("w1", at - 2)), chunk("ADDED", row.object("w2", at - 1)))
+    tick(0)
+    pump(watch, 1, chunk("ADDED", row.object("w3", at)))
+    tick(0)
+    written[watch] += bookmark(at)
+    tick(0)
+    pump(watch, 1)
+    row.patch("w2", 200, 3)
+    apply("w2", body_of(spec={"replicas": 3}), (200, row.object("w2", revision, 3)), path=row.path + "/w2")
+    pump(watch, 5, chunk("MODIFIED", row.object("w2", revision, 3)))
+    tick(0)
+    pump(watch, 5)
+    goes(watch)
+
+
+def compacted_under_a_watch():
+    """Changes that a watch has still to tell are forgotten."""
+    row = Namespace("compacted-under-a-watch")
+    row.post("w1", "w2", "w3")
+    at = revision
+    watch = row.watch("&allowWatchBookmarks=true")
+    pump(watch, 2, chunk("ADDED", row.object("w1", at - 2)), chunk("ADDED", row.object("w2", at - 1)))
+    row.post("w4")
+    line({"compact": revision})
+    expired = refused("too old resource version: {} ({})", at, revision)
+    pump(watch, 2, chunk("ERROR", expired[1]), LAST_CHUNK)
+    pump(watch, 2)
+    tick(0)
+
+
+def deletion_behind_objects():
+    """Objects that are left and changes share a pump."""
+    row = Namespace("deletion-behind-objects")
+    row.post("w1", "w2", "w3")
+    at = revision
+    watch = row.watch("&allowWatchBookmarks=true")
+    pump(watch, 2, chunk("ADDED", row.object("w1", at - 2)), chunk("ADDED", row.object("w2", at - 1)))
+    row.delete("w1", lambda version: row.object("w1", version))
+    pump(watch, 2, chunk("ADDED", row.object("w3", at)), chunk("DELETED", row.object("w1", revision)))
+    tick(0)
+    goes(watch)
+
+
+def time_is_over():
+    """A watch ends by the tick at which its seconds have passed since the last tick before its opening, behind its bookmark."""
+    row = Namespace("time-is-over")
+    first = row.watch("&timeoutSeconds=1")
+    tick(999)
+    tick(1)
+    written[first] += LAST_CHUNK
+    pump(first, 1)
+    second = row.watch("&timeoutSeconds=1&allowWatchBookmarks=true")
+    tick(1000)
+    written[second] += bookmark(revision) + LAST_CHUNK
+    tick(100)
+    third = row.watch("&timeoutSeconds=0")
+    tick(10 ** 12)
+    goes(third)
+
+
+def watch_leaves_selector():
+    """An object that leaves a watch's selector is deleted there, and added where it comes back."""
+    row = Namespace("watch-leaves-selector")
+    row.patch("w1", 201, labels={"tier": "web"})
+    at = revision
+    watch = row.watch(f"&resourceVersion={at}&labelSelector=tier%3Dweb")
+    row.patch("w1", 200, labels={"tier": "db"})
+    row.patch("w1", 200, labels={"tier": "web"})
+    pump(watch, 10, chunk("DELETED", row.object("w1", at + 1, labels={"tier": "web"})), chunk("ADDED", row.object("w1", at + 2, labels={"tier": "web"})))
+    goes(watch)
+
+
+def bookmark_after_unseen_changes():
+    """Changes of another namespace tell nothing but a bookmark, once they were read."""
+    row, other = Namespace("bookmark-after-unseen-changes"), Namespace("unseen")
+    row.post("w1")
+    watch = row.watch(f"&resourceVersion={revision}&allowWatchBookmarks=true")
+    other.post("a", "b", "c")
+    tick(0)
+    pump(watch, 10)
+    tick(0)
+    written[watch] += bookmark(revision)
+    tick(0)
+    goes(watch)
+
+
+def version_still_to_come():
+    """A watch from a version that is still to come waits for what follows it."""
+    row = Namespace("version-still-to-come")
+    watch = row.watch(f"&resourceVersion={revision + 1}&allowWatchBookmarks=true")
+    pump(watch, 10)
+    tick(0)
+    row.post("w1")
+    pump(watch, 10)
+    tick(0)
+    row.post("w2")
+    pump(watch, 10, chunk("ADDED", row.object("w2", revision)))
+    goes(watch)
+
+
+def empty_lists():
+    """Lists of an empty namespace, by version and match."""
+    row = Namespace("empty-lists")
+    written[row.get("")] = reply(200, row.list())
+    written[row.get(f"?resourceVersion={revision + 1}")] = reply(*refused("Too large resource version: {}, current: {}", revision + 1, revision))
+    for query, name in (("resourceVersion=0&resourceVersionMatch=Exact", "resourceVersionMatch"), ("resourceVersion=abc", "resourceVersion")):
+        written[row.get("?" + query)] = reply(*refused("bad parameter: {}", name))
+
+
+def request_byte_by_byte():
+    """An apply that comes byte by byte, and a GET of what it made."""
+    row = Namespace("request-byte-by-byte")
+    text = patch(compact(body_of(metadata={"name": "w1"}, spec={"replicas": 3})), target=row.path + "/w1?fieldManager=alice")
+    connection = opened()
+    for byte in text:
+        comes(connection, byte)
+    created = row.object("w1", next_revision(), 3)
+    written[connection] = reply(201, created)
+    written[row.get("/w1")] = reply(200, created)
+
+
+def hub_refusals():
+    """Events that the hub refuses: nothing is written, and nothing changes."""
+    connection = opened()
+    for event in ({"open": connection - 1}, {"open": connection}, {"in": [connection + 9, "GET"]}, {"gone": connection + 9},
+                  {"pump": [connection + 9, 0]}, {"pump": [connection, 0]}, {"pump": [connection, 1]}, {"tick": last_tick - 1},
+                  {"tick": last_tick}, {"compact": 0}, {"compact": revision + 1}, {"compact": revision}):
+        line(event)
+    goes(connection)
+    line({"pump": [connection, 0]})
+    comes(connection, "GET")
 
 
 def connections():
     """So many connections that no more is served, till one has ended."""
-    waiting = [connection for connection, text in written.items() if text == ""]
+    waiting = [connection for connection, text in written.items() if text == "" and connection not in gone]
     while len(waiting) < 1024:
         waiting.append(opened())
     full = refused("too many connections")
@@ -494,7 +680,9 @@ def connections():
 
 def main():
     for row in (six_lines, first_apply, hostile_heads, routes, body_limits_and_numbers, envelopes, parameters, manager_name_limits,
-                names, versions, all_conflicts_listed, lists, sizes, watches, connections):
+                names, versions, all_conflicts_listed, lists, sizes, watches, objects_then_bookmark, compacted_under_a_watch,
+                deletion_behind_objects, time_is_over, watch_leaves_selector, bookmark_after_unseen_changes, version_still_to_come,
+                empty_lists, request_byte_by_byte, hub_refusals, connections):
         row()
     left = set(FOUND) - met
     assert not left, left
