@@ -2,7 +2,9 @@
 use Rattle.std.proofs.Common.{◌≡◌, ℕ, cond, List, ◌∷◌, ◌++◌, length, Result, Ok, Err, ap, ◌∙◌, append_assoc}
 use Rattle.std.specs.Prelude.{OnOk, codes, is_ok}
 use Rattle.std.specs.Fmt.{decimal}
-use Rattle.httpedge.specs.ReplyBytes.{chunk, crlf, hexadecimal, phrase_of, watch_head}
+use Rattle.wire.specs.Heads.{crlf}
+use Rattle.wire.specs.Lengths.{hexadecimal}
+use Rattle.httpedge.specs.ReplyBytes.{chunk, phrase_of, watch_head}
 
 -- the parts of a chunk, put one after the other
 pub chunk_put : (old head line after : List ℕ) → head ≡ hexadecimal (length line) ++ crlf → after ≡ old ++ head ++ line ++ crlf → after ≡ old ++ chunk line

@@ -1,87 +1,17 @@
 -- What a front says stays said, whatever bytes follow, and nothing else is said of it.
-use Rattle.std.proofs.Common.{arith, ◌≡◌, ◌≢◌, ℕ, zero, suc, ◌+◌, ◌≤◌, ◌<◌, Bool, true, false, cond, eqb, ltb, ◌&&◌, ◌||◌, List, [], ◌∷◌, ◌++◌, length, take, drop, Option, Some, None, refl, sym, ap, ap₂, subst, ◌∙◌, length-append, inl, inr}
+use Rattle.std.proofs.Common.{arith, ◌≡◌, ◌≢◌, ℕ, zero, suc, ◌≤◌, ◌<◌, Bool, true, false, cond, ltb, List, [], ◌∷◌, ◌++◌, length, take, drop, Option, Some, None, refl, sym, ap, subst, ◌∙◌, length-append, inl, inr}
 use Rattle.std.proofs.lemmas.Bool.{ltb-true, lt-ltb}
 use Rattle.std.proofs.lemmas.List.{take-append-le, drop-append-le, length-take}
 use Rattle.httparse.specs.Grammar.{RequestHead}
 use Rattle.httparse.proofs.GrammarLemmas.{request_unique}
+use Rattle.wire.specs.declared.place.Place.TheVariants.{Leading}
+use Rattle.wire.specs.Heads.{head_end, max_head}
+use Rattle.wire.proofs.HeadEnds.{end_more, end_within}
 use Rattle.httpedge.specs.Decision.{Decision, undecided, accepted}
 use Rattle.httpedge.specs.Refusals.{head_too_large, bad_head, wrong_version, not_one_host, refuse}
-use Rattle.httpedge.specs.Heads.{max_head, end_inside, end_after, head_end, Request, validated_head, with_more, ReadsHead, ReadsHeadAt, ReadsWholeHead}
+use Rattle.httpedge.specs.Heads.{Request, validated_head, with_more, ReadsHead, ReadsHeadAt, ReadsWholeHead}
 
 -- ---- the head's end
-
-none_some : {o : Option ℕ} {m : ℕ} → o ≡ None → o ≡ Some m → ⊥
-none_some is isnt = cc
-
-same_end : {k m : ℕ} → Some k ≡ Some m → k ≡ m
-same_end is = cc
-
--- where a test holds this is it, else what was found later
-kept : (s : Bool) (one rest more : Option ℕ) (m : ℕ) → (rest ≡ Some m → more ≡ Some m) → cond s one rest ≡ Some m → cond s one more ≡ Some m
-kept true one rest more m later h = h
-kept false one rest more m later h = later h
-
-both_false : (b : Bool) → (b && false) ≡ false
-both_false true = refl
-both_false false = refl
-
--- one byte ends no head
-one_byte : (n b : ℕ) → end_inside n (b ∷ []) ≡ None
-one_byte n b = ap₂ (λ (s t : Bool). cond s (Some (n + 2)) (cond t (Some (n + 3)) None)) (both_false (eqb b 10)) (both_false (eqb b 10))
-
--- and two bytes do where they are line feeds
-not_two : (n b x : ℕ) → cond (eqb b 10 && (eqb 13 x && false)) (Some (n + 3)) (end_inside (n + 1) (x ∷ [])) ≡ None
-not_two n b x =
-    ap₂ (λ (s : Bool) (rest : Option ℕ). cond s (Some (n + 3)) rest) (ap (λ (t : Bool). eqb b 10 && t) (both_false (eqb 13 x)) ∙ both_false (eqb b 10)) (one_byte (n + 1) x)
-
-byte_more : (n b : ℕ) (bytes more : List ℕ) (m : ℕ) → (end_inside (n + 1) bytes ≡ Some m → end_inside (n + 1) (bytes ++ more) ≡ Some m)
-    → end_inside n (b ∷ bytes) ≡ Some m → end_inside n (b ∷ (bytes ++ more)) ≡ Some m
-byte_more n b [] more m later h = absurd (none_some (one_byte n b) h)
-byte_more n b (x ∷ []) more m later h = kept (eqb b 10 && (eqb 10 x && true)) (Some (n + 2)) _ _ m (λ e. absurd (none_some (not_two n b x) e)) h
-byte_more n b (x ∷ y ∷ bytes) more m later h =
-    kept (eqb b 10 && (eqb 10 x && true)) (Some (n + 2)) _ _ m (kept (eqb b 10 && (eqb 13 x && (eqb 10 y && true))) (Some (n + 3)) _ _ m later) h
-
-inside_more : (n : ℕ) (bytes more : List ℕ) (m : ℕ) → end_inside n bytes ≡ Some m → end_inside n (bytes ++ more) ≡ Some m
-inside_more n [] more m h = absurd cc
-inside_more n (b ∷ bytes) more m h = byte_more n b bytes more m (inside_more (n + 1) bytes more m) h
-
-chosen : (s : Bool) (one other one' other' : Option ℕ) (m : ℕ) → (one ≡ Some m → one' ≡ Some m) → (other ≡ Some m → other' ≡ Some m)
-    → cond s one other ≡ Some m → cond s one' other' ≡ Some m
-chosen true one other one' other' m first second h = first h
-chosen false one other one' other' m first second h = second h
-
-after_more : (n : ℕ) (bytes more : List ℕ) (m : ℕ) → end_after n bytes ≡ Some m → end_after n (bytes ++ more) ≡ Some m
-after_more n [] more m h = absurd cc
-after_more n (b ∷ bytes) more m h =
-    chosen (eqb b 13 || eqb b 10) (end_after (n + 1) bytes) (end_inside n (b ∷ bytes)) (end_after (n + 1) (bytes ++ more)) (end_inside n (b ∷ (bytes ++ more))) m
-    (after_more (n + 1) bytes more m) (inside_more n (b ∷ bytes) more m) h
-
--- ---- it lies within
-
-bounded : (s : Bool) (k m top : ℕ) (rest : Option ℕ) → k ≤ top → (rest ≡ Some m → m ≤ top) → cond s (Some k) rest ≡ Some m → m ≤ top
-bounded true k m top rest low later h = let is : k ≡ m = same_end h in omega (arith, low, is)
-bounded false k m top rest low later h = later h
-
-byte_within : (n b : ℕ) (bytes : List ℕ) (m : ℕ) → (end_inside (n + 1) bytes ≡ Some m → m ≤ n + 1 + length bytes) → end_inside n (b ∷ bytes) ≡ Some m → m ≤ n + 1 + length bytes
-byte_within n b [] m later h = absurd (none_some (one_byte n b) h)
-byte_within n b (x ∷ []) m later h = bounded (eqb b 10 && (eqb 10 x && true)) (n + 2) m (n + 1 + length (x ∷ [])) _ (omega arith) (λ e. absurd (none_some (not_two n b x) e)) h
-byte_within n b (x ∷ y ∷ bytes) m later h =
-    bounded (eqb b 10 && (eqb 10 x && true)) (n + 2) m (n + 1 + length (x ∷ y ∷ bytes)) _ (omega arith)
-    (bounded (eqb b 10 && (eqb 13 x && (eqb 10 y && true))) (n + 3) m (n + 1 + length (x ∷ y ∷ bytes)) _ (omega arith) later) h
-
-inside_within : (n : ℕ) (bytes : List ℕ) (m : ℕ) → end_inside n bytes ≡ Some m → m ≤ n + length bytes
-inside_within n [] m h = absurd cc
-inside_within n (b ∷ bytes) m h = let low = byte_within n b bytes m (inside_within (n + 1) bytes m) h in omega (arith, low)
-
-either : (s : Bool) (one other : Option ℕ) (m top : ℕ) → (one ≡ Some m → m ≤ top) → (other ≡ Some m → m ≤ top) → cond s one other ≡ Some m → m ≤ top
-either true one other m top first second h = first h
-either false one other m top first second h = second h
-
-after_within : (n : ℕ) (bytes : List ℕ) (m : ℕ) → end_after n bytes ≡ Some m → m ≤ n + length bytes
-after_within n [] m h = absurd cc
-after_within n (b ∷ bytes) m h =
-    either (eqb b 13 || eqb b 10) (end_after (n + 1) bytes) (end_inside n (b ∷ bytes)) m (n + length (b ∷ bytes))
-    (λ e. let low = after_within (n + 1) bytes m e in omega (arith, low)) (inside_within n (b ∷ bytes) m) h
 
 pub take_front : (n : ℕ) (xs ys : List ℕ) → (zs : List ℕ) × (take n (xs ++ ys) ≡ take n xs ++ zs)
 take_front zero xs ys = ([], refl)
@@ -90,20 +20,20 @@ take_front (suc n) (x ∷ xs) ys = let rest = take_front n xs ys in (rest.0, ap 
 
 pub front_within : (bytes : List ℕ) (m : ℕ) → head_end (take max_head bytes) ≡ Some m → m ≤ length bytes
 front_within bytes m h =
-    let low = after_within 0 (take max_head bytes) m h in
+    let low = end_within Leading 0 (take max_head bytes) m h in
     let taken = length-take max_head bytes in
     omega (arith, low, taken)
 
 pub front_short : (bytes : List ℕ) (m : ℕ) → head_end (take max_head bytes) ≡ Some m → m ≤ max_head
 front_short bytes m h =
-    let low = after_within 0 (take max_head bytes) m h in
+    let low = end_within Leading 0 (take max_head bytes) m h in
     let taken = length-take max_head bytes in
     omega (arith, low, taken)
 
 front_more : (bytes more : List ℕ) (m : ℕ) → head_end (take max_head bytes) ≡ Some m → head_end (take max_head (bytes ++ more)) ≡ Some m
 front_more bytes more m h =
     let split = take_front max_head bytes more in
-    ap head_end split.1 ∙ after_more 0 (take max_head bytes) split.0 m h
+    ap head_end split.1 ∙ end_more Leading 0 (take max_head bytes) split.0 m h
 
 -- ---- what is said
 

@@ -8,7 +8,9 @@ use Rattle.std.proofs.lemmas.Bool.{eqb-true, leb-true}
 use Rattle.std.proofs.lemmas.Bool.Decides.{Decides-eqb, Decides-like, same_from_decides}
 use Rattle.std.proofs.lemmas.Slice.Eq.{bytes_eq-Decides}
 use Rattle.std.proofs.lemmas.List.{take-append-drop, length-drop, length-take}
-use Rattle.httpedge.specs.Heads.{number, malformed, agreed, number_after, decimal_value, length_in}
+use Rattle.wire.specs.Lengths.{decimal_value, is_length, length_in, number_after}
+use Rattle.wire.proofs.Lengths.{length_is, length_isnt}
+use Rattle.httpedge.specs.Heads.{number, malformed, agreed, length_said}
 use Rattle.httpedge.specs.Views.{begins_plain, is_plain, without_zeros}
 
 and_parts : (a b : Bool) → a && b ≡ true → (a ≡ true) × (b ≡ true)
@@ -125,14 +127,20 @@ zeros (b ∷ ds) = go (zeros ds) (b == 48) refl
     go later true is = later ∙ zero_first b ds is
     go later false is = refl
 
-pub plain : (ds : List ℕ) → list_all is_ascii_digit ds ≡ true → is_plain (without_zeros ds) ≡ true
-plain [] are = refl
-plain (b ∷ ds) are = go (plain ds (and_parts (is_ascii_digit b) (list_all is_ascii_digit ds) are).1) (b == 48) refl
+plain_digits : (ds : List ℕ) → list_all is_ascii_digit ds ≡ true → is_plain (without_zeros ds) ≡ true
+plain_digits [] are = refl
+plain_digits (b ∷ ds) are = go (plain_digits ds (and_parts (is_ascii_digit b) (list_all is_ascii_digit ds) are).1) (b == 48) refl
   where
     go : is_plain (without_zeros ds) ≡ true → (t : Bool) → (b == 48) ≡ t → is_plain (if t then without_zeros ds else b ∷ ds) ≡ true
     go later true is = later
     go later false is = both (list_all is_ascii_digit (b ∷ ds)) (not (b == 48)) are (ap not is)
 
-pub said : (ds : List ℕ) → (length ds == 0) ≡ false → list_all is_ascii_digit ds ≡ true → number (decimal_value (without_zeros ds)) ≡ length_in ds
-said [] some are = absurd cc
-said (b ∷ ds) some are = ap (λ (n : ℕ). number n) (zeros (b ∷ ds)) ∙ sym (ap (λ (t : Bool). if t then number (decimal_value (b ∷ ds)) else malformed) are)
+pub plain : (ds : List ℕ) → is_length ds ≡ true → is_plain (without_zeros ds) ≡ true
+plain [] is = absurd cc
+plain (b ∷ ds) is = plain_digits (b ∷ ds) is
+
+pub said : (ds : List ℕ) → is_length ds ≡ true → number (decimal_value (without_zeros ds)) ≡ length_said (length_in ds)
+said ds is = ap (λ (n : ℕ). number n) (zeros ds) ∙ sym (ap length_said (length_is ds is))
+
+pub unsaid : (ds : List ℕ) → is_length ds ≡ false → malformed ≡ length_said (length_in ds)
+unsaid ds isnt = sym (ap length_said (length_isnt ds isnt))

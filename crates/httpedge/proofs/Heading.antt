@@ -3,7 +3,8 @@ use Rattle.std.proofs.Common.{◌≡◌, ℕ, List, [], ◌∷◌, ◌++◌, Opt
 use Rattle.http.specs.StatusCode.{IsStatusCode, reason_phrase}
 use Rattle.std.specs.Prelude.{codes, unwrap_or}
 use Rattle.std.specs.Fmt.{decimal}
-use Rattle.httpedge.specs.ReplyBytes.{crlf, phrase_of, allow_field, reply_head}
+use Rattle.wire.specs.Heads.{crlf}
+use Rattle.httpedge.specs.ReplyBytes.{phrase_of, allow_field, reply_head}
 
 -- with this phrase, and this for the field of allowed methods
 abbrev pub pieces : ℕ → ℕ → List ℕ → List ℕ → List ℕ

@@ -1,48 +1,14 @@
 -- What the head of a request says (RFC 9112, sections 2.2, 3, 5 and 6), and when a front of a connection's bytes has it.
-use Rattle.std.specs.Prelude.{◌≡◌, ◌⊎◌, ℕ, ◌+◌, ◌-◌, ◌*◌, Bool, ◌&&◌, ◌||◌, ◌==◌, not, nat_lt, if◌then◌else◌, List, [], ◌∷◌, ◌++◌, length, map, take, drop, Option, Some, None, codes, nat_eq}
-use Rattle.std.specs.Char.{is_ascii_digit}
-use Rattle.std.specs.List.{list_all, list_any, starts_with, filter}
-use Rattle.std.specs.Str.{str_eq_ignore_ascii_case}
+use Rattle.std.specs.Prelude.{◌≡◌, ◌⊎◌, ℕ, Bool, ◌==◌, not, nat_lt, if◌then◌else◌, List, [], ◌∷◌, ◌++◌, length, map, take, drop, Option, Some, None, codes, nat_eq}
+use Rattle.std.specs.List.{list_any, starts_with, filter}
 use Rattle.httparse.specs.Grammar.{RequestHead, ReadsRequest}
 use Rattle.httparse.specs.Spans.{name_and_value}
+use Rattle.wire.specs.Heads.{Named, has_name, head_end, is_content_length, is_transfer_encoding, max_fields, max_head}
+use Rattle.wire.specs.Lengths.{length_in}
 use Rattle.httpedge.specs.Decision.{Decision, undecided, refused, accepted}
 use Rattle.httpedge.specs.Refusals.{head_too_large, bad_head, wrong_version, not_one_host, refuse}
 
--- this server's own limits (their refusal: RFC 6585, section 5)
-abbrev pub max_head : ℕ
-max_head = 16384
-
-abbrev pub max_fields : ℕ
-max_fields = 64
-
--- ---- where a head ends: its first empty line
-
--- the length of the head, counted from n: up to and with its first empty line, an LF that is followed by LF or by CR LF
-abbrev pub end_inside : ℕ → List ℕ → Option ℕ
-end_inside n [] = None
-end_inside n (b ∷ bytes) =
-    if b == 10 && starts_with nat_eq bytes (10 ∷ []) then Some (n + 2)
-    else if b == 10 && starts_with nat_eq bytes (13 ∷ 10 ∷ []) then Some (n + 3)
-    else end_inside (n + 1) bytes
-
--- after n bytes, before the first line: CR and LF are passed over
-abbrev pub end_after : ℕ → List ℕ → Option ℕ
-end_after n [] = None
-end_after n (b ∷ bytes) = if b == 13 || b == 10 then end_after (n + 1) bytes else end_inside n (b ∷ bytes)
-
--- how many bytes the head has, where it ends in these
-abbrev pub head_end : List ℕ → Option ℕ
-head_end bytes = end_after 0 bytes
-
 -- ---- its fields
-
--- a field's name and its value
-abbrev pub Named : Type 0
-Named = List ℕ × List ℕ
-
--- a name is compared without regard to ASCII case
-abbrev pub has_name : List ℕ → Named → Bool
-has_name word field = str_eq_ignore_ascii_case field.0 word
 
 abbrev pub is_host : Named → Bool
 is_host field = has_name (codes "host") field
@@ -53,29 +19,22 @@ media_in [] = None
 media_in (field ∷ fields) = if has_name (codes "content-type") field then Some field.1 else media_in fields
 
 abbrev pub is_transfer_encoded : List Named → Bool
-is_transfer_encoded fields = list_any (has_name (codes "transfer-encoding")) fields
+is_transfer_encoded fields = list_any is_transfer_encoding fields
 
 -- ---- its length
-
--- the number that digits write, after those that make n
-abbrev pub number_after : ℕ → List ℕ → ℕ
-number_after n [] = n
-number_after n (b ∷ bytes) = number_after (n * 10 + (b - 48)) bytes
-
-abbrev pub decimal_value : List ℕ → ℕ
-decimal_value ds = number_after 0 ds
 
 -- what the Content-Length fields say: there is none, they say no one number, or this one
 pub data Length : Type 0 where
   missing malformed : Length
   number : ℕ → Length
 
--- one or more digits
-abbrev pub length_in : List ℕ → Length
-length_in [] = malformed
-length_in (b ∷ bytes) = if list_all is_ascii_digit (b ∷ bytes) then number (decimal_value (b ∷ bytes)) else malformed
+-- a field that is no length says no number
+abbrev pub length_said : Option ℕ → Length
+length_said None = malformed
+length_said (Some n) = number n
 
--- several fields have to say one number; a list in one field, which RFC 9112, section 6.3, lets a server take, is refused here
+-- several fields have to say one number, where a client takes one field at most; a list in one field, which RFC 9112, section 6.3, lets a server
+-- take, is refused here
 abbrev pub agreed : Length → Length → Length
 agreed missing other = other
 agreed malformed other = malformed
@@ -86,7 +45,7 @@ agreed (number m) (number n) = if m == n then number m else malformed
 -- after what earlier fields said
 abbrev pub length_after : Length → List Named → Length
 length_after said [] = said
-length_after said (field ∷ fields) = length_after (if has_name (codes "content-length") field then agreed said (length_in field.1) else said) fields
+length_after said (field ∷ fields) = length_after (if is_content_length field then agreed said (length_said (length_in field.1)) else said) fields
 
 -- ---- the head
 

@@ -1,13 +1,11 @@
 -- The bytes of a reply: status line (RFC 9112, section 4), fields (section 5), body (section 6). Of the fields `Connection: close` is section 9.6;
 -- `Content-Type`, `Content-Length` and `Allow` are RFC 9110, sections 8.3, 8.6 and 10.2.1. A watch is sent in chunks (RFC 9112, section 7.1).
-use Rattle.std.specs.Prelude.{ℕ, List, [], ◌∷◌, ◌++◌, length, Bool, false, Option, None, Some, codes, unwrap_or, nat_le, nat_lt, ◌&&◌, if◌then◌else◌}
-use Rattle.std.specs.Fmt.{decimal, digits}
+use Rattle.std.specs.Prelude.{ℕ, List, [], ◌∷◌, ◌++◌, length, Bool, Option, None, Some, codes, unwrap_or, nat_le, nat_lt, ◌&&◌, if◌then◌else◌}
+use Rattle.std.specs.Fmt.{decimal}
 use Rattle.std.specs.List.{flat_map}
 use Rattle.http.specs.StatusCode.{reason_phrase}
-
--- the end of a line
-abbrev pub crlf : List ℕ
-crlf = 13 ∷ 10 ∷ []
+use Rattle.wire.specs.Chunks.{chunk_of, print_chunk, print_last}
+use Rattle.wire.specs.Heads.{crlf}
 
 -- the phrase of a status code, which has three digits (RFC 9110, section 15)
 abbrev pub phrase_of : ℕ → List ℕ
@@ -38,16 +36,12 @@ watch_head code =
     ++ (codes "Transfer-Encoding: chunked" ++ (crlf
     ++ (codes "Connection: close" ++ (crlf ++ crlf))))))))))
 
--- in lower case
-abbrev pub hexadecimal : ℕ → List ℕ
-hexadecimal n = digits 16 false n
-
 -- the chunk of a line, which has its line feed
 abbrev pub chunk : List ℕ → List ℕ
-chunk line = hexadecimal (length line) ++ (crlf ++ (line ++ crlf))
+chunk line = print_chunk (chunk_of line)
 
 abbrev pub last_chunk : List ℕ
-last_chunk = codes "0" ++ (crlf ++ crlf)
+last_chunk = print_last (codes "0")
 
 abbrev pub end_bytes : Bool → List ℕ
 end_bytes has_ended = if has_ended then last_chunk else []

@@ -13,6 +13,7 @@ use Rattle.verbs.specs.declared.admitting.Denied.{Denied as TheDenied}
 use Rattle.verbs.specs.declared.body.Body.{Body}
 use Rattle.verbs.specs.Calls.{Denied}
 use Rattle.verbs.specs.Seen.{body_seen, denied_of}
+use Rattle.wire.specs.Lengths.{decimal_value}
 use Rattle.httpedge.specs.declared.refusal.Refusal as refusals
 use Rattle.httpedge.specs.declared.refusal.Refusal.TheVariants as refusal
 use Rattle.httpedge.specs.declared.decision.Decision as decisions
@@ -22,7 +23,7 @@ use Rattle.httpedge.specs.declared.head.Length.TheVariants as some_length
 use Rattle.httpedge.specs.declared.head.Head as heads
 use Rattle.httpedge.specs.Refusals.{Refusal, head_too_large, bad_head, wrong_version, not_one_host, transfer_encoding, no_length, bad_length, body_too_large, not_json, too_many_connections}
 use Rattle.httpedge.specs.Decision.{Decision, undecided, refused, accepted}
-use Rattle.httpedge.specs.Heads.{Length, missing, malformed, number, decimal_value, Request}
+use Rattle.httpedge.specs.Heads.{Length, missing, malformed, number, Request}
 
 abbrev pub refusal_seen : refusals.Refusal → Refusal
 refusal_seen refusal.HeadTooLarge = head_too_large

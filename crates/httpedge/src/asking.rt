@@ -2,9 +2,9 @@
 
 ghost use Rattle.std.specs.Prelude.{◌≡◌, ◌++◌, IfOk, take};
 ghost use Rattle.verbs.specs.Seen.{target_of, types_of};
+ghost use Rattle.wire.specs.Heads.{head_end, max_head};
 ghost use Rattle.httpedge.specs.Asks.{call_with, call_in};
 ghost use Rattle.httpedge.specs.Bodies.{body_in, declared_body};
-ghost use Rattle.httpedge.specs.Heads.{head_end, max_head};
 ghost use Rattle.httpedge.specs.Pendings.{Carries, FindsAll, asked_of, pending_call, sized_call};
 ghost use Rattle.httpedge.specs.Views.{request_in};
 

@@ -1,9 +1,9 @@
 //! The body of a request.
 
-ghost use Rattle.std.specs.Prelude.{◌≡◌, ◌≢◌, ◌<◌, ◌≤◌, ◌++◌, ℕ, List, IfOk, MatchOption};
-ghost use Rattle.httpedge.specs.Bodies.{max_body, needs_body, may_have_body, json_in, some_json, sized, needed_length, optional_length, declared_length, body_of, declared_body, body_in};
+ghost use Rattle.std.specs.Prelude.{◌≡◌, ◌≢◌, ◌++◌, ℕ, List, IfOk};
+ghost use Rattle.wire.specs.Lengths.{decimal_value};
+ghost use Rattle.httpedge.specs.Bodies.{needs_body, may_have_body, json_in, some_json, sized, needed_length, optional_length, declared_length, body_of, declared_body, body_in};
 ghost use Rattle.httpedge.specs.Decision.{undecided};
-ghost use Rattle.httpedge.specs.Heads.{decimal_value};
 ghost use Rattle.httpedge.specs.Views.{data_of, decision_of, declared_of, length_of, request_in};
 
 use crate::decision::Decision;
@@ -11,8 +11,9 @@ use crate::head::{Head, Length};
 use crate::refusal::Refusal;
 use std::alloc::{AllocError, Global};
 use verbs::{Body, Denied};
+use wire::decimal_value;
 
-const MAX_BODY: usize = 65_536;
+pub(crate) const MAX_BODY: usize = 65_536;
 
 fn needs_body(method: &str) -> bool
     ensures { result ≡ needs_body method.now }
@@ -24,20 +25,6 @@ pub(crate) fn may_have_body(method: &str) -> bool
     ensures { result ≡ may_have_body method.now }
 {
     method == "DELETE"
-}
-
-/// The number that digits write, where it isn't above the limit.
-pub(crate) fn decimal_value(digits: &[u8]) -> Option<usize>
-    ensures { MatchOption result (max_body < decimal_value digits.now) (λ n. (n ≡ decimal_value digits.now) × (n ≤ max_body)) }
-{
-    let mut number = 0;
-    for digit in digits {
-        number = number * 10 + usize::from(digit.saturating_sub(b'0'));
-        if number > MAX_BODY {
-            return None;
-        }
-    }
-    Some(number)
 }
 
 fn json_in(alloc: Global, bytes: &[u8]) -> Result<Decision<Option<Body>>, AllocError>
@@ -53,7 +40,7 @@ fn json_in(alloc: Global, bytes: &[u8]) -> Result<Decision<Option<Body>>, AllocE
 fn sized(digits: &[u8]) -> Result<Option<usize>, Denied>
     ensures { declared_of result ≡ sized (decimal_value digits.now) }
 {
-    match decimal_value(digits) {
+    match decimal_value(digits, MAX_BODY) {
         None => Err(Refusal::BodyTooLarge.denied()),
         Some(length) => Ok(Some(length)),
     }
@@ -75,7 +62,7 @@ fn optional_length(length: Length<'_>) -> Result<Option<usize>, Denied>
     match length {
         Length::Missing => Ok(None),
         Length::Malformed => Err(Refusal::BadLength.denied()),
-        Length::Digits(digits) => match decimal_value(digits) {
+        Length::Digits(digits) => match decimal_value(digits, MAX_BODY) {
             None => Err(Refusal::BodyTooLarge.denied()),
             Some(0) => Ok(None),
             Some(length) => Ok(Some(length)),

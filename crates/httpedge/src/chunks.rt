@@ -2,7 +2,9 @@
 
 ghost use Rattle.std.specs.Prelude.{◌≡◌, ◌++◌, IfOk, OnOk, string_bytes};
 ghost use Rattle.watchline.specs.Views.{lines_in};
-ghost use Rattle.httpedge.specs.ReplyBytes.{chunk, chunks, crlf, end_bytes, hexadecimal};
+ghost use Rattle.wire.specs.Heads.{crlf};
+ghost use Rattle.wire.specs.Lengths.{hexadecimal};
+ghost use Rattle.httpedge.specs.ReplyBytes.{chunk, chunks, end_bytes};
 
 use std::alloc::{AllocError, Global};
 

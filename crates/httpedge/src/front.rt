@@ -1,31 +1,35 @@
 //! The bytes of a request whose head hasn't come whole.
 
 ghost use Rattle.std.specs.Prelude.{take};
-ghost use Rattle.httpedge.specs.HeadEnds.{IsPlaceIn, IsSearchedTo};
-ghost use Rattle.httpedge.specs.Heads.{max_head};
+ghost use Rattle.wire.specs.Heads.{max_head};
+ghost use Rattle.httpedge.specs.HeadEnds.{IsSearchedTo, IsWithin};
 
-use crate::head_end::{Place, front_of, search};
+use crate::head_end::{Searched, front_of, search};
 use std::alloc::{AllocError, Global};
+use wire::Place;
 
-/// All the bytes that came, and where the search for the head's end goes on.
+/// All the bytes that came, and how far they were searched for the head's end.
 #[derive(Debug, Drop)]
 pub(crate) struct Front {
     bytes: Vec<u8>,
-    place: Place,
-    ghost within: { IsPlaceIn (take max_head bytes.items) place },
-    ghost searched: { IsSearchedTo bytes.items place },
+    searched: Searched,
+    ghost within: { IsWithin (take max_head bytes.items) searched },
+    ghost goes_on: { IsSearchedTo bytes.items searched },
 }
 
 impl Front {
     ghost use Rattle.std.specs.Prelude.{◌≡◌, ◌++◌, [], take, IfOk};
-    ghost use Rattle.httpedge.specs.Heads.{max_head, head_end};
+    ghost use Rattle.wire.specs.Heads.{head_end, max_head};
 
     pub(crate) fn new(alloc: Global) -> Front
         ensures { result.bytes.items ≡ [] }
     {
         Front {
             bytes: Vec::new(alloc),
-            place: Place::Before(0),
+            searched: Searched {
+                count: 0,
+                place: Place::Leading,
+            },
         }
     }
 
@@ -33,9 +37,12 @@ impl Front {
     pub(crate) fn with(self, more: &[u8]) -> Result<Front, AllocError>
         ensures { IfOk result (λ front. front.bytes.items ≡ self.bytes.items ++ more.now) }
     {
-        let Front { mut bytes, place } = self;
+        let Front {
+            mut bytes,
+            searched,
+        } = self;
         bytes.extend_from_slice(more)?;
-        Ok(Front { bytes, place })
+        Ok(Front { bytes, searched })
     }
 
     pub(crate) fn bytes(&self) -> &[u8]
@@ -49,8 +56,8 @@ impl Front {
         ensures end { result ≡ head_end (take max_head self.old.bytes.items) }
         ensures bytes { self.new.bytes ≡ self.old.bytes }
     {
-        let found = search(front_of(&self.bytes), self.place);
-        self.place = found.place;
+        let found = search(front_of(&self.bytes), self.searched);
+        self.searched = found.searched;
         found.end
     }
 }

@@ -1,21 +1,21 @@
 //! What the head of a request says, and when it has come.
 
 ghost use Rattle.std.specs.Prelude.{◌≡◌, ◌≢◌, ◌≤◌, ◌++◌, ℕ, List, true, Some, None, [], length, take, drop, map, option_map, IfSome, IsUtf8};
-ghost use Rattle.std.specs.List.{All, list_all, filter};
-ghost use Rattle.std.specs.Char.{is_ascii_digit};
+ghost use Rattle.std.specs.List.{All, filter};
 ghost use Rattle.httparse.specs.Grammar.{RequestHead, ReadsRequest};
 ghost use Rattle.httparse.specs.Spans.{header_bytes, span_bytes, IsHeaderWithin, IsWithin, IsRequestWithin};
-ghost use Rattle.httpedge.specs.Heads.{max_head, head_end, has_name, is_host, media_in, is_transfer_encoded, decimal_value, length_in, agreed, length_after, missing, number, validated, ReadsWholeHead, ReadsHeadAt, HeadDecision, ReadsHead, with_more};
+ghost use Rattle.wire.specs.Heads.{head_end, max_head};
+ghost use Rattle.wire.specs.Lengths.{decimal_value, length_in};
+ghost use Rattle.httpedge.specs.Heads.{is_host, media_in, is_transfer_encoded, agreed, length_after, length_said, missing, number, validated, ReadsWholeHead, ReadsHeadAt, HeadDecision, ReadsHead, with_more};
 ghost use Rattle.httpedge.specs.Decision.{undecided};
 ghost use Rattle.httpedge.specs.Views.{decision_of, head_of, is_plain, length_of, without_zeros, IsPlain, IsWholeAt};
 
 use crate::decision::Decision;
-use crate::head_end::{MAX_HEAD, end_of};
+use crate::head_end::end_of;
 use crate::refusal::Refusal;
 use httparse::Status;
 use httparse::spans::{EMPTY_HEADER_SPAN, HeaderSpan, RequestSpans, parse_request};
-
-const MAX_FIELDS: usize = 64;
+use wire::{MAX_FIELDS, MAX_HEAD, has_name, is_length};
 
 /// More fields than a head of 16,384 bytes can hold.
 const ROOM: usize = 5_462;
@@ -42,13 +42,6 @@ pub struct Head<'b> {
     pub is_transfer_encoded: bool,
     pub length: Length<'b>,
     pub rest: &'b [u8],
-}
-
-fn has_name(head: &[u8], field: &HeaderSpan, word: &[u8]) -> bool
-    requires { IsHeaderWithin (length head.now) field.now }
-    ensures { result ≡ has_name word.now (header_bytes head.now field.now) }
-{
-    field.name.of(head).eq_ignore_ascii_case(word)
 }
 
 fn hosts_in(head: &[u8], fields: &[HeaderSpan]) -> usize
@@ -99,22 +92,11 @@ fn without_zeros(digits: &[u8]) -> &[u8]
     &digits[digits.len()..]
 }
 
-fn are_digits(value: &[u8]) -> bool
-    ensures { result ≡ list_all is_ascii_digit value.now }
-{
-    for byte in value {
-        if !byte.is_ascii_digit() {
-            return false;
-        }
-    }
-    true
-}
-
-fn length_in(value: &[u8]) -> Length<'_>
-    ensures value { length_of result ≡ length_in value.now }
+fn length_said(value: &[u8]) -> Length<'_>
+    ensures value { length_of result ≡ length_said (length_in value.now) }
     ensures plain { IsPlain result }
 {
-    if value.is_empty() || !are_digits(value) {
+    if !is_length(value) {
         return Length::Malformed;
     }
     Length::Digits(without_zeros(value))
@@ -161,7 +143,7 @@ fn length_of<'b>(head: &'b [u8], fields: &[HeaderSpan]) -> Length<'b>
     let mut length = Length::Missing;
     for field in fields {
         if has_name(head, field, b"content-length") {
-            length = agreed(length, length_in(field.value.of(head)));
+            length = agreed(length, length_said(field.value.of(head)));
         }
     }
     length

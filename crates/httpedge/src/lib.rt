@@ -3,8 +3,8 @@
 //! What a connection asks depends on the bytes that came and on nothing else, however they were cut; a reply
 //! is written byte for byte as the definitions say, and so is a watch, a chunk for each line.
 //!
-//! Stands on `verbs` for what a call answers, on `watchline` for what a watch tells, on `httparse` for the grammar of a head (RFC 9112), on `http` for
-//! phrases and on `serde_json`.
+//! Stands on `wire` for what both ends say alike, on `verbs` for what a call answers, on `watchline` for what a watch
+//! tells, on `httparse` for the grammar of a head (RFC 9112), on `http` for phrases and on `serde_json`.
 #![tactic(auto)]
 
 mod answering;

@@ -4,8 +4,9 @@ ghost use Rattle.std.specs.Prelude.{◌≡◌, option_map};
 ghost use Rattle.httpedge.specs.Bodies.{has_length, checked_media, path_of, query_of};
 ghost use Rattle.httpedge.specs.Views.{length_of, request_in};
 
-use crate::body::{decimal_value, may_have_body};
+use crate::body::{MAX_BODY, may_have_body};
 use crate::head::{Head, Length};
+use wire::decimal_value;
 
 /// What stands before the first question mark (RFC 9112, section 3.2.1).
 pub fn path_of(request_target: &str) -> &str
@@ -34,7 +35,7 @@ fn has_length(length: Length<'_>) -> bool
     match length {
         Length::Missing => false,
         Length::Malformed => true,
-        Length::Digits(digits) => decimal_value(digits) != Some(0),
+        Length::Digits(digits) => decimal_value(digits, MAX_BODY) != Some(0),
     }
 }
 

@@ -12,6 +12,8 @@ use Rattle.std.specs.Str.Parse.{AllDigits}
 use Rattle.httparse.specs.Grammar as grammar
 use Rattle.httparse.specs.Grammar.{AllPass, Field, IsField, is_token_byte, is_ows, is_value_byte, skip_ows, trim_ows}
 use Rattle.httparse.proofs.TrimLemmas.{AllPass-reverse, trim_ows_space}
+use Rattle.wire.proofs.Lengths.{digit_is_digit}
+use Rattle.wire.proofs.Lines.{passes_each}
 
 pub and_first : (a b : Bool) → (a && b) ≡ true → a ≡ true
 and_first true b is = refl
@@ -20,11 +22,6 @@ and_first false b is = absurd cc
 pub and_rest : (a b : Bool) → (a && b) ≡ true → b ≡ true
 and_rest true b is = is
 and_rest false b is = absurd cc
-
-pub passes_each : (test : ℕ → Bool) (bytes : List ℕ) → list_all test bytes ≡ true → AllPass test bytes
-passes_each test [] all = All-nil (λ b. IsTrue (test b))
-passes_each test (b ∷ bytes) all =
-    All-cons (λ v. IsTrue (test v)) b bytes (and_first (test b) (list_all test bytes) all) (passes_each test bytes (and_rest (test b) (list_all test bytes) all))
 
 -- a field whose value stands after one blank
 abbrev pub field : List ℕ → List ℕ → Field
@@ -43,14 +40,6 @@ digits_pass test is [] all = All-nil (λ b. IsTrue (test b))
 digits_pass test is (b ∷ digits) all =
     let range = digit_from_value b all.0 in
     All-cons (λ v. IsTrue (test v)) b digits (is b range.0 range.1) (digits_pass test is digits all.1)
-
-pub digit_is_digit : (b : ℕ) → 48 ≤ b → b ≤ 57 → is_ascii_digit b ≡ true
-digit_is_digit b low high = go (leb 48 b) (leb b 57) (le-leb _ _ low) (le-leb _ _ high)
-  where
-    go : (s t : Bool) → s ≡ true → t ≡ true → (s && t) ≡ true
-    go true true s-is t-is = refl
-    go true false s-is t-is = absurd cc
-    go false t s-is t-is = absurd cc
 
 pub digit_is_value : (b : ℕ) → 48 ≤ b → b ≤ 57 → is_value_byte b ≡ true
 digit_is_value b low high = go (b == 9) (leb 32 b) (b == 127) (le-leb _ _ (omega (arith, low))) (ne_eqb b 127 (λ e. absurd (omega (arith, e, high))))

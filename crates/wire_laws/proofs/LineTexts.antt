@@ -5,9 +5,8 @@ use Rattle.std.specs.List.{list_any}
 use Rattle.watchline.specs.declared.event.EventType.{EventType}
 use Rattle.watchline.specs.declared.event.EventType.TheVariants as event
 use Rattle.watchline.specs.Lines.{line, type_text}
-use Rattle.wireclient.specs.Chunks.{IsLine}
+use Rattle.wireclient.specs.Lines.{IsLine, with_feed}
 use Rattle.wireclient.specs.Reply.{max_line}
-use Rattle.wire_laws.specs.Watched.{with_feed}
 
 abbrev has_feed : List ℕ → Bool
 has_feed text = list_any (λ b. b == 10) text

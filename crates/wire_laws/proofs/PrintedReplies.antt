@@ -12,11 +12,14 @@ use Rattle.http.specs.StatusCode.{IsStatusCode}
 use Rattle.httparse.specs.Grammar as grammar
 use Rattle.httparse.specs.Grammar.{AllPass, is_token_byte, is_value_byte, Field, IsField, print_field, ResponseHead, IsResponseHead, print_response, status_code, trim_ows}
 use Rattle.httparse.specs.Spans.{name_and_value}
-use Rattle.httpedge.specs.ReplyBytes.{crlf, phrase_of, allow_field, reply}
-use Rattle.wireclient.specs.Reads.{Items, framing_of, length_in, max_body, max_fields}
-use Rattle.wireclient.specs.Reply.{by_length, end, head, whole, max_head}
+use Rattle.wire.specs.Heads.{crlf, max_fields, max_head}
+use Rattle.wire.specs.Lengths.{length_in}
+use Rattle.wire.proofs.Lines.{passes_each}
+use Rattle.httpedge.specs.ReplyBytes.{phrase_of, allow_field, reply}
+use Rattle.wireclient.specs.Reads.{Items, framed_by_length, framing_of, max_body}
+use Rattle.wireclient.specs.Reply.{by_length, end, head, whole}
 use Rattle.wire_laws.specs.Printed.{IsAllowed}
-use Rattle.wire_laws.proofs.Fields.{field, decimal_digits, decimal_is_value, is_field, passes_each, trimmed}
+use Rattle.wire_laws.proofs.Fields.{field, decimal_digits, decimal_is_value, is_field, trimmed}
 use Rattle.wire_laws.proofs.Statuses.{phrase_passes, phrase_short}
 
 abbrev allow_of : Option (List ℕ) → List Field
@@ -113,9 +116,9 @@ few_fields : (allow : Option (List ℕ)) (count : List ℕ) → length (fields_o
 few_fields None count = omega arith
 few_fields (Some methods) count = omega arith
 
-framed : (allow : Option (List ℕ)) (count : List ℕ) → trim_ows (32 ∷ count) ≡ count → framing_of (map name_and_value (fields_of allow count)) ≡ length_in count
-framed None count is = ap length_in is
-framed (Some methods) count is = ap length_in is
+framed : (allow : Option (List ℕ)) (count : List ℕ) → trim_ows (32 ∷ count) ≡ count → framing_of (map name_and_value (fields_of allow count)) ≡ framed_by_length (length_in count)
+framed None count is = ap (λ (value : List ℕ). framed_by_length (length_in value)) is
+framed (Some methods) count is = ap (λ (value : List ℕ). framed_by_length (length_in value)) is
 
 -- ---- its length
 
@@ -144,7 +147,7 @@ ReadsBack = (h : ResponseHead) (body : List ℕ) → IsResponseHead h → length
     → Items (print_response h ++ body) (head (status_code h) ∷ whole body ∷ end ∷ [])
 
 head_read : ReadsBack → (code phrase : List ℕ) (allow : Option (List ℕ)) (count body : List ℕ) → (length code ≡ 3) × AllPass is_ascii_digit code → AllPass is_value_byte phrase → length phrase ≤ 64 → IsAllowed allow
-    → AllPass is_value_byte count → length count ≤ 10 → trim_ows (32 ∷ count) ≡ count → length_in count ≡ Some (by_length (length body))
+    → AllPass is_value_byte count → length count ≤ 10 → trim_ows (32 ∷ count) ≡ count → framed_by_length (length_in count) ≡ Some (by_length (length body))
     → Items (head_text code phrase allow count ++ body) (head (digits_value 10 code) ∷ whole body ∷ end ∷ [])
 head_read reads code phrase allow count body digits pass short allowed value ten trim counts =
     let is : IsResponseHead (head_of code phrase allow count) = record { minor = omega arith; digits = digits; reason = pass; fields = are_fields allow count allowed value } in
@@ -154,7 +157,7 @@ head_read reads code phrase allow count body digits pass short allowed value ten
     subst (λ (xs : List ℕ). Items (xs ++ body) (head (digits_value 10 code) ∷ whole body ∷ end ∷ [])) same
     (reads (head_of code phrase allow count) body is fits (few_fields allow count) (framed allow count trim ∙ counts))
 
-pub reply_read : ReadsBack → ((n : ℕ) → n ≤ max_body → length_in (decimal n) ≡ Some (by_length n)) → (code : ℕ) (allow : Option (List ℕ)) (body : List ℕ)
+pub reply_read : ReadsBack → ((n : ℕ) → n ≤ max_body → framed_by_length (length_in (decimal n)) ≡ Some (by_length n)) → (code : ℕ) (allow : Option (List ℕ)) (body : List ℕ)
     → IsStatusCode code → IsAllowed allow → length body ≤ max_body → Items (reply code allow body) (head code ∷ whole body ∷ end ∷ [])
 reply_read reads counts code allow body is allowed small =
     let low : code < 2 ^ 64 = let top = is.1 in omega (arith, top) in

@@ -11,13 +11,17 @@ use Rattle.http.specs.StatusCode.{IsStatusCode}
 use Rattle.httparse.specs.Grammar as grammar
 use Rattle.httparse.specs.Grammar.{AllPass, is_token_byte, is_value_byte, Field, IsField, print_field, ResponseHead, IsResponseHead, print_response, status_code}
 use Rattle.httparse.specs.Spans.{name_and_value}
-use Rattle.httpedge.specs.ReplyBytes.{chunks, crlf, phrase_of, watch_head}
-use Rattle.wireclient.specs.Chunks.{Chunk, IsChunk, IsLine, IsSize, print_chunk, print_chunks, print_lines}
-use Rattle.wireclient.specs.Reads.{Items, framing_of, max_fields}
-use Rattle.wireclient.specs.Reply.{by_chunks, end, head, line, max_head}
-use Rattle.wire_laws.specs.Watched.{joined, told_of, with_feed}
+use Rattle.wire.specs.Chunks.{Chunk, IsChunk, print_chunk, print_chunks}
+use Rattle.wire.specs.Heads.{crlf, max_fields, max_head}
+use Rattle.wire.specs.Lengths.{IsSize}
+use Rattle.wire.proofs.Lines.{passes_each}
+use Rattle.httpedge.specs.ReplyBytes.{chunks, phrase_of, watch_head}
+use Rattle.wireclient.specs.Lines.{IsLine, print_lines, with_feed}
+use Rattle.wireclient.specs.Reads.{Items, framing_of}
+use Rattle.wireclient.specs.Reply.{by_chunks, end, head, line}
+use Rattle.wire_laws.specs.Watched.{joined, told_of}
 use Rattle.wire_laws.proofs.Chunking.{are_chunks, chunks_of, contents, ended_chunks, last_size, open_chunks, turns_joined}
-use Rattle.wire_laws.proofs.Fields.{decimal_digits, field, is_field, passes_each}
+use Rattle.wire_laws.proofs.Fields.{decimal_digits, field, is_field}
 use Rattle.wire_laws.proofs.PrintedReplies.{is_connection, is_content_type, status_line, three_digits}
 use Rattle.wire_laws.proofs.Statuses.{phrase_passes, phrase_short}
 

@@ -5,8 +5,9 @@ use Rattle.std.specs.List.{list_all}
 use Rattle.std.proofs.lemmas.Bool.{leb-true}
 use Rattle.http.specs.StatusCode.{reason_phrase}
 use Rattle.httparse.specs.Grammar.{AllPass, is_value_byte}
+use Rattle.wire.proofs.Lines.{passes_each}
 use Rattle.httpedge.specs.ReplyBytes.{phrase_of}
-use Rattle.wire_laws.proofs.Fields.{and_first, and_rest, passes_each}
+use Rattle.wire_laws.proofs.Fields.{and_first, and_rest}
 
 abbrev is_fine : List ℕ → Bool
 is_fine text = list_all is_value_byte text && nat_le (length text) 64

@@ -27,10 +27,9 @@ use Rattle.verbs.specs.Machine.{AreObjectTypes, AreUnicode, IsBodyAt, IsMachine,
 use Rattle.verbs.specs.Watching.{bookmarked_as}
 use Rattle.verbs.proofs.Said.{shapes_of}
 use Rattle.httpedge.specs.Watches.{Watch, line_list, marked, pumped, ticked, turned}
-use Rattle.wireclient.specs.Chunks.{IsLine}
+use Rattle.wireclient.specs.Lines.{IsLine, with_feed}
 use Rattle.wireclient.specs.Reply.{max_line}
 use Rattle.wire_laws.specs.TurnLines.{AreLines, MarkFits}
-use Rattle.wire_laws.specs.Watched.{with_feed}
 use Rattle.wire_laws.proofs.LineTexts.{line_text}
 
 no_lines : AreLines []

@@ -3,11 +3,12 @@ use Rattle.std.specs.Prelude.{◌≡◌, ℕ, ◌+◌, ◌<◌, ◌≤◌, ◌^�
 use Rattle.std.specs.List.{All, starts_with}
 use Rattle.httparse.specs.Grammar.{AllPass, IsToken, is_uri_byte, is_value_byte, trim_ows}
 use Rattle.schema.specs.TypesFile.{ServedShape}
+use Rattle.wire.specs.Heads.{max_head}
 use Rattle.verbs.specs.Admit.{admitted}
 use Rattle.httpedge.specs.Asks.{CallDecision}
 use Rattle.httpedge.specs.Bodies.{json_in, some_json}
 use Rattle.httpedge.specs.Decision.{accepted, and_then, decided_by}
-use Rattle.httpedge.specs.Heads.{Length, missing, number, Request, max_head}
+use Rattle.httpedge.specs.Heads.{Length, missing, number, Request}
 use Rattle.wireclient.specs.Request.{body_bytes, request}
 
 -- the methods that a reply allows: a field's value (RFC 9112, section 5), for which a head has room
@@ -20,14 +21,23 @@ abbrev pub IsMedia : Option (List ℕ × List ℕ) → Type 0
 IsMedia None = Unit {0}
 IsMedia (Some (media, bytes)) = AllPass is_value_byte media × (trim_ows (32 ∷ media) ≡ media) × (length bytes < 2 ^ 64)
 
--- a method of the grammar, a target that is a path with or without a query, and a head that is not too long
-pub record IsPrinted (method request_target : List ℕ) (body : Option (List ℕ × List ℕ)) : Type 0 where
+-- a method of the grammar, a target that is a path with or without a query, and a media type
+pub record IsRequest (method request_target : List ℕ) (body : Option (List ℕ × List ℕ)) : Type 0 where
   pub token : IsToken method
   pub path : starts_with nat_eq request_target (codes "/") ≡ true
   pub visible : AllPass is_uri_byte request_target
   pub text : IsUtf8 request_target
   pub media : IsMedia body
+
+-- such a request, whose head a server takes
+pub record IsPrinted (method request_target : List ℕ) (body : Option (List ℕ × List ℕ)) : Type 0 where
+  pub parts : IsRequest method request_target body
   pub fits : length (request method request_target body) ≤ max_head + length (body_bytes body)
+
+-- such a request, whose head is too long for that
+pub record IsTooLong (method request_target : List ℕ) (body : Option (List ℕ × List ℕ)) : Type 0 where
+  pub parts : IsRequest method request_target body
+  pub long : max_head + length (body_bytes body) < length (request method request_target body)
 
 abbrev pub media_of : Option (List ℕ × List ℕ) → Option (List ℕ)
 media_of None = None

@@ -6,9 +6,8 @@ use Rattle.schema.specs.TypesFile.{ServedShape}
 use Rattle.verbs.specs.Envelope.{api_version_of}
 use Rattle.watchline.specs.Lines.{bookmark_value}
 use Rattle.watchline.specs.Watches.{Cursor}
-use Rattle.wireclient.specs.Chunks.{IsLine}
+use Rattle.wireclient.specs.Lines.{IsLine, with_feed}
 use Rattle.wireclient.specs.Reply.{max_line}
-use Rattle.wire_laws.specs.Watched.{with_feed}
 
 -- each is a text that is a line to the client, with its line feed
 abbrev pub AreLines : List (List ℕ) → Type 0

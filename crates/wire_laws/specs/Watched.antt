@@ -3,10 +3,6 @@ use Rattle.std.specs.Prelude.{ℕ, Bool, List, [], ◌∷◌, ◌++◌, map, if�
 use Rattle.std.specs.List.{flat_map}
 use Rattle.wireclient.specs.Reply.{Told, end, head, line}
 
--- a text as a watch prints it, with its line feed
-abbrev pub with_feed : List ℕ → List ℕ
-with_feed text = text ++ 10 ∷ []
-
 abbrev pub end_told : Bool → List Told
 end_told has_ended = if has_ended then end ∷ [] else []
 

@@ -12,7 +12,9 @@ mod turn_lines;
 mod watches;
 
 pub use replies::{answers_are_read, lists_are_read, refusals_are_read, replies_are_read};
-pub use requests::{bodies_are_read, queries_are_read, requests_are_read, requests_ask};
+pub use requests::{
+    bodies_are_read, long_requests_are_refused, queries_are_read, requests_are_read, requests_ask,
+};
 pub use turn_lines::{answers_are_written, turns_are_lines};
 pub use watches::{
     ends_are_silent, texts_are_lines, turns_are_read, turns_are_written, watches_are_read,

@@ -9,14 +9,22 @@ ghost use Rattle.httpedge.specs.Asks.{Asks};
 ghost use Rattle.httpedge.specs.Bodies.{body_in, max_body, needs_body, path_of, query_of, some_json, json_in};
 ghost use Rattle.httpedge.specs.Heads.{ReadsHead};
 ghost use Rattle.httpedge.specs.Decision.{accepted};
+ghost use Rattle.httpedge.specs.Refusals.{head_too_large, refuse};
 ghost use Rattle.wireclient.specs.Request.{body_bytes, request};
-ghost use Rattle.wire_laws.specs.Printed.{IsPrinted, IsTextPair, asked_by, asked_without, is_question, said_of};
+ghost use Rattle.wire_laws.specs.Printed.{IsPrinted, IsTextPair, IsTooLong, asked_by, asked_without, is_question, said_of};
 
 /// A request that the client prints (RFC 9112, section 3) says on the server this method, this target and this media
 /// type, and its body stands after the head.
 pub fn requests_are_read()
     ensures { (method request_target : List ℕ) (body : Option (List ℕ × List ℕ)) → IsPrinted method request_target body
         → ReadsHead (request method request_target body) (accepted (said_of method request_target body, body_bytes body)) }
+{}
+
+/// A request whose head is too long for a server is refused as that, whatever it asks.
+pub fn long_requests_are_refused()
+    ensures reads { (method request_target : List ℕ) (body : Option (List ℕ × List ℕ)) → IsTooLong method request_target body → ReadsHead (request method request_target body) (refuse head_too_large) }
+    ensures asks { (types : List ServedShape) (method request_target : List ℕ) (body : Option (List ℕ × List ℕ)) → IsTooLong method request_target body
+        → Asks types (request method request_target body) (refuse head_too_large) }
 {}
 
 /// The body of such a request, where its method needs one, is read as what these bytes are as JSON.

@@ -16,10 +16,10 @@ ghost use Rattle.httpedge.specs.ReplyBytes.{chunks, watch_head};
 ghost use Rattle.httpedge.specs.Runs.{Follows, Happening, Steps};
 ghost use Rattle.httpedge.specs.Steps.{State, comes, pumps, standing_after, ticks, turn_bytes};
 ghost use Rattle.httpedge.specs.Watches.{Watch, begun_at, pumped, ticked};
-ghost use Rattle.wireclient.specs.Chunks.{IsLine};
+ghost use Rattle.wireclient.specs.Lines.{IsLine, with_feed};
 ghost use Rattle.wireclient.specs.Reads.{Items};
 ghost use Rattle.wireclient.specs.Reply.{max_line};
-ghost use Rattle.wire_laws.specs.Watched.{joined, told_of, with_feed};
+ghost use Rattle.wire_laws.specs.Watched.{joined, told_of};
 
 /// A line of a watch is a text that is a line to the client, with its line feed, where the text of its object has no line
 /// feed and leaves room for what stands around it.

@@ -9,9 +9,12 @@ use Rattle.std.specs.List.{All, flat_map, list_all, list_any}
 use Rattle.std.specs.Str.Parse.{digits_value, digits_value_after}
 use Rattle.httparse.specs.Grammar.{ResponseHead, IsResponseHead, print_response, status_code}
 use Rattle.httparse.specs.Spans.{name_and_value}
-use Rattle.wireclient.specs.Chunks.{Chunk, IsChunk, IsSize, IsLine, crlf, print_chunk, print_chunks, print_lines}
-use Rattle.wireclient.specs.Reads.{Items, Judged, Leads, framing_of, max_fields, start}
-use Rattle.wireclient.specs.Reply.{by_chunks, Told, head, line, end, State, size, size_lf, data_in, data_cr, last_cr, ended, max_head, max_line, Next, fails, goes_to, data_after, digit_onto, step}
+use Rattle.wire.specs.Chunks.{Chunk, IsChunk, print_chunk, print_chunks}
+use Rattle.wire.specs.Heads.{crlf, max_fields, max_head}
+use Rattle.wire.specs.Lengths.{IsSize}
+use Rattle.wireclient.specs.Lines.{IsLine, print_lines}
+use Rattle.wireclient.specs.Reads.{Items, Judged, Leads, framing_of, start}
+use Rattle.wireclient.specs.Reply.{by_chunks, Told, head, line, end, State, size, size_lf, data_in, data_cr, last_cr, ended, max_line, Next, fails, goes_to, data_after, digit_onto, step}
 use Rattle.wireclient.proofs.Leading.{leads_append}
 use Rattle.wireclient.proofs.Lengthened.{after_more, data_next, none_first, none_rest}
 use Rattle.wireclient.proofs.Printed.{head_ends}

@@ -4,7 +4,9 @@ use Rattle.std.specs.Prelude.{◌&&◌, ◌||◌, ◌==◌, ◌+◌}
 use Rattle.std.specs.Char.{is_ascii_hexdigit, digit_value}
 use Rattle.std.specs.List.{list_any}
 use Rattle.wireclient.specs.Reads.{Leads, has_malformed, has_closed}
-use Rattle.wireclient.specs.Reply.{by_length, by_chunks, Judgement, Told, head, whole, line, end, malformed, is_malformed, is_last, State, heading, body, size, size_lf, data_in, data_cr, data_lf, last_cr, last_lf, ended, broken, Place, place_after, max_head, max_line, Next, fails, goes_to, begun, headed, data_after, digit_onto, step}
+use Rattle.wire.specs.declared.place.Place.{Place}
+use Rattle.wire.specs.Heads.{max_head, place_after}
+use Rattle.wireclient.specs.Reply.{by_length, by_chunks, Judgement, Told, head, whole, line, end, malformed, is_malformed, is_last, State, heading, body, size, size_lf, data_in, data_cr, data_lf, last_cr, last_lf, ended, broken, max_line, Next, fails, goes_to, begun, headed, data_after, digit_onto, step}
 use Rattle.wireclient.proofs.Lengthened.{after_broken, after_end}
 
 -- after a bad byte; or, where e, after that or the end

@@ -4,7 +4,9 @@ use Rattle.httparse.specs.Grammar.{ResponseHead, status_code}
 use Rattle.httparse.specs.Spans.{name_and_value}
 use Rattle.httparse.proofs.GrammarLemmas.{response_unique}
 use Rattle.wireclient.specs.Reads.{Judged, JudgedWhereEnded, JudgedAt, Items, Leads, Stands, framing_of, start}
-use Rattle.wireclient.specs.Reply.{Framing, Judgement, Told, Place, State, heading, body, size, size_lf, data_in, data_cr, data_lf, last_cr, last_lf, ended, broken, place_after, max_head, Next, fails, headed, step}
+use Rattle.wire.specs.declared.place.Place.{Place}
+use Rattle.wire.specs.Heads.{max_head, place_after}
+use Rattle.wireclient.specs.Reply.{Framing, Judgement, Told, State, heading, body, size, size_lf, data_in, data_cr, data_lf, last_cr, last_lf, ended, broken, Next, fails, headed, step}
 
 framed_alike : (h k : ResponseHead) → h ≡ k → framing_of (map name_and_value h.fields) ≡ framing_of (map name_and_value k.fields)
 framed_alike h k same = ap (λ (m : ResponseHead). framing_of (map name_and_value m.fields)) same

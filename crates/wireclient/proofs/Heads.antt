@@ -2,7 +2,9 @@
 use Rattle.std.proofs.Common.{◌≡◌, ℕ, Bool, true, false, cond, leb, List, [], ◌∷◌, ◌++◌, length, Option, Some, None, Result, Ok, Err, refl, sym, ap, ◌∙◌}
 use Rattle.std.specs.Prelude.{IfOk, OnOk}
 use Rattle.wireclient.specs.Reads.{Judged, JudgedWhereEnded, Steps}
-use Rattle.wireclient.specs.Reply.{Judgement, State, heading, Place, place_after, Told, Next, fails, begun, headed, max_head}
+use Rattle.wire.specs.declared.place.Place.{Place}
+use Rattle.wire.specs.Heads.{max_head, place_after}
+use Rattle.wireclient.specs.Reply.{Judgement, State, heading, Told, Next, fails, begun, headed}
 
 pub judged_so : (t : Bool) (bytes : List ℕ) (o : Option Place) (j : Judgement) → Judged bytes j → JudgedWhereEnded t bytes o j
 judged_so true bytes o j h = tt

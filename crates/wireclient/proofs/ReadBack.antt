@@ -1,22 +1,24 @@
 -- A printed reply is read as its status, its body and the end.
-use Rattle.std.proofs.Common.{arith, ◌≡◌, ℕ, ◌+◌, ◌-◌, ◌*◌, ◌≤◌, ◌<◌, ◌^◌, Bool, true, false, cond, leb, List, [], ◌∷◌, ◌++◌, length, map, Option, Some, None, refl, sym, ap, ap₂, subst, ◌∙◌, append_assoc, append-nil}
+use Rattle.std.proofs.Common.{arith, ◌≡◌, ℕ, ◌+◌, ◌-◌, ◌≤◌, ◌<◌, Bool, true, false, cond, leb, List, [], ◌∷◌, ◌++◌, length, map, Option, Some, None, refl, sym, ap, ap₂, subst, ◌∙◌, append_assoc, append-nil}
 use Rattle.std.proofs.lemmas.Bool.{lt-leb, le-leb, ne_eqb}
-use Rattle.std.proofs.lemmas.Fmt.{decimal_is_IsNumeral}
 use Rattle.std.proofs.lemmas.List.{length-append}
-use Rattle.std.proofs.lemmas.Str.Parse.{digit_from_value}
-use Rattle.std.proofs.lemmas.Str.{digit_value_digit}
-use Rattle.std.specs.Prelude.{◌&&◌, ◌==◌, if◌then◌else◌}
-use Rattle.std.specs.Char.{digit_value, is_ascii_digit}
+use Rattle.std.specs.Prelude.{◌==◌}
 use Rattle.std.specs.Fmt.{decimal}
-use Rattle.std.specs.Str.Parse.{AllDigits, digits_value_after}
 use Rattle.httparse.specs.Grammar.{ResponseHead, IsResponseHead, print_response, status_code}
 use Rattle.httparse.specs.Spans.{name_and_value}
-use Rattle.wireclient.specs.Reads.{Items, Judged, JudgedWhereEnded, Leads, framing_of, length_after, length_in, max_body, max_fields, start}
-use Rattle.wireclient.specs.Reply.{by_length, Judgement, Told, head, whole, end, Place, leading, heading, body, ended, place_after, max_head, Next, fails, goes_to, begun, headed, step}
+use Rattle.wire.specs.declared.place.Place.{Place}
+use Rattle.wire.specs.declared.place.Place.TheVariants.{Leading}
+use Rattle.wire.specs.Heads.{max_fields, max_head, place_after}
+use Rattle.wire.specs.Lengths.{length_in}
+use Rattle.wire.proofs.Lengths.{decimal_read}
+use Rattle.wire.proofs.Lines.{Goes, EndsAtLast}
+use Rattle.wireclient.specs.Reads.{Items, Judged, JudgedWhereEnded, Leads, framed_by_length, framing_of, max_body, start}
+use Rattle.wireclient.specs.Reply.{by_length, Judgement, Told, head, whole, end, heading, body, ended, Next, fails, goes_to, begun, headed, step}
 use Rattle.wireclient.proofs.Leading.{leads_append, one_byte}
 use Rattle.wireclient.proofs.Lengthened.{more_of_body}
 use Rattle.wireclient.proofs.Heads.{judged_so, next_so}
-use Rattle.wireclient.proofs.Printed.{Goes, EndsAtLast, head_ends}
+use Rattle.wireclient.proofs.Judging.{within_limit}
+use Rattle.wireclient.proofs.Printed.{head_ends}
 
 -- ---- a byte that doesn't end the head
 
@@ -56,7 +58,7 @@ head_read seen p j fits ends judged =
 pub whole_head_read : (bytes : List ℕ) (j : Judgement) → length bytes ≤ max_head → EndsAtLast bytes → Judged bytes j → Leads start bytes (begun j).0 (begun j).1
 whole_head_read bytes j fits e judged =
     let long : length bytes ≡ length e.seen + 1 = ap (λ (xs : List ℕ). length xs) e.is ∙ length-append e.seen (10 ∷ []) in
-    let before : Leads start e.seen (heading e.seen e.place) [] = walked [] leading e.place e.seen (omega (arith, long, fits)) e.goes in
+    let before : Leads start e.seen (heading e.seen e.place) [] = walked [] Leading e.place e.seen (omega (arith, long, fits)) e.goes in
     let last : Leads (heading e.seen e.place) (10 ∷ []) (begun j).0 (begun j).1 = head_read e.seen e.place j (omega (arith, long, fits)) e.ends (subst (λ (xs : List ℕ). Judged xs j) e.is judged) in
     subst (λ (xs : List ℕ). Leads start xs (begun j).0 (begun j).1) (sym e.is)
     (leads_append start (heading e.seen e.place) (begun j).0 e.seen (10 ∷ []) [] (begun j).1 before last)
@@ -117,42 +119,5 @@ reply_read h bytes is fits few framed =
 
 -- ---- a printed length
 
-grows : (n : ℕ) (digits : List ℕ) → n ≤ digits_value_after 10 n digits
-grows n [] = omega arith
-grows n (b ∷ digits) = let more = grows (n * 10 + digit_value b) digits in omega (arith, more)
-
-in_digits : (b : ℕ) → 48 ≤ b → b ≤ 57 → is_ascii_digit b ≡ true
-in_digits b low high = go (leb 48 b) (leb b 57) (le-leb _ _ low) (le-leb _ _ high)
-  where
-    go : (s t : Bool) → s ≡ true → t ≡ true → (s && t) ≡ true
-    go true true s-is t-is = refl
-    go true false s-is t-is = absurd cc
-    go false t s-is t-is = absurd cc
-
-digit_reads : (s t : Bool) (n : ℕ) (digits : List ℕ) → s ≡ true → t ≡ true → (if s && t then length_after n digits else None) ≡ length_after n digits
-digit_reads true true n digits s-is t-is = refl
-digit_reads true false n digits s-is t-is = absurd cc
-digit_reads false t n digits s-is t-is = absurd cc
-
-digits_read : (n : ℕ) (digits : List ℕ) → AllDigits 10 digits → digits_value_after 10 n digits ≤ max_body → length_after n digits ≡ Some (by_length (digits_value_after 10 n digits))
-digits_read n [] all fits = refl
-digits_read n (b ∷ digits) all fits =
-    let range = digit_from_value b all.0 in
-    let value : digit_value b + 48 ≡ b = digit_value_digit b range in
-    let same : n * 10 + (b - 48) ≡ n * 10 + digit_value b = omega (arith, value) in
-    let more = grows (n * 10 + digit_value b) digits in
-    digit_reads (is_ascii_digit b) (leb (n * 10 + (b - 48)) max_body) (n * 10 + (b - 48)) digits (in_digits b range.0 range.1) (le-leb _ _ (omega (arith, same, more, fits)))
-    ∙ ap (λ (m : ℕ). length_after m digits) same
-    ∙ digits_read (n * 10 + digit_value b) digits all.1 fits
-
-some_digits : (digits : List ℕ) → 0 < length digits → length_in digits ≡ length_after 0 digits
-some_digits [] some = absurd (omega (arith, some))
-some_digits (b ∷ digits) some = refl
-
-pub length_reads : (n : ℕ) → n ≤ max_body → length_in (decimal n) ≡ Some (by_length n)
-length_reads n fits =
-    let wide : n < 2 ^ 64 = omega (arith, fits) in
-    let printed = decimal_is_IsNumeral n wide in
-    some_digits (decimal n) printed.0.0
-    ∙ digits_read 0 (decimal n) printed.0.1 (subst (λ (m : ℕ). m ≤ max_body) (sym printed.1) fits)
-    ∙ ap (λ (m : ℕ). Some (by_length m)) printed.1
+pub length_reads : (n : ℕ) → n ≤ max_body → framed_by_length (length_in (decimal n)) ≡ Some (by_length n)
+length_reads n fits = ap framed_by_length (decimal_read n (omega (arith, fits))) ∙ within_limit (leb n max_body) n (le-leb _ _ fits)

@@ -2,7 +2,8 @@
 use Rattle.std.proofs.Common.{◌≡◌, ℕ, List, ◌∷◌, ◌++◌, length, Some, None, refl, ap, sym, ◌∙◌, append_assoc}
 use Rattle.std.specs.Prelude.{codes}
 use Rattle.std.specs.Fmt.{decimal}
-use Rattle.wireclient.specs.Request.{crlf, request}
+use Rattle.wire.specs.Heads.{crlf}
+use Rattle.wireclient.specs.Request.{request}
 
 pub no_body : (method target : List ℕ) → method ++ (32 ∷ (target ++ (codes " HTTP/1.1" ++ (crlf ++ (codes "Host: localhost" ++ (crlf ++ crlf)))))) ≡ request method target None
 no_body method target = refl

@@ -1,49 +1,36 @@
 -- What a reader tells of the bytes that came.
-use Rattle.std.specs.Prelude.{◌≡◌, ℕ, ◌≤◌, ◌+◌, ◌-◌, ◌*◌, Bool, true, false, ◌||◌, nat_le, if◌then◌else◌, List, [], ◌∷◌, ◌++◌, length, map, take, Option, None, Some, ◌&&◌, codes}
-use Rattle.std.specs.Char.{to_ascii_lowercase, is_ascii_digit}
+use Rattle.std.specs.Prelude.{◌≡◌, ℕ, ◌≤◌, Bool, true, false, ◌||◌, nat_le, if◌then◌else◌, List, [], ◌∷◌, ◌++◌, length, map, take, Option, None, Some, codes}
 use Rattle.std.specs.List.{list_any}
-use Rattle.std.specs.Str.{bytes_eq}
+use Rattle.std.specs.Str.{str_eq_ignore_ascii_case}
 use Rattle.httparse.specs.Grammar.{ResponseHead, ReadsResponse, status_code}
 use Rattle.httparse.specs.Spans.{name_and_value}
-use Rattle.wireclient.specs.Reply.{Framing, by_length, by_chunks, Judgement, Told, is_malformed, is_last, Place, leading, State, heading, place_after, max_head, step}
+use Rattle.wire.specs.declared.place.Place.{Place}
+use Rattle.wire.specs.declared.place.Place.TheVariants.{Leading}
+use Rattle.wire.specs.Heads.{Named, is_content_length, is_transfer_encoding, max_fields, max_head, place_after}
+use Rattle.wire.specs.Lengths.{length_in}
+use Rattle.wireclient.specs.Reply.{Framing, by_length, by_chunks, Judgement, Told, is_malformed, is_last, State, heading, step}
 
 -- ---- the head
 
--- a field's name and its value
-abbrev pub Named : Type 0
-Named = List ℕ × List ℕ
-
--- equal, without regard to ASCII case
-abbrev pub is_text : List ℕ → List ℕ → Bool
-is_text text word = bytes_eq (map to_ascii_lowercase text) word
-
-abbrev pub is_length : Named → Bool
-is_length f = is_text f.0 (codes "content-length")
-
-abbrev pub is_encoding : Named → Bool
-is_encoding f = is_text f.0 (codes "transfer-encoding")
-
+-- a limit of the client's own; a server's is lower
 abbrev pub max_body : ℕ
 max_body = 1073741824
 
--- digits, after those that make n; by value within the limit
-abbrev pub length_after : ℕ → List ℕ → Option Framing
-length_after n [] = Some (by_length n)
-length_after n (b ∷ bs) = if is_ascii_digit b && nat_le (n * 10 + (b - 48)) max_body then length_after (n * 10 + (b - 48)) bs else None
-
--- one or more digits
-abbrev pub length_in : List ℕ → Option Framing
-length_in [] = None
-length_in (b ∷ bs) = length_after 0 (b ∷ bs)
+-- a body of so many bytes, within the limit
+abbrev pub framed_by_length : Option ℕ → Option Framing
+framed_by_length None = None
+framed_by_length (Some n) = if nat_le n max_body then Some (by_length n) else None
 
 abbrev pub encoding_in : List ℕ → Option Framing
-encoding_in value = if is_text value (codes "chunked") then Some by_chunks else None
+encoding_in value = if str_eq_ignore_ascii_case value (codes "chunked") then Some by_chunks else None
 
 abbrev pub framing_by : Named → Option Framing
-framing_by f = if is_length f then length_in f.1 else encoding_in f.1
+framing_by f = if is_content_length f then framed_by_length (length_in f.1) else encoding_in f.1
 
 abbrev pub frames : Named → Bool
-frames f = is_length f || is_encoding f
+frames f = is_content_length f || is_transfer_encoding f
+
+-- ---- which field frames the body: just one, where a server takes several lengths that are alike
 
 -- by the one field that frames a body; found is what it said, where it came before these
 abbrev pub framing_with : Option (Option Framing) → List Named → Option Framing
@@ -54,9 +41,6 @@ framing_with (Some found) (f ∷ fs) = if frames f then None else framing_with (
 
 abbrev pub framing_of : List Named → Option Framing
 framing_of fs = framing_with None fs
-
-abbrev pub max_fields : ℕ
-max_fields = 64
 
 -- what the bytes of a whole head say: it is a head of the grammar with at most so many fields, one of which frames the body
 abbrev pub Judged : List ℕ → Judgement → Type 0
@@ -81,7 +65,7 @@ Steps s b t old new = (j : Judgement) × JudgedAt s b j × (t ≡ (step j s b).0
 -- ---- the whole
 
 abbrev pub start : State
-start = heading [] leading
+start = heading [] Leading
 
 -- these bytes lead from one state to another, with these items told
 abbrev pub Leads : State → List ℕ → State → List Told → Type 0

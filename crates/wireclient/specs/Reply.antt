@@ -1,6 +1,8 @@
 -- A reply, byte by byte (RFC 9112, sections 2.2, 6 and 7.1), and the items that a reader tells of it.
 use Rattle.std.specs.Prelude.{ℕ, Bool, true, false, ◌+◌, ◌-◌, ◌*◌, min, ◌&&◌, ◌==◌, if◌then◌else◌, nat_le, nat_lt, List, [], ◌∷◌, ◌++◌, length, Option, None, Some}
 use Rattle.std.specs.Char.{is_ascii_hexdigit, digit_value}
+use Rattle.wire.specs.declared.place.Place.{Place}
+use Rattle.wire.specs.Heads.{max_head, place_after}
 
 -- how the body is framed: so many bytes, or chunks
 pub data Framing : Type 0 where
@@ -28,10 +30,6 @@ is_last end = true
 is_last malformed = true
 is_last _ = false
 
--- where a head's bytes stand: before the first line, inside a line, after a line feed, after a line feed and CR
-pub data Place : Type 0 where
-  leading inside fed fed_cr : Place
-
 -- what has come of the reply
 pub data State : Type 0 where
   heading : List ℕ → Place → State  -- the head so far
@@ -43,10 +41,7 @@ pub data State : Type 0 where
   last_cr last_lf : List ℕ → State  -- after the chunk of size 0
   ended broken : State
 
--- limits
-abbrev pub max_head : ℕ
-max_head = 16384
-
+-- a limit of the client's own, as a server's lines have none
 abbrev pub max_line : ℕ
 max_line = 2097152
 
@@ -58,13 +53,6 @@ fails = (broken, malformed ∷ [])
 
 abbrev pub goes_to : State → Next
 goes_to s = (s, [])
-
--- none where the head ends: the first line feed followed by a line feed or by CR LF, after the leading CR and LF bytes
-abbrev pub place_after : Place → ℕ → Option Place
-place_after leading b = if b == 13 then Some leading else if b == 10 then Some leading else Some inside
-place_after inside b = if b == 10 then Some fed else Some inside
-place_after fed b = if b == 10 then None else if b == 13 then Some fed_cr else Some inside
-place_after fed_cr b = if b == 10 then None else Some inside
 
 abbrev pub begun : Judgement → Next
 begun None = fails

@@ -1,10 +1,7 @@
 -- The bytes of a client's request (RFC 9112, sections 3 and 5).
 use Rattle.std.specs.Prelude.{ℕ, List, [], ◌∷◌, ◌++◌, length, Option, None, Some, codes}
 use Rattle.std.specs.Fmt.{decimal}
-
--- the end of a line
-abbrev pub crlf : List ℕ
-crlf = 13 ∷ 10 ∷ []
+use Rattle.wire.specs.Heads.{crlf}
 
 abbrev pub body_fields : Option (List ℕ × List ℕ) → List ℕ
 body_fields None = []

@@ -4,21 +4,13 @@ use Rattle.wireclient.specs.declared.item.Item as items
 use Rattle.wireclient.specs.declared.item.Item.TheVariants as item
 use Rattle.wireclient.specs.declared.state.Framing as framings
 use Rattle.wireclient.specs.declared.state.Framing.TheVariants as framing
-use Rattle.wireclient.specs.declared.state.Place as places
-use Rattle.wireclient.specs.declared.state.Place.TheVariants as place
 use Rattle.wireclient.specs.declared.state.State as states
 use Rattle.wireclient.specs.declared.state.State.TheVariants as state
-use Rattle.wireclient.specs.Reply.{Judgement, Framing, by_length, by_chunks, Told, head, whole, line, end, malformed, Place, leading, inside, fed, fed_cr, State, heading, body, size, size_lf, data_in, data_cr, data_lf, last_cr, last_lf, ended, broken}
+use Rattle.wireclient.specs.Reply.{Judgement, Framing, by_length, by_chunks, Told, head, whole, line, end, malformed, State, heading, body, size, size_lf, data_in, data_cr, data_lf, last_cr, last_lf, ended, broken}
 
 abbrev pub framing_in : framings.Framing → Framing
 framing_in (framing.Length n) = by_length n
 framing_in framing.Chunks = by_chunks
-
-abbrev pub place_of : places.Place → Place
-place_of place.Leading = leading
-place_of place.Inside = inside
-place_of place.Fed = fed
-place_of place.FedCr = fed_cr
 
 abbrev pub told_of : items.Item → Told
 told_of (item.Head status) = head status
@@ -28,7 +20,7 @@ told_of item.End = end
 told_of item.Malformed = malformed
 
 abbrev pub state_of : states.State → State
-state_of (state.Heading bytes p) = heading bytes.items (place_of p)
+state_of (state.Heading bytes p) = heading bytes.items p
 state_of (state.Body left bytes) = body left bytes.items
 state_of (state.Size count value text) = size count value text.items
 state_of (state.SizeLf value text) = size_lf value text.items

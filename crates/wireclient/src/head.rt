@@ -1,70 +1,45 @@
 //! What the head of a reply says.
 
-ghost use Rattle.std.specs.Prelude.{◌≡◌, ℕ, ◌≤◌, List, map, length, option_map};
-ghost use Rattle.std.specs.Char.{to_ascii_lowercase};
+ghost use Rattle.std.specs.Prelude.{◌≡◌, map, length, option_map};
 ghost use Rattle.std.specs.List.{All};
-ghost use Rattle.std.specs.Str.{bytes_eq};
 ghost use Rattle.httparse.specs.Spans.{header_bytes, IsHeaderWithin};
-ghost use Rattle.wireclient.specs.Reads.{Judged, frames, framing_by, framing_of, is_text, length_in};
+ghost use Rattle.wire.specs.Lengths.{length_in};
+ghost use Rattle.wireclient.specs.Reads.{Judged, framed_by_length, frames, framing_by, framing_of};
 ghost use Rattle.wireclient.specs.Views.{framing_in, judgement_of};
 
 use crate::state::Framing;
 use httparse::Status;
 use httparse::spans::{EMPTY_HEADER_SPAN, HeaderSpan, parse_response};
+use wire::{MAX_FIELDS, decimal_value, has_name, is_length};
 
-const MAX_FIELDS: usize = 64;
+const MAX_BODY: usize = 1_073_741_824;
 
-const MAX_BODY: u64 = 1_073_741_824;
-
-/// Whether they are equal, without regard to ASCII case; `word` is in small letters.
-fn is_text(text: &[u8], word: &[u8]) -> bool
-    ensures { result ≡ is_text text.now word.now }
+fn framed_by_length(value: &[u8]) -> Option<Framing>
+    ensures { option_map framing_in result ≡ framed_by_length (length_in value.now) }
 {
-    if text.len() != word.len() {
-        return false;
-    }
-    for (i, byte) in text.iter().enumerate() {
-        if byte.to_ascii_lowercase() != word[i] {
-            return false;
-        }
-    }
-    true
-}
-
-fn length_in(value: &[u8]) -> Option<Framing>
-    ensures { option_map framing_in result ≡ length_in value.now }
-{
-    if value.is_empty() {
+    if !is_length(value) {
         return None;
     }
-    let mut length: u64 = 0;
-    for digit in value {
-        if !digit.is_ascii_digit() {
-            return None;
-        }
-        length = length * 10 + u64::from(*digit - b'0');
-        if length > MAX_BODY {
-            return None;
-        }
+    match decimal_value(value, MAX_BODY) {
+        Some(length) => Some(Framing::Length(length as u64)),
+        None => None,
     }
-    Some(Framing::Length(length))
 }
 
 fn frames(head: &[u8], field: &HeaderSpan) -> bool
     requires { IsHeaderWithin (length head.now) field.now }
     ensures { result ≡ frames (header_bytes head.now field.now) }
 {
-    let name = field.name.of(head);
-    is_text(name, b"content-length") || is_text(name, b"transfer-encoding")
+    has_name(head, field, b"content-length") || has_name(head, field, b"transfer-encoding")
 }
 
 fn framing_by(head: &[u8], field: &HeaderSpan) -> Option<Framing>
     requires { IsHeaderWithin (length head.now) field.now }
     ensures { option_map framing_in result ≡ framing_by (header_bytes head.now field.now) }
 {
-    if is_text(field.name.of(head), b"content-length") {
-        length_in(field.value.of(head))
-    } else if is_text(field.value.of(head), b"chunked") {
+    if has_name(head, field, b"content-length") {
+        framed_by_length(field.value.of(head))
+    } else if field.value.of(head).eq_ignore_ascii_case(b"chunked") {
         Some(Framing::Chunks)
     } else {
         None

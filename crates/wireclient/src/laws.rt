@@ -5,9 +5,12 @@ ghost use Rattle.std.specs.Fmt.{decimal};
 ghost use Rattle.std.specs.List.{All, flat_map};
 ghost use Rattle.httparse.specs.Grammar.{ResponseHead, IsResponseHead, print_response, status_code};
 ghost use Rattle.httparse.specs.Spans.{name_and_value};
-ghost use Rattle.wireclient.specs.Reads.{Items, Stands, framing_of, has_closed, length_in, max_body, max_fields};
-ghost use Rattle.wireclient.specs.Chunks.{Chunk, IsChunk, IsLine, IsSize, print_chunk, print_chunks, print_lines};
-ghost use Rattle.wireclient.specs.Reply.{State, Told, by_chunks, by_length, end, head, line, max_head, whole};
+ghost use Rattle.wire.specs.Chunks.{Chunk, IsChunk, print_chunk, print_chunks};
+ghost use Rattle.wire.specs.Heads.{max_fields, max_head};
+ghost use Rattle.wire.specs.Lengths.{IsSize, length_in};
+ghost use Rattle.wireclient.specs.Lines.{IsLine, print_lines};
+ghost use Rattle.wireclient.specs.Reads.{Items, Stands, framed_by_length, framing_of, has_closed, max_body};
+ghost use Rattle.wireclient.specs.Reply.{State, Told, by_chunks, by_length, end, head, line, whole};
 
 /// Bytes hold one list of items, and two readers that took the same bytes, however these were cut, stand alike.
 pub fn one_reading()
@@ -31,7 +34,7 @@ pub fn reply_reads_back()
     ensures reply { (h : ResponseHead) (body : List ℕ) → IsResponseHead h → length (print_response h) ≤ max_head → length h.fields ≤ max_fields
         → framing_of (map name_and_value h.fields) ≡ Some (by_length (length body))
         → Items (print_response h ++ body) (head (status_code h) ∷ whole body ∷ end ∷ []) }
-    ensures length { (n : ℕ) → n ≤ max_body → length_in (decimal n) ≡ Some (by_length n) }
+    ensures length { (n : ℕ) → n ≤ max_body → framed_by_length (length_in (decimal n)) ≡ Some (by_length n) }
 {}
 
 /// A printed reply in chunks reads back: a head of the grammar within the limits, of which one field frames the

@@ -4,7 +4,8 @@
 //! whole lines, then the end, or what came before a bad byte and then `Malformed`. What is told of a front of the
 //! bytes stands told of them all.
 //!
-//! Stands on `httparse` for the grammar of a head (RFC 9112), `memchr` for the end of a line.
+//! Stands on `wire` for what both ends say alike, `httparse` for the grammar of a head (RFC 9112), `memchr` for the end of
+//! a line.
 #![tactic(auto)]
 
 mod head;

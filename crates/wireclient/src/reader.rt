@@ -5,12 +5,13 @@ ghost use Rattle.wireclient.specs.Reads.{Leads};
 ghost use Rattle.wireclient.specs.Views.{state_of, told_of};
 
 use crate::item::Item;
-use crate::state::{Place, State, step};
+use crate::state::{State, step};
 use crate::taking::take_in;
 use std::alloc::{AllocError, Global};
 use std::marker::Model;
 use std::mem;
 use thiserror::Error;
+use wire::Place;
 
 /// Why nothing more is told.
 #[derive(Clone, Copy, Debug, PartialEq, Eq, Error)]

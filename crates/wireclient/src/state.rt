@@ -1,16 +1,15 @@
 //! What has come of a reply, and what a byte more makes of it.
 
-ghost use Rattle.std.specs.Prelude.{◌≡◌, ◌++◌, [], ◌∷◌, None, map, IfOk, OnOk, option_map, ◌==◌, if◌then◌else◌};
+ghost use Rattle.std.specs.Prelude.{◌≡◌, ◌++◌, [], ◌∷◌, None, map, IfOk, OnOk, ◌==◌, if◌then◌else◌};
 ghost use Rattle.wireclient.specs.Reads.{Steps};
-ghost use Rattle.wireclient.specs.Reply.{heading, Judgement, place_after, data_after, step, begun, fails, goes_to, broken, body, size, size_lf, data_in, last_lf, malformed};
-ghost use Rattle.wireclient.specs.Views.{place_of, state_of, told_of, judgement_of};
+ghost use Rattle.wireclient.specs.Reply.{heading, Judgement, data_after, step, begun, fails, goes_to, broken, body, size, size_lf, data_in, last_lf, malformed};
+ghost use Rattle.wireclient.specs.Views.{state_of, told_of, judgement_of};
 
 use crate::head::judge;
 use crate::item::Item;
 use httparse::parse_hex_digit;
 use std::alloc::{AllocError, Global};
-
-pub(crate) const MAX_HEAD: usize = 16_384;
+use wire::{MAX_HEAD, Place, place_after};
 
 pub(crate) const MAX_LINE: usize = 2_097_152;
 
@@ -19,18 +18,6 @@ pub(crate) const MAX_LINE: usize = 2_097_152;
 pub(crate) enum Framing {
     Length(u64),
     Chunks,
-}
-
-/// Where the bytes of a head stand.
-#[derive(Clone, Copy, Debug, PartialEq, Eq)]
-pub(crate) enum Place {
-    /// Before the first line.
-    Leading,
-    Inside,
-    /// After a line feed.
-    Fed,
-    /// After a line feed and CR.
-    FedCr,
 }
 
 /// What has come of a reply; the bytes kept are what isn't told yet.
@@ -49,19 +36,6 @@ pub(crate) enum State {
     LastLf(Vec<u8>),
     Ended,
     Broken,
-}
-
-/// None where the head ends.
-pub(crate) fn place_after(place: Place, byte: u8) -> Option<Place>
-    ensures { option_map place_of result ≡ place_after (place_of place) byte }
-{
-    match (place, byte) {
-        (Place::Leading, b'\r' | b'\n') => Some(Place::Leading),
-        (Place::Inside, b'\n') => Some(Place::Fed),
-        (Place::Fed | Place::FedCr, b'\n') => None,
-        (Place::Fed, b'\r') => Some(Place::FedCr),
-        (Place::Leading | Place::Inside | Place::Fed | Place::FedCr, _) => Some(Place::Inside),
-    }
 }
 
 fn fails(told: &mut Vec<Item>) -> Result<State, AllocError>
@@ -213,7 +187,7 @@ fn heading_step(
     byte: u8,
     told: &mut Vec<Item>,
 ) -> Result<State, AllocError>
-    ensures { IfOk result (λ s. Steps (heading bytes.items (place_of place)) byte (state_of s) (map told_of told.old.items) (map told_of told.new.items)) }
+    ensures { IfOk result (λ s. Steps (heading bytes.items place) byte (state_of s) (map told_of told.old.items) (map told_of told.new.items)) }
 {
     if bytes.len() >= MAX_HEAD {
         return fails(told);

@@ -1,7 +1,7 @@
 use Rattle.std.proofs.Common.{◌≡◌, ℕ, List, Option, Some, subst}
 use Rattle.std.specs.Fmt.{◌++?◌}
 use Rattle.std.specs.Prelude.{IfOk, IfSome, string_bytes}
-use Rattle.httpedge.specs.ReplyBytes.{crlf}
+use Rattle.wire.specs.Heads.{crlf}
 use Rattle.httpedge.proofs.chunks.chunk_head.Goals as goal
 
 pub returns : goal.returns

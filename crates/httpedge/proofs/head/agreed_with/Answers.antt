@@ -1,6 +1,7 @@
 use Rattle.std.proofs.Common.{◌≡◌, ◌∙◌, sym, subst}
 use Rattle.httpedge.specs.declared.head.Length as lengths
-use Rattle.httpedge.specs.Heads.{agreed, decimal_value, malformed, number}
+use Rattle.wire.specs.Lengths.{decimal_value}
+use Rattle.httpedge.specs.Heads.{agreed, malformed, number}
 use Rattle.httpedge.specs.Views.{IsPlain, length_of}
 use Rattle.httpedge.proofs.Digits.{agreed_not}
 use Rattle.httpedge.proofs.head.agreed_with.Goals as goal

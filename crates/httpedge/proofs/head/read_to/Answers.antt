@@ -2,7 +2,8 @@ use Rattle.std.proofs.Common.{Bool, cond, Some, None, sym, ap, ◌∙◌}
 use Rattle.std.proofs.lemmas.Bool.{le-ltb, lt-ltb}
 use Rattle.std.specs.Prelude.{length}
 use Rattle.httpedge.specs.Decision.{undecided, refused}
-use Rattle.httpedge.specs.Heads.{HeadDecision, max_head}
+use Rattle.wire.specs.Heads.{max_head}
+use Rattle.httpedge.specs.Heads.{HeadDecision}
 use Rattle.httpedge.specs.Refusals.{head_too_large, refuse}
 use Rattle.httpedge.specs.Views.{decision_of, head_of}
 use Rattle.httpedge.proofs.Cuts.{front_short, front_within, reads_at}

@@ -1,6 +1,6 @@
 use Rattle.std.proofs.Common.{arith, sym}
 use Rattle.std.proofs.lemmas.List.{take_all, length-take}
-use Rattle.httpedge.specs.Heads.{max_head}
+use Rattle.wire.specs.Heads.{max_head}
 use Rattle.httpedge.proofs.head_end.front_of.Goals as goal
 
 pub returns-else-bytes-gt-MAX_HEAD : goal.returns-else-bytes-gt-MAX_HEAD

@@ -1,0 +1,4 @@
+pub mod HeadEnds
+pub mod Lengths
+pub mod Lines
+pub mod Sizes

@@ -1,0 +1,14 @@
+//! Where the bytes of a head stand.
+
+/// Where the bytes of a head stand, while more of it is to come.
+#[derive(Clone, Copy, Debug, PartialEq, Eq)]
+pub enum Place {
+    /// Before the first line.
+    Leading,
+    /// In a line.
+    Inside,
+    /// After a line feed.
+    Fed,
+    /// After a line feed and CR.
+    FedCr,
+}
