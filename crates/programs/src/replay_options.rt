@@ -14,7 +14,7 @@ const ABOUT: &str =
 const NOTES: &str = "Example:
   ssa-replay --types crates/ssa_replay/data/types.json --script crates/ssa_replay/data/script.jsonl
 
-Exit status: 0 done, 1 output failed, 2 wrong usage, 3 bad types file or unreadable file, 4 bad line of the script, 5 out of memory";
+Exit status: 0 done, 1 output failed, 2 wrong usage, 3 bad types file or unreadable file, 4 bad line of the script, 5 out of memory or the store failed";
 
 const TYPES_HELP: &str = "The types to serve, one JSON object {\"types\":[..]}";
 

@@ -155,3 +155,17 @@ ask 8 GET namespaces/default/widgets?resourceVersion=2&resourceVersionMatch=Exac
 out 8 => HTTP/1.1 410 Gone|$Content-Type: application/json|$Content-Length: 142|$Connection: close|$|${"apiVersion":"v1","code":410,"kind":"Status","message":"too old resource version: 2 (3)","metadata":{},"reason":"Expired","status":"Failure"}"#;
     expect_rows(rt.alloc(), rows)
 }
+
+/// Two pages of three objects, whole.
+#[test]
+fn pages_of_three(rt: HostRuntime) -> Result<(), Fail> {
+    let rows =
+        r#"ask 2 POST namespaces/default/widgets {"apiVersion":"demo.example/v1","kind":"Widget","metadata":{"name":"w1"}} => -
+ask 3 POST namespaces/default/widgets {"apiVersion":"demo.example/v1","kind":"Widget","metadata":{"name":"w2"}} => -
+ask 4 POST namespaces/default/widgets {"apiVersion":"demo.example/v1","kind":"Widget","metadata":{"name":"w3"}} => -
+ask 5 GET widgets?limit=2 => -
+out 5 => HTTP/1.1 200 OK|$Content-Type: application/json|$Content-Length: 359|$Connection: close|$|${"apiVersion":"demo.example/v1","items":[{"apiVersion":"demo.example/v1","kind":"Widget","metadata":{"name":"w1","namespace":"default","resourceVersion":"2"}},{"apiVersion":"demo.example/v1","kind":"Widget","metadata":{"name":"w2","namespace":"default","resourceVersion":"3"}}],"kind":"WidgetList","metadata":{"continue":"4.default.w2","resourceVersion":"4"}}
+ask 6 GET widgets?limit=2&continue=4.default.w2 => -
+out 6 => HTTP/1.1 200 OK|$Content-Type: application/json|$Content-Length: 215|$Connection: close|$|${"apiVersion":"demo.example/v1","items":[{"apiVersion":"demo.example/v1","kind":"Widget","metadata":{"name":"w3","namespace":"default","resourceVersion":"4"}}],"kind":"WidgetList","metadata":{"resourceVersion":"4"}}"#;
+    expect_rows(rt.alloc(), rows)
+}
