@@ -1,6 +1,6 @@
 -- What happens in turn, joined.
 use Rattle.std.proofs.Common.{◌≡◌, ◌≢◌, ℕ, Bool, true, false, List, [], ◌∷◌, ◌++◌, take, drop, length, Option, Result, Ok, Err, refl, sym, ap, subst, ◌∙◌, append_assoc, append-nil, arith}
-use Rattle.std.specs.Prelude.{◌==◌, ⊤}
+use Rattle.std.specs.Prelude.{◌==◌}
 use Rattle.std.specs.List.{flat_map}
 use Rattle.std.proofs.lemmas.Grind.{flat_map-append}
 use Rattle.std.proofs.lemmas.List.{take-append-drop}
@@ -9,12 +9,12 @@ use Rattle.std.proofs.KnownBytes.{Appends-kept, Appends-nil, Appends-trans, Cons
 use Rattle.std.specs.Prelude.{IsErrAnd, MatchResult}
 use Rattle.httpedge.specs.Connections.{out_on}
 use Rattle.httpedge.specs.HubSeen.{Happened, IsIn}
-use Rattle.httpedge.specs.Runs.{Follows, Happening, HappensElsewhere, IsElsewhere, Runs, happens, starves, takes}
+use Rattle.httpedge.specs.Runs.{Follows, Happening, IsElsewhere, Runs, happens, starves, takes}
 use Rattle.httpedge.specs.Steps.{Event, State, opens, comes, goes, pumps, ticks, compacts, with_bytes_taken}
 use Rattle.httpedge.specs.declared.fault.HubFault.{HubFault}
 use Rattle.httpedge.specs.declared.fault.HubFault.TheVariants as fault
 use Rattle.httpedge.specs.declared.hub.Hub.{Hub}
-use Rattle.polling.specs.Happens.{Brings, Each, Hears, IsAny, IsComing, IsOn, IsTaking, Leads, LeadsBy, LeadsOn, Tells, brought, came}
+use Rattle.polling.specs.Happens.{Brings, Each, Hears, IsAny, IsComing, IsOn, IsTaking, Leads, LeadsBy, LeadsOn, Tells, came}
 
 wrong : false ≡ true → ⊥
 wrong e = cc

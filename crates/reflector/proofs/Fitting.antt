@@ -1,11 +1,11 @@
 -- Items of a watch that fit are taken.
-use Rattle.std.proofs.Common.{◌≡◌, ℕ, ◌≤◌, Bool, true, false, cond, ◌&&◌, List, [], ◌∷◌, ◌++◌, refl, sym, ap, ap₂, subst, ◌∙◌, Option, Some, None, le-leb, lt-ltb}
+use Rattle.std.proofs.Common.{◌≡◌, ℕ, ◌≤◌, Bool, true, cond, ◌&&◌, List, [], ◌∷◌, ◌++◌, refl, sym, ap, ap₂, subst, ◌∙◌, Option, Some, None, le-leb, lt-ltb}
 use Rattle.std.specs.Prelude.{nat_lt, nat_le, is_some}
 use Rattle.std.specs.FinMap as fin
 use Rattle.wireclient.specs.Reply.{Told}
 use Rattle.decoder.specs.Wanted.{Wanted}
-use Rattle.decoder.specs.Lines.{Line, put, deleted, bookmark, error}
-use Rattle.reflector.specs.Client.{Objects, place_in, max_objects, Notice, Cache, Asks, first, next, follow, Client, notice_of}
+use Rattle.decoder.specs.Lines.{put, deleted, bookmark, error}
+use Rattle.reflector.specs.Client.{Objects, place_in, max_objects, Notice, Cache, Asks, follow, Client, notice_of}
 use Rattle.reflector.specs.Fitting.{IsFitting, AreFitting, revision_after, revision_after_all}
 use Rattle.reflector.specs.Follows.{Server, IsCache, IsAsked, Comes, Follows, WatchGoes, Watches}
 use Rattle.reflector.specs.Items.{News, begun, page, line, over, unfit, said_of_watch}

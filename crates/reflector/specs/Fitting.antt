@@ -2,7 +2,7 @@
 use Rattle.std.specs.Prelude.{ℕ, List, [], ◌∷◌, ⊤}
 use Rattle.wireclient.specs.Reply.{Told}
 use Rattle.decoder.specs.Wanted.{Wanted}
-use Rattle.decoder.specs.Lines.{Line, put, deleted, bookmark, error}
+use Rattle.decoder.specs.Lines.{put, deleted, bookmark, error}
 use Rattle.reflector.specs.Items.{News, begun, page, line, over, unfit, said_of_watch}
 
 -- the answer's head, or a line that tells a change or a bookmark

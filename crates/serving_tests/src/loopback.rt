@@ -1,6 +1,8 @@
 //! Connections over loopback, within this process: each has sent its request before it is served.
 
-use crate::given::{ADDED, APPLY, BEFORE, CREATED, EXPIRED, WATCH, fresh_api};
+use crate::given::{
+    ADDED, APPLY, BEFORE, CREATED, EXPIRED, WATCH, expect_text, fresh_api, text_of,
+};
 use serving::{Limits, Server, serve_all};
 use std::alloc::Global;
 use std::io::{Read, Write};
@@ -43,28 +45,53 @@ fn served(
     Ok(stream)
 }
 
-/// Whether this is what a stream gives, where it is asked for so many bytes more.
-fn is_heard(alloc: Global, stream: TcpStream, text: &str, more: u64) -> Result<bool, Fail> {
+/// The test fails unless this is what a stream gives, where it is asked for so many bytes more.
+fn expect_heard(alloc: Global, stream: &TcpStream, text: &str, more: u64) -> Result<(), Fail> {
     let mut bytes = Vec::new(alloc);
     let mut front = stream.take((text.len() as u64).saturating_add(more));
     front.read_to_end(&mut bytes)?;
-    Ok(bytes.as_slice() == text.as_bytes())
+    expect_text(text_of(alloc, &bytes)?, text)
 }
 
-/// A peer that goes in the middle of its request, and a watch whose peer goes, hold up nobody. A watch gets the change
-/// that is made while it is open, and what came before is then forgotten.
+/// A peer that goes in the middle of its request, and a watch whose peer goes.
+fn gone_peers(
+    rt: &HostRuntime,
+    listener: &TcpListener,
+    server: &mut Server<TcpStream>,
+) -> Result<(), Fail> {
+    drop(sent(rt, listener, "GET / HTTP/1.1\r\n")?);
+    serve_one(rt, listener, server)?;
+    drop(served(rt, listener, server, WATCH)?);
+    Ok(())
+}
+
+/// A watch gets the change that is made while it is open, and what came before is then forgotten.
+fn watch_and_others(
+    rt: &HostRuntime,
+    listener: &TcpListener,
+    server: &mut Server<TcpStream>,
+) -> Result<(), Fail> {
+    let watching = served(rt, listener, server, WATCH)?;
+    let applying = served(rt, listener, server, APPLY)?;
+    let late = served(rt, listener, server, BEFORE)?;
+    expect_heard(rt.alloc(), &watching, ADDED, 0)?;
+    expect_heard(rt.alloc(), &applying, CREATED, 1)?;
+    expect_heard(rt.alloc(), &late, EXPIRED, 1)
+}
+
+fn tried(
+    rt: &HostRuntime,
+    listener: &TcpListener,
+    server: &mut Server<TcpStream>,
+) -> Result<(), Fail> {
+    gone_peers(rt, listener, server)?;
+    watch_and_others(rt, listener, server)
+}
+
+/// Peers that have gone hold up nobody.
 #[test]
 fn watch_beside_others(rt: HostRuntime) -> Result<(), Fail> {
     let listener = TcpListener::bind(&rt, SocketAddr::from((Ipv4Addr::LOCALHOST, 0)))?;
     let mut server = fresh_server(rt.alloc())?;
-    drop(sent(&rt, &listener, "GET / HTTP/1.1\r\n")?);
-    serve_one(&rt, &listener, &mut server)?;
-    drop(served(&rt, &listener, &mut server, WATCH)?);
-    let watching = served(&rt, &listener, &mut server, WATCH)?;
-    let applying = served(&rt, &listener, &mut server, APPLY)?;
-    let late = served(&rt, &listener, &mut server, BEFORE)?;
-    assert!(rt; is_heard(rt.alloc(), watching, ADDED, 0)?);
-    assert!(rt; is_heard(rt.alloc(), applying, CREATED, 1)?);
-    assert!(rt; is_heard(rt.alloc(), late, EXPIRED, 1)?);
-    Ok(())
+    tried(&rt, &listener, &mut server)
 }

@@ -4,7 +4,7 @@ use crate::fault::ServerFault;
 use crate::words::{ServerOptions, options};
 use programs::{RunFault, end_with, read_types};
 use serving::{Limits, Server, serve_all};
-use std::net::{Ipv4Addr, SocketAddr, TcpListener};
+use std::net::{Ipv4Addr, SocketAddr, TcpListener, TcpStream};
 use std::process::ExitCode;
 use verbs::Api;
 
@@ -16,26 +16,36 @@ fn tell_port(rt: &HostRuntime, port: u16) -> Result<(), ServerFault> {
 /// Serves one connection after another.
 fn serve_in_turn(
     rt: &HostRuntime,
-    api: Api,
+    server: &mut Server<TcpStream>,
     options: &ServerOptions<'_>,
 ) -> Result<(), ServerFault> {
+    let listener = TcpListener::bind(rt, SocketAddr::from((Ipv4Addr::LOCALHOST, options.port)))?;
+    let port = listener.local_addr()?.port();
+    tell_port(rt, port)?;
+    Ok(serve_all(rt, &listener, server, options.serve)?)
+}
+
+fn run_in_turn(rt: &HostRuntime, api: Api, options: &ServerOptions<'_>) -> Result<(), ServerFault> {
     let limits = Limits {
         keep: options.keep,
         lines: options.pump,
     };
     let mut server = Server::new(rt.alloc(), api, limits);
-    let listener = TcpListener::bind(rt, SocketAddr::from((Ipv4Addr::LOCALHOST, options.port)))?;
-    let port = listener.local_addr()?.port();
-    tell_port(rt, port)?;
-    Ok(serve_all(rt, &listener, &mut server, options.serve)?)
+    serve_in_turn(rt, &mut server, options)
 }
 
 /// Serves many connections at once.
 fn serve_at_once(
     rt: &HostRuntime,
-    api: Api,
-    options: &ServerOptions<'_>,
+    server: &mut polling::Server,
+    most: u64,
 ) -> Result<(), ServerFault> {
+    let port = server.port()?;
+    tell_port(rt, port)?;
+    Ok(server.serve(rt, most)?)
+}
+
+fn run_at_once(rt: &HostRuntime, api: Api, options: &ServerOptions<'_>) -> Result<(), ServerFault> {
     let asked = polling::Options {
         port: options.port,
         keep: options.keep,
@@ -43,9 +53,7 @@ fn serve_at_once(
         patience: options.patience,
     };
     let mut server = polling::Server::listen(rt, api, asked)?;
-    let port = server.port()?;
-    tell_port(rt, port)?;
-    Ok(server.serve(rt, options.serve)?)
+    serve_at_once(rt, &mut server, options.serve)
 }
 
 fn run(rt: &HostRuntime, words: &[String]) -> Result<(), ServerFault> {
@@ -53,9 +61,9 @@ fn run(rt: &HostRuntime, words: &[String]) -> Result<(), ServerFault> {
     let types = read_types(rt, options.types)?;
     let api = Api::new(rt.alloc(), types)?;
     if options.concurrent {
-        serve_at_once(rt, api, &options)
+        run_at_once(rt, api, &options)
     } else {
-        serve_in_turn(rt, api, &options)
+        run_in_turn(rt, api, &options)
     }
 }
 

@@ -17,7 +17,7 @@ const ABOUT: &str = "Serves the types of a file on loopback, with objects in mem
 const NOTES: &str = "Example:
   ssa-server --types crates/ssa_replay/data/types.json --port 8001
 
-Exit status: 0 so many connections were served, 1 output failed, 2 wrong usage, 3 bad types file or unreadable file, 5 out of memory, 6 the port can't be listened on";
+Exit status: 0 so many connections were served, 1 output failed, 2 wrong usage, 3 bad types file or unreadable file, 5 out of memory or the store failed, 6 the port can't be listened on or the clock can't be read";
 
 const TYPES_HELP: &str = "The types to serve, one JSON object {\"types\":[..]}";
 
@@ -83,21 +83,14 @@ fn flag_option<'a>(alloc: Global, name: &'a str, help: &'a str) -> Arg<'a>
 fn server_command<'a>(alloc: Global) -> Result<Command<'a>, AllocError>
     ensures { IfOk result (λ c. app_of c ≡ ssa_server) }
 {
-    let types = file_option(alloc, "types", TYPES_HELP);
-    let port = number_option(alloc, "port", PORT_HELP);
-    let keep = number_option(alloc, "keep", KEEP_HELP);
-    let pump = number_option(alloc, "pump", PUMP_HELP);
-    let serve = number_option(alloc, "serve", SERVE_HELP);
-    let concurrent = flag_option(alloc, "concurrent", CONCURRENT_HELP);
-    let patience = number_option(alloc, "patience", PATIENCE_HELP);
     program(alloc, "ssa-server", ABOUT, NOTES)
-        .arg(types)?
-        .arg(port)?
-        .arg(keep)?
-        .arg(pump)?
-        .arg(serve)?
-        .arg(concurrent)?
-        .arg(patience)
+        .arg(file_option(alloc, "types", TYPES_HELP))?
+        .arg(number_option(alloc, "port", PORT_HELP))?
+        .arg(number_option(alloc, "keep", KEEP_HELP))?
+        .arg(number_option(alloc, "pump", PUMP_HELP))?
+        .arg(number_option(alloc, "serve", SERVE_HELP))?
+        .arg(flag_option(alloc, "concurrent", CONCURRENT_HELP))?
+        .arg(number_option(alloc, "patience", PATIENCE_HELP))
 }
 
 /// The number of an option; where it isn't given, another one.

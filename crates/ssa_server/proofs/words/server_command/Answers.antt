@@ -8,13 +8,13 @@ use Rattle.ssa_server.proofs.words.server_command.Goals as goal
 
 pub returns : goal.returns
 returns c =
-    let types = c.file_option-types.ensures in
-    let port = c.number_option-port.ensures in
-    let keep = c.number_option-keep.ensures in
-    let pump = c.number_option-pump.ensures in
-    let serve = c.number_option-serve.ensures in
-    let flag = c.flag_option-concurrent.ensures in
-    let patience = c.number_option-patience.ensures in
+    let types = c.file_option.ensures in
+    let port = c.number_option.ensures in
+    let keep = c.number_option-2.ensures in
+    let pump = c.number_option-3.ensures in
+    let serve = c.number_option-4.ensures in
+    let flag = c.flag_option.ensures in
+    let patience = c.number_option-5.ensures in
     let one = added file_option _ _ _ _ _ (codes "types") refl types_own c.program.ensures.app (types.id, types.rule, types.fits) c.in_ok-arg.ensures in
     let two = added number_option _ _ _ _ _ (codes "port") refl port_own one (port.id, port.rule, port.fits) c.in_ok-arg-2.ensures in
     let three = added number_option _ _ _ _ _ (codes "keep") refl keep_own two (keep.id, keep.rule, keep.fits) c.in_ok-arg-3.ensures in
