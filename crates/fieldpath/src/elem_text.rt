@@ -127,6 +127,7 @@ impl ElemText {
         rest_after("v:", self.text.as_str())
     }
 
+    /// The element's text.
     pub fn as_str(&self) -> &str
         ensures value { result.now ≡ string_bytes self.now }
     {

@@ -1,4 +1,4 @@
-//! FieldsV1 both ways: a set of paths as a JSON value under a schema, and the set that such a value says.
+//! FieldsV1, printed: a set of paths as a JSON value under a schema. `read` reads it.
 
 ghost use Rattle.std.specs.Prelude.{◌≡◌, List, ℕ, map, codes, IfOk, OnOk, option_and_then, string_bytes};
 ghost use Rattle.std.specs.Option.{option_map};

@@ -6,17 +6,22 @@ use thiserror::Error;
 /// Why the hub refuses an event, or what failed in the machine.
 #[derive(Clone, Copy, Debug, PartialEq, Eq, Error)]
 pub enum HubFault {
+    /// An opening whose id is not above those of all earlier ones.
     #[error("the id is not above all earlier ones")]
     IdNotAbove,
+    /// Bytes, or a going, of a connection that was never opened or has gone.
     #[error("there is no connection of this id")]
     UnknownId,
+    /// A pump of no lines.
     #[error("a pump of no lines")]
     NoLines,
+    /// A tick at an earlier time than the last one.
     #[error("the tick goes back")]
     TickBack,
     /// A compaction below the compacted number, or past the current revision.
     #[error("the revision is compacted already, or still to come")]
     CompactionRefused,
+    /// A growth of memory was refused.
     #[error("out of memory")]
     Memory,
     /// The store refused a statement for memory or size, or what is stored is no object's text.

@@ -1,4 +1,5 @@
-//! Each function does nothing; what it promises is the law.
+//! Laws of the labels that selectors see, at the server and at the client. Each function does nothing; what it promises is
+//! the law.
 
 ghost use Rattle.label_laws.specs.Labels.{LabelsAreOfContents};
 ghost use Rattle.label_laws.specs.Readers.{ReadersAgree};

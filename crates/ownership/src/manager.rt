@@ -70,12 +70,14 @@ impl Manager {
             .then(self.subresource.as_str().cmp(other.subresource.as_str()))
     }
 
+    /// Whether name, operation and subresource are the same.
     pub fn is_same(&self, other: &Manager) -> bool
         ensures { result ≡ is_same (manager_view self.now) (manager_view other.now) }
     {
         self.compare(other).is_eq()
     }
 
+    /// A copy of the manager.
     pub fn try_copy(&self) -> Result<Manager, AllocError>
         ensures { IfOk result (λ m. manager_view m ≡ manager_view self.now) }
     {

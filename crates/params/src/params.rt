@@ -74,11 +74,15 @@ pub struct Watch {
 pub struct Params {
     /// The manager's name; `unknown` where a POST or PUT gives none, empty for the verbs that have none.
     pub manager: String,
+    /// Whether an apply takes over what others own.
     pub is_forced: bool,
+    /// The `resourceVersion`.
     pub version: Option<u64>,
+    /// The `resourceVersionMatch`.
     pub version_match: Option<VersionMatch>,
     /// 0 is none.
     pub limit: u64,
+    /// The `continue` token of the page before.
     pub token: Option<Token>,
     pub selector: Selector,
     /// None for a list.

@@ -3,11 +3,13 @@
 use revtable::Fault;
 use thiserror::Error;
 
+/// Why a change was not written.
 #[derive(Debug, Drop, Error)]
 pub enum WriteFault {
     /// The highest revision, 9223372036854775807, is taken.
     #[error("revisions are used up")]
     Exhausted,
+    /// The table failed.
     #[error("{0}")]
     Failed(Fault),
 }
@@ -23,6 +25,7 @@ impl From<Fault> for WriteFault {
     }
 }
 
+/// Why the objects of a revision were not listed.
 #[derive(Debug, Drop, Error)]
 pub enum ListFault {
     /// The revision is below the compacted number.
@@ -31,6 +34,7 @@ pub enum ListFault {
     /// The revision is past the current one.
     #[error("the revision is past the current one")]
     TooLarge,
+    /// The table failed.
     #[error("{0}")]
     Failed(Fault),
 }
@@ -46,11 +50,13 @@ impl From<Fault> for ListFault {
     }
 }
 
+/// Why the changes after a revision were not answered.
 #[derive(Debug, Drop, Error)]
 pub enum ChangesFault {
     /// The revision is below the compacted number.
     #[error("the revision is compacted")]
     Expired,
+    /// The table failed.
     #[error("{0}")]
     Failed(Fault),
 }
@@ -66,6 +72,7 @@ impl From<Fault> for ChangesFault {
     }
 }
 
+/// Why the store was not compacted.
 #[derive(Debug, Drop, Error)]
 pub enum CompactFault {
     /// The revision is below the compacted number.
@@ -74,6 +81,7 @@ pub enum CompactFault {
     /// The revision is past the current one.
     #[error("the revision is past the current one")]
     TooLarge,
+    /// The table failed.
     #[error("{0}")]
     Failed(Fault),
 }

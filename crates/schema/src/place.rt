@@ -5,6 +5,8 @@
 pub enum Place {
     /// A scalar or an atomic value.
     Leaf,
+    /// An item of a set.
     SetItem,
+    /// An item of a list that is a map by key fields.
     MapItem,
 }

@@ -14,11 +14,16 @@ pub enum ListKind {
 /// A structural schema. The flag of a struct or map says whether it is atomic.
 #[derive(Debug, Drop)]
 pub enum Schema {
+    /// A string.
     Text,
+    /// A whole number of 64 bits.
     Whole,
+    /// A truth value.
     Truth,
     /// Fields in byte order of their names.
     Struct(Vec<(String, Schema)>, bool),
+    /// A map from any names to values of one schema.
     MapOf(Box<Schema>, bool),
+    /// A list of items of one schema.
     List(Box<Schema>, ListKind),
 }

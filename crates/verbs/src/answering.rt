@@ -25,12 +25,14 @@ pub fn body_of(alloc: Global, call: &Call) -> Result<&Value, CallError>
     }
 }
 
+/// A path that leads nowhere.
 pub fn no_path(alloc: Global) -> CallError
     ensures { RefusesFor result NotFound (codes "no such path") }
 {
     CallError::refused_for(alloc, Reason::NotFound, "no such path")
 }
 
+/// A method that the path does not serve.
 pub fn not_served(alloc: Global) -> CallError
     ensures { RefusesFor result MethodNotAllowed (codes "method not served here") }
 {

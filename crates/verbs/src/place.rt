@@ -39,6 +39,7 @@ fn kind_in(types: &Types, params: &Params<'_, '_>) -> Option<u32>
     types.find(group, version, plural)
 }
 
+/// The type, namespace and name that a route's parameters name, if the type is served.
 pub fn place_in<'p>(types: &Types, resource: Resource, params: &Params<'_, 'p>) -> Option<Place<'p>>
     requires { AllText (parts_of params.now) }
     ensures { option_map place_seen result ≡ place_in (types_view types.now) resource (parts_of params.now) }

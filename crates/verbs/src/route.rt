@@ -32,6 +32,7 @@ impl Routes {
     ghost use Rattle.verbs.specs.Admit.{place_of};
     ghost use Rattle.verbs.specs.Seen.{place_seen};
 
+    /// The three routes.
     pub fn new(alloc: Global) -> Result<Routes, Fault>
         ensures readable { result ≢ Err Fault.Unreadable }
     {

@@ -104,6 +104,7 @@ pub fn check_version(
     Err(CallError::refused_for(alloc, Reason::Conflict, message.as_str()))
 }
 
+/// Refuses a change where no revision is left for it.
 pub fn check_revisions(alloc: Global, current: u64) -> Result<(), CallError>
     ensures validated { Gives (λ u. u) result (revisions_left current) }
     ensures left { OnOk result (current < last_revision) }

@@ -62,7 +62,9 @@ pub(crate) struct Standing {
 /// The lines of a pump, and whether the watch has ended by them.
 #[derive(Debug, Drop)]
 pub struct Pumped {
+    /// The lines, each with its line feed.
     pub lines: Vec<String>,
+    /// Whether the watch has ended with them.
     pub ended: bool,
 }
 
