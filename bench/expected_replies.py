@@ -38,7 +38,7 @@ TABLE = [
     (431, "Request Header Fields Too Large", "RequestHeaderFieldsTooLarge", ["request head too large"]),
     (501, "Not Implemented", "NotImplemented", ["Transfer-Encoding is not served"]),
     (504, "Gateway Timeout", "Timeout", ["Too large resource version: {}, current: {}"]),
-    # "revisions are used up" stands after 9223372036854775805 changes: no script has so many.
+    # "revisions are used up" stands after 9223372036854775806 changes: no script has so many.
     (503, "Service Unavailable", "ServiceUnavailable", ["too many connections"]),
     (505, "HTTP Version Not Supported", "HTTPVersionNotSupported", ["HTTP/1.1 is needed"]),
 ]
@@ -214,7 +214,8 @@ def patch(body, fields=(), target=WIDGETS + "w9?fieldManager=alice", **rest):
 # ---- the rows
 
 def six_lines():
-    """The lines of data/script.jsonl: two managers, a conflict, force, a field that is left out."""
+    """The lines of data/script.jsonl: first_apply, conflict_refused, force_takes_over, the same apply again, shared_owner_keeps,
+    dropped_but_taken_over."""
     def w1(version, owners, replicas):
         return widget("w1", version, owners, {"image": "a", "replicas": replicas})
 

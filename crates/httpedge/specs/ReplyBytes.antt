@@ -7,7 +7,7 @@ use Rattle.http.specs.StatusCode.{reason_phrase}
 use Rattle.wire.specs.Chunks.{chunk_of, print_chunk, print_last}
 use Rattle.wire.specs.Heads.{crlf}
 
--- the phrase of a status code, which has three digits (RFC 9110, section 15)
+-- the phrase of a status code, which has three digits, as the crate `http` has it (RFC 9110, section 15; 413 and 422 with the phrases that they had before)
 abbrev pub phrase_of : ℕ → List ℕ
 phrase_of code = if nat_le 100 code && nat_lt code 1000 then unwrap_or (reason_phrase code) [] else []
 

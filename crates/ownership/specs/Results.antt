@@ -23,7 +23,7 @@ identity_of i = record { api_version = i.api_version.now; kind = i.kind.now; nam
 abbrev pub conflict_of : Conflict → def.Conflict
 conflict_of c = (c.path, manager_view c.manager)
 
--- Ok with the new state, where there is no conflict or force; all conflicts, where there are some and no force; or want of memory
+-- Ok with the new state, where there is no conflict or force; all conflicts, where there are some and no force; or out of memory
 abbrev pub Applies : State → Content → Manager → Bool → Result Owned ApplyFault → Type 0
 Applies live body m force (Ok o) = (is_refused (conflicts live body m) force ≡ false) × (state_of o ≡ applied live body m)
 Applies live body m force (Err (Conflicts cs)) = (is_refused (conflicts live body m) force ≡ true) × (map conflict_of cs.items ≡ conflicts live body m)

@@ -232,7 +232,7 @@ impl Peers {
         }
     }
 
-    /// A connection has its first turn. For want of memory there is none, and the peer sees it closed.
+    /// A connection has its first turn. Where memory is refused there is none, and the peer sees it closed.
     fn open(&mut self, stream: TcpStream, now: Instant)
         ensures { Leads self.old.hub self.new.hub }
     {

@@ -14,7 +14,7 @@ ghost use Rattle.reflector.specs.Replays.{ArePlaced, HasRead, LeadFrom, Tells, T
 
 /// Whatever comes of what a server answers, and whatever else happens, the client's objects are the server's at the
 /// revision that it reports, and that revision never falls: after any of the items (`heard`), in whichever parts; after
-/// a request, if what then comes is its answer (`asked`); after a cut, want of memory or a restart, whatever was still
+/// a request, if what then comes is its answer (`asked`); after a cut, refused memory or a restart, whatever was still
 /// to come; and after the server has changed (`later`). Of a watch whose items all fit, the objects at the end are
 /// those to which they lead (`reached`).
 pub fn follows_the_server()
@@ -30,7 +30,7 @@ pub fn follows_the_server()
 {}
 
 /// Over any run of events, where the server answers what is asked and keeps what it had (requests, items heard, more of
-/// a watch, cuts, want of memory, restarts, notices taken, a server that changes): after each of them what the client
+/// a watch, cuts, refused memory, restarts, notices taken, a server that changes): after each of them what the client
 /// keeps is the server's objects at the revision that it reports, which the server has, and which is not below any that
 /// it reported before, also over restarts.
 pub fn mirrors_the_server()

@@ -1,4 +1,4 @@
-//! Lists: their pages, versions and selectors, with the replies that the rows of the specification name.
+//! Lists: their pages, versions and selectors, with the replies of the worked examples.
 
 use crate::apis::{Given, Rows, answers};
 use crate::hub_rows::expect_rows;

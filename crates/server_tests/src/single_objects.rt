@@ -1,4 +1,4 @@
-//! Single objects: got, created, updated, applied and deleted, with the replies that the rows of the specification name.
+//! Single objects: got, created, updated, applied and deleted, with the replies of the worked examples.
 
 use crate::apis::{Given, Rows, answers};
 use crate::given::media_of;

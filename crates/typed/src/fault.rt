@@ -34,7 +34,7 @@ impl fmt::Display for Cause {
     }
 }
 
-/// Why a value has no content: the first fault, with its path as shown, or want of memory.
+/// Why a value has no content: the first fault, with its path as shown, or out of memory.
 /// The path of the value itself is the empty text.
 #[derive(Debug, Drop, Error)]
 pub enum ReadFault {
