@@ -9,7 +9,7 @@ pub enum HubFault {
     /// An opening whose id is not above those of all earlier ones.
     #[error("the id is not above all earlier ones")]
     IdNotAbove,
-    /// Bytes, or a going, of a connection that was never opened or has gone.
+    /// Bytes, a going or a pump of a connection that was never opened.
     #[error("there is no connection of this id")]
     UnknownId,
     /// A pump of no lines.

@@ -169,7 +169,8 @@ impl<I: IndexBy> Informer<I> {
         self.reader = None;
     }
 
-    /// The revision of the server whose objects these are; None before the first whole list.
+    /// The revision of the server whose objects these are; None before the first whole list, and after a restart until
+    /// the next.
     pub fn revision(&self) -> Option<u64>
         ensures { (c : Client) (bytes : List ℕ) (told : List Told) → Runs (λ b s. I.keys b s) self.now c bytes told → result ≡ option_map (λ now. now.revision) c.cache }
     {
