@@ -2,7 +2,6 @@
 
 use crate::serving::{PATH, is_served, on};
 use crate::timing::{spent, tell};
-use anyhow::bail;
 use httpedge::{Event, Hub, HubFault};
 use std::alloc::{AllocError, Global};
 use std::time::CpuClock;
@@ -46,13 +45,30 @@ fn head(alloc: Global, length: usize, count: usize) -> Result<String, AllocError
     )
 }
 
+/// How long the head of an apply is with nothing in its own field.
+fn least_head(alloc: Global, length: usize) -> Result<usize, AllocError> {
+    Ok(head(alloc, length, 0)?.len())
+}
+
+fn joined(mut head: String, body: &str) -> Result<Vec<u8>, AllocError> {
+    head.push_str(body)?;
+    Ok(head.into_bytes())
+}
+
+/// An apply of so many bytes, of which this many are its head.
+fn request_with(alloc: Global, of_head: usize, body: &str) -> Result<Vec<u8>, AllocError> {
+    let least = least_head(alloc, body.len())?;
+    joined(
+        head(alloc, body.len(), of_head.saturating_sub(least))?,
+        body,
+    )
+}
+
 /// An apply of so many bytes, of which a quarter is its head.
 fn request(alloc: Global, size: usize) -> Result<Vec<u8>, AllocError> {
-    let body = body(alloc, size - size / 4)?;
-    let least = head(alloc, body.len(), 0)?.len();
-    let mut text = head(alloc, body.len(), (size / 4).saturating_sub(least))?;
-    text.push_str(&body)?;
-    Ok(text.into_bytes())
+    let of_head = size / 4;
+    let body = body(alloc, size.saturating_sub(of_head))?;
+    request_with(alloc, of_head, &body)
 }
 
 /// Hands a request to the hub in pieces; whether it is served.
@@ -80,6 +96,24 @@ fn serve_rounds(alloc: Global, hub: &mut Hub, request: &[u8]) -> Result<u64, Hub
     Ok(served)
 }
 
+/// Times this request in pieces.
+fn time_rounds(
+    rt: &(impl Print + Eprint + CpuClock),
+    alloc: Global,
+    hub: &mut Hub,
+    request: &[u8],
+) -> anyhow::Result<()> {
+    let length = request.len();
+    let what = format!(in alloc; "byte of requests of {length} bytes in pieces of {PIECE}")?;
+    let start = spent(rt)?;
+    let served = serve_rounds(alloc, hub, request).unwrap_or(0);
+    tell(rt, &what, ROUNDS.saturating_mul(length as u64), start)?;
+    println!(rt;
+        "hub: {served} of {ROUNDS} requests of {length} bytes served in pieces of {PIECE}"
+    )?;
+    Ok(())
+}
+
 /// Times requests of so many bytes in pieces.
 pub(crate) fn time_pieces(
     rt: &(impl Print + Eprint + CpuClock),
@@ -88,15 +122,7 @@ pub(crate) fn time_pieces(
     size: usize,
 ) -> anyhow::Result<()> {
     let request = request(alloc, size)?;
-    let length = request.len();
-    let start = spent(rt)?;
-    let served = serve_rounds(alloc, hub, &request).unwrap_or(0);
-    let what = format!(in alloc; "byte of requests of {length} bytes in pieces of {PIECE}")?;
-    tell(rt, &what, ROUNDS.saturating_mul(length as u64), start)?;
-    println!(rt;
-        "hub: {served} of {ROUNDS} requests of {length} bytes served in pieces of {PIECE}"
-    )?;
-    Ok(())
+    time_rounds(rt, alloc, hub, &request)
 }
 
 /// Looks at the object on a connection of its own, whose reply is taken; whether it is there.
@@ -122,13 +148,40 @@ fn look_on(alloc: Global, hub: &mut Hub, first: u64, request: &str) -> Result<u6
     Ok(there)
 }
 
-/// Makes the object that is looked at.
-fn make_object(alloc: Global, hub: &mut Hub) -> anyhow::Result<()> {
+/// Makes the object that is looked at; whether it is made.
+fn make_object(alloc: Global, hub: &mut Hub) -> Result<bool, AllocError> {
     let request = request(alloc, 1_000)?;
-    if let Err(_) = serve_in_pieces(alloc, hub, 1, &request) {
-        bail!("out of memory");
+    Ok(serve_in_pieces(alloc, hub, 1, &request).unwrap_or(false))
+}
+
+/// Times a thousand looks, on the connections from this id on; how many saw the object.
+fn time_thousand(
+    rt: &(impl Print + Eprint + CpuClock),
+    alloc: Global,
+    hub: &mut Hub,
+    first: u64,
+    request: &str,
+) -> anyhow::Result<u64> {
+    let what = format!(in alloc; "look on connections from {first} on")?;
+    let start = spent(rt)?;
+    let there = look_on(alloc, hub, first, request).unwrap_or(0);
+    tell(rt, &what, THOUSAND, start)?;
+    Ok(there)
+}
+
+/// Times looks thousand by thousand; how many saw the object.
+fn time_thousands(
+    rt: &(impl Print + Eprint + CpuClock),
+    alloc: Global,
+    hub: &mut Hub,
+    request: &str,
+) -> anyhow::Result<u64> {
+    let mut there: u64 = 0;
+    for thousand in 1..=THOUSANDS {
+        let first = thousand.saturating_mul(THOUSAND);
+        there = there.saturating_add(time_thousand(rt, alloc, hub, first, request)?);
     }
-    Ok(())
+    Ok(there)
 }
 
 /// Times connections of one hub one after another, thousand by thousand.
@@ -139,14 +192,7 @@ pub(crate) fn time_connections(
 ) -> anyhow::Result<()> {
     make_object(alloc, hub)?;
     let request = format!(in alloc; "GET {PATH} HTTP/1.1\r\nHost: localhost\r\n\r\n")?;
-    let mut there: u64 = 0;
-    for thousand in 1..=THOUSANDS {
-        let first = thousand.saturating_mul(THOUSAND);
-        let start = spent(rt)?;
-        there = there.saturating_add(look_on(alloc, hub, first, &request).unwrap_or(0));
-        let what = format!(in alloc; "look on connections from {first} on")?;
-        tell(rt, &what, THOUSAND, start)?;
-    }
+    let there = time_thousands(rt, alloc, hub, &request)?;
     println!(rt;
         "hub: {there} of {} served on connections one after another",
         THOUSANDS.saturating_mul(THOUSAND)

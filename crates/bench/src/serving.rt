@@ -158,12 +158,14 @@ fn time_serving(
     Ok(())
 }
 
+/// Times applies of an object of so many fields from parsed bodies.
 fn time_applies(
     rt: &(impl Print + Eprint + CpuClock),
     alloc: Global,
     api: &mut Api,
-    bodies: Vec<Body>,
+    size: u64,
 ) -> anyhow::Result<()> {
+    let bodies = read(alloc, &bodies(alloc, size)?)?;
     let start = spent(rt)?;
     let served = apply_all(alloc, api, bodies).unwrap_or(0);
     tell(rt, "apply of a parsed body", REQUESTS, start)?;
@@ -176,9 +178,8 @@ fn run_applies(
     alloc: Global,
     size: u64,
 ) -> anyhow::Result<()> {
-    let bodies = read(alloc, &bodies(alloc, size)?)?;
     let mut api = api_of_widgets(alloc)?;
-    time_applies(rt, alloc, &mut api, bodies)
+    time_applies(rt, alloc, &mut api, size)
 }
 
 /// What is timed on a hub of its own.

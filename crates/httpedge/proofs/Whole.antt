@@ -1,5 +1,5 @@
 -- What the parser answers of the bytes up to the first empty line.
-use Rattle.std.proofs.Common.{arith, ◌≡◌, ◌≢◌, ℕ, suc, ◌+◌, ◌*◌, ◌≤◌, List, [], ◌∷◌, ◌++◌, length, Result, Ok, Err, refl, sym, ap, ◌∙◌, length-append, append-nil}
+use Rattle.std.proofs.Common.{arith, ◌≡◌, ◌≢◌, ℕ, suc, ◌+◌, ◌*◌, ◌≤◌, ◌<◌, List, [], ◌∷◌, ◌++◌, length, Result, Ok, Err, refl, sym, ap, ◌∙◌, length-append, append-nil}
 use Rattle.std.specs.List.{All, flat_map}
 use Rattle.httparse.specs.declared.Error.{Error}
 use Rattle.httparse.specs.declared.Status.{Status}
@@ -58,13 +58,24 @@ IsNotWhole (Ok Partial) n = Unit {0}
 IsNotWhole (Err e) n = Unit {0}
 
 pub no_head : (buf : List ℕ) (room : ℕ) (headers : List HeaderSpan) (r : Result (Status RequestSpans) Error) → FindsRequest buf room headers r
-    → length buf ≤ 16384 → 5462 ≤ room → IsNotWhole r (length buf) → (h : RequestHead) → ¬ (ReadsRequest buf h [])
-no_head buf room headers (Ok (Complete parts)) found short enough differs h reads =
-    let fits : length h.fields ≤ room = (let few = head_room buf h reads short in omega (arith, few, enough)) in
-    let at : IsRequestAt buf headers parts h = found h [] reads fits in
-    let same : length buf ≡ length (print_request h) = ap (λ (s : List ℕ). length s) (reads.1 ∙ append-nil (print_request h)) in
-    differs (at.len ∙ sym same)
-no_head buf room headers (Ok Partial) found short enough differs h reads =
-    found h [] reads (let few = head_room buf h reads short in omega (arith, few, enough))
-no_head buf room headers (Err e) found short enough differs h reads =
-    found h [] reads (let few = head_room buf h reads short in omega (arith, few, enough))
+    → IsNotWhole r (length buf) → (h : RequestHead) → ReadsRequest buf h [] → room < length h.fields
+no_head buf room headers r found differs h reads = beyond room (length h.fields) (λ fits. not_found r found differs h reads fits) where
+  beyond : (room n : ℕ) → ¬ (n ≤ room) → room < n
+  beyond room n not_le = omega (arith, not_le)
+
+  not_found : (r : Result (Status RequestSpans) Error) → FindsRequest buf room headers r → IsNotWhole r (length buf) → (h : RequestHead) → ReadsRequest buf h []
+      → ¬ (length h.fields ≤ room)
+  not_found (Ok (Complete parts)) found differs h reads fits =
+      let at : IsRequestAt buf headers parts h = found h [] reads fits in
+      let same : length buf ≡ length (print_request h) = ap (λ (s : List ℕ). length s) (reads.1 ∙ append-nil (print_request h)) in
+      differs (at.len ∙ sym same)
+  not_found (Ok Partial) found differs h reads fits = found h [] reads fits
+  not_found (Err e) found differs h reads fits = found h [] reads fits
+
+-- where there is room for as many fields as a head may have, there is none
+pub none_at_all : (buf : List ℕ) (room : ℕ) → length buf ≤ 16384 → 5462 ≤ room → ((h : RequestHead) → ReadsRequest buf h [] → room < length h.fields)
+    → (h : RequestHead) → ¬ (ReadsRequest buf h [])
+none_at_all buf room short enough beyond h reads =
+    let few = head_room buf h reads short in
+    let more = beyond h reads in
+    omega (arith, few, more, enough)

@@ -1,6 +1,6 @@
 //! What the head of a request says, and when it has come.
 
-ghost use Rattle.std.specs.Prelude.{◌≡◌, ◌≢◌, ◌≤◌, ◌++◌, ℕ, List, true, Some, None, [], length, take, drop, map, option_map, IfSome, IsUtf8};
+ghost use Rattle.std.specs.Prelude.{◌≡◌, ◌≢◌, ◌≤◌, ◌<◌, ◌++◌, ℕ, List, true, Some, None, [], length, take, drop, map, option_map, IfSome, IsUtf8};
 ghost use Rattle.std.specs.List.{All, filter};
 ghost use Rattle.httparse.specs.Grammar.{RequestHead, ReadsRequest};
 ghost use Rattle.httparse.specs.Spans.{header_bytes, span_bytes, IsHeaderWithin, IsWithin, IsRequestWithin};
@@ -16,6 +16,9 @@ use crate::refusal::Refusal;
 use httparse::Status;
 use httparse::spans::{EMPTY_HEADER_SPAN, HeaderSpan, RequestSpans, parse_request};
 use wire::{MAX_FIELDS, MAX_HEAD, has_name, is_length};
+
+/// Room for the fields of most heads.
+const FEW: usize = 64;
 
 /// More fields than a head of 16,384 bytes can hold.
 const ROOM: usize = 5_462;
@@ -196,13 +199,11 @@ fn validated<'b>(
     })
 }
 
-/// The offsets of a head's parts, where these bytes are a head.
+/// The offsets of a head's parts, where these bytes are a head whose fields have room.
 fn parts_of(head: &[u8], spans: &mut [HeaderSpan]) -> Option<RequestSpans>
-    requires short { length head.now ≤ max_head }
-    requires room { ROOM ≤ length spans.old }
     ensures within { IfSome result (λ parts. IsRequestWithin head.now spans.new parts) }
     ensures whole { IfSome result (λ parts. IsWholeAt head.now spans.new parts) }
-    ensures none { result ≡ None → (h : RequestHead) → ¬ (ReadsRequest head.now h []) }
+    ensures none { result ≡ None → (h : RequestHead) → ReadsRequest head.now h [] → length spans.old < length h.fields }
 {
     match parse_request(head, spans) {
         Ok(Status::Complete(parts)) => {
@@ -217,8 +218,8 @@ fn parts_of(head: &[u8], spans: &mut [HeaderSpan]) -> Option<RequestSpans>
     }
 }
 
-/// The validation of the bytes up to the first empty line.
-fn validate<'b>(head: &'b [u8], rest: &'b [u8]) -> Decision<Head<'b>>
+/// The validation of these bytes, however many fields they have.
+fn validate_long<'b>(head: &'b [u8], rest: &'b [u8]) -> Decision<Head<'b>>
     requires { length head.now ≤ max_head }
     ensures { ReadsWholeHead head.now rest.now (decision_of head_of result) }
 {
@@ -226,6 +227,19 @@ fn validate<'b>(head: &'b [u8], rest: &'b [u8]) -> Decision<Head<'b>>
     match parts_of(head, &mut spans) {
         Some(parts) => validated(head, parts, &spans[..parts.headers], rest),
         None => Decision::Refused(Refusal::BadHead.denied()),
+    }
+}
+
+/// The validation of the bytes up to the first empty line. Room for few fields comes first, since it costs as much to
+/// clear the room for all that there may be as to read a short head.
+fn validate<'b>(head: &'b [u8], rest: &'b [u8]) -> Decision<Head<'b>>
+    requires { length head.now ≤ max_head }
+    ensures { ReadsWholeHead head.now rest.now (decision_of head_of result) }
+{
+    let mut spans = [EMPTY_HEADER_SPAN; FEW];
+    match parts_of(head, &mut spans) {
+        Some(parts) => validated(head, parts, &spans[..parts.headers], rest),
+        None => validate_long(head, rest),
     }
 }
 
