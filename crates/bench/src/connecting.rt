@@ -2,6 +2,7 @@
 
 use crate::serving::{PATH, is_served, on};
 use crate::timing::{spent, tell};
+use anyhow::bail;
 use httpedge::{Event, Hub, HubFault};
 use std::alloc::{AllocError, Global};
 use std::time::CpuClock;
@@ -148,10 +149,13 @@ fn look_on(alloc: Global, hub: &mut Hub, first: u64, request: &str) -> Result<u6
     Ok(there)
 }
 
-/// Makes the object that is looked at; whether it is made.
-fn make_object(alloc: Global, hub: &mut Hub) -> Result<bool, AllocError> {
+/// Makes the object that is looked at.
+fn make_object(alloc: Global, hub: &mut Hub) -> anyhow::Result<()> {
     let request = request(alloc, 1_000)?;
-    Ok(serve_in_pieces(alloc, hub, 1, &request).unwrap_or(false))
+    if let Err(_) = serve_in_pieces(alloc, hub, 1, &request) {
+        bail!("out of memory");
+    }
+    Ok(())
 }
 
 /// Times a thousand looks, on the connections from this id on; how many saw the object.

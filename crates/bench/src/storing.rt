@@ -148,7 +148,7 @@ fn time_gets(
     keys: &[Key],
 ) -> anyhow::Result<()> {
     let start = spent(rt)?;
-    let found = count_found(store, keys).unwrap_or(0);
+    let found = count_found(store, keys)?;
     tell(rt, "get", keys.len() as u64, start)?;
     println!(rt; "tables: {found} found")?;
     Ok(())
