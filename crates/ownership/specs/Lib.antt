@@ -8,5 +8,6 @@ pub mod Sameness
 pub mod Keeping
 pub mod Update
 pub mod ObjectText
+pub mod Outcomes
 pub mod ReadBack
 pub mod Parts

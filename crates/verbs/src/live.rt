@@ -25,6 +25,18 @@ pub struct Live {
     pub state: Owned,
 }
 
+impl Live {
+    /// The state that stands, if an object does.
+    pub(crate) fn before(&self) -> Option<&Owned>
+        ensures { option_map (λ s. state_of s.now) result ≡ option_map (λ o. state_of self.now.state) self.now.object }
+    {
+        match &self.object {
+            Some(_) => Some(&self.state),
+            None => None,
+        }
+    }
+}
+
 /// The state that an object's text says.
 fn read_stored(alloc: Global, served: &Served, key: &Key, stored: &Object) -> Result<Owned, Fault>
     requires { IsObjectShape (types.served served.now).shape }

@@ -23,7 +23,7 @@ use crate::reason::Reason;
 use crate::size::validate_size;
 use crate::texts::joined;
 use history::Key;
-use ownership::Owned;
+use ownership::{Outcome, Owned};
 use revtable::Object;
 use schema::Served;
 use serde_json::Value;
@@ -193,11 +193,12 @@ pub fn stored_over(
     requires said { state_of live.now.state ≡ state_of_live (types.served served.now) (option_map object_of live.now.object) }
     ensures { Gives plan_of result (stored_over (types.served served.now) current (key_of key) (option_map object_of live.now.object) (state_of owned.now)) }
 {
-    let Some(stored_before) = &live.object else {
-        return stored(alloc, served, current, key, 201, owned);
-    };
-    if owned.is_same(alloc, &live.state)? {
-        return Ok(as_it_stands(stored_before)?);
+    match owned.written_over(alloc, live.before())? {
+        Outcome::Created => stored(alloc, served, current, key, 201, owned),
+        Outcome::Configured => stored(alloc, served, current, key, 200, owned),
+        Outcome::Unchanged => match &live.object {
+            Some(object) => Ok(as_it_stands(object)?),
+            None => unreachable!(),
+        },
     }
-    stored(alloc, served, current, key, 200, owned)
 }
