@@ -1,5 +1,9 @@
 //! The API over the store. What each method does stands in modules of its own.
 
+ghost use Rattle.std.specs.Prelude.{◌≡◌, ◌≢◌, ◌≤◌, Err, IfOk};
+ghost use Rattle.history.specs.History.{fresh, last_revision};
+ghost use Rattle.history.specs.View.{view};
+
 use crate::admitting::{Refusal, admitted};
 use crate::calls::{Call, Plan, Target};
 use crate::fault::Fault;
@@ -12,6 +16,18 @@ use revtable::Table;
 use schema::Types;
 use std::alloc::Global;
 use watchline::{Pumped, WatchCursor, watches_by_views};
+
+/// The routes, and a store without an object at this revision.
+fn opened(alloc: Global, revision: u64) -> Result<(Routes, Store), Fault>
+    requires from { 1 ≤ revision }
+    requires to { revision ≤ last_revision }
+    ensures store { IfOk result (λ p. p.1 ≡ view (fresh revision)) }
+    ensures readable { result ≢ Err Fault.Unreadable }
+{
+    let routes = Routes::new(alloc)?;
+    let table = Table::open_at(alloc, revision)?;
+    Ok((routes, Store::new(table)))
+}
 
 /// The API over a store of its objects' texts.
 #[derive(Drop)]
@@ -52,12 +68,12 @@ impl Api {
         ensures readable { result ≢ Err Fault.Unreadable }
     {
         types.types_are_of_objects();
-        let table = Table::open_at(alloc, revision)?;
+        let (routes, store) = opened(alloc, revision)?;
         Ok(Api {
             alloc,
             types,
-            routes: Routes::new(alloc)?,
-            store: Store::new(table),
+            routes,
+            store,
         })
     }
 

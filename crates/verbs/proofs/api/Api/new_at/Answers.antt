@@ -1,5 +1,4 @@
-use Rattle.std.proofs.Common.{◌∙◌, ap, refl}
-use Rattle.history.specs.View.{view}
+use Rattle.std.proofs.Common.{refl}
 use Rattle.schema.specs.Served.{types_view}
 use Rattle.verbs.proofs.Machines.{machines_begin}
 use Rattle.verbs.proofs.api.Api.new_at.Goals as goal
@@ -8,6 +7,6 @@ pub returns-clause-stands : goal.returns-clause-stands
 returns-clause-stands c = record {
   is_machine = machines_begin (types_view c.args.types) c.args.revision c.types_are_of_objects.ensures c.requires.from c.requires.to;
   serves = refl;
-  store = c.new-2.ensures ∙ ap view c.in_ok-table.ensures;
+  store = c.in_ok-routes.ensures.store;
   unicode = tt;
 }
