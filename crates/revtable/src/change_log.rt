@@ -4,7 +4,7 @@ ghost use Rattle.std.specs.Prelude.{◌≡◌, [], ◌∷◌, ◌++◌, ℕ, ◌
 ghost use Rattle.history.specs.History.{IsRising};
 ghost use Rattle.history.specs.Kept.{kept};
 ghost use Rattle.history.specs.Read.{key_of};
-ghost use Rattle.revtable.specs.Rows.{change_schema, AreBelow, IsAnswer};
+ghost use Rattle.revtable.specs.Rows.{change_schema, changes_in, AreBelow, IsAnswer, Keeps};
 ghost use Rattle.sqlite.specs.Files.{file_state};
 ghost use Rattle.sqlite.specs.Given.{IsPlain};
 ghost use Rattle.sqlite.specs.Listing.{reads_listing, understood};
@@ -62,17 +62,34 @@ fn empty(alloc: Global) -> Result<Connection<FileStore<MemoryFile>>, Error>
     }
 }
 
+/// The database as it is now.
+fn as_it_is(base: &Connection<FileStore<MemoryFile>>) -> Snapshot<Connection<FileStore<MemoryFile>>>
+    ensures { result.value ≡ base.now }
+{
+    Snapshot::of(base)
+}
+
+/// Makes the table, with an index by key and revision.
+fn create(base: &mut Connection<FileStore<MemoryFile>>) -> Result<(), Error>
+    requires empty { IsEmpty (file_state base.old) }
+    ensures keeps { OnOk result (Keeps (changes_in (file_state base.new)) (file_state base.new)) }
+    ensures none { OnOk result (changes_in (file_state base.new) ≡ []) }
+{
+    base.execute(
+        "CREATE TABLE change (revision INTEGER PRIMARY KEY, kind INTEGER NOT NULL, namespace TEXT NOT NULL, name TEXT NOT NULL, body TEXT, UNIQUE (kind, namespace, name, revision)) STRICT",
+        &[],
+    )?;
+    Ok(())
+}
+
 impl Log {
-    /// A table without a row, with an index by key and revision.
+    /// A table without a row.
     pub(crate) fn open(alloc: Global) -> Result<Log, Error>
         ensures { IfOk result (λ log. log ≡ []) }
     {
         let mut base = empty(alloc)?;
-        base.execute(
-            "CREATE TABLE change (revision INTEGER PRIMARY KEY, kind INTEGER NOT NULL, namespace TEXT NOT NULL, name TEXT NOT NULL, body TEXT, UNIQUE (kind, namespace, name, revision)) STRICT",
-            &[],
-        )?;
-        let kept = Snapshot::of(&base);
+        create(&mut base)?;
+        let kept = as_it_is(&base);
         Ok(Log { base, kept })
     }
 
@@ -92,7 +109,7 @@ impl Log {
             "INSERT INTO change (revision, kind, namespace, name, body) VALUES (?1, ?2, ?3, ?4, ?5)",
             params![revision as i64, key.kind, &key.namespace, &key.name, body],
         )?;
-        self.kept = Snapshot::of(&self.base);
+        self.kept = as_it_is(&self.base);
         Ok(())
     }
 
@@ -106,7 +123,7 @@ impl Log {
         ensures err { OnErr result (self.new ≡ self.old) }
     {
         compaction::delete_between(&mut self.base, from, to)?;
-        self.kept = Snapshot::of(&self.base);
+        self.kept = as_it_is(&self.base);
         Ok(())
     }
 

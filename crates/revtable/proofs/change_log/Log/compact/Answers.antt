@@ -14,8 +14,8 @@ invariant_of-self c =
 
 pub invariant_of-self-2 : goal.invariant_of-self-2
 invariant_of-self-2 c =
-    subst (λ b. Keeps (changes_in (file_state b)) (file_state c.delete_between.new.base)) (sym c.of.ensures)
+    subst (λ b. Keeps (changes_in (file_state b)) (file_state c.delete_between.new.base)) (sym c.as_it_is.ensures)
     (subst (λ l. Keeps l (file_state c.delete_between.new.base)) (sym (done c).1) (done c).0)
 
 pub returns-clause-ok : goal.returns-clause-ok
-returns-clause-ok c = ap (λ b. changes_in (file_state b)) c.of.ensures ∙ (done c).1
+returns-clause-ok c = ap (λ b. changes_in (file_state b)) c.as_it_is.ensures ∙ (done c).1

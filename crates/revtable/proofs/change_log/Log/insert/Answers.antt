@@ -26,7 +26,7 @@ pub invariant_of-self : goal.invariant_of-self
 invariant_of-self c = refused_still (file_state c.self.inside.base) (file_state c.execute.new.self) _ _ _ _ c.self.invariant (c.in_err-execute.ensures.runs (always_clean (λ _. refl) c.execute.new.self))
 
 pub invariant_of-self-2 : goal.invariant_of-self-2
-invariant_of-self-2 c = subst (λ b. Keeps (changes_in (file_state b)) (file_state c.execute.new.self)) (sym c.of.ensures) (done c).0
+invariant_of-self-2 c = subst (λ b. Keeps (changes_in (file_state b)) (file_state c.execute.new.self)) (sym c.as_it_is.ensures) (done c).0
 
 pub returns-clause-ok : goal.returns-clause-ok
-returns-clause-ok c = ap (λ b. changes_in (file_state b)) c.of.ensures ∙ (done c).1
+returns-clause-ok c = ap (λ b. changes_in (file_state b)) c.as_it_is.ensures ∙ (done c).1
