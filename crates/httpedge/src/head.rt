@@ -17,9 +17,6 @@ use httparse::Status;
 use httparse::spans::{EMPTY_HEADER_SPAN, HeaderSpan, RequestSpans, parse_request};
 use wire::{MAX_FIELDS, MAX_HEAD, has_name, is_length};
 
-/// Room for the fields of most heads.
-const FEW: usize = 64;
-
 /// More fields than a head of 16,384 bytes can hold.
 const ROOM: usize = 5_462;
 
@@ -230,13 +227,13 @@ fn validate_long<'b>(head: &'b [u8], rest: &'b [u8]) -> Decision<Head<'b>>
     }
 }
 
-/// The validation of the bytes up to the first empty line. Room for few fields comes first, since it costs as much to
-/// clear the room for all that there may be as to read a short head.
+/// The validation of the bytes up to the first empty line. Room for the fields of a head that is served comes first, since
+/// it costs as much to clear the room for all that there may be as to read a short head.
 fn validate<'b>(head: &'b [u8], rest: &'b [u8]) -> Decision<Head<'b>>
     requires { length head.now ≤ max_head }
     ensures { ReadsWholeHead head.now rest.now (decision_of head_of result) }
 {
-    let mut spans = [EMPTY_HEADER_SPAN; FEW];
+    let mut spans = [EMPTY_HEADER_SPAN; MAX_FIELDS];
     match parts_of(head, &mut spans) {
         Some(parts) => validated(head, parts, &spans[..parts.headers], rest),
         None => validate_long(head, rest),
