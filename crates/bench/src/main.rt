@@ -3,11 +3,11 @@
 //! done goes to standard output, the processor times to standard error.
 #![tactic(auto)]
 
-mod connecting;
 mod indexing;
 mod mirroring;
 mod objects;
 mod reading;
+mod requests;
 mod scripting;
 mod selecting;
 mod serving;

@@ -1,6 +1,6 @@
-//! Requests through the hub, and the same applies without it.
+//! Requests through the hub: applies, connections one after another, and requests that come in pieces.
 
-use crate::connecting::{time_connections, time_pieces};
+use crate::requests::{apply_of_bytes, apply_of_fields, look};
 use crate::timing::{spent, tell};
 use anyhow::bail;
 use httpedge::{Event, Hub, HubFault};
@@ -8,178 +8,187 @@ use schema::Types;
 use serde_json::Value;
 use std::alloc::{AllocError, Global};
 use std::time::CpuClock;
-use verbs::{Api, Body, Call, Fault};
+use verbs::Api;
 
 const TYPES: &str =
     r#"{"types":[{"group":"demo.example","version":"v1","kind":"Widget","plural":"widgets","schema":{"type":"object","properties":{"spec":{"type":"object","properties":{"config":{"type":"object","additionalProperties":{"type":"string"}}}}}}}]}"#;
 
-pub(crate) const PATH: &str = "/apis/demo.example/v1/namespaces/default/widgets/w1";
+/// How many applies are served.
+const APPLIES: u64 = 200;
 
-const MEDIA: &str = "application/apply-patch+yaml";
+/// How many thousand connections there are one after another.
+const THOUSANDS: u64 = 10;
 
-const QUERY: &str = "fieldManager=alice";
+const THOUSAND: u64 = 1_000;
 
-/// How many requests are served.
-const REQUESTS: u64 = 200;
+/// How many bytes a piece has.
+const PIECE: usize = 64;
+
+/// How many requests come in pieces, of each size.
+const ROUNDS: u64 = 20;
 
 pub(crate) fn types_of_widgets(alloc: Global) -> anyhow::Result<Types> {
     let value = Value::from_str(alloc, TYPES)?;
     Ok(Types::read(alloc, &value)?)
 }
 
-pub(crate) fn api_of_widgets(alloc: Global) -> anyhow::Result<Api> {
+fn api_of_widgets(alloc: Global) -> anyhow::Result<Api> {
     match Api::new(alloc, types_of_widgets(alloc)?) {
         Ok(api) => Ok(api),
         Err(_) => bail!("out of memory"),
     }
 }
 
-/// The whole object of so many fields, of which one has another value at each turn.
-fn body(alloc: Global, size: u64, turn: u64) -> Result<String, AllocError> {
-    let changed = turn % size.max(1);
-    let mut text = String::from_str(
-        alloc,
-        "{\"apiVersion\":\"demo.example/v1\",\"kind\":\"Widget\",\"metadata\":{\"name\":\"w1\"},\"spec\":{\"config\":{",
-    )?;
-    for i in 0..size {
-        if i > 0 {
-            text.push(',')?;
-        }
-        let field = if i == changed {
-            format!(in alloc; "\"key-{i:05}\":\"changed-{turn}\"")?
-        } else {
-            format!(in alloc; "\"key-{i:05}\":\"value-{i}\"")?
-        };
-        text.push_str(&field)?;
+/// Adds a request on a connection of its own.
+fn push_request(
+    alloc: Global,
+    events: &mut Vec<Event>,
+    id: u64,
+    request: &[u8],
+) -> Result<(), AllocError> {
+    events.push(Event::Open(id))?;
+    events.push(Event::In(id, Vec::from_slice(alloc, request)?))?;
+    Ok(())
+}
+
+/// Adds a request that comes in pieces on a connection of its own.
+fn push_pieces(
+    alloc: Global,
+    events: &mut Vec<Event>,
+    id: u64,
+    request: &[u8],
+) -> Result<(), AllocError> {
+    events.push(Event::Open(id))?;
+    for piece in request.chunks(PIECE) {
+        events.push(Event::In(id, Vec::from_slice(alloc, piece)?))?;
     }
-    text.push_str("}}}")?;
-    Ok(text)
+    Ok(())
 }
 
-fn bodies(alloc: Global, size: u64) -> Result<Vec<String>, AllocError> {
-    let mut all = Vec::new(alloc);
-    for turn in 0..REQUESTS {
-        all.push(body(alloc, size, turn)?)?;
+/// Applies of an object of so many fields, each in one piece.
+fn applies(alloc: Global, size: u64) -> Result<Vec<Event>, AllocError> {
+    let mut events = Vec::new(alloc);
+    for id in 1..=APPLIES {
+        let request = apply_of_fields(alloc, size, id)?;
+        push_request(alloc, &mut events, id, &request)?;
     }
-    Ok(all)
+    Ok(events)
 }
 
-fn requests(alloc: Global, bodies: &[String]) -> Result<Vec<Vec<u8>>, AllocError> {
-    let mut all = Vec::new(alloc);
-    for body in bodies {
-        let length = body.len();
-        let request = format!(in alloc;
-            "PATCH {PATH}?{QUERY} HTTP/1.1\r\nHost: localhost\r\nContent-Type: {MEDIA}\r\nContent-Length: {length}\r\n\r\n{body}"
-        )?;
-        all.push(request.into_bytes())?;
+/// The same request again and again, in pieces.
+fn in_pieces(alloc: Global, request: &[u8]) -> Result<Vec<Event>, AllocError> {
+    let mut events = Vec::new(alloc);
+    for id in 1..=ROUNDS {
+        push_pieces(alloc, &mut events, id, request)?;
     }
-    Ok(all)
+    Ok(events)
 }
 
-fn read(alloc: Global, bodies: &[String]) -> anyhow::Result<Vec<Body>> {
-    let mut all = Vec::new(alloc);
-    for body in bodies {
-        all.push(Body::read(alloc, body.as_bytes())?)?;
+/// A thousand looks at the object, on the connections from this id on.
+fn looks(alloc: Global, first: u64) -> Result<Vec<Event>, AllocError> {
+    let request = look(alloc)?;
+    let mut events = Vec::new(alloc);
+    for id in first..first.saturating_add(THOUSAND) {
+        push_request(alloc, &mut events, id, &request)?;
     }
-    Ok(all)
+    Ok(events)
 }
 
-pub(crate) fn on(hub: &mut Hub, event: &Event) -> Result<(), HubFault> {
-    hub.on(event)
+fn play(hub: &mut Hub, events: &[Event]) -> Result<(), HubFault> {
+    for event in events {
+        hub.on(event)?;
+    }
+    Ok(())
 }
 
-pub(crate) fn is_served(hub: &Hub, id: u64) -> bool {
-    hub.out(id).starts_with(b"HTTP/1.1 20")
+fn time(
+    rt: &(impl Print + Eprint + CpuClock),
+    hub: &mut Hub,
+    what: &str,
+    count: u64,
+    events: &[Event],
+) -> anyhow::Result<()> {
+    let start = spent(rt)?;
+    if play(hub, events).is_err() {
+        bail!("the hub failed");
+    }
+    Ok(tell(rt, what, count, start)?)
 }
 
-/// Serves a request on a connection of its own; whether it is served.
-fn serve(hub: &mut Hub, id: u64, request: Vec<u8>) -> Result<bool, HubFault> {
-    on(hub, &Event::Open(id))?;
-    on(hub, &Event::In(id, request))?;
-    Ok(is_served(hub, id))
+/// Makes the object, by an apply on the connection 1.
+fn make_object(alloc: Global, hub: &mut Hub) -> anyhow::Result<()> {
+    let mut events = Vec::new(alloc);
+    push_request(alloc, &mut events, 1, &apply_of_bytes(alloc, 1_000)?)?;
+    if play(hub, &events).is_err() {
+        bail!("the hub failed");
+    }
+    Ok(())
 }
 
-/// Serves each request, and counts those that are served.
-fn serve_all(hub: &mut Hub, requests: Vec<Vec<u8>>) -> Result<u64, HubFault> {
+/// How many of so many connections, from this id on, were served; their replies are taken.
+fn take_served(hub: &mut Hub, first: u64, count: u64) -> u64 {
     let mut served: u64 = 0;
-    let mut id: u64 = 0;
-    for request in requests {
-        id = id.saturating_add(1);
-        if serve(hub, id, request)? {
+    for id in first..first.saturating_add(count) {
+        if hub.out(id).starts_with(b"HTTP/1.1 20") {
             served = served.saturating_add(1);
         }
+        hub.take(id, usize::MAX);
     }
-    Ok(served)
+    served
 }
 
-/// Plans a call and commits its change; whether it is served.
-fn answer(api: &mut Api, call: &Call) -> Result<bool, Fault> {
-    let plan = api.plan(call)?;
-    api.commit(&plan)?;
-    Ok(plan.answer.status < 300)
-}
-
-/// Applies a body; whether it is served.
-fn apply(alloc: Global, api: &mut Api, body: Body) -> Result<bool, Fault> {
-    let Ok(target) = api.admit("PATCH", PATH, Some(MEDIA.as_bytes())) else {
-        return Ok(false);
-    };
-    let call = Call {
-        target,
-        query: Vec::from_slice(alloc, QUERY.as_bytes())?,
-        body: Some(body),
-    };
-    answer(api, &call)
-}
-
-/// Applies each body, and counts those that are served.
-fn apply_all(alloc: Global, api: &mut Api, bodies: Vec<Body>) -> Result<u64, Fault> {
-    let mut served: u64 = 0;
-    for body in bodies {
-        if apply(alloc, api, body)? {
-            served = served.saturating_add(1);
-        }
-    }
-    Ok(served)
-}
-
-/// Times applies of an object of so many fields through the hub.
-fn time_serving(
+/// Times applies of an object of so many fields.
+fn time_applies(
     rt: &(impl Print + Eprint + CpuClock),
     alloc: Global,
     hub: &mut Hub,
     size: u64,
 ) -> anyhow::Result<()> {
-    let requests = requests(alloc, &bodies(alloc, size)?)?;
-    let start = spent(rt)?;
-    let served = serve_all(hub, requests).unwrap_or(0);
-    tell(rt, "request through the hub", REQUESTS, start)?;
-    println!(rt; "hub: {served} of {REQUESTS} served through the hub")?;
+    let events = applies(alloc, size)?;
+    time(rt, hub, "request through the hub", APPLIES, &events)?;
+    let served = take_served(hub, 1, APPLIES);
+    println!(rt; "hub: {served} of {APPLIES} served through the hub")?;
     Ok(())
 }
 
-/// Times applies of an object of so many fields from parsed bodies.
-fn time_applies(
+/// Times looks at an object on connections one after another, thousand by thousand.
+fn time_connections(
     rt: &(impl Print + Eprint + CpuClock),
     alloc: Global,
-    api: &mut Api,
-    size: u64,
+    hub: &mut Hub,
 ) -> anyhow::Result<()> {
-    let bodies = read(alloc, &bodies(alloc, size)?)?;
-    let start = spent(rt)?;
-    let served = apply_all(alloc, api, bodies).unwrap_or(0);
-    tell(rt, "apply of a parsed body", REQUESTS, start)?;
-    println!(rt; "hub: {served} of {REQUESTS} applied without it")?;
+    make_object(alloc, hub)?;
+    let mut served: u64 = 0;
+    for thousand in 1..=THOUSANDS {
+        let first = thousand.saturating_mul(THOUSAND);
+        let what = format!(in alloc; "look on connections from {first} on")?;
+        time(rt, hub, &what, THOUSAND, &looks(alloc, first)?)?;
+        served = served.saturating_add(take_served(hub, first, THOUSAND));
+    }
+    println!(rt;
+        "hub: {served} of {} served on connections one after another",
+        THOUSANDS.saturating_mul(THOUSAND)
+    )?;
     Ok(())
 }
 
-fn run_applies(
+/// Times requests of so many bytes in pieces.
+fn time_pieces(
     rt: &(impl Print + Eprint + CpuClock),
     alloc: Global,
-    size: u64,
+    hub: &mut Hub,
+    size: usize,
 ) -> anyhow::Result<()> {
-    let mut api = api_of_widgets(alloc)?;
-    time_applies(rt, alloc, &mut api, size)
+    let request = apply_of_bytes(alloc, size)?;
+    let length = request.len();
+    let what = format!(in alloc; "byte of requests of {length} bytes in pieces of {PIECE}")?;
+    let bytes = ROUNDS.saturating_mul(length as u64);
+    time(rt, hub, &what, bytes, &in_pieces(alloc, &request)?)?;
+    let served = take_served(hub, 1, ROUNDS);
+    println!(rt;
+        "hub: {served} of {ROUNDS} requests of {length} bytes served in pieces of {PIECE}"
+    )?;
+    Ok(())
 }
 
 /// What is timed on a hub of its own.
@@ -201,21 +210,19 @@ fn run_part(
 ) -> anyhow::Result<()> {
     let mut hub = Hub::new(alloc, api_of_widgets(alloc)?);
     match part {
-        Part::Applies(size) => time_serving(rt, alloc, &mut hub, size),
+        Part::Applies(size) => time_applies(rt, alloc, &mut hub, size),
         Part::Connections => time_connections(rt, alloc, &mut hub),
         Part::Pieces(size) => time_pieces(rt, alloc, &mut hub, size),
     }
 }
 
-/// Serves applies of objects of so many fields, and makes the same applies from parsed bodies; then connections one after
-/// another, and requests in pieces.
+/// Serves applies of objects of so many fields; then connections one after another, and requests in pieces.
 pub(crate) fn run(
     rt: &(impl Print + Eprint + CpuClock),
     alloc: Global,
     size: u64,
 ) -> anyhow::Result<()> {
     run_part(rt, alloc, Part::Applies(size))?;
-    run_applies(rt, alloc, size)?;
     run_part(rt, alloc, Part::Connections)?;
     run_part(rt, alloc, Part::Pieces(64_000))?;
     run_part(rt, alloc, Part::Pieces(6_400))
