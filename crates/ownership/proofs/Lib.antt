@@ -17,6 +17,8 @@ pub mod Standing
 pub mod Envelopes
 pub mod Entered
 pub mod Textual
+pub mod Wholly
+pub mod Counted
 pub mod Back
 pub mod Answered
 pub mod Listed

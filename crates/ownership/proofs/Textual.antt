@@ -116,7 +116,7 @@ module _ (s : Shape) (lawful : is_lawful s ≡ true) where
   entries_fine no_items labels h fine = fine
   entries_fine (item d ds) labels h fine = fine_put 102 (codes "managedFields") (array (item d ds)) labels (h.0, h.1, one_deeper (items_depth (item d ds)) 101 h.2) fine
 
-  metadata_fine : (of : Identity) (version : ℕ) (owners : Owners) (labels : Members) → Fine 102 labels → IsFine 103 (object (metadata_of s of version owners labels))
+  pub metadata_fine : (of : Identity) (version : ℕ) (owners : Owners) (labels : Members) → Fine 102 labels → IsFine 103 (object (metadata_of s of version owners labels))
   metadata_fine of version owners labels fine =
       let entries = entries_fine (entry_items s of.api_version (fin.entries owners)) labels (items_fine of.api_version (fin.entries owners)) fine in
       let numbered = fine_put 102 (codes "resourceVersion") (string (decimal version)) _ (fine_text 102 (decimal version)) entries in
@@ -136,7 +136,7 @@ module _ (s : Shape) (lawful : is_lawful s ≡ true) where
     base_fine : Fine 100 (members_printed (print s state.content))
     base_fine = fine_printed 100 (print s state.content) printed_fine
 
-    labels_fine : Fine 102 (metadata_members (print s state.content))
+    pub labels_fine : Fine 102 (metadata_members (print s state.content))
     labels_fine =
         let base = members_printed (print s state.content) in
         fine_more 100 102 (metadata_members (print s state.content)) (omega arith) (fine_printed 100 (get_member (codes "metadata") base) (fine_found 100 (codes "metadata") base base_fine))

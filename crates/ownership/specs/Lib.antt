@@ -11,3 +11,4 @@ pub mod ObjectText
 pub mod Outcomes
 pub mod ReadBack
 pub mod Parts
+pub mod Labels

@@ -9,6 +9,7 @@ mod applying;
 mod conflict;
 mod envelope;
 mod fault;
+mod labels;
 mod laws;
 mod managed_fields;
 mod manager;

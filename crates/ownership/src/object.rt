@@ -1,12 +1,12 @@
 //! An object's text, both ways: its version, its content and who owns what.
 
-ghost use Rattle.std.specs.Prelude.{◌≡◌, true, IfOk, OnOk, option_map, option_and_then, string_bytes};
+ghost use Rattle.std.specs.Prelude.{◌≡◌, true, false, IfOk, IfSome, OnOk, option_map, option_and_then, string_bytes};
 ghost use Rattle.std.specs.FinMap as fin;
 ghost use Rattle.serde_json.specs.Data.{object, put, string};
 ghost use Rattle.serde_json.specs.Find.{as_object};
 ghost use Rattle.serde_json.specs.View.{items_view, members_view, view};
 ghost use Rattle.schema.specs.Lawful.{is_lawful};
-ghost use Rattle.schema.specs.Shape.{shape};
+ghost use Rattle.schema.specs.Shape.{fields_in, shape, struct_of};
 ghost use Rattle.typed.specs.Fitting.{IsContent};
 ghost use Rattle.ownership.specs.Managers.{pair, pairs, manager_view};
 ghost use Rattle.ownership.specs.ObjectText.{entry_items, entry_value, members_or_none, members_with, metadata_members, metadata_with, object_text, object_value, put_entries, put_filled, put_manager};
@@ -103,7 +103,10 @@ fn entry_items(
 }
 
 /// The labels and annotations that were printed, if any.
-fn labels_of(alloc: Global, printed: &Option<Value>) -> Result<Map<String, Value>, AllocError>
+pub(crate) fn labels_of(
+    alloc: Global,
+    printed: &Option<Value>,
+) -> Result<Map<String, Value>, AllocError>
     ensures { IfOk result (λ m. members_view m.entries ≡ metadata_members (option_map view printed.now)) }
 {
     let Some(value) = printed else {
@@ -116,7 +119,7 @@ fn labels_of(alloc: Global, printed: &Option<Value>) -> Result<Map<String, Value
 }
 
 /// The members of what was printed; none where it is no object.
-fn members_of(alloc: Global, printed: Option<Value>) -> Map<String, Value>
+pub(crate) fn members_of(alloc: Global, printed: Option<Value>) -> Map<String, Value>
     ensures { members_view result.entries ≡ members_or_none (option_and_then as_object (option_map view printed)) }
 {
     match printed {
@@ -179,6 +182,21 @@ fn metadata_with(
     Ok(metadata)
 }
 
+/// The fields, if the schema is a granular struct.
+pub(crate) fn granular_fields(schema: &Schema) -> Option<&[(String, Schema)]>
+    ensures { IfSome result (λ fs. shape schema.now ≡ struct_of (fields_in fs.now) false) }
+{
+    match schema {
+        Schema::Struct(fields, is_atomic) => {
+            if *is_atomic {
+                return None;
+            }
+            Some(fields.as_slice())
+        }
+        _ => None,
+    }
+}
+
 impl Owned {
     /// The items of `managedFields`.
     fn items(
@@ -229,8 +247,32 @@ impl Owned {
         self.value_with(alloc, schema, of, version, items)
     }
 
-    /// The object's text, where the items of `managedFields` are at hand.
-    pub(crate) fn text_with(
+    /// The object's text under a struct of these fields, where the items of `managedFields` are at hand: the texts of its
+    /// members, put together.
+    fn fields_text(
+        &self,
+        alloc: Global,
+        fields: &[(String, Schema)],
+        of: Identity<'_>,
+        version: u64,
+        items: Vec<Value>,
+    ) -> Result<String, AllocError>
+        ensures { items_view items.items ≡ entry_items (struct_of (fields_in fields.now) false) of.entry.api_version.now (fin.entries self.now.managers)
+            → is_lawful (struct_of (fields_in fields.now) false) ≡ true → IsContent (struct_of (fields_in fields.now) false) self.now.tree
+            → IfOk result (λ t. string_bytes t ≡ object_text (struct_of (fields_in fields.now) false) (identity_of of.entry) version (state_of self.now)) }
+    {
+        let printed = self.tree.field_value(alloc, fields, "metadata")?;
+        let labels = members_of(alloc, printed);
+        let members = metadata_with(alloc, of, version, items, labels)?;
+        let metadata = Value::Object(members);
+        let mut texts = self.tree.texts(alloc, fields)?;
+        typed::put_value(&mut texts, alloc, "metadata", &metadata)?;
+        typed::put_string(&mut texts, alloc, "kind", of.kind)?;
+        typed::put_string(&mut texts, alloc, "apiVersion", of.api_version)?;
+        typed::object_of(alloc, &texts)
+    }
+
+    fn value_text(
         &self,
         alloc: Global,
         schema: &Schema,
@@ -244,6 +286,25 @@ impl Owned {
     {
         let value = self.value_with(alloc, schema, of, version, items)?;
         value.to_string(alloc)
+    }
+
+    /// The object's text, where the items of `managedFields` are at hand.
+    pub(crate) fn text_with(
+        &self,
+        alloc: Global,
+        schema: &Schema,
+        of: Identity<'_>,
+        version: u64,
+        items: Vec<Value>,
+    ) -> Result<String, AllocError>
+        ensures { items_view items.items ≡ entry_items (shape schema.now) of.entry.api_version.now (fin.entries self.now.managers)
+            → is_lawful (shape schema.now) ≡ true → IsContent (shape schema.now) self.now.tree
+            → IfOk result (λ t. string_bytes t ≡ object_text (shape schema.now) (identity_of of.entry) version (state_of self.now)) }
+    {
+        match granular_fields(schema) {
+            Some(fields) => self.fields_text(alloc, fields, of, version, items),
+            None => self.value_text(alloc, schema, of, version, items),
+        }
     }
 
     /// The object's text: its value as compact JSON.

@@ -22,3 +22,5 @@ pub mod Keeping
 pub mod Depths
 pub mod Spelling
 pub mod FieldTexts
+pub mod Rows
+pub mod Wholes

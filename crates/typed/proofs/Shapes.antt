@@ -5,7 +5,7 @@ use Rattle.serde_json.specs.Find.{as_object, as_array}
 use Rattle.serde_json.specs.View.{items_view}
 use Rattle.serde_json.specs.declared.value.Value.{Value}
 use Rattle.schema.specs.KeyNames.{names_in}
-use Rattle.schema.specs.Shape.{shape, struct_of, map_of, list_of, fields_in, kind_of}
+use Rattle.schema.specs.Shape.{shape, text, struct_of, map_of, list_of, fields_in, kind_of}
 use Rattle.schema.specs.declared.schema.ListKind.{ListKind}
 use Rattle.schema.specs.declared.schema.ListKind.TheVariants as kinds
 use Rattle.schema.specs.declared.schema.Schema as schemas
@@ -13,6 +13,9 @@ use Rattle.schema.specs.declared.schema.Schema.{Schema, the_lemmas}
 use Rattle.typed.specs.declared.fault.Cause.TheVariants.{NotAnObject, WrongType}
 use Rattle.typed.specs.Faults.{below, some_or}
 use Rattle.typed.specs.Reading.{plain_of, plain_of_field, plain_members, plain_items, plain_item, content_of, content_of_item, content_of_field, members_at, beside_keys, items_at, keyed_item}
+
+pub shape-Text : shape schemas.Text ≡ text
+shape-Text = search (rules, the_lemmas)
 
 pub shape-Struct : (v : Vec (String Global × Schema) Global) (b : Bool) → shape (schemas.Struct v b) ≡ struct_of (fields_in v.items) b
 shape-Struct v b = search (rules, the_lemmas)

@@ -4,3 +4,5 @@ pub mod Printing
 pub mod Steps
 pub mod Placed
 pub mod Fitting
+pub mod Rows
+pub mod Texts

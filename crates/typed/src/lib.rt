@@ -12,8 +12,11 @@ mod plain;
 mod print;
 mod print_law;
 mod print_parts;
+mod pushing;
 mod read;
+mod texts;
 mod tree;
+mod write;
 
 pub use changes::Changes;
 pub use fault::{Cause, ReadFault};
@@ -21,4 +24,5 @@ pub use print_law::{
     contents_are_kept, contents_are_placed, contents_have_places, printed_has_no_float,
     printed_is_textual, printed_reads_back, readings_are_placed,
 };
+pub use texts::{Texts, object_of, put_string, put_text, put_value};
 pub use tree::Tree;

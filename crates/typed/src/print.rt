@@ -1,12 +1,12 @@
 //! The JSON value of a content, under its schema.
 
-ghost use Rattle.std.specs.Prelude.{◌≡◌, IfOk, OnOk, option_map, string_bytes};
+ghost use Rattle.std.specs.Prelude.{◌≡◌, IfOk, OnOk, option_and_then, option_map, string_bytes};
 ghost use Rattle.serde_json.specs.Data.{object};
 ghost use Rattle.serde_json.specs.View.{view, items_view, members_view};
 ghost use Rattle.fieldpath.specs.Elements.{field_name, name_text};
 ghost use Rattle.pathmap.specs.Insides.{inside, heads};
 ghost use Rattle.pathmap.specs.Maps.{content, content_or_nothing};
-ghost use Rattle.schema.specs.Shape.{fields_in, kind_of, list_of, map_of, shape, struct_of};
+ghost use Rattle.schema.specs.Shape.{fields_in, kind_of, list_of, map_of, shape, shape_at, struct_of};
 ghost use Rattle.typed.specs.Printing.{each_item, each_member, keys_in, print, print_fields, print_item, scalar_in, with_named};
 
 use crate::print_parts::{
@@ -33,7 +33,7 @@ fn put_named(
 }
 
 /// What stands at and below a field.
-fn field_in<'a>(
+pub(crate) fn field_in<'a>(
     map: &'a PathMap,
     alloc: Global,
     name: &str,
@@ -208,5 +208,36 @@ pub(crate) fn print_map(
         Schema::MapOf(inner, is_atomic) => print_each(inner, alloc, *is_atomic, map),
         Schema::List(inner, kind) => print_list(inner, alloc, kind, map),
         Schema::Text | Schema::Whole | Schema::Truth => print_top(alloc, map),
+    }
+}
+
+/// The value of the field of this name.
+pub(crate) fn print_field(
+    fields: &[(String, Schema)],
+    alloc: Global,
+    name: &str,
+    map: &PathMap,
+) -> Result<Option<Value>, AllocError>
+    ensures { IfOk result (λ o. option_map view o ≡ option_and_then (λ s. print s (inside (name_text name.now) (content map.now))) (shape_at name.now (fields_in fields.now))) }
+{
+    for (known, inner) in fields {
+        if known.as_str() == name {
+            return print_below(inner, alloc, name, map);
+        }
+    }
+    Ok(None)
+}
+
+fn print_below(
+    inner: &Schema,
+    alloc: Global,
+    name: &str,
+    map: &PathMap,
+) -> Result<Option<Value>, AllocError>
+    ensures { IfOk result (λ o. option_map view o ≡ print (shape inner.now) (inside (name_text name.now) (content map.now))) }
+{
+    match field_in(map, alloc, name)? {
+        Some(below) => print_map(inner, alloc, below),
+        None => Ok(None),
     }
 }

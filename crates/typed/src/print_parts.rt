@@ -27,7 +27,7 @@ fn read_text(alloc: Global, text: &str) -> Result<Option<Value>, AllocError>
     }
 }
 
-fn print_held(alloc: Global, held: &Held) -> Result<Option<Value>, AllocError>
+pub(crate) fn print_held(alloc: Global, held: &Held) -> Result<Option<Value>, AllocError>
     ensures { IfOk result (λ o. option_map view o ≡ value_of (standing held.now)) }
 {
     match held {

@@ -1,17 +1,25 @@
 //! Contents of objects. Reading and printing stand in modules of their own.
 
-ghost use Rattle.std.specs.Prelude.{◌≡◌, IfOk, option_map};
+ghost use Rattle.std.specs.Prelude.{◌≡◌, true, false, IfOk, option_and_then, option_map};
+ghost use Rattle.fieldpath.specs.Elements.{name_text};
+ghost use Rattle.pathmap.specs.Insides.{inside};
+ghost use Rattle.serde_json.specs.Data.{no_members};
 ghost use Rattle.serde_json.specs.View.{view};
-ghost use Rattle.schema.specs.Shape.{shape};
-ghost use Rattle.typed.specs.Printing.{print};
+ghost use Rattle.schema.specs.Lawful.{is_well_formed};
+ghost use Rattle.schema.specs.Shape.{fields_in, shape, shape_at, struct_of};
+ghost use Rattle.typed.specs.Fitting.{IsContent};
+ghost use Rattle.typed.specs.Printing.{print, print_fields};
+ghost use Rattle.typed.specs.Texts.{texts_in, texts_of};
 ghost use Rattle.pathmap.specs.Contents.{nothing, over};
 ghost use Rattle.pathmap.specs.Maps.{content};
 ghost use Rattle.typed.specs.Faults.{Gives};
 ghost use Rattle.typed.specs.Reading.{content_of};
 
 use crate::fault::ReadFault;
-use crate::print::print_map;
+use crate::print::{print_field, print_map};
 use crate::read::read_map;
+use crate::texts::Texts;
+use crate::write::texts_of_fields;
 use pathmap::{PathMap, put_over};
 use schema::Schema;
 use serde_json::Value;
@@ -97,5 +105,25 @@ impl Tree {
         ensures { IfOk result (λ o. option_map view o ≡ print (shape schema.now) self.now) }
     {
         print_map(schema, alloc, &self.map)
+    }
+
+    /// The value that a field is printed as, if the fields have one of the name and anything stands in it.
+    pub fn field_value(
+        &self,
+        alloc: Global,
+        fields: &[(String, Schema)],
+        name: &str,
+    ) -> Result<Option<Value>, AllocError>
+        ensures { IfOk result (λ o. option_map view o ≡ option_and_then (λ s. print s (inside (name_text name.now) self.now)) (shape_at name.now (fields_in fields.now))) }
+    {
+        print_field(fields, alloc, name, &self.map)
+    }
+
+    /// The texts of the members that the content is printed with under a struct of these fields, by name.
+    pub fn texts(&self, alloc: Global, fields: &[(String, Schema)]) -> Result<Texts, AllocError>
+        ensures { is_well_formed (struct_of (fields_in fields.now) false) ≡ true → IsContent (struct_of (fields_in fields.now) false) self.now
+            → IfOk result (λ m. texts_in m.entries ≡ texts_of (print_fields (fields_in fields.now) self.now no_members)) }
+    {
+        texts_of_fields(fields, alloc, &self.map)
     }
 }

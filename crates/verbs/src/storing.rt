@@ -1,8 +1,8 @@
 //! What is stored: versions, limits, and the object as it is printed.
 
-ghost use Rattle.std.specs.Prelude.{◌≡◌, ◌≤◌, ◌<◌, false, OnOk, IfOk, option_map, string_bytes};
-ghost use Rattle.serde_json.specs.View.{view};
-ghost use Rattle.serde_json.specs.Written.{has_float};
+ghost use Rattle.std.specs.Prelude.{◌≡◌, ◌≤◌, ◌<◌, codes, OnOk, IfOk, option_map, string_bytes};
+ghost use Rattle.serde_json.specs.Data.{Data};
+ghost use Rattle.serde_json.specs.Written.{compact_text};
 ghost use Rattle.history.specs.History.{last_revision};
 ghost use Rattle.schema.specs.Served as types;
 ghost use Rattle.typed.specs.Fitting.{IsContent};
@@ -11,7 +11,9 @@ ghost use Rattle.ownership.specs.Results.{state_of};
 ghost use Rattle.verbs.specs.Machine.{state_of_live};
 ghost use Rattle.history.specs.Read.{key_of};
 ghost use Rattle.verbs.specs.Seen.{Gives, object_of, plan_of};
-ghost use Rattle.verbs.specs.Step.{as_it_stands, no_object_message, other_version_message, printed, revisions_left, stored, stored_as, stored_over, text_at, version_checked};
+ghost use Rattle.verbs.specs.Naming.{metadata_object};
+ghost use Rattle.verbs.specs.Size.{count_if_there};
+ghost use Rattle.verbs.specs.Step.{as_it_stands, no_object_message, other_version_message, revisions_left, stored, stored_as, stored_over, text_at, version_checked};
 
 use crate::calls::{Answer, Plan};
 use crate::change::Change;
@@ -26,28 +28,12 @@ use history::Key;
 use ownership::{Outcome, Owned};
 use revtable::Object;
 use schema::Served;
-use serde_json::Value;
 use std::alloc::{AllocError, Global};
 
 /// The highest revision.
 const LAST_REVISION: u64 = 9223372036854775807;
 
-/// The object at the key as it is printed.
-pub fn printed(
-    alloc: Global,
-    served: &Served,
-    key: &Key,
-    revision: u64,
-    owned: &Owned,
-) -> Result<Value, AllocError>
-    ensures { IfOk result (λ v. view v ≡ printed (types.served served.now) (key_of key.now) revision (state_of owned.now)) }
-{
-    let api_version = api_version_of(alloc, served)?;
-    let identity = identity_of(served, key, api_version.as_str());
-    owned.to_value(alloc, &served.schema, identity, revision)
-}
-
-/// Its text, as compact JSON.
+/// The text of the object at the key, as compact JSON.
 pub fn printed_text(
     alloc: Global,
     served: &Served,
@@ -59,7 +45,9 @@ pub fn printed_text(
     requires content { IsContent (types.served served.now).shape owned.now.tree }
     ensures { IfOk result (λ t. string_bytes t ≡ text_at (types.served served.now) (key_of key.now) revision (state_of owned.now)) }
 {
-    printed(alloc, served, key, revision, owned)?.to_string(alloc)
+    let api_version = api_version_of(alloc, served)?;
+    let identity = identity_of(served, key, api_version.as_str());
+    owned.to_object(alloc, &served.schema, identity, revision)
 }
 
 fn no_object_message(alloc: Global, given: u64) -> Result<String, AllocError>
@@ -115,20 +103,20 @@ pub fn check_revisions(alloc: Global, current: u64) -> Result<(), CallError>
     Err(CallError::refused_for(alloc, Reason::ServiceUnavailable, "revisions are used up"))
 }
 
-/// The object of this value, unless it is too large or revisions are used up.
+/// The object of this text, which has so many labels, unless it is too large or revisions are used up.
 fn stored_as(
     alloc: Global,
-    value: &Value,
+    text: String,
+    labels: usize,
     current: u64,
     key: Key,
     status: u16,
 ) -> Result<Plan, CallError>
     requires numbered { current ≤ last_revision }
-    requires textual { has_float (view value.now) ≡ false }
-    ensures { Gives plan_of result (stored_as (view value.now) current (key_of key) status) }
+    ensures { (object : Data) → string_bytes text ≡ compact_text object → labels ≡ count_if_there (metadata_object (codes "labels") object)
+        → Gives plan_of result (stored_as object current (key_of key) status) }
 {
-    let text = value.to_string(alloc)?;
-    validate_size(alloc, value, text.as_str())?;
+    validate_size(alloc, labels, text.as_str())?;
     check_revisions(alloc, current)?;
     let body = text.clone()?;
     Ok(Plan {
@@ -159,8 +147,9 @@ pub fn stored(
     requires content { IsContent (types.served served.now).shape owned.now.tree }
     ensures { Gives plan_of result (stored (types.served served.now) current (key_of key) status (state_of owned.now)) }
 {
-    let value = printed(alloc, served, &key, current + 1, owned)?;
-    stored_as(alloc, &value, current, key, status)
+    let text = printed_text(alloc, served, &key, current + 1, owned)?;
+    let labels = owned.label_count(alloc, &served.schema)?;
+    stored_as(alloc, text, labels, current, key, status)
 }
 
 /// The object as it stands.

@@ -1,15 +1,15 @@
-use Rattle.std.proofs.Common.{◌∙◌, ap}
-use Rattle.schema.specs.Shape.{shape}
-use Rattle.serde_json.specs.Written.{compact_text, has_float}
-use Rattle.ownership.specs.ObjectText.{object_text}
+use Rattle.std.proofs.Common.{◌≡◌, IfOk, string_bytes, subst, sym, true}
+use Rattle.std.specs.FinMap as fin
+use Rattle.serde_json.specs.View.{items_view}
+use Rattle.schema.specs.Lawful.{is_lawful}
+use Rattle.schema.specs.Shape.{Shape}
+use Rattle.typed.specs.Fitting.{IsContent}
+use Rattle.ownership.specs.ObjectText.{entry_items, object_text}
 use Rattle.ownership.specs.Results.{identity_of, state_of}
-use Rattle.ownership.proofs.Answered.{ok_map}
-use Rattle.ownership.proofs.Textual.{value_textual}
 use Rattle.ownership.proofs.owned.Owned.text_with.Goals as goal
 
-pub returns : goal.returns
-unfolding object_text
-returns c = λ listed lawful content.
-    let is = c.in_ok-value.ensures listed in
-    let clean = ap has_float is ∙ (value_textual (shape c.args.schema.now) lawful (identity_of c.args.of) c.args.version (state_of c.args.self.now) content).1 in
-    ok_map c.to_string.result (λ t text. text clean ∙ ap compact_text is) c.to_string.ensures.text
+pub returns-in-Some : goal.returns-in-Some
+returns-in-Some c =
+    subst (λ (s : Shape). items_view c.args.items.items ≡ entry_items s c.args.of.api_version.now (fin.entries c.args.self.now.managers) → is_lawful s ≡ true → IsContent s c.args.self.now.tree
+    → IfOk c.fields_text.result (λ t. string_bytes t ≡ object_text s (identity_of c.args.of) c.args.version (state_of c.args.self.now)))
+    (sym c.in-Some.ensures) c.fields_text.ensures

@@ -1,0 +1,15 @@
+use Rattle.std.proofs.Common.{◌∙◌, ap}
+use Rattle.schema.specs.Shape.{shape}
+use Rattle.serde_json.specs.Written.{compact_text, has_float}
+use Rattle.ownership.specs.ObjectText.{object_text}
+use Rattle.ownership.specs.Results.{identity_of, state_of}
+use Rattle.ownership.proofs.Answered.{ok_map}
+use Rattle.ownership.proofs.Textual.{value_textual}
+use Rattle.ownership.proofs.owned.Owned.value_text.Goals as goal
+
+pub returns : goal.returns
+unfolding object_text
+returns c = λ listed lawful content.
+    let is = c.in_ok-value.ensures listed in
+    let clean = ap has_float is ∙ (value_textual (shape c.args.schema.now) lawful (identity_of c.args.of) c.args.version (state_of c.args.self.now) content).1 in
+    ok_map c.to_string.result (λ t text. text clean ∙ ap compact_text is) c.to_string.ensures.text

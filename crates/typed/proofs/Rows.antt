@@ -1,0 +1,174 @@
+-- Members that are put in the order of their names stand one after another.
+use Rattle.std.proofs.Common.{◌≡◌, ℕ, Bool, true, false, cond, drop, nat_cmp, string_cmp, List, [], ◌∷◌, ◌++◌, Option, Some, None, Less, string_bytes, refl, sym, ap, ap₂, ◌∙◌, subst, true≢false}
+use Rattle.std.specs.BTreeMap.{IsOrdered}
+use Rattle.std.specs.Cmp.Lexicographic.{slice_cmp}
+use Rattle.std.specs.List.{AllByRecursion}
+use Rattle.std.specs.Ordering.{match_ordering}
+use Rattle.std.proofs.lemmas.Bool.{and_parts}
+use Rattle.serde_json.specs.Data.{Data, Members, no_members, member, put}
+use Rattle.serde_json.specs.Written.{members_text}
+use Rattle.fieldpath.specs.Elements.{field_name, has_prefix, name_text}
+use Rattle.fieldpath.specs.Scalars.{ascend}
+use Rattle.pathmap.specs.Contents.{Content, nothing}
+use Rattle.pathmap.specs.Insides.{inside, heads}
+use Rattle.pathmap.specs.Maps.{content}
+use Rattle.pathmap.specs.declared.pathmap.PathMap.{PathMap, out-PathMap}
+use Rattle.pathmap.proofs.Heads.{has_path, no_path}
+use Rattle.schema.proofs.Members.{put_turned}
+use Rattle.schema.specs.Lawful.{names_of, is_well_formed, are_well_formed}
+use Rattle.schema.specs.Shape.{Shape, Fields, no_fields, field, map_of, struct_of}
+use Rattle.typed.specs.Placed.{ArePlaced, ReadsBack}
+use Rattle.typed.specs.Printing.{each_member, object_or_none, print, print_fields, with_member, with_named}
+use Rattle.typed.specs.Rows.{AllFit, EachFits, Fits, HasNoFloat, IsThere, row_of_children, row_of_fields, text_or_none, then_member, then_named}
+use Rattle.typed.proofs.Floats.{content_clean}
+use Rattle.typed.proofs.Insides.{AreInside, Children, children-inside, heads-map, living}
+use Rattle.typed.proofs.KeyFields.{AreRising, ascend_rising}
+use Rattle.typed.proofs.Prints.{print-nothing}
+use Rattle.typed.proofs.Putting.{below_differs}
+use Rattle.typed.proofs.RoundTrip.{heads_rise, prefix_name, round}
+
+-- every name is above k
+abbrev AllAbove : List ℕ → List (List ℕ) → Type 0
+AllAbove k ns = AllByRecursion (λ n. slice_cmp nat_cmp k n ≡ Less) ns
+
+abbrev IsFront : List ℕ → Members → Type 0
+IsFront k no_members = Unit {0}
+IsFront k (member l e ms) = slice_cmp nat_cmp k l ≡ Less
+
+put_front : (k : List ℕ) (d : Data) (ms : Members) → IsFront k ms → put k d ms ≡ member k d ms
+put_front k d no_members front = refl
+put_front k d (member l e ms) front = ap (λ o. match_ordering o (member k d (member l e ms)) (member l d ms) (member l e (put k d ms))) front
+
+then_front : (k l : List ℕ) (o : Option Data) (ms : Members) → slice_cmp nat_cmp k l ≡ Less → IsFront k ms → IsFront k (then_member l o ms)
+then_front k l None ms less front = front
+then_front k l (Some d) ms less front = less
+
+put_with : (k l : List ℕ) (d : Data) (o : Option Data) (ms : Members) → slice_cmp nat_cmp k l ≡ Less → with_member l o (put k d ms) ≡ put k d (with_member l o ms)
+put_with k l d None ms less = refl
+put_with k l d (Some e) ms less = sym (put_turned k l d e ms (λ same. absurd (below_differs k l less (sym same))))
+
+-- ---- fields
+
+fields_put : (fs : Fields) (c : Content) (k : List ℕ) (d : Data) (ms : Members) → AllAbove k (names_of fs) → print_fields fs c (put k d ms) ≡ put k d (print_fields fs c ms)
+fields_put no_fields c k d ms above = refl
+fields_put (field f s more) c k d ms above =
+    ap (print_fields more c) (put_with k f d (print s (inside (name_text f) c)) ms above.0) ∙ fields_put more c k d (with_member f (print s (inside (name_text f) c)) ms) above.1
+
+fields_front : (fs : Fields) (c : Content) (k : List ℕ) → AllAbove k (names_of fs) → IsFront k (row_of_fields fs c)
+fields_front no_fields c k above = tt
+fields_front (field f s more) c k above = then_front k f (print s (inside (name_text f) c)) (row_of_fields more c) above.0 (fields_front more c k above.1)
+
+pub fields_row : (fs : Fields) (c : Content) → AreRising (names_of fs) → print_fields fs c no_members ≡ row_of_fields fs c
+fields_row no_fields c rise = refl
+fields_row (field f s more) c rise = by_printed (print s (inside (name_text f) c)) (fields_row more c rise.1)
+  where
+    by_printed : (o : Option Data) → print_fields more c no_members ≡ row_of_fields more c → print_fields more c (with_member f o no_members) ≡ then_member f o (row_of_fields more c)
+    by_printed None later = later
+    by_printed (Some d) later = fields_put more c f d no_members rise.0 ∙ ap (put f d) later ∙ put_front f d (row_of_fields more c) (fields_front more c f rise.0)
+
+-- ---- elements
+
+some_name : (k l : List ℕ) → ◌≡◌ {A = Option (List ℕ)} (Some k) (Some l) → k ≡ l
+some_name k l h = cc
+
+none_some : (k : List ℕ) → ◌≡◌ {A = Option (List ℕ)} None (Some k) → ⊥
+none_some k h = cc
+
+name_of : (e k : List ℕ) → field_name e ≡ Some k → e ≡ name_text k
+name_of e k is = by_test (has_prefix 102 e) refl
+  where
+    by_test : (b : Bool) → has_prefix 102 e ≡ b → e ≡ name_text k
+    by_test true h = let n = prefix_name e h in n.2 ∙ ap name_text (some_name n.0 k (sym n.1 ∙ is))
+    by_test false h = absurd (none_some k (sym (ap (λ b. cond b (Some (drop 2 e)) None) h) ∙ is))
+
+names_less : (k l : List ℕ) → slice_cmp nat_cmp (name_text k) (name_text l) ≡ Less → slice_cmp nat_cmp k l ≡ Less
+unfolding name_text
+names_less k l less = less
+
+abbrev pub row_each : (List ℕ → Option Data) → List (List ℕ) → Members
+row_each inner [] = no_members
+row_each inner (e ∷ es) = then_named (field_name e) (inner e) (row_each inner es)
+
+module _ (inner : List ℕ → Option Data) where
+  put_named : (k e : List ℕ) (d : Data) (o : Option Data) (ms : Members) → slice_cmp nat_cmp (name_text k) e ≡ Less → (n : Option (List ℕ)) → field_name e ≡ n → with_named n o (put k d ms) ≡ put k d (with_named n o ms)
+  put_named k e d o ms less None is = refl
+  put_named k e d o ms less (Some l) is = put_with k l d o ms (names_less k l (ap (slice_cmp nat_cmp (name_text k)) (sym (name_of e l is)) ∙ less))
+
+  each_put : (es : List (List ℕ)) (k : List ℕ) (d : Data) (ms : Members) → AllAbove (name_text k) es → each_member inner es (put k d ms) ≡ put k d (each_member inner es ms)
+  each_put [] k d ms above = refl
+  each_put (e ∷ es) k d ms above = ap (each_member inner es) (put_named k e d (inner e) ms above.0 (field_name e) refl) ∙ each_put es k d (with_named (field_name e) (inner e) ms) above.1
+
+  named_front : (k e : List ℕ) (o : Option Data) (ms : Members) → slice_cmp nat_cmp (name_text k) e ≡ Less → IsFront k ms → (n : Option (List ℕ)) → field_name e ≡ n → IsFront k (then_named n o ms)
+  named_front k e o ms less front None is = front
+  named_front k e o ms less front (Some l) is = then_front k l o ms (names_less k l (ap (slice_cmp nat_cmp (name_text k)) (sym (name_of e l is)) ∙ less)) front
+
+  each_front : (es : List (List ℕ)) (k : List ℕ) → AllAbove (name_text k) es → IsFront k (row_each inner es)
+  each_front [] k above = tt
+  each_front (e ∷ es) k above = named_front k e (inner e) (row_each inner es) above.0 (each_front es k above.1) (field_name e) refl
+
+  pub each_row : (es : List (List ℕ)) → AreRising es → each_member inner es no_members ≡ row_each inner es
+  each_row [] rise = refl
+  each_row (e ∷ es) rise = by_name (field_name e) refl (inner e) (each_row es rise.1)
+    where
+      by_name : (n : Option (List ℕ)) → field_name e ≡ n → (o : Option Data) → each_member inner es no_members ≡ row_each inner es → each_member inner es (with_named n o no_members) ≡ then_named n o (row_each inner es)
+      by_name None is o later = later
+      by_name (Some k) is None later = later
+      by_name (Some k) is (Some d) later =
+          let above = subst (λ g. AllAbove g es) (name_of e k is) rise.0 in
+          each_put es k d no_members above ∙ ap (put k d) later ∙ put_front k d (row_each inner es) (each_front es k above)
+
+-- ---- children
+
+children_each : (s : Shape) (c : Content) (it : Children) → AreInside c it → row_each (λ e. print s (inside e c)) (living it) ≡ row_of_children s it
+children_each s c [] inside_all = refl
+children_each s c (e ∷ es) inside_all = by_test (has_path (content e.1)) refl (children_each s c es inside_all.1)
+  where
+    bare : (n : Option (List ℕ)) (o : Option Data) (ms : Members) → o ≡ None → ms ≡ then_named n o ms
+    bare None o ms none = refl
+    bare (Some k) o ms none = sym (ap (λ x. then_member k x ms) none)
+
+    by_test : (b : Bool) → has_path (content e.1) ≡ b → row_each (λ e. print s (inside e c)) (living es) ≡ row_of_children s es
+        → row_each (λ e. print s (inside e c)) (cond b (string_bytes e.0 ∷ living es) (living es)) ≡ then_named (field_name (string_bytes e.0)) (print s (content e.1)) (row_of_children s es)
+    by_test true has later = ap₂ (λ d ms. then_named (field_name (string_bytes e.0)) (print s d) ms) inside_all.0 later
+    by_test false has later = later ∙ bare (field_name (string_bytes e.0)) (print s (content e.1)) (row_of_children s es) (ap (print s) (no_path (content e.1) has) ∙ print-nothing s)
+
+pub children_row : (s : Shape) (n : PathMap) → IsOrdered string_cmp (out-PathMap n).below → each_member (λ e. print s (inside e (content n))) (heads (content n)) no_members ≡ row_of_children s (out-PathMap n).below.entries
+children_row s n sorted =
+    let inner = λ (e : List ℕ). print s (inside e (content n)) in
+    each_row inner (heads (content n)) (heads_rise (content n)) ∙ ap (row_each inner) (heads-map n sorted) ∙ children_each s (content n) (out-PathMap n).below.entries (children-inside n sorted)
+
+-- ---- what fits
+
+pub fits_clean : (s : Shape) (c : Content) → Fits s c → HasNoFloat (print s c)
+fits_clean s c fits = by_printed (print s c) refl
+  where
+    by_printed : (o : Option Data) → print s c ≡ o → HasNoFloat o
+    by_printed None is = tt
+    by_printed (Some d) is = content_clean s d c (subst (λ o. ReadsBack s o c) is (round s c fits.0 fits.1)).1
+
+pub there : (s : Shape) (c : Content) → IsThere s c → (d : Data) × (print s c ≡ Some d)
+there s c is_there = by_printed (print s c) refl
+  where
+    by_printed : (o : Option Data) → print s c ≡ o → (d : Data) × (print s c ≡ Some d)
+    by_printed None is = absurd (is_there.1 (subst (λ o. ReadsBack s o c) is (round s c is_there.0.0 is_there.0.1)))
+    by_printed (Some d) is = (d, is)
+
+-- something is printed with brackets round its members
+pub opened : (s : Shape) (c : Content) (ms : Members) → IsThere s c → print s c ≡ object_or_none ms → text_or_none (print s c) ≡ 123 ∷ members_text false ms
+opened s c no_members is_there is = absurd (is_there.1 (subst (λ o. ReadsBack s o c) is (round s c is_there.0.0 is_there.0.1)))
+opened s c (member k d ms) is_there is = ap text_or_none is
+
+all_fit : (fs : Fields) (c : Content) → are_well_formed fs ≡ true → ArePlaced fs c → AllFit fs c
+all_fit no_fields c formed placed = tt
+all_fit (field f s more) c formed placed = let parts = and_parts (is_well_formed s) (are_well_formed more) formed in ((parts.0, placed.0), all_fit more c parts.1 placed.1)
+
+pub struct_fits : (all : Fields) (b : Bool) (c : Content) → b ≡ false → Fits (struct_of all b) c → AllFit all c
+struct_fits all true c is fits = absurd (true≢false is)
+struct_fits all false c is fits = all_fit all c (and_parts (ascend (names_of all)) (are_well_formed all) fits.0).1 fits.1.1
+
+pub struct_row : (all : Fields) (c : Content) → is_well_formed (struct_of all false) ≡ true → print_fields all c no_members ≡ row_of_fields all c
+struct_row all c formed = fields_row all c (ascend_rising (names_of all) (and_parts (ascend (names_of all)) (are_well_formed all) formed).0)
+
+pub values_fit : (s : Shape) (b : Bool) (c : Content) → b ≡ false → Fits (map_of s b) c → EachFits s c
+values_fit s true c is fits = absurd (true≢false is)
+values_fit s false c is fits = λ e. (fits.0, fits.1.1 e)

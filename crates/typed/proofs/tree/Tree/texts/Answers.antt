@@ -1,0 +1,20 @@
+use Rattle.std.proofs.Common.{◌≡◌, IfOk, false, refl, subst, sym}
+use Rattle.pathmap.specs.Contents.{Content}
+use Rattle.pathmap.specs.Maps.{content}
+use Rattle.serde_json.specs.Data.{no_members}
+use Rattle.schema.specs.Shape.{fields_in, struct_of}
+use Rattle.typed.specs.Fitting.{IsContent}
+use Rattle.typed.specs.Printing.{print_fields}
+use Rattle.typed.specs.Texts.{texts_in, texts_of}
+use Rattle.typed.proofs.Fitting.{content_placed}
+use Rattle.typed.proofs.Rows.{struct_fits}
+use Rattle.typed.proofs.tree.Tree.texts.Goals as goal
+
+pub returns : goal.returns
+returns c = λ formed is_content.
+    let all = fields_in c.args.fields.now in
+    let s = struct_of all false in
+    let whole = content c.self.inside.map in
+    let fits = subst (IsContent s) (sym c.self.view_is) is_content in
+    subst (λ (d : Content). IfOk c.texts_of_fields.result (λ m. texts_in m.entries ≡ texts_of (print_fields all d no_members))) c.self.view_is
+    (c.texts_of_fields.ensures (struct_fits all false whole refl (formed, content_placed s formed whole fits)))

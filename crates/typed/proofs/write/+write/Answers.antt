@@ -1,0 +1,129 @@
+use Rattle.std.proofs.Common.{◌≡◌, ◌++◌, false, String, Global, OnOk, ap, ap₂, sym, subst, ◌∙◌, string_bytes, true≢false, option_map}
+use Rattle.fieldpath.specs.Elements.{name_text}
+use Rattle.pathmap.specs.Insides.{inside}
+use Rattle.pathmap.specs.Maps.{content, content_or_nothing}
+use Rattle.pathmap.specs.declared.pathmap.PathMap.{PathMap}
+use Rattle.schema.specs.Shape.{fields_in, map_of, shape, struct_of, text}
+use Rattle.serde_json.specs.Written.{members_text}
+use Rattle.typed.specs.Printing.{print}
+use Rattle.typed.specs.Rows.{Fits, HasNoFloat, IsThere, row_of_children, text_or_none, then_member}
+use Rattle.typed.proofs.Prints.{children_first, one_inside, rest_inside, shape-fields}
+use Rattle.typed.proofs.Shapes.{shape-Text}
+use Rattle.typed.proofs.Rows.{fits_clean, struct_fits, values_fit}
+use Rattle.typed.proofs.Wholes.{all_wrote, weaker, child_skipped, child_wrote, children_wrote, field_wrote, map_top, no_member, one_member, struct_top, struct_wrote, values_wrote}
+use Rattle.typed.proofs.write.+write.Goals as goal
+
+pub write_member-returns-then-is_bare : goal.write_member-returns-then-is_bare
+write_member-returns-then-is_bare t c = λ fits.
+    no_member (shape c.args.inner.now) (content c.args.below.now) c.args.name.now c.args.out.now.items c.args.later (c.is_bare.ensures.0 c.if-is_bare.true)
+
+pub write_member-returns : goal.write_member-returns
+write_member-returns t c = λ fits.
+    let there : IsThere (shape c.args.inner.now) (content c.args.below.now) = (fits, λ bare. true≢false (sym (c.is_bare.ensures.1 bare) ∙ c.if-is_bare.false)) in
+    one_member (shape c.args.inner.now) (content c.args.below.now) c.args.name.now c.args.out.now.items c.push_comma.new.out.items c.push_name.new.out.items c.write_map.new.out.items c.args.later there
+    c.in_ok-push_comma.ensures c.in_ok-push_name.ensures (c.in_ok-write_map.ensures there)
+
+pub write_fields-loop-name-preserved : goal.write_fields-loop-name-preserved
+write_fields-loop-name-preserved t c =
+    let f = c.loop-name-item.result in
+    let whole = content c.args.map.now in
+    let out = c.loop-name.out.items in
+    let name = c.as_str-text.ensures.value in
+    let found = sym (ap (λ o. content_or_nothing (option_map (λ m. m.now) o)) c.in-Some.is) ∙ c.in_ok-below.ensures ∙ ap (λ s. inside (name_text s) whole) name in
+    field_wrote c.args.fields.now c.loop-name.name-index f c.loop-name-test.true c.loop-name-item.is whole c.loop-name.later c.in_ok-later.later c.args.out.now.items out c.write_member.new.out.items c.loop-name.invariant
+    (λ fits rest. c.in_ok-later.ensures (subst (Fits (shape f.1)) (sym found) fits) rest ∙ ap₂ (λ k d. out ++ members_text c.loop-name.later (then_member k (print (shape f.1) d) rest)) name found)
+
+pub write_fields-loop-name-preserved-in_default : goal.write_fields-loop-name-preserved-in_default
+write_fields-loop-name-preserved-in_default t c =
+    let f = c.loop-name-item.result in
+    let whole = content c.args.map.now in
+    let out = c.loop-name.out.items in
+    let bare = ap (λ s. inside (name_text s) whole) (sym c.as_str-text.ensures.value) ∙ sym c.in_ok-below.ensures ∙ ap (λ o. content_or_nothing (option_map (λ m. m.now) o)) c.in_default.is in
+    field_wrote c.args.fields.now c.loop-name.name-index f c.loop-name-test.true c.loop-name-item.is whole c.loop-name.later c.loop-name.later c.args.out.now.items out out c.loop-name.invariant
+    (λ fits. no_member (shape f.1) (inside (name_text (string_bytes f.0)) whole) (string_bytes f.0) out c.loop-name.later bare)
+
+pub write_fields-returns : goal.write_fields-returns
+write_fields-returns t c = λ fit.
+    all_wrote c.args.fields.now c.loop-name.name-index (content c.args.map.now) c.loop-name.later c.args.out.now.items c.loop-name.out.items c.push.new.self.items c.loop-name-test.false c.loop-name.invariant fit c.in_ok-push.ensures.items
+
+pub write_children-loop-element-init : goal.write_children-loop-element-init
+write_children-loop-element-init t c =
+    let started = c.into_iter-element-iterator.ensures.into_iter_gives ∙ c.iter-element-items.ensures.rest in (
+      children_first c.args.map.now c.into_iter-element-iterator.result c.iter-element-items.ensures.ordered started,
+      λ fits. ap (λ l. c.args.out.now.items ++ members_text false (row_of_children (shape c.args.inner.now) l)) started,
+    )
+
+pub write_children-loop-element-preserved : goal.write_children-loop-element-preserved
+write_children-loop-element-preserved t c =
+    let whole = content c.args.map.now in
+    let s = shape c.args.inner.now in
+    let it = c.loop-element.element-iterator in
+    let left = c.next.new.self in
+    let e : String Global × PathMap = (c.in-Some.element.now, c.in-Some.below.now) in
+    let steps = c.in-Some.ensures.steps in
+    let named = sym c.field_name.ensures ∙ ap (option_map (λ n. n.now)) c.in-Some-field_name.is in
+    let below = one_inside whole it left e steps c.loop-element.invariant.0 in (
+      rest_inside whole it left e steps c.loop-element.invariant.0,
+      λ fits. child_wrote s it left e steps c.loop-element.later c.loop-element.out.items _ (c.loop-element.invariant.1 fits) c.in-Some-field_name.name.now c.write_member.new.out.items c.in_ok-later.later named
+          (c.in_ok-later.ensures (subst (Fits s) below (fits (string_bytes e.0)))),
+    )
+
+pub write_children-loop-element-preserved-in_default : goal.write_children-loop-element-preserved-in_default
+write_children-loop-element-preserved-in_default t c =
+    let whole = content c.args.map.now in
+    let s = shape c.args.inner.now in
+    let it = c.loop-element.element-iterator in
+    let left = c.next.new.self in
+    let e : String Global × PathMap = (c.in-Some.element.now, c.in-Some.below.now) in
+    let steps = c.in-Some.ensures.steps in
+    let named = sym c.field_name.ensures ∙ ap (option_map (λ n. n.now)) c.in_default.is in (
+      rest_inside whole it left e steps c.loop-element.invariant.0,
+      λ fits. child_skipped s it left e steps c.loop-element.later c.loop-element.out.items _ (c.loop-element.invariant.1 fits) named,
+    )
+
+pub write_children-returns : goal.write_children-returns
+write_children-returns t c = λ fits.
+    children_wrote (shape c.args.inner.now) c.args.map.now c.loop-element.element-iterator c.loop-element.later c.args.out.now.items c.loop-element.out.items c.push.new.self.items c.iter-element-items.ensures.ordered c.in-None.ensures.steps.0
+    (c.loop-element.invariant.1 fits) c.in_ok-push.ensures.items
+
+pub write_struct-returns-then-is_atomic : goal.write_struct-returns-then-is_atomic
+write_struct-returns-then-is_atomic t c = λ there.
+    let all = fields_in c.args.fields.now in
+    let whole = content c.args.map.now in
+    let top = struct_top all c.args.is_atomic whole c.if-is_atomic.true in
+    subst (λ o. HasNoFloat o → OnOk c.push_top.result (c.push_top.new.out.items ≡ c.args.out.now.items ++ text_or_none o)) top c.push_top.ensures (fits_clean (struct_of all c.args.is_atomic) whole there.0)
+
+pub write_struct-returns : goal.write_struct-returns
+write_struct-returns t c = λ there.
+    let all = fields_in c.args.fields.now in
+    let whole = content c.args.map.now in
+    weaker c.write_fields.result (struct_wrote all c.args.is_atomic whole c.args.out.now.items c.push.new.self.items c.write_fields.new.out.items c.if-is_atomic.false there c.in_ok-push.ensures.items)
+    (c.write_fields.ensures (struct_fits all c.args.is_atomic whole c.if-is_atomic.false there.0))
+
+pub write_values-returns-then-is_atomic : goal.write_values-returns-then-is_atomic
+write_values-returns-then-is_atomic t c = λ there.
+    let s = shape c.args.inner.now in
+    let whole = content c.args.map.now in
+    let top = map_top s c.args.is_atomic whole c.if-is_atomic.true in
+    subst (λ o. HasNoFloat o → OnOk c.push_top.result (c.push_top.new.out.items ≡ c.args.out.now.items ++ text_or_none o)) top c.push_top.ensures (fits_clean (map_of s c.args.is_atomic) whole there.0)
+
+pub write_values-returns : goal.write_values-returns
+write_values-returns t c = λ there.
+    let s = shape c.args.inner.now in
+    let whole = content c.args.map.now in
+    weaker c.write_children.result (values_wrote s c.args.is_atomic whole c.args.out.now.items c.push.new.self.items c.write_children.new.out.items c.if-is_atomic.false there c.in_ok-push.ensures.items)
+    (c.write_children.ensures (values_fit s c.args.is_atomic whole c.if-is_atomic.false there.0))
+
+pub write_map-returns-in-Struct : goal.write_map-returns-in-Struct
+write_map-returns-in-Struct t c =
+    let whole = content c.args.map.now in
+    let same = ap shape c.in-Struct.is ∙ shape-fields c.in-Struct.fields c.in-Struct.is_atomic ∙ ap (λ fs. struct_of (fields_in fs) c.in-Struct.is_atomic) (sym c.deref.ensures.value) in
+    subst (λ s. IsThere s whole → OnOk c.write_struct.result (c.write_struct.new.out.items ≡ c.args.out.now.items ++ text_or_none (print s whole))) (sym same) c.write_struct.ensures
+
+pub write_map-returns-in-Text : goal.write_map-returns-in-Text
+write_map-returns-in-Text t c =
+    let whole = content c.args.map.now in
+    subst (λ s. IsThere s whole → OnOk c.push_top.result (c.push_top.new.out.items ≡ c.args.out.now.items ++ text_or_none (print s whole))) (sym (ap shape c.in-Text.is ∙ shape-Text)) (λ there. c.push_top.ensures (fits_clean text whole there.0))
+
+pub write_map-returns-in_default : goal.write_map-returns-in_default
+write_map-returns-in_default t c = λ there. c.write_printed.ensures (fits_clean (shape c.args.schema.now) (content c.args.map.now) there.0)

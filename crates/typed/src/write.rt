@@ -1,0 +1,187 @@
+//! Contents written as JSON texts, with no value in between but for lists.
+ghost use Rattle.std.specs.Prelude.{◌≡◌, ◌++◌, false, IfOk, OnOk};
+ghost use Rattle.pathmap.specs.Insides.{heads, inside};
+ghost use Rattle.pathmap.specs.Maps.{content};
+ghost use Rattle.schema.specs.Shape.{fields_in, map_of, shape, struct_of};
+ghost use Rattle.serde_json.specs.Data.{Members, no_members};
+ghost use Rattle.serde_json.specs.Written.{members_text};
+ghost use Rattle.typed.specs.Printing.{each_member, print, print_fields, with_member};
+ghost use Rattle.typed.specs.Rows.{AllFit, EachFits, Fits, HasNoFloat, IsThere, row_of_fields, text_or_none, then_member};
+ghost use Rattle.typed.specs.Texts.{texts_in, texts_of};
+
+use crate::print::{field_in, print_map};
+use crate::pushing::{push_comma, push_name, push_some, push_top};
+use crate::texts::{Texts, put_text};
+use pathmap::PathMap;
+use schema::Schema;
+use std::alloc::{AllocError, Global};
+use std::collections::BTreeMap;
+
+/// Appends what is printed of a map.
+fn write_printed(
+    schema: &Schema,
+    alloc: Global,
+    map: &PathMap,
+    out: &mut Vec<u8>,
+) -> Result<(), AllocError>
+    ensures { HasNoFloat (print (shape schema.now) (content map.now)) → OnOk result (out.new.items ≡ out.old.items ++ text_or_none (print (shape schema.now) (content map.now))) }
+{
+    let value = print_map(schema, alloc, map)?;
+    push_some(out, alloc, &value)
+}
+
+/// Appends a member after the others, if anything stands in it; whether there are members then.
+#[cycle(write)]
+fn write_member(
+    inner: &Schema,
+    alloc: Global,
+    name: &str,
+    below: &PathMap,
+    later: bool,
+    out: &mut Vec<u8>,
+) -> Result<bool, AllocError>
+    ensures { Fits (shape inner.now) (content below.now) → IfOk result (λ more. (rest : Members)
+        → out.new.items ++ members_text more rest ≡ out.old.items ++ members_text later (then_member name.now (print (shape inner.now) (content below.now)) rest)) }
+{
+    if below.is_bare() {
+        return Ok(later);
+    }
+    push_comma(out, later)?;
+    push_name(out, alloc, name)?;
+    write_map(inner, alloc, below, out)?;
+    Ok(true)
+}
+
+/// Appends a member for each field in which something stands, and the closing bracket.
+#[cycle(write)]
+fn write_fields(
+    fields: &[(String, Schema)],
+    alloc: Global,
+    map: &PathMap,
+    out: &mut Vec<u8>,
+) -> Result<(), AllocError>
+    ensures { AllFit (fields_in fields.now) (content map.now) → OnOk result (out.new.items ≡ out.old.items ++ members_text false (row_of_fields (fields_in fields.now) (content map.now))) }
+{
+    let mut later = false;
+    for (name, inner) in fields {
+        let text = name.as_str();
+        let Some(below) = field_in(map, alloc, text)? else {
+            continue;
+        };
+        later = write_member(inner, alloc, text, below, later, out)?;
+    }
+    Ok(out.push(b'}')?)
+}
+
+/// Appends a member for each child in which something stands, and the closing bracket.
+#[cycle(write)]
+fn write_children(
+    inner: &Schema,
+    alloc: Global,
+    map: &PathMap,
+    out: &mut Vec<u8>,
+) -> Result<(), AllocError>
+    ensures { EachFits (shape inner.now) (content map.now) → OnOk result (out.new.items
+        ≡ out.old.items ++ members_text false (each_member (λ e. print (shape inner.now) (inside e (content map.now))) (heads (content map.now)) no_members)) }
+{
+    let mut later = false;
+    for (element, below) in map.below.iter() {
+        let Some(name) = element.field_name() else {
+            continue;
+        };
+        later = write_member(inner, alloc, name, below, later, out)?;
+    }
+    Ok(out.push(b'}')?)
+}
+
+#[cycle(write)]
+fn write_struct(
+    fields: &[(String, Schema)],
+    alloc: Global,
+    is_atomic: bool,
+    map: &PathMap,
+    out: &mut Vec<u8>,
+) -> Result<(), AllocError>
+    ensures { IsThere (struct_of (fields_in fields.now) is_atomic) (content map.now)
+        → OnOk result (out.new.items ≡ out.old.items ++ text_or_none (print (struct_of (fields_in fields.now) is_atomic) (content map.now))) }
+{
+    if is_atomic {
+        return push_top(map, alloc, out);
+    }
+    out.push(b'{')?;
+    write_fields(fields, alloc, map, out)
+}
+
+#[cycle(write)]
+fn write_values(
+    inner: &Schema,
+    alloc: Global,
+    is_atomic: bool,
+    map: &PathMap,
+    out: &mut Vec<u8>,
+) -> Result<(), AllocError>
+    ensures { IsThere (map_of (shape inner.now) is_atomic) (content map.now)
+        → OnOk result (out.new.items ≡ out.old.items ++ text_or_none (print (map_of (shape inner.now) is_atomic) (content map.now))) }
+{
+    if is_atomic {
+        return push_top(map, alloc, out);
+    }
+    out.push(b'{')?;
+    write_children(inner, alloc, map, out)
+}
+
+/// Appends the text of a content in which something stands.
+#[cycle(write)]
+fn write_map(
+    schema: &Schema,
+    alloc: Global,
+    map: &PathMap,
+    out: &mut Vec<u8>,
+) -> Result<(), AllocError>
+    ensures { IsThere (shape schema.now) (content map.now) → OnOk result (out.new.items ≡ out.old.items ++ text_or_none (print (shape schema.now) (content map.now))) }
+{
+    match schema {
+        Schema::Struct(fields, is_atomic) => write_struct(fields, alloc, *is_atomic, map, out),
+        Schema::MapOf(inner, is_atomic) => write_values(inner, alloc, *is_atomic, map, out),
+        Schema::Text => push_top(map, alloc, out),
+        _ => write_printed(schema, alloc, map, out),
+    }
+}
+
+/// Puts a member's text, if anything stands in it.
+fn put_member(
+    texts: &mut Texts,
+    alloc: Global,
+    schema: &Schema,
+    name: &str,
+    below: &PathMap,
+) -> Result<(), AllocError>
+    ensures { Fits (shape schema.now) (content below.now) → OnOk result ((ms : Members) → texts_in texts.old.entries ≡ texts_of ms
+        → texts_in texts.new.entries ≡ texts_of (with_member name.now (print (shape schema.now) (content below.now)) ms)) }
+{
+    if below.is_bare() {
+        return Ok(());
+    }
+    let mut text = Vec::new(alloc);
+    write_map(schema, alloc, below, &mut text)?;
+    put_text(texts, alloc, name, text)
+}
+
+/// The texts of the members that a struct's fields are printed as.
+pub(crate) fn texts_of_fields(
+    fields: &[(String, Schema)],
+    alloc: Global,
+    map: &PathMap,
+) -> Result<Texts, AllocError>
+    ensures { AllFit (fields_in fields.now) (content map.now) → IfOk result (λ m. texts_in m.entries ≡ texts_of (print_fields (fields_in fields.now) (content map.now) no_members)) }
+{
+    let mut texts = BTreeMap::new(alloc);
+    for (name, inner) in fields {
+        let text = name.as_str();
+        let Some(below) = field_in(map, alloc, text)? else {
+            continue;
+        };
+        put_member(&mut texts, alloc, inner, text, below)?;
+    }
+    Ok(texts)
+}
