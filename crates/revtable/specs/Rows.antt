@@ -5,7 +5,9 @@ use Rattle.sqlite.specs.Collation.TheVariants.{Binary}
 use Rattle.sqlite.specs.declared.types.Value.{Value}
 use Rattle.sqlite.specs.declared.types.Value.TheVariants.{Null, Int, Text as Words}
 use Rattle.sqlite.specs.Order.{Row, column}
-use Rattle.sqlite.specs.State.{State}
+use Rattle.sqlite.specs.State.{State, HasCleanDisk}
+use Rattle.sqlite.specs.Held.{Held, state}
+use Rattle.sqlite_trees.specs.declared.store.Store.{Ghosts}
 use Rattle.sqlite.specs.Effect.{Database, Reads}
 use Rattle.sqlite.specs.Listing.{understood}
 use Rattle.sqlite_resolve.specs.declared.compiled.Compiled.{Compiled}
@@ -111,6 +113,10 @@ pub record HasRows (changes : List Change) (db : Database) : Type 0 where
 pub record Amid (start changes : List Change) (s : State) : Type 0 where
   pub inside : IsTrue s.in_transaction
   pub rows : IsTrue s.is_open → HasRows start s.committed × HasRows changes s.now
+
+-- a store that never lost a page, whatever was done
+abbrev pub IsAlwaysClean : {S : Type 0} → Ghosts S → Type 0
+IsAlwaysClean {S} g = (c : Held S) → HasCleanDisk (state g c)
 
 -- what a transaction that failed began from
 abbrev pub Undone : List Change → State → Type 0

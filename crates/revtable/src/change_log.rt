@@ -4,9 +4,10 @@ ghost use Rattle.std.specs.Prelude.{◌≡◌, [], ◌∷◌, ◌++◌, ℕ, ◌
 ghost use Rattle.history.specs.History.{IsRising};
 ghost use Rattle.history.specs.Kept.{kept};
 ghost use Rattle.history.specs.Read.{key_of};
-ghost use Rattle.revtable.specs.Rows.{change_schema, changes_in, AreBelow, IsAnswer, Keeps};
+ghost use Rattle.revtable.specs.Rows.{change_schema, changes_in, AreBelow, IsAlwaysClean, IsAnswer, Keeps};
 ghost use Rattle.sqlite.specs.Files.{file_state};
 ghost use Rattle.sqlite.specs.Given.{IsPlain};
+ghost use Rattle.sqlite.specs.Held.{state};
 ghost use Rattle.sqlite.specs.Listing.{reads_listing, understood};
 ghost use Rattle.sqlite.specs.Steps.{IsEmpty};
 ghost use Rattle.sqlite.specs.Values.{bound};
@@ -16,7 +17,7 @@ use crate::fault::Fault;
 use crate::file::MemoryFile;
 use history::Key;
 use sqlite::types::ValueRef;
-use sqlite::{Connection, Error, FileStore, Files, Options, Row, params};
+use sqlite::{Alter, Connection, Error, FileStore, Files, Options, Row, params};
 use std::alloc::Global;
 use std::marker::Model;
 use std::snapshot::Snapshot;
@@ -69,17 +70,18 @@ fn as_it_is(base: &Connection<FileStore<MemoryFile>>) -> Snapshot<Connection<Fil
     Snapshot::of(base)
 }
 
-/// Makes the table, with an index by key and revision.
-fn create(base: &mut Connection<FileStore<MemoryFile>>) -> Result<(), Error>
-    requires empty { IsEmpty (file_state base.old) }
-    ensures keeps { OnOk result (Keeps (changes_in (file_state base.new)) (file_state base.new)) }
-    ensures none { OnOk result (changes_in (file_state base.new) ≡ []) }
+/// The empty database with its table, and with an index by key and revision.
+fn with_table<S: Alter + Drop>(mut base: Connection<S>) -> Result<Connection<S>, Error>
+    requires clean { IsAlwaysClean S.Store }
+    requires empty { IsEmpty (state S.Store base) }
+    ensures keeps { IfOk result (λ made. Keeps (changes_in (state S.Store made)) (state S.Store made)) }
+    ensures none { IfOk result (λ made. changes_in (state S.Store made) ≡ []) }
 {
     base.execute(
         "CREATE TABLE change (revision INTEGER PRIMARY KEY, kind INTEGER NOT NULL, namespace TEXT NOT NULL, name TEXT NOT NULL, body TEXT, UNIQUE (kind, namespace, name, revision)) STRICT",
         &[],
     )?;
-    Ok(())
+    Ok(base)
 }
 
 impl Log {
@@ -87,8 +89,7 @@ impl Log {
     pub(crate) fn open(alloc: Global) -> Result<Log, Error>
         ensures { IfOk result (λ log. log ≡ []) }
     {
-        let mut base = empty(alloc)?;
-        create(&mut base)?;
+        let base = with_table(empty(alloc)?)?;
         let kept = as_it_is(&base);
         Ok(Log { base, kept })
     }

@@ -1,30 +1,28 @@
 //! Compaction, revision by revision: what each change superseded is deleted, so it costs what it removes. All of it is
-//! one transaction, so that a deletion that fails leaves the rows as they were.
+//! one transaction, so that a deletion that fails leaves the rows as they were. It is said over any store that is never in
+//! doubt, since a proof of these calls over one store of many parts takes the prover several times as long.
 
 ghost use Rattle.std.specs.Prelude.{◌≡◌, suc, ℕ, ◌^◌, ◌<◌, ◌≤◌, List, map, false, IfOk, OnOk, OnErr};
 ghost use Rattle.history.specs.History.{Change, IsRising};
 ghost use Rattle.history.specs.Kept.{kept};
 ghost use Rattle.history.specs.Read.{key_of};
 ghost use Rattle.revtable.specs.Asked.{made_at, without};
-ghost use Rattle.revtable.specs.Rows.{changes_in, shown, Amid, IsOrdered, Keeps, Undone};
-ghost use Rattle.sqlite.specs.Files.{file_state};
+ghost use Rattle.revtable.specs.Rows.{changes_in, shown, Amid, IsAlwaysClean, IsOrdered, Keeps, Undone};
+ghost use Rattle.sqlite.specs.Held.{state};
 
 use crate::fault::Fault;
-use crate::file::MemoryFile;
 use crate::reading::read_key;
 use history::Key;
-use sqlite::{Connection, Error, FileStore, Row, Transaction, params};
+use sqlite::{Alter, Connection, Error, Row, Transaction, params};
 
 /// The change of a revision, if its row is still there.
-fn changed_at(
-    deleting: &mut Transaction<'_, FileStore<MemoryFile>>,
-    revision: u64,
-) -> Result<Vec<Row>, Error>
+fn changed_at<S: Alter>(deleting: &mut Transaction<'_, S>, revision: u64) -> Result<Vec<Row>, Error>
+    requires clean { IsAlwaysClean S.Store }
     requires fits { revision < 2 ^ 63 }
     ensures same_reference { deleting.new.conn.ghost_name ≡ deleting.old.conn.ghost_name }
-    ensures ok { (start cs : List Change) → IsOrdered cs → Amid start cs (file_state deleting.old.conn.now)
-        → IfOk result (λ rows. (rows.items ≡ map shown (made_at revision cs)) × Amid start cs (file_state deleting.new.conn.now)) }
-    ensures err { (start cs : List Change) → Amid start cs (file_state deleting.old.conn.now) → OnErr result (Undone start (file_state deleting.new.conn.now)) }
+    ensures ok { (start cs : List Change) → IsOrdered cs → Amid start cs (state S.Store deleting.old.conn.now)
+        → IfOk result (λ rows. (rows.items ≡ map shown (made_at revision cs)) × Amid start cs (state S.Store deleting.new.conn.now)) }
+    ensures err { (start cs : List Change) → Amid start cs (state S.Store deleting.old.conn.now) → OnErr result (Undone start (state S.Store deleting.new.conn.now)) }
 {
     deleting.query_all(
         "SELECT revision, kind, namespace, name, body FROM change WHERE revision = ?1 ORDER BY revision",
@@ -33,16 +31,17 @@ fn changed_at(
 }
 
 /// Takes out what a change superseded: the older change of its key, and itself if it is a deletion.
-fn delete_superseded(
-    deleting: &mut Transaction<'_, FileStore<MemoryFile>>,
+fn delete_superseded<S: Alter>(
+    deleting: &mut Transaction<'_, S>,
     key: &Key,
     revision: u64,
 ) -> Result<(), Error>
+    requires clean { IsAlwaysClean S.Store }
     requires fits { revision < 2 ^ 63 }
     ensures same_reference { deleting.new.conn.ghost_name ≡ deleting.old.conn.ghost_name }
-    ensures ok { (start cs : List Change) → IsOrdered cs → Amid start cs (file_state deleting.old.conn.now)
-        → OnOk result (Amid start (without (key_of key.now) revision cs) (file_state deleting.new.conn.now)) }
-    ensures err { (start cs : List Change) → Amid start cs (file_state deleting.old.conn.now) → OnErr result (Undone start (file_state deleting.new.conn.now)) }
+    ensures ok { (start cs : List Change) → IsOrdered cs → Amid start cs (state S.Store deleting.old.conn.now)
+        → OnOk result (Amid start (without (key_of key.now) revision cs) (state S.Store deleting.new.conn.now)) }
+    ensures err { (start cs : List Change) → Amid start cs (state S.Store deleting.old.conn.now) → OnErr result (Undone start (state S.Store deleting.new.conn.now)) }
 {
     deleting.execute(
         "DELETE FROM change WHERE kind = ?1 AND namespace = ?2 AND name = ?3 AND revision <= ?4 AND (revision < ?4 OR body IS NULL)",
@@ -52,15 +51,13 @@ fn delete_superseded(
 }
 
 /// Deletes what the change of the next revision superseded.
-fn delete_next(
-    deleting: &mut Transaction<'_, FileStore<MemoryFile>>,
-    done: u64,
-) -> Result<(), Fault>
+fn delete_next<S: Alter>(deleting: &mut Transaction<'_, S>, done: u64) -> Result<(), Fault>
+    requires clean { IsAlwaysClean S.Store }
     requires fits { suc done < 2 ^ 63 }
     ensures same_reference { deleting.new.conn.ghost_name ≡ deleting.old.conn.ghost_name }
-    ensures ok { (start cs : List Change) → (top : ℕ) → IsRising 0 cs top → kept done cs ≡ cs → Amid start cs (file_state deleting.old.conn.now)
-        → OnOk result (Amid start (kept (suc done) cs) (file_state deleting.new.conn.now)) }
-    ensures err { (start cs : List Change) → (top : ℕ) → IsRising 0 cs top → Amid start cs (file_state deleting.old.conn.now) → OnErr result (Undone start (file_state deleting.new.conn.now)) }
+    ensures ok { (start cs : List Change) → (top : ℕ) → IsRising 0 cs top → kept done cs ≡ cs → Amid start cs (state S.Store deleting.old.conn.now)
+        → OnOk result (Amid start (kept (suc done) cs) (state S.Store deleting.new.conn.now)) }
+    ensures err { (start cs : List Change) → (top : ℕ) → IsRising 0 cs top → Amid start cs (state S.Store deleting.old.conn.now) → OnErr result (Undone start (state S.Store deleting.new.conn.now)) }
 {
     let revision = done + 1;
     let rows = changed_at(deleting, revision)?;
@@ -73,17 +70,14 @@ fn delete_next(
 }
 
 /// Deletes what the changes after one revision up to another superseded.
-fn delete_all(
-    deleting: &mut Transaction<'_, FileStore<MemoryFile>>,
-    from: u64,
-    to: u64,
-) -> Result<(), Fault>
+fn delete_all<S: Alter>(deleting: &mut Transaction<'_, S>, from: u64, to: u64) -> Result<(), Fault>
+    requires clean { IsAlwaysClean S.Store }
     requires fits { to < 2 ^ 63 }
     requires low { from ≤ to }
     ensures same_reference { deleting.new.conn.ghost_name ≡ deleting.old.conn.ghost_name }
-    ensures ok { (start cs : List Change) → (top : ℕ) → IsRising 0 cs top → kept from cs ≡ cs → Amid start cs (file_state deleting.old.conn.now)
-        → OnOk result (Amid start (kept to cs) (file_state deleting.new.conn.now)) }
-    ensures err { (start cs : List Change) → (top : ℕ) → IsRising 0 cs top → kept from cs ≡ cs → Amid start cs (file_state deleting.old.conn.now) → OnErr result (Undone start (file_state deleting.new.conn.now)) }
+    ensures ok { (start cs : List Change) → (top : ℕ) → IsRising 0 cs top → kept from cs ≡ cs → Amid start cs (state S.Store deleting.old.conn.now)
+        → OnOk result (Amid start (kept to cs) (state S.Store deleting.new.conn.now)) }
+    ensures err { (start cs : List Change) → (top : ℕ) → IsRising 0 cs top → kept from cs ≡ cs → Amid start cs (state S.Store deleting.old.conn.now) → OnErr result (Undone start (state S.Store deleting.new.conn.now)) }
 {
     let mut done = from;
     while done < to {
@@ -94,17 +88,18 @@ fn delete_all(
 }
 
 /// The same as one transaction: if a deletion fails, its end undoes those before.
-pub(crate) fn delete_between(
-    base: &mut Connection<FileStore<MemoryFile>>,
+pub(crate) fn delete_between<S: Alter>(
+    base: &mut Connection<S>,
     from: u64,
     to: u64,
 ) -> Result<(), Fault>
+    requires clean { IsAlwaysClean S.Store }
     requires fits { to < 2 ^ 63 }
     requires low { from ≤ to }
     requires settled { base.old.in_transaction ≡ false }
-    ensures ok { (cs : List Change) → (top : ℕ) → IsRising 0 cs top → kept from cs ≡ cs → Keeps cs (file_state base.old)
-        → OnOk result (Keeps (kept to cs) (file_state base.new) × (changes_in (file_state base.new) ≡ kept to cs)) }
-    ensures err { (cs : List Change) → (top : ℕ) → IsRising 0 cs top → kept from cs ≡ cs → Keeps cs (file_state base.old) → OnErr result (Keeps cs (file_state base.new)) }
+    ensures ok { (cs : List Change) → (top : ℕ) → IsRising 0 cs top → kept from cs ≡ cs → Keeps cs (state S.Store base.old)
+        → OnOk result (Keeps (kept to cs) (state S.Store base.new) × (changes_in (state S.Store base.new) ≡ kept to cs)) }
+    ensures err { (cs : List Change) → (top : ℕ) → IsRising 0 cs top → kept from cs ≡ cs → Keeps cs (state S.Store base.old) → OnErr result (Keeps cs (state S.Store base.new)) }
 {
     let mut deleting = base.transaction();
     delete_all(&mut deleting, from, to)?;
