@@ -107,7 +107,7 @@ put_front : (l : List ℕ) (e : Data) (ms : Members) → ascend_from l (member_n
 put_front l e no_members h = refl
 put_front l e (member m g ms) h = ap (λ o. match_ordering o (member l e (member m g ms)) (member m e ms) (member m g (put l e ms))) (first_below l m (member_names ms) h)
 
-absent_above : (k l : List ℕ) (ms : Members) → cmp k l ≡ Less → ascend_from l (member_names ms) ≡ true → get_member k ms ≡ None
+pub absent_above : (k l : List ℕ) (ms : Members) → cmp k l ≡ Less → ascend_from l (member_names ms) ≡ true → get_member k ms ≡ None
 absent_above k l no_members lt h = refl
 absent_above k l (member m g ms) lt h =
     let next = nat_list_cmp_total.trans k l m lt (first_below l m (member_names ms) h) in

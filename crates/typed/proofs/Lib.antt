@@ -7,6 +7,7 @@ pub mod Joins
 pub mod Floats
 pub mod Listed
 pub mod Members
+pub mod LeftOut
 pub mod Atomic
 pub mod Parts
 pub mod Putting

@@ -17,7 +17,7 @@ use Rattle.schema.specs.Shape.{shape, fields_in}
 use Rattle.schema.specs.declared.schema.Schema.{Schema}
 use Rattle.typed.specs.declared.fault.ReadFault.{ReadFault}
 use Rattle.typed.specs.Faults.{Read, Tells, fault_in}
-use Rattle.typed.specs.Reading.{is_null, at_field, joined, members_at, content_of, content_of_field}
+use Rattle.typed.specs.Reading.{is_null, at_field, joined, members_at, one_member, content_of, content_of_field}
 use Rattle.typed.specs.Steps.{Entries}
 use Rattle.typed.proofs.Joins.{joined-nothing, joined-none, joined-joined, tells-after, tells-before}
 use Rattle.typed.proofs.Plains.{Entry}
@@ -67,6 +67,14 @@ module _ (inner : List ℕ → Data → Read Content) (whole : Read Content) (ns
       → joined (Ok (gather (contents_in ns))) (joined (cond b (Ok nothing) (at_field (string_bytes e.0) (inner (string_bytes e.0) (view e.1)))) (members_at inner (members_view left))) ≡ whole
   next b is = ap (λ b. joined (Ok (gather (contents_in ns))) (joined (cond b (Ok nothing) (at_field (string_bytes e.0) (inner (string_bytes e.0) (view e.1)))) (members_at inner (members_view left)))) (sym is)
       ∙ sym (ap (λ es. joined (Ok (gather (contents_in ns))) (members_at inner (members_view es))) steps) ∙ so_far.0
+
+  -- nothing is read of the member
+  pub member_skipped : one_member inner (string_bytes e.0) (view e.1) ≡ Ok nothing → AreMembersSoFar inner whole ns left
+  member_skipped none = (
+    ap (joined (Ok (gather (contents_in ns)))) (sym (joined-nothing (members_at inner (members_view left))) ∙ ap (λ a. joined a (members_at inner (members_view left))) (sym none)) ∙ next (is_null (view e.1)) refl,
+    left_sorted,
+    (subst (AreNew ns) steps so_far.2).1,
+  )
 
   pub member_null : is_null (view e.1) ≡ true → AreMembersSoFar inner whole ns left
   member_null null = (ap (joined (Ok (gather (contents_in ns)))) (sym (joined-nothing (members_at inner (members_view left)))) ∙ next true null, left_sorted, (subst (AreNew ns) steps so_far.2).1)

@@ -31,19 +31,19 @@ abbrev pub AreBelow : Members → List ℕ → Type 0
 AreBelow no_members k = Unit {0}
 AreBelow (member l e ms) k = (slice_cmp nat_cmp k l ≡ Greater) × AreBelow ms k
 
-members_after-none : (ms : Members) → members_after ms no_members ≡ ms
+pub members_after-none : (ms : Members) → members_after ms no_members ≡ ms
 members_after-none no_members = refl
 members_after-none (member k d ms) = ap (member k d) (members_after-none ms)
 
-members_after-after : (ms ns more : Members) → members_after (members_after ms ns) more ≡ members_after ms (members_after ns more)
+pub members_after-after : (ms ns more : Members) → members_after (members_after ms ns) more ≡ members_after ms (members_after ns more)
 members_after-after no_members ns more = refl
 members_after-after (member k d ms) ns more = ap (member k d) (members_after-after ms ns more)
 
-put_last : (ms : Members) (k : List ℕ) (d : Data) → AreBelow ms k → put k d ms ≡ members_after ms (member k d no_members)
+pub put_last : (ms : Members) (k : List ℕ) (d : Data) → AreBelow ms k → put k d ms ≡ members_after ms (member k d no_members)
 put_last no_members k d h = refl
 put_last (member l e ms) k d h = rw (h.0) (ap (member l e) (put_last ms k d h.1))
 
-still_below : (ms : Members) (k l : List ℕ) (d : Data) → AreBelow ms l → slice_cmp nat_cmp l k ≡ Greater → AreBelow (members_after ms (member k d no_members)) l
+pub still_below : (ms : Members) (k l : List ℕ) (d : Data) → AreBelow ms l → slice_cmp nat_cmp l k ≡ Greater → AreBelow (members_after ms (member k d no_members)) l
 still_below no_members k l d h above = (above, tt)
 still_below (member m e ms) k l d h above = (h.0, still_below ms k l d h.1 above)
 

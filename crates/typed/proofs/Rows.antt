@@ -1,5 +1,5 @@
 -- Members that are put in the order of their names stand one after another.
-use Rattle.std.proofs.Common.{◌≡◌, ℕ, Bool, true, false, cond, drop, nat_cmp, string_cmp, List, [], ◌∷◌, ◌++◌, Option, Some, None, Less, string_bytes, refl, sym, ap, ap₂, ◌∙◌, subst, true≢false}
+use Rattle.std.proofs.Common.{◌≡◌, ℕ, Bool, true, false, cond, drop, nat_cmp, string_cmp, List, [], ◌∷◌, Option, Some, None, Less, string_bytes, refl, sym, ap, ap₂, ◌∙◌, subst, true≢false}
 use Rattle.std.specs.BTreeMap.{IsOrdered}
 use Rattle.std.specs.Cmp.Lexicographic.{slice_cmp}
 use Rattle.std.specs.List.{AllByRecursion}
@@ -9,7 +9,7 @@ use Rattle.serde_json.specs.Data.{Data, Members, no_members, member, put}
 use Rattle.serde_json.specs.Written.{members_text}
 use Rattle.fieldpath.specs.Elements.{field_name, has_prefix, name_text}
 use Rattle.fieldpath.specs.Scalars.{ascend}
-use Rattle.pathmap.specs.Contents.{Content, nothing}
+use Rattle.pathmap.specs.Contents.{Content}
 use Rattle.pathmap.specs.Insides.{inside, heads}
 use Rattle.pathmap.specs.Maps.{content}
 use Rattle.pathmap.specs.declared.pathmap.PathMap.{PathMap, out-PathMap}

@@ -1,5 +1,5 @@
 -- Texts that are put together of pieces.
-use Rattle.std.proofs.Common.{◌≡◌, ℕ, ◌+◌, ◌<◌, ◌≤◌, Bool, true, false, get_or, drop, length, nat_cmp, string_cmp, List, [], ◌∷◌, ◌++◌, map, Option, Some, None, Ordering, Less, Equal, Greater, String, Vec, Global, string_bytes, refl, sym, ap, ap₂, ◌∙◌, subst, true≢false, append_assoc, append-nil}
+use Rattle.std.proofs.Common.{◌≡◌, ℕ, ◌+◌, ◌<◌, ◌≤◌, Bool, true, false, get_or, drop, length, nat_cmp, string_cmp, List, [], ◌∷◌, ◌++◌, Option, Some, None, Ordering, Less, Equal, Greater, String, Vec, Global, string_bytes, refl, sym, ap, ap₂, ◌∙◌, subst, true≢false, append_assoc, append-nil}
 use Rattle.std.specs.BTreeMap.{IsOrdered, insert_entry}
 use Rattle.std.specs.Cmp.Lexicographic.{slice_cmp}
 use Rattle.std.specs.Ordering.{match_ordering}

@@ -6,3 +6,4 @@ pub mod Placed
 pub mod Fitting
 pub mod Rows
 pub mod Texts
+pub mod Without

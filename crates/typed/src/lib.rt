@@ -8,6 +8,7 @@
 mod changes;
 mod fault;
 mod items;
+mod omitted;
 mod plain;
 mod print;
 mod print_law;
@@ -16,10 +17,12 @@ mod pushing;
 mod read;
 mod texts;
 mod tree;
+mod without;
 mod write;
 
 pub use changes::Changes;
 pub use fault::{Cause, ReadFault};
+pub use omitted::Omitted;
 pub use print_law::{
     contents_are_kept, contents_are_placed, contents_have_places, printed_has_no_float,
     printed_is_textual, printed_reads_back, readings_are_placed,

@@ -150,7 +150,7 @@ fn read_values(
 }
 
 #[cycle(read)]
-fn read_field(
+pub(crate) fn read_field(
     fields: &[(String, Schema)],
     alloc: Global,
     name: &str,

@@ -14,11 +14,14 @@ ghost use Rattle.pathmap.specs.Contents.{nothing, over};
 ghost use Rattle.pathmap.specs.Maps.{content};
 ghost use Rattle.typed.specs.Faults.{Gives};
 ghost use Rattle.typed.specs.Reading.{content_of};
+ghost use Rattle.typed.specs.Without.{omitted_of, without};
 
 use crate::fault::ReadFault;
+use crate::omitted::Omitted;
 use crate::print::{print_field, print_map};
 use crate::read::read_map;
 use crate::texts::Texts;
+use crate::without::read_without;
 use crate::write::texts_of_fields;
 use pathmap::{PathMap, put_over};
 use schema::Schema;
@@ -52,6 +55,20 @@ impl Tree {
     {
         Ok(Tree {
             map: read_map(schema, alloc, value)?,
+        })
+    }
+
+    /// The content of a value without what is left out of it, or the first fault in the shape of the rest.
+    pub fn read_without(
+        schema: &Schema,
+        alloc: Global,
+        value: &Value,
+        omitted: Omitted<'_>,
+    ) -> Result<Tree, ReadFault>
+        ensures { Gives (λ t. t) result (content_of (shape schema.now) (without (omitted_of omitted.entry) (view value.now))) }
+    {
+        Ok(Tree {
+            map: read_without(schema, alloc, value, omitted)?,
         })
     }
 

@@ -1,4 +1,4 @@
-use Rattle.std.proofs.Common.{ap, ap₂, refl, sym, subst, ◌∙◌, ◌≡◌, string_bytes, option_map}
+use Rattle.std.proofs.Common.{ap, ap₂, refl, sym, subst, ◌∙◌, string_bytes, option_map}
 use Rattle.fieldpath.specs.Elements.{name_text}
 use Rattle.pathmap.specs.Insides.{inside}
 use Rattle.pathmap.specs.Maps.{content, content_or_nothing}

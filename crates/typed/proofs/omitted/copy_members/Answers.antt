@@ -1,0 +1,29 @@
+use Rattle.std.proofs.Common.{rules, sym, ◌∙◌}
+use Rattle.schema.specs.Keywords.{is_in}
+use Rattle.serde_json.specs.View.{members_view}
+use Rattle.typed.specs.Without.{kept, omitted_of}
+use Rattle.typed.proofs.LeftOut.{copy_adds, copy_begins, copy_ends, copy_passes}
+use Rattle.typed.proofs.omitted.copy_members.Goals as goal
+
+pub loop-name-init : goal.loop-name-init
+loop-name-init c =
+    let o = omitted_of c.args.omitted in
+    copy_begins (is_in o.names) (kept o) c.new-left.result.entries c.into_iter-name-iterator.result c.args.members.now.entries c.new-left.ensures.empty
+    (c.into_iter-name-iterator.ensures.into_iter_gives ∙ c.iter-name-items.ensures.rest) c.iter-name-items.ensures.ordered
+
+pub loop-name-preserved : goal.loop-name-preserved
+loop-name-preserved c =
+    let o = omitted_of c.args.omitted in
+    copy_passes (is_in o.names) (kept o) (members_view c.args.members.now.entries) (members_view c.loop-name.left.entries) c.loop-name.name-iterator (c.in-Some.name.now, c.in-Some.member.now) c.next.new.self c.in-Some.ensures.steps c.loop-name.invariant
+    c.as_str-text.result.now c.as_str-text.ensures.value (sym c.is_among.ensures ∙ c.if-not-is_among.false)
+
+pub returns : goal.returns
+returns c =
+    let o = omitted_of c.args.omitted in
+    copy_ends (is_in o.names) (kept o) (members_view c.args.members.now.entries) (members_view c.loop-name.left.entries) c.loop-name.name-iterator c.in-None.ensures.steps.0 c.loop-name.invariant
+
+pub loop-name-preserved-in-Continue-branch-2 : goal.loop-name-preserved-in-Continue-branch-2
+loop-name-preserved-in-Continue-branch-2 c =
+    let o = omitted_of c.args.omitted in
+    copy_adds (is_in o.names) (kept o) (members_view c.args.members.now.entries) (members_view c.loop-name.left.entries) c.loop-name.name-iterator (c.in-Some.name.now, c.in-Some.member.now) c.next.new.self c.in-Some.ensures.steps c.loop-name.invariant
+    c.as_str-text.result.now c.as_str-text.ensures.value (sym c.is_among.ensures ∙ c.if-not-is_among.true) (members_view c.put.new.map.entries) (search rules)
