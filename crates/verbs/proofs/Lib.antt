@@ -5,6 +5,7 @@ pub mod Changes
 pub mod Causes
 pub mod Checks
 pub mod Contents
+pub mod Rests
 pub mod Counts
 pub mod Entries
 pub mod Fits

@@ -8,6 +8,7 @@ use Rattle.serde_json.specs.Find.{get, get_member, as_object}
 use Rattle.names.specs.Decimals.{version_of}
 use Rattle.schema.specs.Keywords.{is_in}
 use Rattle.schema.specs.TypesFile.{ServedShape}
+use Rattle.typed.specs.Without.{Omitted}
 use Rattle.verbs.specs.declared.method.Method.{Method}
 use Rattle.verbs.specs.declared.method.Method.TheVariants.{Get, Post, Put, Patch, Delete}
 use Rattle.verbs.specs.declared.reason.Reason.TheVariants.{BadRequest}
@@ -166,6 +167,10 @@ put_metadata (Some ms) rest = put (codes "metadata") (object (members_but metada
 
 abbrev pub rest_of : Members → Option Members → Data
 rest_of top metadata = object (put_metadata metadata (members_but top_names top))
+
+-- what of a body is no field
+abbrev pub left_out : Omitted
+left_out = record { names = top_names; inside = codes "metadata"; inner = metadata_names }
 
 abbrev pub metadata_validated : Expected → Members → Option Members → Validated Envelope
 metadata_validated of top metadata =

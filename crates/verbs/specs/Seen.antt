@@ -1,10 +1,12 @@
 -- What the crate's values stand for.
-use Rattle.std.specs.Prelude.{◌≡◌, ℕ, List, option_map, string_bytes}
+use Rattle.std.specs.Prelude.{◌≡◌, ℕ, List, Option, codes, option_and_then, option_map, string_bytes}
 use Rattle.std.specs.declared.result.Result.{Result}
 use Rattle.std.specs.declared.result.Result.TheVariants.{Ok, Err}
+use Rattle.serde_json.specs.Find.{as_object, get_member}
 use Rattle.serde_json.specs.View.{view, items_view}
 use Rattle.schema.specs.Served.{served, types_view}
 use Rattle.schema.specs.TypesFile.{ServedShape}
+use Rattle.typed.specs.Without.{without}
 use Rattle.verbs.specs.declared.calls.Target.{Target as TheTarget}
 use Rattle.verbs.specs.declared.calls.Call.{Call as TheCall}
 use Rattle.verbs.specs.declared.calls.Answer.{Answer as TheAnswer}
@@ -20,11 +22,10 @@ use Rattle.verbs.specs.declared.fault.CallError.{CallError}
 use Rattle.verbs.specs.declared.fault.CallError.TheVariants as call_error
 use Rattle.verbs.specs.declared.api.Api.{Api}
 use Rattle.verbs.specs.declared.envelope.Expected.{Expected as TheExpected}
-use Rattle.verbs.specs.declared.envelope.Envelope.{Envelope as TheEnvelope}
 use Rattle.verbs.specs.declared.intent.Creation.{Creation as TheCreation}
 use Rattle.verbs.specs.declared.intent.Intent.{Intent as TheIntent}
 use Rattle.verbs.specs.declared.place.Place.{Place as ThePlace}
-use Rattle.verbs.specs.Envelope.{Expected, Envelope}
+use Rattle.verbs.specs.Envelope.{Expected, Envelope, left_out, rest_of}
 use Rattle.verbs.specs.Step.{Creation, Intent}
 use Rattle.verbs.specs.Admit.{Parts, Place}
 use Rattle.matchit.specs.Params.{walk}
@@ -37,7 +38,7 @@ use Rattle.history.specs.Read.{key_of}
 use Rattle.history.specs.View.{View, state_in, view as view_of}
 use Rattle.verbs.specs.Machine.{AreUnicode, ComesAfter, IsMachine}
 use Rattle.verbs.specs.declared.body.Body.{Body}
-use Rattle.serde_json.specs.Data.{Data}
+use Rattle.serde_json.specs.Data.{Data, Members}
 use Rattle.watchline.specs.Views.{watch_from}
 use Rattle.verbs.specs.Calls.{Target, Call, Answer, Plan, Denied}
 
@@ -97,11 +98,22 @@ Admits (Err refusal.Memory) answer = Unit {0}
 abbrev pub expected_of : TheExpected → Expected
 expected_of e = record { served = served e.served.now; namespace = e.namespace.now; name = option_map (λ s. s.now) e.name; method = e.method }
 
-abbrev pub envelope_seen : TheEnvelope → Envelope
-envelope_seen e = record { version = e.version; rest = view e.rest }
+-- the body less its envelope is read from the body itself
+abbrev pub rest_seen : Data → Data
+rest_seen body = without left_out body
+
+-- the members of an object's metadata, if that is an object
+abbrev pub metadata_there : Members → Option Members
+metadata_there top = option_and_then as_object (get_member (codes "metadata") top)
+
+abbrev pub envelope_with : Members → Option Members → Option ℕ → Envelope
+envelope_with top metadata version = record { version = version; rest = rest_of top metadata }
+
+abbrev pub envelope_seen : Data → Option ℕ → Envelope
+envelope_seen body version = record { version = version; rest = rest_seen body }
 
 abbrev pub intent_seen : TheIntent → Intent
-intent_seen i = record { version = i.version; content = i.content; manager = string_bytes i.manager; is_forced = i.is_forced; rest = view i.rest }
+intent_seen i = record { version = i.version; content = i.content; manager = string_bytes i.manager; is_forced = i.is_forced; rest = rest_seen (view i.body.now) }
 
 abbrev pub creation_seen : TheCreation → Creation
 creation_seen c = record { key = key_of c.key; intent = intent_seen c.intent }

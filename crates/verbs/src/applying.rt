@@ -35,7 +35,7 @@ fn applied_over(
     current: u64,
     key: Key,
     live: &Live,
-    intent: &Intent,
+    intent: &Intent<'_>,
 ) -> Result<Plan, CallError>
     requires numbered { current ≤ last_revision }
     requires shaped { IsObjectShape (types.served served.now).shape }
@@ -79,7 +79,7 @@ pub(crate) fn validate_apply(
         alloc,
         key.namespace.as_str(),
         key.name.as_str(),
-        &intent.rest,
+        intent.body,
     )?;
     applied_over(alloc, served, current, key, live, &intent)
 }

@@ -1,14 +1,16 @@
 //! What stands round an object's fields: `apiVersion`, `kind`, `metadata`.
 
-ghost use Rattle.std.specs.Prelude.{◌≡◌, ◌++◌, IfOk, OnOk, Some, codes, string_bytes, option_map, map};
-ghost use Rattle.schema.specs.Keywords.{is_in};
+ghost use Rattle.std.specs.Prelude.{◌≡◌, ◌++◌, IfOk, Some, codes, string_bytes, option_map};
+ghost use Rattle.serde_json.specs.Data.{Members};
 ghost use Rattle.serde_json.specs.Find.{get_member};
 ghost use Rattle.serde_json.specs.View.{items_view, members_view, view};
 ghost use Rattle.schema.specs.Served as types;
-ghost use Rattle.verbs.specs.Envelope.{api_version_of, entries_validated, envelope_of, given_validated, is_text, is_text_or_none, kind_validated, kind_message, managers_by, managers_validated, members_but, must_be, if_filled, filled_text, member_of, name_in, metadata_in, metadata_validated, object_validated, put_metadata, rest_of, text_in, text_of, version_allowed, version_validated, version_or_fault, version_read, wanted_validated, with_others};
+ghost use Rattle.verbs.specs.Envelope.{api_version_of, entries_validated, envelope_of, given_validated, is_text, is_text_or_none, kind_validated, kind_message, left_out, managers_by, managers_validated, must_be, if_filled, filled_text, member_of, name_in, metadata_in, metadata_validated, object_validated, text_in, text_of, version_allowed, version_validated, version_or_fault, version_read, wanted_validated};
 ghost use Rattle.verbs.specs.declared.reason.Reason.TheVariants.{BadRequest};
 ghost use Rattle.verbs.specs.Validated.{call_refusal, require};
-ghost use Rattle.verbs.specs.Seen.{RefusesFor, Gives, envelope_seen, expected_of};
+ghost use Rattle.typed.specs.Without.{omitted_of};
+ghost use Rattle.verbs.specs.Json.{IsJson};
+ghost use Rattle.verbs.specs.Seen.{RefusesFor, Gives, envelope_seen, envelope_with, expected_of, metadata_there};
 
 use crate::fault::CallError;
 use crate::method::Method;
@@ -18,15 +20,7 @@ use names::version_of;
 use schema::Served;
 use serde_json::{Map, Value};
 use std::alloc::{AllocError, Global};
-
-/// What stands round an object's fields (Kubernetes API conventions, "Types (Kinds)", "Metadata").
-#[derive(Drop)]
-pub struct Envelope {
-    /// The version that the body names, if any.
-    pub version: Option<u64>,
-    /// The body less the envelope: what is read under the type's schema.
-    pub rest: Value,
-}
+use typed::Omitted;
 
 /// What a body's envelope has to name.
 #[derive(Clone, Copy)]
@@ -54,6 +48,17 @@ const METADATA: [&str; 8] = [
     "selfLink",
 ];
 
+/// What of a body is no field.
+pub fn left_out() -> Omitted<'static>
+    ensures { omitted_of result ≡ left_out }
+{
+    Omitted {
+        names: &TOP,
+        inside: "metadata",
+        inner: &METADATA,
+    }
+}
+
 /// A refusal whose message is a path and what is wrong there.
 fn fault_at(alloc: Global, path: &str, what: &str) -> CallError
     ensures { RefusesFor result BadRequest (path.now ++ what.now) }
@@ -79,20 +84,29 @@ fn if_filled(text: &str) -> Option<&str>
     if text.is_empty() { None } else { Some(text) }
 }
 
-fn wrong_type(alloc: Global, path: &str) -> CallError
-    ensures { RefusesFor result BadRequest (path.now ++ codes ": wrong type") }
+/// The member of this name below a path is of a wrong type.
+fn wrong_type(alloc: Global, path: &str, name: &str) -> CallError
+    ensures { RefusesFor result BadRequest ((path.now ++ name.now) ++ codes ": wrong type") }
 {
-    fault_at(alloc, path, ": wrong type")
+    match joined(alloc, path, name) {
+        Ok(path) => fault_at(alloc, path.as_str(), ": wrong type"),
+        Err(_) => CallError::Memory,
+    }
 }
 
-/// The text that a value is; null and the empty text are none.
-fn text_of<'a>(alloc: Global, value: &'a Value, path: &str) -> Result<Option<&'a str>, CallError>
-    ensures { Gives (option_map (λ s. s.now)) result (text_of path.now (view value.now)) }
+/// The text that a member's value is; null and the empty text are none.
+fn text_of<'a>(
+    alloc: Global,
+    value: &'a Value,
+    path: &str,
+    name: &str,
+) -> Result<Option<&'a str>, CallError>
+    ensures { Gives (option_map (λ s. s.now)) result (text_of (path.now ++ name.now) (view value.now)) }
 {
     match value {
         Value::Null => Ok(None),
         Value::String(text) => Ok(if_filled(text.as_str())),
-        _ => Err(wrong_type(alloc, path)),
+        _ => Err(wrong_type(alloc, path, name)),
     }
 }
 
@@ -101,11 +115,12 @@ fn text_in<'a>(
     alloc: Global,
     member: Option<&'a Value>,
     path: &str,
+    name: &str,
 ) -> Result<Option<&'a str>, CallError>
-    ensures { Gives (option_map (λ s. s.now)) result (text_in path.now (option_map (λ v. view v.now) member.entry)) }
+    ensures { Gives (option_map (λ s. s.now)) result (text_in (path.now ++ name.now) (option_map (λ v. view v.now) member.entry)) }
 {
     match member {
-        Some(value) => text_of(alloc, value, path),
+        Some(value) => text_of(alloc, value, path, name),
         None => Ok(None),
     }
 }
@@ -140,8 +155,8 @@ fn kind_message(alloc: Global, api_version: &str, kind: &str) -> Result<String, 
 fn validate_kind(alloc: Global, served: &Served, top: &Map<String, Value>) -> Result<(), CallError>
     ensures { Gives (λ u. u) result (kind_validated (types.served served.now) (members_view top.now.entries)) }
 {
-    let given_version = text_in(alloc, member(top, "apiVersion"), ".apiVersion")?;
-    let given_kind = text_in(alloc, member(top, "kind"), ".kind")?;
+    let given_version = text_in(alloc, member(top, "apiVersion"), ".", "apiVersion")?;
+    let given_kind = text_in(alloc, member(top, "kind"), ".", "kind")?;
     let wanted = api_version_of(alloc, served)?;
     if is_text(given_version, wanted.as_str()) && is_text(given_kind, served.kind.as_str()) {
         return Ok(());
@@ -221,8 +236,7 @@ fn validate_given(
 ) -> Result<(), CallError>
     ensures { Gives (λ u. u) result (given_validated name.now (option_map (λ s. s.now) wanted.entry) (option_map (λ m. members_view m.now.entries) metadata.entry)) }
 {
-    let path = joined(alloc, ".metadata.", name)?;
-    let given = text_in(alloc, member_of(metadata, name), path.as_str())?;
+    let given = text_in(alloc, member_of(metadata, name), ".metadata.", name)?;
     validate_wanted(alloc, name, wanted, given)
 }
 
@@ -251,7 +265,8 @@ fn validate_version(
     let given = text_in(
         alloc,
         member_of(metadata, "resourceVersion"),
-        ".metadata.resourceVersion",
+        ".metadata.",
+        "resourceVersion",
     )?;
     read_version(alloc, given)
 }
@@ -293,7 +308,7 @@ fn validate_managers(alloc: Global, member: Option<&Value>) -> Result<(), CallEr
     match value {
         Value::Null => Ok(()),
         Value::Array(entries) => validate_entries(alloc, entries),
-        _ => Err(wrong_type(alloc, ".metadata.managedFields")),
+        _ => Err(wrong_type(alloc, ".metadata.", "managedFields")),
     }
 }
 
@@ -311,64 +326,14 @@ fn validate_managers_by(
     validate_managers(alloc, member)
 }
 
-/// Whether the name is one of these.
-fn is_among(name: &str, names: &[&str]) -> bool
-    ensures { result ≡ is_in (map (λ n. n.now) names.now) name.now }
-{
-    names.iter().any(|known| *known == name)
-}
-
-/// The members but for those named.
-fn members_but(
-    alloc: Global,
-    members: &Map<String, Value>,
-    names: &[&str],
-) -> Result<Map<String, Value>, AllocError>
-    ensures { IfOk result (λ m. members_view m.entries ≡ members_but (map (λ n. n.now) names.now) (members_view members.now.entries)) }
-{
-    let mut left = Map::new(alloc);
-    for (name, member) in members.iter() {
-        if !is_among(name.as_str(), names) {
-            serde_json::put(&mut left, alloc, name.as_str(), member.clone()?)?;
-        }
-    }
-    Ok(left)
-}
-
-/// Puts what is left of `metadata`, where it is there.
-fn put_metadata(
-    rest: &mut Map<String, Value>,
-    alloc: Global,
-    metadata: Option<&Map<String, Value>>,
-) -> Result<(), AllocError>
-    ensures { OnOk result (members_view rest.new.entries ≡ put_metadata (option_map (λ m. members_view m.now.entries) metadata.entry) (members_view rest.old.entries)) }
-{
-    let Some(members) = metadata else {
-        return Ok(());
-    };
-    let left = members_but(alloc, members, &METADATA)?;
-    serde_json::put(rest, alloc, "metadata", Value::Object(left))
-}
-
-fn rest_of(
-    alloc: Global,
-    top: &Map<String, Value>,
-    metadata: Option<&Map<String, Value>>,
-) -> Result<Value, AllocError>
-    ensures { IfOk result (λ v. view v ≡ rest_of (members_view top.now.entries) (option_map (λ m. members_view m.now.entries) metadata.entry)) }
-{
-    let mut rest = members_but(alloc, top, &TOP)?;
-    put_metadata(&mut rest, alloc, metadata)?;
-    Ok(Value::Object(rest))
-}
-
+/// The version that `metadata` names, if any.
 fn validate_metadata(
     alloc: Global,
     expected: Expected<'_>,
-    top: &Map<String, Value>,
     metadata: Option<&Map<String, Value>>,
-) -> Result<Envelope, CallError>
-    ensures { Gives envelope_seen result (metadata_validated (expected_of expected.entry) (members_view top.now.entries) (option_map (λ m. members_view m.now.entries) metadata.entry)) }
+) -> Result<Option<u64>, CallError>
+    ensures { (top : Members) → Gives (envelope_with top (option_map (λ m. members_view m.now.entries) metadata.entry)) result
+        (metadata_validated (expected_of expected.entry) top (option_map (λ m. members_view m.now.entries) metadata.entry)) }
 {
     validate_given(alloc, metadata, "name", expected.name)?;
     validate_given(alloc, metadata, "namespace", Some(expected.namespace))?;
@@ -376,20 +341,20 @@ fn validate_metadata(
     allow_version(alloc, expected.method, version)?;
     let managers = member_of(metadata, "managedFields");
     validate_managers_by(alloc, expected.method, managers)?;
-    let rest = rest_of(alloc, top, metadata)?;
-    Ok(Envelope { version, rest })
+    Ok(version)
 }
 
 fn validate_object(
     alloc: Global,
     expected: Expected<'_>,
     top: &Map<String, Value>,
-) -> Result<Envelope, CallError>
-    ensures { Gives envelope_seen result (object_validated (expected_of expected.entry) (Some (members_view top.now.entries))) }
+) -> Result<Option<u64>, CallError>
+    ensures { let top = members_view top.now.entries in
+        Gives (envelope_with top (metadata_there top)) result (object_validated (expected_of expected.entry) (Some top)) }
 {
     validate_kind(alloc, expected.served, top)?;
     let metadata = metadata_in(alloc, member(top, "metadata"))?;
-    validate_metadata(alloc, expected, top, metadata)
+    validate_metadata(alloc, expected, metadata)
 }
 
 /// The name that a body gives its object.
@@ -400,9 +365,14 @@ pub fn name_in(body: &Value) -> Option<&str>
 }
 
 /// Validates the envelope of a write's body, in order: the body is an object, `apiVersion` and `kind`,
-/// `metadata`, `name`, `namespace`, `resourceVersion`, `managedFields`.
-pub fn validate(alloc: Global, body: &Value, expected: Expected<'_>) -> Result<Envelope, CallError>
-    ensures { Gives envelope_seen result (envelope_of (expected_of expected.entry) (view body.now)) }
+/// `metadata`, `name`, `namespace`, `resourceVersion`, `managedFields`. Answers the version that the body names, if any.
+pub fn validate(
+    alloc: Global,
+    body: &Value,
+    expected: Expected<'_>,
+) -> Result<Option<u64>, CallError>
+    requires json { IsJson (view body.now) }
+    ensures { Gives (envelope_seen (view body.now)) result (envelope_of (expected_of expected.entry) (view body.now)) }
 {
     match body {
         Value::Object(top) => validate_object(alloc, expected, top),

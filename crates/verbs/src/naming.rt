@@ -5,7 +5,7 @@ ghost use Rattle.serde_json.specs.View.{members_view, view};
 ghost use Rattle.verbs.specs.declared.reason.Reason.TheVariants.{Invalid};
 ghost use Rattle.verbs.specs.Validated.{require};
 ghost use Rattle.verbs.specs.Naming.{annotation_validated, annotations_validated, label_validated, if_there, label_member_validated, labels_validated, marks_validated, metadata_object, names_validated, path_validated, required_name};
-ghost use Rattle.verbs.specs.Seen.{Gives};
+ghost use Rattle.verbs.specs.Seen.{Gives, rest_seen};
 
 use crate::fault::CallError;
 use crate::reason::Reason;
@@ -104,9 +104,9 @@ fn validate_annotations_of(alloc: Global, body: &Value) -> Result<(), CallError>
     }
 }
 
-/// The labels and annotations of a body.
+/// The labels and annotations of a body, which are no part of its envelope.
 pub fn validate_marks(alloc: Global, body: &Value) -> Result<(), CallError>
-    ensures { Gives (λ u. u) result (marks_validated (view body.now)) }
+    ensures { Gives (λ u. u) result (marks_validated (rest_seen (view body.now))) }
 {
     validate_labels_of(alloc, body)?;
     validate_annotations_of(alloc, body)
@@ -129,7 +129,7 @@ pub fn validate_names(
     name: &str,
     body: &Value,
 ) -> Result<(), CallError>
-    ensures { Gives (λ u. u) result (names_validated namespace.now name.now (view body.now)) }
+    ensures { Gives (λ u. u) result (names_validated namespace.now name.now (rest_seen (view body.now))) }
 {
     validate_path(alloc, namespace, name)?;
     validate_marks(alloc, body)

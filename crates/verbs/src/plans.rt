@@ -154,12 +154,12 @@ fn planned_object(
 }
 
 /// What a creation's body says.
-fn validate_collection(
+fn validate_collection<'a>(
     alloc: Global,
     served: &Served,
     namespace: &str,
-    call: &Call,
-) -> Result<Creation, CallError>
+    call: &'a Call,
+) -> Result<Creation<'a>, CallError>
     requires { IsObjectShape (types.served served.now).shape }
     ensures validated { let c = call_of call.now in
         Gives creation_seen result (and_then (body_of c.body) (creation_validated (types.served served.now) c.target.kind namespace.now c.query)) }
@@ -180,11 +180,11 @@ fn planned_creation(
     alloc: Global,
     served: &Served,
     store: &mut Store,
-    creation: Creation,
+    creation: Creation<'_>,
 ) -> Result<Plan, Fault>
     requires shaped { IsObjectShape (types.served served.now).shape }
     requires content { IsContent (types.served served.now).shape creation.intent.content }
-    ensures planned { let c = creation_seen creation in
+    ensures planned { let c = creation_seen creation.entry in
         IfOk result (λ p. plan_of p ≡ plan_for (created_as (types.served served.now) store.old.current (fin.get (objects_in store.old) c.key) c.key c.intent)) }
     ensures readable { result ≢ Err Fault.Unreadable }
     ensures same { store.new ≡ store.old }

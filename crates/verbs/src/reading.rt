@@ -5,9 +5,10 @@ ghost use Rattle.serde_json.specs.View.{view};
 ghost use Rattle.schema.specs.Served as types;
 ghost use Rattle.typed.specs.Faults.{cause_text};
 ghost use Rattle.typed.specs.Reading.{content_of};
-ghost use Rattle.verbs.specs.Seen.{RefusesFor, Gives};
+ghost use Rattle.verbs.specs.Seen.{RefusesFor, Gives, rest_seen};
 ghost use Rattle.verbs.specs.Step.{fault_reason, shape_validated};
 
+use crate::envelope::left_out;
 use crate::fault::CallError;
 use crate::reason::Reason;
 use crate::texts::joined;
@@ -42,11 +43,11 @@ fn shape_fault(alloc: Global, cause: Cause, path: &str) -> CallError
     }
 }
 
-/// The content of a body under the type's schema, or the first fault in its shape.
-pub fn read_config(alloc: Global, served: &Served, rest: &Value) -> Result<Tree, CallError>
-    ensures { Gives (λ t. t) result (shape_validated (content_of (types.served served.now).shape (view rest.now))) }
+/// The content of a body without its envelope, under the type's schema, or the first fault in its shape.
+pub fn read_config(alloc: Global, served: &Served, body: &Value) -> Result<Tree, CallError>
+    ensures { Gives (λ t. t) result (shape_validated (content_of (types.served served.now).shape (rest_seen (view body.now)))) }
 {
-    match Tree::read(&served.schema, alloc, rest) {
+    match Tree::read_without(&served.schema, alloc, body, left_out()) {
         Ok(tree) => Ok(tree),
         Err(ReadFault::Shape(cause, path)) => Err(shape_fault(alloc, cause, path.as_str())),
         Err(ReadFault::Memory) => Err(CallError::Memory),

@@ -32,9 +32,9 @@ use serde_json::Value;
 use std::alloc::{AllocError, Global};
 
 /// What stands after the write, over what stood: its manager owns what it changed.
-fn updated_by(alloc: Global, intent: Intent, live: &Owned) -> Result<Owned, AllocError>
-    ensures state { IfOk result (λ o. state_of o ≡ updated_by (intent_seen intent) (state_of live.now)) }
-    ensures content { IfOk result (λ o. o.tree ≡ intent.content) }
+fn updated_by(alloc: Global, intent: Intent<'_>, live: &Owned) -> Result<Owned, AllocError>
+    ensures state { IfOk result (λ o. state_of o ≡ updated_by (intent_seen intent.entry) (state_of live.now)) }
+    ensures content { IfOk result (λ o. o.tree ≡ intent.entry.content) }
 {
     let Intent {
         content,
@@ -50,18 +50,18 @@ pub(crate) fn created_as(
     current: u64,
     live: Option<&Object>,
     key: Key,
-    intent: Intent,
+    intent: Intent<'_>,
 ) -> Result<Plan, CallError>
     requires numbered { current ≤ last_revision }
     requires shaped { IsObjectShape (types.served served.now).shape }
     requires content { IsContent (types.served served.now).shape intent.content }
-    ensures { Gives plan_of result (created_as (types.served served.now) current (option_map (λ o. object_of o.now) live.entry) (key_of key) (intent_seen intent)) }
+    ensures { Gives plan_of result (created_as (types.served served.now) current (option_map (λ o. object_of o.now) live.entry) (key_of key) (intent_seen intent.entry)) }
 {
     validate_names(
         alloc,
         key.namespace.as_str(),
         key.name.as_str(),
-        &intent.rest,
+        intent.body,
     )?;
     not_there(alloc, served, key.name.as_str(), live)?;
     let owned = updated_by(alloc, intent, &Owned::empty(alloc))?;
@@ -80,14 +80,14 @@ fn key_in(kind: u32, namespace: &str, name: &str, alloc: Global) -> Result<Key, 
 }
 
 /// The object that a creation is of, and what it intends: the body names the object.
-pub(crate) fn validate_creation(
+pub(crate) fn validate_creation<'a>(
     alloc: Global,
     served: &Served,
     kind: u32,
     namespace: &str,
     query: &[u8],
-    body: &Value,
-) -> Result<Creation, CallError>
+    body: &'a Value,
+) -> Result<Creation<'a>, CallError>
     requires shaped { IsObjectShape (types.served served.now).shape }
     requires json { IsJson (view body.now) }
     ensures validated { Gives creation_seen result (creation_validated (types.served served.now) kind namespace.now query.now (view body.now)) }
@@ -112,14 +112,14 @@ fn updated_over(
     current: u64,
     key: Key,
     live: &Live,
-    intent: Intent,
+    intent: Intent<'_>,
 ) -> Result<Plan, CallError>
     requires numbered { current ≤ last_revision }
     requires shaped { IsObjectShape (types.served served.now).shape }
     requires content { IsContent (types.served served.now).shape intent.content }
     requires said { state_of live.now.state ≡ state_of_live (types.served served.now) (option_map object_of live.now.object) }
     requires placed { IsPlacedState (types.served served.now).shape (state_of live.now.state) }
-    ensures { Gives plan_of result (updated_over (types.served served.now) current (key_of key) (option_map object_of live.now.object) (intent_seen intent)) }
+    ensures { Gives plan_of result (updated_over (types.served served.now) current (key_of key) (option_map object_of live.now.object) (intent_seen intent.entry)) }
 {
     let object = live.object.as_ref();
     there(alloc, served, key.name.as_str(), object)?;
@@ -147,6 +147,6 @@ pub(crate) fn validate_update(
 {
     let expected = at_path(served, &key, Method::Put);
     let intent = intent_of(alloc, expected, Asked::Put, query, body)?;
-    validate_marks(alloc, &intent.rest)?;
+    validate_marks(alloc, intent.body)?;
     updated_over(alloc, served, current, key, live, intent)
 }
