@@ -14,6 +14,7 @@ pub mod Machines
 pub mod Places
 pub mod Planning
 pub mod Promise
+pub mod Recalling
 pub mod Refusals
 pub mod Statuses
 pub mod Said

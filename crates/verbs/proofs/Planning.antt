@@ -18,7 +18,7 @@ use Rattle.verbs.specs.declared.calls.Plan.{Plan as ThePlan}
 use Rattle.verbs.specs.declared.change.Change.{Change as TheChange}
 use Rattle.verbs.specs.Json.{IsJsonBody}
 use Rattle.verbs.specs.Calls.{Call, Plan}
-use Rattle.verbs.specs.Machine.{AreTexts, AreUnicode, IsMachine, IsNext, IsReadable, after, identity_of}
+use Rattle.verbs.specs.Machine.{AreTexts, IsMachine, IsNext, IsReadable, after, identity_of}
 use Rattle.verbs.proofs.Changes.{all_push, is_history, machine_next, standing_texts}
 use Rattle.verbs.proofs.Machines.{compactions_keep_machines, lists_seen, standing_seen}
 use Rattle.verbs.proofs.Promise.{plans_come_next}

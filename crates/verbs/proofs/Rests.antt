@@ -1,5 +1,5 @@
 -- A body less its envelope is the body without what is left out, since its members ascend by name.
-use Rattle.std.proofs.Common.{◌≡◌, ℕ, Bool, true, false, cond, is_eq, nat_cmp, List, Option, Some, None, Ok, Err, Ordering, Less, Equal, Greater, refl, sym, ap, ap₂, subst, ◌∙◌, true≢false}
+use Rattle.std.proofs.Common.{◌≡◌, ℕ, Bool, true, false, cond, is_eq, List, Option, Some, None, Ok, Err, Ordering, Less, Equal, Greater, refl, sym, ap, ap₂, subst, ◌∙◌, true≢false}
 use Rattle.std.specs.Prelude.{codes, option_and_then, option_map}
 use Rattle.std.specs.declared.result.Result.{Result}
 use Rattle.std.specs.Ordering.{match_ordering, ordering_reverse}
@@ -11,7 +11,7 @@ use Rattle.serde_json.specs.Find.{as_object, get, get_member}
 use Rattle.fieldpath.specs.Scalars.{ascend, ascend_from}
 use Rattle.fieldpath.specs.Spelled.{MembersAreSpelled, member_names}
 use Rattle.schema.specs.Keywords.{is_in}
-use Rattle.typed.specs.Without.{but, kept, members_kept, without}
+use Rattle.typed.specs.Without.{but, kept, members_kept}
 use Rattle.typed.proofs.Plains.{AreBelow, members_after, members_after-after, members_after-none, put_last, still_below}
 use Rattle.ownership.proofs.Taken.{absent_above, ascend_rest, cmp, first_below, found_spelled, further, no_some, rest_above, same_some, tied}
 use Rattle.verbs.specs.declared.fault.CallError.{CallError}

@@ -22,6 +22,7 @@ use Rattle.ownership.proofs.Back.{parts_back, text_read}
 use Rattle.ownership.proofs.Taken.{no_some}
 use Rattle.ownership.proofs.Textual.{value_textual}
 use Rattle.verbs.specs.Machine.{AreObjectTypes, identity_of, no_state, state_or_none, state_said}
+use Rattle.verbs.specs.Remembered.{IsSaidBy}
 use Rattle.verbs.specs.Step.{printed, text_at}
 
 -- an object's text says the state that it was printed of
@@ -38,6 +39,11 @@ text_is t k revision state = refl
 pub printed_is_text : (t : ServedShape) (k : Key) (revision : ℕ) (state : State) → IsPlacedState t.shape state → revision ≤ max_version
     → IsObjectText t.shape (identity_of t k) revision state (text_at t k revision state)
 printed_is_text t k revision state placed low = record { placed = placed; numbered = low; is_text = text_is t k revision state }
+
+-- what is printed of a placed state says that state
+pub printed_says : (t : ServedShape) (k : Key) (revision : ℕ) (state : State) → IsObjectShape t.shape → IsPlacedState t.shape state → revision ≤ max_version
+    → IsSaidBy t (text_at t k revision state) state
+printed_says t k revision state shaped placed low = (said_back t.shape (identity_of t k) revision state (text_at t k revision state) shaped (printed_is_text t k revision state placed low), placed)
 
 -- no number in it is a float
 pub printed_clean : (t : ServedShape) (k : Key) (revision : ℕ) (state : State) → IsObjectShape t.shape → IsContent t.shape state.content → has_float (printed t k revision state) ≡ false

@@ -15,4 +15,7 @@ pub mod Size
 pub mod Step
 pub mod Watching
 pub mod Promise
+pub mod TypeCodes
+pub mod Remembered
+pub mod Written
 pub mod Seen

@@ -4,7 +4,7 @@ use Rattle.std.specs.declared.result.Result.{Result}
 use Rattle.std.specs.declared.result.Result.TheVariants.{Ok, Err}
 use Rattle.serde_json.specs.Find.{as_object, get_member}
 use Rattle.serde_json.specs.View.{view, items_view}
-use Rattle.schema.specs.Served.{served, types_view}
+use Rattle.schema.specs.Served.{served}
 use Rattle.schema.specs.TypesFile.{ServedShape}
 use Rattle.typed.specs.Without.{without}
 use Rattle.verbs.specs.declared.calls.Target.{Target as TheTarget}
@@ -135,7 +135,7 @@ objects_in v = state_in v v.current
 
 -- the types that it serves
 abbrev pub types_of : Api → List ServedShape
-types_of api = types_view api.types
+types_of api = api.catalog
 
 -- what is seen of its store
 abbrev pub store_of : Api → View

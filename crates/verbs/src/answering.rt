@@ -1,15 +1,17 @@
 //! What the writes share: their body, their refusals and the text that is stored.
 
-ghost use Rattle.std.specs.Prelude.{◌≡◌, IfOk, codes};
+ghost use Rattle.std.specs.Prelude.{◌≡◌, ◌≢◌, Err, IfOk, codes};
 ghost use Rattle.serde_json.specs.View.{view};
 ghost use Rattle.verbs.specs.declared.reason.Reason.TheVariants.{MethodNotAllowed, NotFound};
 ghost use Rattle.verbs.specs.Json.{IsJson};
+ghost use Rattle.verbs.specs.Calls as calls;
 ghost use Rattle.verbs.specs.Seen.{RefusesFor, Gives, call_of, call_refusal_of, plan_of};
-ghost use Rattle.verbs.specs.Step.{body_of, refused};
+ghost use Rattle.verbs.specs.Step.{body_of, plan_for, refused};
+ghost use Rattle.verbs.specs.Validated.{Validated};
 
 use crate::call_refusal::CallRefusal;
 use crate::calls::{Answer, Call, Plan};
-use crate::fault::CallError;
+use crate::fault::{CallError, Fault};
 use crate::reason::Reason;
 use serde_json::Value;
 use std::alloc::{AllocError, Global};
@@ -53,4 +55,16 @@ pub fn refused(alloc: Global, call_refusal: CallRefusal) -> Result<Plan, AllocEr
         },
         change: None,
     })
+}
+
+/// The plan of what was validated: a refusal is answered too.
+pub fn plan_for(alloc: Global, validated: Result<Plan, CallError>) -> Result<Plan, Fault>
+    ensures plan_for { (answer : Validated calls.Plan) → Gives plan_of validated answer → IfOk result (λ p. plan_of p ≡ plan_for answer) }
+    ensures readable { result ≢ Err Fault.Unreadable }
+{
+    match validated {
+        Ok(plan) => Ok(plan),
+        Err(CallError::Refused(call_refusal)) => Ok(refused(alloc, call_refusal)?),
+        Err(CallError::Memory) => Err(Fault::Memory),
+    }
 }

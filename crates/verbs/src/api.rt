@@ -6,6 +6,7 @@ ghost use Rattle.history.specs.View.{view};
 
 use crate::admitting::{Refusal, admitted};
 use crate::calls::{Call, Plan, Target};
+use crate::catalog::Catalog;
 use crate::fault::Fault;
 use crate::plans::planned;
 use crate::route::Routes;
@@ -33,7 +34,7 @@ fn opened(alloc: Global, revision: u64) -> Result<(Routes, Store), Fault>
 #[derive(Drop)]
 pub struct Api {
     alloc: Global,
-    types: Types,
+    catalog: Catalog,
     routes: Routes,
     store: Store,
 }
@@ -69,9 +70,10 @@ impl Api {
     {
         types.types_are_of_objects();
         let (routes, store) = opened(alloc, revision)?;
+        let catalog = Catalog::new(alloc, types)?;
         Ok(Api {
             alloc,
-            types,
+            catalog,
             routes,
             store,
         })
@@ -82,7 +84,7 @@ impl Api {
     pub fn admit(&self, method: &str, path: &str, media: Option<&[u8]>) -> Result<Target, Refusal>
         ensures { Admits result (admitted (types_of self.now) method.now path.now (option_map (λ b. b.now) media.entry)) }
     {
-        let place = self.routes.place(&self.types, path);
+        let place = self.routes.place(self.catalog.types(), path);
         admitted(self.alloc, place, method, media)
     }
 
@@ -97,7 +99,7 @@ impl Api {
         ensures same { (types : List ServedShape) (m : History) → Stands self.old types m → Stands self.new types m }
         ensures unchanged { self.new ≡ self.old }
     {
-        planned(self.alloc, &self.types, &mut self.store, call)
+        planned(self.alloc, &mut self.catalog, &mut self.store, call)
     }
 
     /// Makes the change of a plan, if it has one: a plan of what stands now. Refused, it changes nothing.
@@ -137,7 +139,7 @@ impl Api {
         ensures needs { is_bookmark_due cursor.old ≡ false → result ≡ Ok None }
         ensures readable { result ≢ Err Fault.Unreadable }
     {
-        bookmarked(self.alloc, &self.types, cursor)
+        bookmarked(self.alloc, self.catalog.types(), cursor)
     }
 
     /// Forgets what no answer from this revision on can show: from the compacted number to the current revision.

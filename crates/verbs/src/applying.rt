@@ -1,6 +1,6 @@
 //! Applies (Kubernetes docs, "Server-Side Apply").
 
-ghost use Rattle.std.specs.Prelude.{◌≡◌, ◌≤◌, option_map};
+ghost use Rattle.std.specs.Prelude.{◌≡◌, ◌≤◌, IfOk, option_map};
 ghost use Rattle.serde_json.specs.View.{view};
 ghost use Rattle.schema.specs.Served as types;
 ghost use Rattle.typed.specs.Fitting.{IsContent};
@@ -11,10 +11,10 @@ ghost use Rattle.ownership.specs.Results.{state_of};
 ghost use Rattle.verbs.specs.Machine.{state_of_live};
 ghost use Rattle.verbs.specs.Json.{IsJson};
 ghost use Rattle.history.specs.Read.{key_of};
-ghost use Rattle.verbs.specs.Seen.{Gives, intent_seen, object_of, plan_of};
+ghost use Rattle.verbs.specs.Seen.{Gives, intent_seen, object_of};
 ghost use Rattle.verbs.specs.Step.{applied_over, apply_validated};
+ghost use Rattle.verbs.specs.Written.{RemembersRight, written_plan};
 
-use crate::calls::Plan;
 use crate::conflicts::applied;
 use crate::fault::CallError;
 use crate::intent::{Intent, at_path, intent_of};
@@ -22,6 +22,7 @@ use crate::live::Live;
 use crate::method::Method;
 use crate::naming::validate_names;
 use crate::storing::{check_version, stored_over};
+use crate::written::Written;
 use history::Key;
 use params::Asked;
 use schema::Served;
@@ -36,13 +37,14 @@ fn applied_over(
     key: Key,
     live: &Live,
     intent: &Intent<'_>,
-) -> Result<Plan, CallError>
+) -> Result<Written, CallError>
     requires numbered { current ≤ last_revision }
     requires shaped { IsObjectShape (types.served served.now).shape }
     requires content { IsContent (types.served served.now).shape intent.now.content }
     requires said { state_of live.now.state ≡ state_of_live (types.served served.now) (option_map object_of live.now.object) }
     requires placed { IsPlacedState (types.served served.now).shape (state_of live.now.state) }
-    ensures { Gives plan_of result (applied_over (types.served served.now) current (key_of key) (option_map object_of live.now.object) (intent_seen intent.now)) }
+    ensures plan { Gives written_plan result (applied_over (types.served served.now) current (key_of key) (option_map object_of live.now.object) (intent_seen intent.now)) }
+    ensures right { IfOk result (RemembersRight (types.served served.now)) }
 {
     check_version(alloc, intent.version, live.object.as_ref())?;
     let owned = applied(
@@ -53,7 +55,7 @@ fn applied_over(
         intent.manager.as_str(),
         intent.is_forced,
     )?;
-    stored_over(alloc, served, current, key, live, &owned)
+    stored_over(alloc, served, current, key, live, owned)
 }
 
 /// An apply's body over what stands.
@@ -65,13 +67,14 @@ pub(crate) fn validate_apply(
     key: Key,
     query: &[u8],
     body: &Value,
-) -> Result<Plan, CallError>
+) -> Result<Written, CallError>
     requires numbered { current ≤ last_revision }
     requires shaped { IsObjectShape (types.served served.now).shape }
     requires json { IsJson (view body.now) }
     requires said { state_of live.now.state ≡ state_of_live (types.served served.now) (option_map object_of live.now.object) }
     requires placed { IsPlacedState (types.served served.now).shape (state_of live.now.state) }
-    ensures { Gives plan_of result (apply_validated (types.served served.now) current (option_map object_of live.now.object) (key_of key) query.now (view body.now)) }
+    ensures plan { Gives written_plan result (apply_validated (types.served served.now) current (option_map object_of live.now.object) (key_of key) query.now (view body.now)) }
+    ensures right { IfOk result (RemembersRight (types.served served.now)) }
 {
     let expected = at_path(served, &key, Method::Patch);
     let intent = intent_of(alloc, expected, Asked::Apply, query, body)?;

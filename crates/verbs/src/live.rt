@@ -1,17 +1,20 @@
 //! What a write starts from: the object that stands, and the state that its text says.
 
-ghost use Rattle.std.specs.Prelude.{◌≡◌, ◌≢◌, Err, IfOk, Some, option_map};
+ghost use Rattle.std.specs.Prelude.{◌≡◌, ◌≢◌, Err, IfOk, IfSome, Some, option_map};
 ghost use Rattle.schema.specs.Served as types;
 ghost use Rattle.ownership.specs.Keeping.{IsPlacedState};
 ghost use Rattle.ownership.specs.Results.{state_of};
 ghost use Rattle.schema.specs.ObjectShape.{IsObjectShape};
+ghost use Rattle.schema.specs.TypesFile.{ServedShape};
 ghost use Rattle.history.specs.Read.{key_of};
 ghost use Rattle.verbs.specs.Machine.{IsReadable, state_of_live, state_said};
+ghost use Rattle.verbs.specs.Remembered.{IsRight};
 ghost use Rattle.verbs.specs.Seen.{object_of};
 
 use crate::envelope::api_version_of;
 use crate::fault::Fault;
 use crate::identity::identity_of;
+use crate::remembered::Remembered;
 use history::Key;
 use ownership::{ObjectFault, Owned};
 use revtable::Object;
@@ -35,6 +38,17 @@ impl Live {
             None => None,
         }
     }
+
+    /// What is to be remembered of the object, where one stands.
+    pub(crate) fn into_remembered(self) -> Option<Remembered>
+        ensures { (t : ServedShape) → state_of self.state ≡ state_of_live t (option_map object_of self.object) → IsPlacedState t.shape (state_of self.state) → IfSome result (IsRight t) }
+    {
+        let Live { object, state } = self;
+        match object {
+            Some(Object { body, .. }) => Some(Remembered { text: body, state }),
+            None => None,
+        }
+    }
 }
 
 /// The state that an object's text says.
@@ -53,37 +67,64 @@ fn read_stored(alloc: Global, served: &Served, key: &Key, stored: &Object) -> Re
     }
 }
 
+/// The same, with no reading where it is remembered of this very text.
+fn remembered_or_read(
+    alloc: Global,
+    served: &Served,
+    key: &Key,
+    stored: &Object,
+    remembered: Option<Remembered>,
+) -> Result<Owned, Fault>
+    requires shaped { IsObjectShape (types.served served.now).shape }
+    requires right { IfSome remembered (IsRight (types.served served.now)) }
+    ensures state { IfOk result (λ o. state_of o ≡ state_said (types.served served.now).shape (object_of stored.now).body) }
+    ensures placed { IfOk result (λ o. IsPlacedState (types.served served.now).shape (state_of o)) }
+    ensures readable { IsReadable (types.served served.now) (key_of key.now) (Some (object_of stored.now)) → result ≢ Err Fault.Unreadable }
+{
+    let Some(known) = remembered else {
+        return read_stored(alloc, served, key, stored);
+    };
+    if known.text == stored.body {
+        return Ok(known.state);
+    }
+    read_stored(alloc, served, key, stored)
+}
+
 /// The state of the object that stands, or nothing.
-fn read_state(
+fn state_before(
     alloc: Global,
     served: &Served,
     key: &Key,
     object: Option<&Object>,
+    remembered: Option<Remembered>,
 ) -> Result<Owned, Fault>
-    requires { IsObjectShape (types.served served.now).shape }
+    requires shaped { IsObjectShape (types.served served.now).shape }
+    requires right { IfSome remembered (IsRight (types.served served.now)) }
     ensures state { IfOk result (λ o. state_of o ≡ state_of_live (types.served served.now) (option_map (λ o. object_of o.now) object.entry)) }
     ensures placed { IfOk result (λ o. IsPlacedState (types.served served.now).shape (state_of o)) }
     ensures readable { IsReadable (types.served served.now) (key_of key.now) (option_map (λ o. object_of o.now) object.entry) → result ≢ Err Fault.Unreadable }
 {
     match object {
-        Some(stored) => read_stored(alloc, served, key, stored),
+        Some(stored) => remembered_or_read(alloc, served, key, stored, remembered),
         None => Ok(Owned::empty(alloc)),
     }
 }
 
-/// What stands under the key, with its state.
-pub(crate) fn read_live(
+/// What stands under the key, with its state: the one that is remembered of its text, or else as it is read.
+pub(crate) fn live_at(
     alloc: Global,
     served: &Served,
     key: &Key,
     object: Option<Object>,
+    remembered: Option<Remembered>,
 ) -> Result<Live, Fault>
-    requires { IsObjectShape (types.served served.now).shape }
+    requires shaped { IsObjectShape (types.served served.now).shape }
+    requires right { IfSome remembered (IsRight (types.served served.now)) }
     ensures object { IfOk result (λ l. option_map object_of l.object ≡ option_map object_of object) }
     ensures state { IfOk result (λ l. state_of l.state ≡ state_of_live (types.served served.now) (option_map object_of object)) }
     ensures placed { IfOk result (λ l. IsPlacedState (types.served served.now).shape (state_of l.state)) }
     ensures readable { IsReadable (types.served served.now) (key_of key.now) (option_map object_of object) → result ≢ Err Fault.Unreadable }
 {
-    let state = read_state(alloc, served, key, object.as_ref())?;
+    let state = state_before(alloc, served, key, object.as_ref(), remembered)?;
     Ok(Live { object, state })
 }

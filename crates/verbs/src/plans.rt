@@ -1,6 +1,6 @@
 //! What a call comes to, by what stands in the store.
 
-ghost use Rattle.std.specs.Prelude.{◌≡◌, ◌≢◌, ◌≤◌, Err, IfOk, List, None, Some, option_map, slice_get, string_bytes};
+ghost use Rattle.std.specs.Prelude.{◌≡◌, ◌≢◌, ◌≤◌, Err, IfOk, IfSome, List, None, Some, option_map, slice_get, string_bytes};
 ghost use Rattle.std.specs.declared.result.Result.{Result};
 ghost use Rattle.std.specs.FinMap as fin;
 ghost use Rattle.schema.specs.ObjectShape.{IsObjectShape};
@@ -8,34 +8,33 @@ ghost use Rattle.schema.specs.Served as types;
 ghost use Rattle.schema.specs.Served.{types_view};
 ghost use Rattle.schema.specs.TypesFile.{ServedShape};
 ghost use Rattle.typed.specs.Fitting.{IsContent};
-ghost use Rattle.ownership.specs.Keeping.{IsPlacedState};
-ghost use Rattle.ownership.specs.Results.{state_of};
 ghost use Rattle.history.specs.History.{last_revision};
 ghost use Rattle.history.specs.Read.{key_of};
 ghost use Rattle.verbs.specs.Calls as calls;
-ghost use Rattle.verbs.specs.Validated.{Validated, and_then};
-ghost use Rattle.verbs.specs.Machine.{AreTexts, IsReadable, state_of_live};
+ghost use Rattle.verbs.specs.Validated.{and_then};
+ghost use Rattle.verbs.specs.Machine.{AreTexts, IsReadable};
+ghost use Rattle.verbs.specs.Remembered.{IsRight, IsRightAt};
 ghost use Rattle.verbs.specs.Seen.{Gives, call_of, creation_seen, object_of, objects_in, plan_of};
 ghost use Rattle.params.specs.Views.{values_of, watch_view};
 ghost use Rattle.lists.specs.Views as views;
 ghost use Rattle.lists.specs.declared.refusal.Refusal.{Refusal};
 ghost use Rattle.watchline.specs.Views.{watch_from};
 ghost use Rattle.watchline.specs.Watches.{from_view};
-ghost use Rattle.verbs.specs.Step.{all_validated_by, apply_validated, body_of, collection_of, collection_validated_by, create_validated, created_as, creation_validated, list_answered, list_validated, lists_in, object_validated_by, plan_for, planned_over, shown_by, update_validated, validated_in};
+ghost use Rattle.verbs.specs.Step.{all_validated_by, body_of, collection_of, collection_validated_by, create_validated, created_as, creation_validated, list_answered, list_validated, lists_in, object_validated_by, plan_for, planned_over, shown_by, validated_in};
 
-use crate::answering::{body_of, no_path, not_served, refused};
-use crate::applying::validate_apply;
+use crate::answering::{body_of, no_path, not_served, plan_for};
 use crate::calls::{Answer, Call, Plan};
-use crate::deleting::validate_delete;
+use crate::catalog::Catalog;
 use crate::envelope::api_version_of;
 use crate::fault::{CallError, Fault};
 use crate::getting::validate_get;
 use crate::intent::Creation;
 use crate::listing::list_refusal;
-use crate::live::{Live, read_live};
 use crate::method::Method;
+use crate::object_writes::{plan_written, planned_deletion, planned_patch, planned_put};
 use crate::parameters::read_parameters;
-use crate::updating::{created_as, validate_creation, validate_update};
+use crate::remembered::Remembered;
+use crate::updating::{created_as, validate_creation};
 use history::Key;
 use lists::{Collection, ListFault, list};
 use params::{Asked, Params, Watch};
@@ -45,57 +44,7 @@ use schema::{Served, Types};
 use std::alloc::Global;
 use watchline::{WatchFrom, start_watch};
 
-/// The plan of what was validated: a refusal is answered too.
-fn plan_for(alloc: Global, validated: Result<Plan, CallError>) -> Result<Plan, Fault>
-    ensures plan_for { (answer : Validated calls.Plan) → Gives plan_of validated answer → IfOk result (λ p. plan_of p ≡ plan_for answer) }
-    ensures readable { result ≢ Err Fault.Unreadable }
-{
-    match validated {
-        Ok(plan) => Ok(plan),
-        Err(CallError::Refused(call_refusal)) => Ok(refused(alloc, call_refusal)?),
-        Err(CallError::Memory) => Err(Fault::Memory),
-    }
-}
-
-fn validate_put(
-    alloc: Global,
-    served: &Served,
-    current: u64,
-    live: &Live,
-    key: Key,
-    call: &Call,
-) -> Result<Plan, CallError>
-    requires numbered { current ≤ last_revision }
-    requires shaped { IsObjectShape (types.served served.now).shape }
-    requires said { state_of live.now.state ≡ state_of_live (types.served served.now) (option_map object_of live.now.object) }
-    requires placed { IsPlacedState (types.served served.now).shape (state_of live.now.state) }
-    ensures { let c = call_of call.now in
-        Gives plan_of result (and_then (body_of c.body) (update_validated (types.served served.now) current (option_map object_of live.now.object) (key_of key) c.query)) }
-{
-    let body = body_of(alloc, call)?;
-    validate_update(alloc, served, current, live, key, &call.query, body)
-}
-
-fn validate_patch(
-    alloc: Global,
-    served: &Served,
-    current: u64,
-    live: &Live,
-    key: Key,
-    call: &Call,
-) -> Result<Plan, CallError>
-    requires numbered { current ≤ last_revision }
-    requires shaped { IsObjectShape (types.served served.now).shape }
-    requires said { state_of live.now.state ≡ state_of_live (types.served served.now) (option_map object_of live.now.object) }
-    requires placed { IsPlacedState (types.served served.now).shape (state_of live.now.state) }
-    ensures { let c = call_of call.now in
-        Gives plan_of result (and_then (body_of c.body) (apply_validated (types.served served.now) current (option_map object_of live.now.object) (key_of key) c.query)) }
-{
-    let body = body_of(alloc, call)?;
-    validate_apply(alloc, served, current, live, key, &call.query, body)
-}
-
-/// By the method, over the object under the key: where a write starts from its state, that is read first.
+/// By the method, over the object under the key.
 fn planned_by(
     alloc: Global,
     served: &Served,
@@ -103,12 +52,15 @@ fn planned_by(
     object: Option<Object>,
     key: Key,
     call: &Call,
+    known: &mut Option<Remembered>,
 ) -> Result<Plan, Fault>
     requires numbered { current ≤ last_revision }
     requires shaped { IsObjectShape (types.served served.now).shape }
+    requires right { IfSome known.old (IsRight (types.served served.now)) }
     ensures planned { let c = call_of call.now in
         IfOk result (λ p. plan_of p ≡ plan_for (object_validated_by c.target.method (types.served served.now) current (option_map object_of object) (key_of key) c.query c.body)) }
     ensures readable { IsReadable (types.served served.now) (key_of key) (option_map object_of object) → result ≢ Err Fault.Unreadable }
+    ensures right { IfSome known.new (IsRight (types.served served.now)) }
 {
     let query = call.query.as_slice();
     match call.target.method {
@@ -117,22 +69,9 @@ fn planned_by(
             plan_for(alloc, read)
         }
         Method::Post => plan_for(alloc, Err(not_served(alloc))),
-        Method::Put => {
-            let live = read_live(alloc, served, &key, object)?;
-            let updated = validate_put(alloc, served, current, &live, key, call);
-            plan_for(alloc, updated)
-        }
-        Method::Patch => {
-            let live = read_live(alloc, served, &key, object)?;
-            let applied = validate_patch(alloc, served, current, &live, key, call);
-            plan_for(alloc, applied)
-        }
-        Method::Delete => {
-            let live = read_live(alloc, served, &key, object)?;
-            let body = call.body.as_ref();
-            let deleted = validate_delete(alloc, served, current, &live, key, query, body);
-            plan_for(alloc, deleted)
-        }
+        Method::Put => planned_put(alloc, served, current, object, key, call, known),
+        Method::Patch => planned_patch(alloc, served, current, object, key, call, known),
+        Method::Delete => planned_deletion(alloc, served, current, object, key, call, known),
     }
 }
 
@@ -142,15 +81,19 @@ fn planned_object(
     store: &mut Store,
     key: Key,
     call: &Call,
+    known: &mut Option<Remembered>,
 ) -> Result<Plan, Fault>
-    requires { IsObjectShape (types.served served.now).shape }
+    requires shaped { IsObjectShape (types.served served.now).shape }
+    requires right { IfSome known.old (IsRight (types.served served.now)) }
     ensures planned { let c = call_of call.now in
         IfOk result (λ p. plan_of p ≡ plan_for (object_validated_by c.target.method (types.served served.now) store.old.current (fin.get (objects_in store.old) (key_of key)) (key_of key) c.query c.body)) }
     ensures readable { IsReadable (types.served served.now) (key_of key) (fin.get (objects_in store.old) (key_of key)) → result ≢ Err Fault.Unreadable }
+    ensures right { IfSome known.new (IsRight (types.served served.now)) }
     ensures same { store.new ≡ store.old }
 {
     let object = store.get(&key)?;
-    planned_by(alloc, served, store.current(), object, key, call)
+    let current = store.current();
+    planned_by(alloc, served, current, object, key, call, known)
 }
 
 /// What a creation's body says.
@@ -181,21 +124,22 @@ fn planned_creation(
     served: &Served,
     store: &mut Store,
     creation: Creation<'_>,
+    known: &mut Option<Remembered>,
 ) -> Result<Plan, Fault>
     requires shaped { IsObjectShape (types.served served.now).shape }
     requires content { IsContent (types.served served.now).shape creation.intent.content }
+    requires right { IfSome known.old (IsRight (types.served served.now)) }
     ensures planned { let c = creation_seen creation.entry in
         IfOk result (λ p. plan_of p ≡ plan_for (created_as (types.served served.now) store.old.current (fin.get (objects_in store.old) c.key) c.key c.intent)) }
     ensures readable { result ≢ Err Fault.Unreadable }
+    ensures right { IfSome known.new (IsRight (types.served served.now)) }
     ensures same { store.new ≡ store.old }
 {
     let Creation { key, intent } = creation;
     let standing = store.get(&key)?;
     let current = store.current();
-    plan_for(
-        alloc,
-        created_as(alloc, served, current, standing.as_ref(), key, intent),
-    )
+    let created = created_as(alloc, served, current, standing.as_ref(), key, intent);
+    plan_written(alloc, created, known)
 }
 
 /// A creation in a namespace.
@@ -205,15 +149,18 @@ fn planned_post(
     store: &mut Store,
     namespace: &str,
     call: &Call,
+    known: &mut Option<Remembered>,
 ) -> Result<Plan, Fault>
-    requires { IsObjectShape (types.served served.now).shape }
+    requires shaped { IsObjectShape (types.served served.now).shape }
+    requires right { IfSome known.old (IsRight (types.served served.now)) }
     ensures planned { let c = call_of call.now in
         IfOk result (λ p. plan_of p ≡ plan_for (and_then (body_of c.body) (create_validated (types.served served.now) store.old.current (objects_in store.old) c.target.kind namespace.now c.query))) }
     ensures readable { result ≢ Err Fault.Unreadable }
+    ensures right { IfSome known.new (IsRight (types.served served.now)) }
     ensures same { store.new ≡ store.old }
 {
     match validate_collection(alloc, served, namespace, call) {
-        Ok(creation) => planned_creation(alloc, served, store, creation),
+        Ok(creation) => planned_creation(alloc, served, store, creation, known),
         Err(call_error) => plan_for(alloc, Err(call_error)),
     }
 }
@@ -344,18 +291,21 @@ fn planned_collection(
     store: &mut Store,
     namespace: &str,
     call: &Call,
+    known: &mut Option<Remembered>,
 ) -> Result<Plan, Fault>
-    requires { IsObjectShape (types.served served.now).shape }
+    requires shaped { IsObjectShape (types.served served.now).shape }
+    requires right { IfSome known.old (IsRight (types.served served.now)) }
     ensures planned { let c = call_of call.now in
         IfOk result (λ p. plan_of p ≡ plan_for (collection_validated_by c.target.method (types.served served.now) store.old.current (objects_in store.old) (lists_in store.old) c.target.kind namespace.now c.query c.body)) }
     ensures readable { result ≢ Err Fault.Unreadable }
+    ensures right { IfSome known.new (IsRight (types.served served.now)) }
     ensures same { store.new ≡ store.old }
 {
     let kind = call.target.kind;
     let query = call.query.as_slice();
     match call.target.method {
         Method::Get => planned_list(alloc, served, store, kind, Some(namespace), query),
-        Method::Post => planned_post(alloc, served, store, namespace, call),
+        Method::Post => planned_post(alloc, served, store, namespace, call, known),
         Method::Put => plan_for(alloc, Err(not_served(alloc))),
         Method::Patch => plan_for(alloc, Err(not_served(alloc))),
         Method::Delete => plan_for(alloc, Err(not_served(alloc))),
@@ -403,40 +353,69 @@ fn planned_without(
     }
 }
 
-fn planned_in(alloc: Global, served: &Served, store: &mut Store, call: &Call) -> Result<Plan, Fault>
-    requires { IsObjectShape (types.served served.now).shape }
+fn planned_in(
+    alloc: Global,
+    served: &Served,
+    store: &mut Store,
+    call: &Call,
+    known: &mut Option<Remembered>,
+) -> Result<Plan, Fault>
+    requires shaped { IsObjectShape (types.served served.now).shape }
+    requires right { IfSome known.old (IsRight (types.served served.now)) }
     ensures planned { let c = call_of call.now in
         IfOk result (λ p. plan_of p ≡ plan_for (validated_in (types.served served.now) store.old.current (objects_in store.old) (lists_in store.old) c c.target.namespace c.target.name)) }
     ensures readable { (all : List ServedShape) → slice_get all call.now.target.kind ≡ Some (types.served served.now) → AreTexts all (objects_in store.old) → result ≢ Err Fault.Unreadable }
+    ensures right { IfSome known.new (IsRight (types.served served.now)) }
     ensures same { store.new ≡ store.old }
 {
     let Some(namespace) = &call.target.namespace else {
         return planned_without(alloc, served, store, call);
     };
     let Some(name) = &call.target.name else {
-        return planned_collection(alloc, served, store, namespace.as_str(), call);
+        return planned_collection(alloc, served, store, namespace.as_str(), call, known);
     };
     let key = Key {
         kind: call.target.kind,
         namespace: namespace.clone()?,
         name: name.clone()?,
     };
-    planned_object(alloc, served, store, key, call)
+    planned_object(alloc, served, store, key, call, known)
 }
 
-/// What a call comes to.
-pub(crate) fn planned(
+/// What a call comes to, where this is remembered of the object that it is of.
+fn planned_over(
     alloc: Global,
     all: &Types,
     store: &mut Store,
     call: &Call,
+    known: &mut Option<Remembered>,
 ) -> Result<Plan, Fault>
+    requires { IfSome known.old (IsRightAt (types_view all.now) call.now.target.kind) }
     ensures planned { IfOk result (λ p. plan_of p ≡ planned_over (types_view all.now) store.old.current (objects_in store.old) (lists_in store.old) (call_of call.now)) }
     ensures readable { AreTexts (types_view all.now) (objects_in store.old) → result ≢ Err Fault.Unreadable }
+    ensures right { IfSome known.new (IsRightAt (types_view all.now) call.now.target.kind) }
     ensures same { store.new ≡ store.old }
 {
     let Some(served) = all.get(call.target.kind) else {
         return plan_for(alloc, Err(no_path(alloc)));
     };
-    planned_in(alloc, served, store, call)
+    planned_in(alloc, served, store, call, known)
+}
+
+/// What a call comes to.
+pub(crate) fn planned(
+    alloc: Global,
+    catalog: &mut Catalog,
+    store: &mut Store,
+    call: &Call,
+) -> Result<Plan, Fault>
+    ensures planned { IfOk result (λ p. plan_of p ≡ planned_over catalog.old store.old.current (objects_in store.old) (lists_in store.old) (call_of call.now)) }
+    ensures readable { AreTexts catalog.old (objects_in store.old) → result ≢ Err Fault.Unreadable }
+    ensures types { catalog.new ≡ catalog.old }
+    ensures same { store.new ≡ store.old }
+{
+    let mut known = catalog.take(&call.target);
+    let plan = planned_over(alloc, catalog.types(), store, call, &mut known)?;
+    catalog.keep(&call.target, &plan, known);
+    Ok(plan)
 }

@@ -5,15 +5,19 @@ ghost use Rattle.serde_json.specs.Data.{Data};
 ghost use Rattle.serde_json.specs.Written.{compact_text};
 ghost use Rattle.history.specs.History.{last_revision};
 ghost use Rattle.schema.specs.Served as types;
+ghost use Rattle.schema.specs.TypesFile.{ServedShape};
 ghost use Rattle.typed.specs.Fitting.{IsContent};
 ghost use Rattle.schema.specs.ObjectShape.{IsObjectShape};
+ghost use Rattle.ownership.specs.Keeping.{IsPlacedState};
 ghost use Rattle.ownership.specs.Results.{state_of};
 ghost use Rattle.verbs.specs.Machine.{state_of_live};
 ghost use Rattle.history.specs.Read.{key_of};
 ghost use Rattle.verbs.specs.Seen.{Gives, object_of, plan_of};
 ghost use Rattle.verbs.specs.Naming.{metadata_object};
+ghost use Rattle.verbs.specs.Remembered.{IsSaidBy};
 ghost use Rattle.verbs.specs.Size.{count_if_there};
 ghost use Rattle.verbs.specs.Step.{as_it_stands, no_object_message, other_version_message, revisions_left, stored, stored_as, stored_over, text_at, version_checked};
+ghost use Rattle.verbs.specs.Written.{RemembersRight, written_plan};
 
 use crate::calls::{Answer, Plan};
 use crate::change::Change;
@@ -22,8 +26,10 @@ use crate::fault::CallError;
 use crate::identity::identity_of;
 use crate::live::Live;
 use crate::reason::Reason;
+use crate::remembered::remember;
 use crate::size::validate_size;
 use crate::texts::joined;
+use crate::written::Written;
 use history::Key;
 use ownership::{Outcome, Owned};
 use revtable::Object;
@@ -113,8 +119,10 @@ fn stored_as(
     status: u16,
 ) -> Result<Plan, CallError>
     requires numbered { current ≤ last_revision }
-    ensures { (object : Data) → string_bytes text ≡ compact_text object → labels ≡ count_if_there (metadata_object (codes "labels") object)
+    ensures plan { (object : Data) → string_bytes text ≡ compact_text object → labels ≡ count_if_there (metadata_object (codes "labels") object)
         → Gives plan_of result (stored_as object current (key_of key) status) }
+    ensures text { IfOk result (λ p. string_bytes p.answer.body ≡ string_bytes text) }
+    ensures left { OnOk result (current < last_revision) }
 {
     validate_size(alloc, labels, text.as_str())?;
     check_revisions(alloc, current)?;
@@ -134,7 +142,7 @@ fn stored_as(
 }
 
 /// The object with the next revision.
-pub fn stored(
+fn stored_plan(
     alloc: Global,
     served: &Served,
     current: u64,
@@ -144,12 +152,33 @@ pub fn stored(
 ) -> Result<Plan, CallError>
     requires numbered { current ≤ last_revision }
     requires shaped { IsObjectShape (types.served served.now).shape }
-    requires content { IsContent (types.served served.now).shape owned.now.tree }
-    ensures { Gives plan_of result (stored (types.served served.now) current (key_of key) status (state_of owned.now)) }
+    requires placed { IsPlacedState (types.served served.now).shape (state_of owned.now) }
+    ensures plan { Gives plan_of result (stored (types.served served.now) current (key_of key) status (state_of owned.now)) }
+    ensures says { IfOk result (λ p. IsSaidBy (types.served served.now) (string_bytes p.answer.body) (state_of owned.now)) }
 {
     let text = printed_text(alloc, served, &key, current + 1, owned)?;
     let labels = owned.label_count(alloc, &served.schema)?;
     stored_as(alloc, text, labels, current, key, status)
+}
+
+/// The same, and its state is remembered.
+pub fn stored(
+    alloc: Global,
+    served: &Served,
+    current: u64,
+    key: Key,
+    status: u16,
+    owned: Owned,
+) -> Result<Written, CallError>
+    requires numbered { current ≤ last_revision }
+    requires shaped { IsObjectShape (types.served served.now).shape }
+    requires placed { IsPlacedState (types.served served.now).shape (state_of owned) }
+    ensures plan { Gives written_plan result (stored (types.served served.now) current (key_of key) status (state_of owned)) }
+    ensures right { IfOk result (RemembersRight (types.served served.now)) }
+{
+    let plan = stored_plan(alloc, served, current, key, status, &owned)?;
+    let remembered = remember(&plan.answer.body, owned);
+    Ok(Written { plan, remembered })
 }
 
 /// The object as it stands.
@@ -167,6 +196,18 @@ pub fn as_it_stands(live: &Object) -> Result<Plan, AllocError>
     })
 }
 
+/// What stands is neither changed nor remembered anew.
+fn unchanged(live: &Object) -> Result<Written, AllocError>
+    ensures plan { IfOk result (λ w. written_plan w ≡ as_it_stands (object_of live.now)) }
+    ensures right { (t : ServedShape) → IfOk result (RemembersRight t) }
+{
+    let plan = as_it_stands(live)?;
+    Ok(Written {
+        plan,
+        remembered: None,
+    })
+}
+
 /// A creation, or a change of what stands, unless it changes nothing of the state before.
 pub fn stored_over(
     alloc: Global,
@@ -174,19 +215,20 @@ pub fn stored_over(
     current: u64,
     key: Key,
     live: &Live,
-    owned: &Owned,
-) -> Result<Plan, CallError>
+    owned: Owned,
+) -> Result<Written, CallError>
     requires numbered { current ≤ last_revision }
     requires shaped { IsObjectShape (types.served served.now).shape }
-    requires content { IsContent (types.served served.now).shape owned.now.tree }
+    requires placed { IsPlacedState (types.served served.now).shape (state_of owned) }
     requires said { state_of live.now.state ≡ state_of_live (types.served served.now) (option_map object_of live.now.object) }
-    ensures { Gives plan_of result (stored_over (types.served served.now) current (key_of key) (option_map object_of live.now.object) (state_of owned.now)) }
+    ensures plan { Gives written_plan result (stored_over (types.served served.now) current (key_of key) (option_map object_of live.now.object) (state_of owned)) }
+    ensures right { IfOk result (RemembersRight (types.served served.now)) }
 {
     match owned.written_over(alloc, live.before())? {
         Outcome::Created => stored(alloc, served, current, key, 201, owned),
         Outcome::Configured => stored(alloc, served, current, key, 200, owned),
         Outcome::Unchanged => match &live.object {
-            Some(object) => Ok(as_it_stands(object)?),
+            Some(object) => Ok(unchanged(object)?),
             None => unreachable!(),
         },
     }

@@ -3,6 +3,7 @@
 ghost use Rattle.std.specs.Prelude.{◌≡◌, ◌≤◌, IfOk, option_map};
 ghost use Rattle.serde_json.specs.View.{view};
 ghost use Rattle.schema.specs.Served as types;
+ghost use Rattle.schema.specs.Shape.{Shape};
 ghost use Rattle.typed.specs.Fitting.{IsContent};
 ghost use Rattle.history.specs.History.{last_revision};
 ghost use Rattle.schema.specs.ObjectShape.{IsObjectShape};
@@ -11,10 +12,10 @@ ghost use Rattle.ownership.specs.Results.{state_of};
 ghost use Rattle.verbs.specs.Machine.{state_of_live};
 ghost use Rattle.verbs.specs.Json.{IsJson};
 ghost use Rattle.history.specs.Read.{key_of};
-ghost use Rattle.verbs.specs.Seen.{Gives, creation_seen, intent_seen, object_of, plan_of};
+ghost use Rattle.verbs.specs.Seen.{Gives, creation_seen, intent_seen, object_of};
 ghost use Rattle.verbs.specs.Step.{created_as, creation_validated, update_validated, updated_by, updated_over};
+ghost use Rattle.verbs.specs.Written.{RemembersRight, written_plan};
 
-use crate::calls::Plan;
 use crate::envelope::{Expected, name_in};
 use crate::fault::CallError;
 use crate::intent::{Creation, Intent, at_path, intent_of};
@@ -23,6 +24,7 @@ use crate::method::Method;
 use crate::naming::{require_name, validate_marks, validate_names};
 use crate::presence::{not_there, there};
 use crate::storing::{check_version, stored, stored_over};
+use crate::written::Written;
 use history::Key;
 use ownership::{Owned, update};
 use params::Asked;
@@ -34,7 +36,7 @@ use std::alloc::{AllocError, Global};
 /// What stands after the write, over what stood: its manager owns what it changed.
 fn updated_by(alloc: Global, intent: Intent<'_>, live: &Owned) -> Result<Owned, AllocError>
     ensures state { IfOk result (λ o. state_of o ≡ updated_by (intent_seen intent.entry) (state_of live.now)) }
-    ensures content { IfOk result (λ o. o.tree ≡ intent.entry.content) }
+    ensures placed { (s : Shape) → IsContent s intent.entry.content → IsPlacedState s (state_of live.now) → IfOk result (λ o. IsPlacedState s (state_of o)) }
 {
     let Intent {
         content,
@@ -51,11 +53,12 @@ pub(crate) fn created_as(
     live: Option<&Object>,
     key: Key,
     intent: Intent<'_>,
-) -> Result<Plan, CallError>
+) -> Result<Written, CallError>
     requires numbered { current ≤ last_revision }
     requires shaped { IsObjectShape (types.served served.now).shape }
     requires content { IsContent (types.served served.now).shape intent.content }
-    ensures { Gives plan_of result (created_as (types.served served.now) current (option_map (λ o. object_of o.now) live.entry) (key_of key) (intent_seen intent.entry)) }
+    ensures plan { Gives written_plan result (created_as (types.served served.now) current (option_map (λ o. object_of o.now) live.entry) (key_of key) (intent_seen intent.entry)) }
+    ensures right { IfOk result (RemembersRight (types.served served.now)) }
 {
     validate_names(
         alloc,
@@ -65,7 +68,7 @@ pub(crate) fn created_as(
     )?;
     not_there(alloc, served, key.name.as_str(), live)?;
     let owned = updated_by(alloc, intent, &Owned::empty(alloc))?;
-    stored(alloc, served, current, key, 201, &owned)
+    stored(alloc, served, current, key, 201, owned)
 }
 
 /// The key of an object that its body names.
@@ -113,19 +116,20 @@ fn updated_over(
     key: Key,
     live: &Live,
     intent: Intent<'_>,
-) -> Result<Plan, CallError>
+) -> Result<Written, CallError>
     requires numbered { current ≤ last_revision }
     requires shaped { IsObjectShape (types.served served.now).shape }
     requires content { IsContent (types.served served.now).shape intent.content }
     requires said { state_of live.now.state ≡ state_of_live (types.served served.now) (option_map object_of live.now.object) }
     requires placed { IsPlacedState (types.served served.now).shape (state_of live.now.state) }
-    ensures { Gives plan_of result (updated_over (types.served served.now) current (key_of key) (option_map object_of live.now.object) (intent_seen intent.entry)) }
+    ensures plan { Gives written_plan result (updated_over (types.served served.now) current (key_of key) (option_map object_of live.now.object) (intent_seen intent.entry)) }
+    ensures right { IfOk result (RemembersRight (types.served served.now)) }
 {
     let object = live.object.as_ref();
     there(alloc, served, key.name.as_str(), object)?;
     check_version(alloc, intent.version, object)?;
     let owned = updated_by(alloc, intent, &live.state)?;
-    stored_over(alloc, served, current, key, live, &owned)
+    stored_over(alloc, served, current, key, live, owned)
 }
 
 /// An update of an object that is there.
@@ -137,13 +141,14 @@ pub(crate) fn validate_update(
     key: Key,
     query: &[u8],
     body: &Value,
-) -> Result<Plan, CallError>
+) -> Result<Written, CallError>
     requires numbered { current ≤ last_revision }
     requires shaped { IsObjectShape (types.served served.now).shape }
     requires json { IsJson (view body.now) }
     requires said { state_of live.now.state ≡ state_of_live (types.served served.now) (option_map object_of live.now.object) }
     requires placed { IsPlacedState (types.served served.now).shape (state_of live.now.state) }
-    ensures { Gives plan_of result (update_validated (types.served served.now) current (option_map object_of live.now.object) (key_of key) query.now (view body.now)) }
+    ensures plan { Gives written_plan result (update_validated (types.served served.now) current (option_map object_of live.now.object) (key_of key) query.now (view body.now)) }
+    ensures right { IfOk result (RemembersRight (types.served served.now)) }
 {
     let expected = at_path(served, &key, Method::Put);
     let intent = intent_of(alloc, expected, Asked::Put, query, body)?;

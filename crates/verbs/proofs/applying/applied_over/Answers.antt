@@ -1,5 +1,5 @@
 use Rattle.schema.specs.Served.{served}
 use Rattle.verbs.proofs.applying.applied_over.Goals as goal
 
-pub stored_over-requires-clause-content : goal.stored_over-requires-clause-content
-stored_over-requires-clause-content c = (c.in_ok-owned.ensures.placed (served c.args.served.now).shape c.requires.content c.requires.placed).0
+pub stored_over-requires-clause-placed : goal.stored_over-requires-clause-placed
+stored_over-requires-clause-placed c = c.in_ok-owned.ensures.placed (served c.args.served.now).shape c.requires.content c.requires.placed

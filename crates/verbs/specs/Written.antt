@@ -1,0 +1,14 @@
+-- The plan of a write, and what is remembered of it.
+use Rattle.std.specs.Prelude.{IfSome}
+use Rattle.schema.specs.TypesFile.{ServedShape}
+use Rattle.verbs.specs.Calls.{Plan}
+use Rattle.verbs.specs.Remembered.{IsRight}
+use Rattle.verbs.specs.Seen.{plan_of}
+use Rattle.verbs.specs.declared.written.Written.{Written}
+
+abbrev pub written_plan : Written → Plan
+written_plan w = plan_of w.plan
+
+-- what is remembered is what the text says
+abbrev pub RemembersRight : ServedShape → Written → Type 0
+RemembersRight t w = IfSome w.remembered (IsRight t)

@@ -1,0 +1,98 @@
+//! The types that are served, and of some of their objects the states that their texts say.
+
+use crate::calls::{Plan, Target};
+use crate::remembered::Remembered;
+use crate::slot::{Slot, empty_slots, put_in, slot_of, taken_from};
+use schema::Types;
+use std::alloc::{AllocError, Global};
+use std::marker::Model;
+
+/// The types. What a write read or stored last is remembered beside them, so that the next write of the object need not
+/// read it back; of that nothing is seen.
+#[derive(Drop)]
+pub struct Catalog {
+    types: Types,
+    slots: Vec<Slot>,
+}
+
+impl Model for Catalog {
+    ghost use Rattle.std.specs.Prelude.{List};
+    ghost use Rattle.schema.specs.Served.{types_view};
+    ghost use Rattle.schema.specs.TypesFile.{ServedShape};
+    ghost use Rattle.verbs.specs.Remembered.{AreRight};
+    ghost use Rattle.verbs.specs.TypeCodes.{coded_types};
+
+    ghost Value = { List ServedShape };
+
+    ghost coded = { coded_types };
+
+    ghost view = { λ c. types_view c.types };
+
+    ghost invariant = { λ c. AreRight (types_view c.types) c.slots.items };
+}
+
+/// The slot of the object that a call is of, or that it creates.
+fn slot_in(target: &Target, plan: &Plan) -> Option<usize> {
+    match &plan.change {
+        Some(change) => {
+            let key = &change.key;
+            Some(slot_of(key.kind, key.namespace.as_str(), key.name.as_str()))
+        }
+        None => slot_at(target),
+    }
+}
+
+/// The slot of the object that a call is of, if it names one.
+fn slot_at(target: &Target) -> Option<usize> {
+    let Some(namespace) = &target.namespace else {
+        return None;
+    };
+    let Some(name) = &target.name else {
+        return None;
+    };
+    Some(slot_of(target.kind, namespace.as_str(), name.as_str()))
+}
+
+impl Catalog {
+    ghost use Rattle.std.specs.Prelude.{◌≡◌, IfOk, IfSome};
+    ghost use Rattle.schema.specs.Served.{types_view};
+    ghost use Rattle.verbs.specs.Remembered.{IsRightAt};
+
+    /// These types, of whose objects nothing is remembered.
+    pub(crate) fn new(alloc: Global, types: Types) -> Result<Catalog, AllocError>
+        ensures { IfOk result (λ c. c ≡ types_view types) }
+    {
+        let slots = empty_slots(alloc)?;
+        Ok(Catalog { types, slots })
+    }
+
+    /// The types.
+    pub(crate) fn types(&self) -> &Types
+        ensures { types_view result.now ≡ self.now }
+    {
+        &self.types
+    }
+
+    /// What is remembered of the object that a call is of: it is handed out, and no longer kept here.
+    pub(crate) fn take(&mut self, target: &Target) -> Option<Remembered>
+        ensures right { IfSome result (IsRightAt self.old target.now.kind) }
+        ensures same { self.new ≡ self.old }
+    {
+        let at = slot_at(target)?;
+        taken_from(&mut self.slots, at, target.kind)
+    }
+
+    /// Keeps what is to be remembered after a call that came to this plan.
+    pub(crate) fn keep(&mut self, target: &Target, plan: &Plan, remembered: Option<Remembered>)
+        requires { IfSome remembered (IsRightAt self.old target.now.kind) }
+        ensures { self.new ≡ self.old }
+    {
+        let Some(at) = slot_in(target, plan) else {
+            return;
+        };
+        if remembered.is_some() {
+            let kind = target.kind;
+            put_in(&mut self.slots, at, Slot { kind, remembered });
+        }
+    }
+}

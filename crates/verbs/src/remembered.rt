@@ -1,0 +1,25 @@
+//! What is remembered of an object's text: the state that it says.
+
+ghost use Rattle.std.specs.Prelude.{◌≡◌, IfSome, string_bytes};
+ghost use Rattle.schema.specs.TypesFile.{ServedShape};
+ghost use Rattle.ownership.specs.Results.{state_of};
+ghost use Rattle.verbs.specs.Remembered.{IsRight, IsSaidBy};
+
+use ownership::Owned;
+
+/// An object's text, and the state that it says.
+#[derive(Drop)]
+pub struct Remembered {
+    pub text: String,
+    pub state: Owned,
+}
+
+/// The state under the text that says it; nothing where there is no memory for the text's copy.
+pub(crate) fn remember(text: &String, state: Owned) -> Option<Remembered>
+    ensures { (t : ServedShape) → IsSaidBy t (string_bytes text.now) (state_of state) → IfSome result (IsRight t) }
+{
+    match text.clone() {
+        Ok(text) => Some(Remembered { text, state }),
+        Err(_) => None,
+    }
+}

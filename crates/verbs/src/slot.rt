@@ -1,0 +1,72 @@
+//! The slots in which states are remembered: one object a slot, the last that was written or read of those that share it.
+
+ghost use Rattle.std.specs.Prelude.{◌≡◌, IfOk, IfSome, List};
+ghost use Rattle.schema.specs.TypesFile.{ServedShape};
+ghost use Rattle.verbs.specs.Remembered.{AreRight, IsRightAt, IsRightIn};
+
+use crate::remembered::Remembered;
+use std::alloc::{AllocError, Global};
+use std::mem;
+
+/// What is remembered of an object of the type with this number, if anything is.
+#[derive(Drop)]
+pub struct Slot {
+    pub kind: u32,
+    pub remembered: Option<Remembered>,
+}
+
+/// How many slots there are.
+const SLOTS: usize = 64;
+
+/// The sum of a text's bytes, each weighed by its place.
+fn sum_of(start: u32, text: &str) -> u32 {
+    let mut sum = start;
+    for byte in text.as_bytes() {
+        sum = sum.wrapping_mul(31).wrapping_add(*byte as u32);
+    }
+    sum
+}
+
+/// The number of the slot that an object has.
+pub(crate) fn slot_of(kind: u32, namespace: &str, name: &str) -> usize {
+    sum_of(sum_of(kind, namespace), name) as usize % SLOTS
+}
+
+/// All slots, with nothing in them.
+pub(crate) fn empty_slots(alloc: Global) -> Result<Vec<Slot>, AllocError>
+    ensures { (types : List ServedShape) → IfOk result (λ v. AreRight types v.items) }
+{
+    let mut slots = Vec::new(alloc);
+    for _ in 0..SLOTS {
+        slots.push(Slot {
+            kind: 0,
+            remembered: None,
+        })?;
+    }
+    Ok(slots)
+}
+
+/// What a slot holds of an object of the type: it holds that no longer.
+pub(crate) fn taken_from(slots: &mut [Slot], at: usize, kind: u32) -> Option<Remembered>
+    ensures right { (types : List ServedShape) → AreRight types slots.old → IfSome result (IsRightAt types kind) }
+    ensures rest { (types : List ServedShape) → AreRight types slots.old → AreRight types slots.new }
+{
+    if slots.len() <= at || slots[at].kind != kind {
+        return None;
+    }
+    let empty = Slot {
+        kind,
+        remembered: None,
+    };
+    let slot = mem::replace(&mut slots[at], empty);
+    slot.remembered
+}
+
+/// Puts this in place of what the slot holds.
+pub(crate) fn put_in(slots: &mut [Slot], at: usize, slot: Slot)
+    ensures { (types : List ServedShape) → AreRight types slots.old → IsRightIn types slot → AreRight types slots.new }
+{
+    if at < slots.len() {
+        slots[at] = slot;
+    }
+}

@@ -1,0 +1,11 @@
+//! A write's plan, and what is remembered of it.
+
+use crate::calls::Plan;
+use crate::remembered::Remembered;
+
+/// The plan of a write, and the state that its text says: none where it changes nothing.
+#[derive(Drop)]
+pub struct Written {
+    pub plan: Plan,
+    pub remembered: Option<Remembered>,
+}
