@@ -78,16 +78,17 @@ def conflicts(*causes):
     return refused("Apply failed with {} conflict(s)", len(causes), details={"causes": causes})
 
 
-def widget(name, version, owners, spec=None, labels=None, namespace="default"):
-    """An object as it is printed; owners are pairs of a manager and its fields."""
+def widget(name, version, owners, spec=None, labels=None, namespace="default", of=(API_VERSION, "Widget")):
+    """An object as it is printed; owners are pairs of a manager and its fields. What it is of is a widget, if nothing is said."""
+    api_version, kind = of
     metadata = {"name": name, "namespace": namespace, "resourceVersion": str(version)}
     if owners:
         metadata["managedFields"] = [
-            {"apiVersion": API_VERSION, "fieldsType": "FieldsV1", "fieldsV1": fields, "manager": manager, "operation": "Apply"}
+            {"apiVersion": api_version, "fieldsType": "FieldsV1", "fieldsV1": fields, "manager": manager, "operation": "Apply"}
             for manager, fields in owners]
     if labels is not None:
         metadata["labels"] = labels
-    printed = {"apiVersion": API_VERSION, "kind": "Widget", "metadata": metadata}
+    printed = {"apiVersion": api_version, "kind": kind, "metadata": metadata}
     if spec is not None:
         printed["spec"] = spec
     return compact(printed)
@@ -652,6 +653,43 @@ def request_byte_by_byte():
     written[row.get("/w1")] = reply(200, created)
 
 
+def slot_of(kind, namespace, name):
+    """The slot in which the server remembers the state of an object of the type with this number."""
+    total = kind
+    for byte in (namespace + name).encode():
+        total = (total * 31 + byte) % 2 ** 32
+    return total % 64
+
+
+def objects_in_one_slot():
+    """Writes in turn of objects that share the place where the server remembers the last state: two of one type, one of another."""
+    namespace, summary = "one-slot", ("summary.example/v1", "LabelSummary")
+    row = Namespace(namespace)
+    assert slot_of(0, namespace, "a1b") == slot_of(0, namespace, "b1a") == slot_of(1, namespace, "a0b")
+    path = f"/apis/summary.example/v1/namespaces/{namespace}/labelsummaries/a0b"
+
+    def summed(code, version, total):
+        shown = widget("a0b", version, [("alice", in_spec("label", "total"))], {"label": "tier", "total": total}, None, namespace, summary)
+        body = {"apiVersion": summary[0], "kind": summary[1], "spec": {"label": "tier", "total": total}}
+        apply("a0b", body, (code, shown), path=path)
+        return shown
+
+    row.patch("a1b", 201, 1)
+    row.patch("b1a", 201, 2)
+    summed(201, next_revision(), 2)
+    row.patch("a1b", 200, 3)
+    at = revision
+    summed(200, at - 1, 2)
+    apply("b1a", body_of(spec={"replicas": 4}), conflicts((".spec.replicas", "alice")), "bob", path=row.path + "/b1a")
+    apply("a1b", body_of(spec={"replicas": 3}), (200, row.object("a1b", at, 3)), path=row.path + "/a1b")
+    row.delete("a1b", lambda version: row.object("a1b", version, 3))
+    row.patch("a1b", 201, 5)
+    shown = summed(200, next_revision(), 6)
+    connection = opened()
+    comes(connection, request(HOST, target=path, method="GET"))
+    written[connection] = reply(200, shown)
+
+
 def hub_refusals():
     """Events that the hub refuses: nothing is written, and nothing changes."""
     connection = opened()
@@ -683,7 +721,7 @@ def main():
     for row in (six_lines, first_apply, hostile_heads, routes, body_limits_and_numbers, envelopes, parameters, manager_name_limits,
                 names, versions, all_conflicts_listed, lists, sizes, watches, objects_then_bookmark, compacted_under_a_watch,
                 deletion_behind_objects, time_is_over, watch_leaves_selector, bookmark_after_unseen_changes, version_still_to_come,
-                empty_lists, request_byte_by_byte, hub_refusals, connections):
+                empty_lists, request_byte_by_byte, objects_in_one_slot, hub_refusals, connections):
         row()
     left = set(FOUND) - met
     assert not left, left

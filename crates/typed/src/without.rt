@@ -1,4 +1,7 @@
-//! The content of a value without some members, read from the value itself: nothing of an object is copied first.
+//! The content of a value without some members, read from the value itself: nothing of an object is copied first. The two
+//! levels that can leave something out stand here, the object (`read_without`) and one of its members (`read_but`); what is
+//! below them is read as in `read`. Only a struct whose members merge one by one is read so: under another schema a copy
+//! without these members is read.
 
 ghost use Rattle.std.specs.Prelude.{◌≡◌, false, IfSome, map};
 ghost use Rattle.serde_json.specs.View.{members_view, view};
@@ -36,6 +39,7 @@ fn granular_fields(schema: &Schema) -> Option<&[(String, Schema)]>
     }
 }
 
+/// The members of a member, without those of these names.
 fn read_members_but(
     fields: &[(String, Schema)],
     alloc: Global,
@@ -56,6 +60,7 @@ fn read_members_but(
     Ok(below)
 }
 
+/// A member that is a struct, without its members of these names.
 fn read_struct_but(
     fields: &[(String, Schema)],
     alloc: Global,
@@ -83,6 +88,7 @@ fn read_but(
     }
 }
 
+/// The member of this name, without its members of these names; the first fault is that it is no field.
 fn read_field_but(
     fields: &[(String, Schema)],
     alloc: Global,
@@ -116,6 +122,7 @@ fn read_kept(
     read_field(fields, alloc, name, value)
 }
 
+/// The members that are not left out, each of what it keeps.
 fn read_members(
     fields: &[(String, Schema)],
     alloc: Global,
@@ -136,6 +143,7 @@ fn read_members(
     Ok(below)
 }
 
+/// An object that is a struct, without what is left out.
 fn read_struct(
     fields: &[(String, Schema)],
     alloc: Global,

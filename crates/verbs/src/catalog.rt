@@ -1,4 +1,5 @@
-//! The types that are served, and of some of their objects the states that their texts say.
+//! The types that are served, and of some of their objects the states that their texts say. What these states are good for
+//! is time alone: a write that finds none reads the object's text, and comes to the same.
 
 use crate::calls::{Plan, Target};
 use crate::remembered::Remembered;
@@ -7,8 +8,9 @@ use schema::Types;
 use std::alloc::{AllocError, Global};
 use std::marker::Model;
 
-/// The types. What a write read or stored last is remembered beside them, so that the next write of the object need not
-/// read it back; of that nothing is seen.
+/// The types. Beside them the state that a write read or stored last is remembered with its text, so that the next write of the
+/// object need not read it back. The model's value is the types alone, so no contract of the API tells what is remembered; that
+/// each state is the one which its text says is the invariant.
 #[derive(Drop)]
 pub struct Catalog {
     types: Types,
@@ -31,7 +33,7 @@ impl Model for Catalog {
     ghost invariant = { λ c. AreRight (types_view c.types) c.slots.items };
 }
 
-/// The slot of the object that a call is of, or that it creates.
+/// The slot of the object that a call changes, or else of the one that it names: a POST names none, and its change does.
 fn slot_in(target: &Target, plan: &Plan) -> Option<usize> {
     match &plan.change {
         Some(change) => {
@@ -73,7 +75,8 @@ impl Catalog {
         &self.types
     }
 
-    /// What is remembered of the object that a call is of: it is handed out, and no longer kept here.
+    /// What the slot of the object that a call names holds, if it is of the same type: it is handed out, and no longer kept
+    /// here. It may be of another object of the type; whoever takes it compares the text.
     pub(crate) fn take(&mut self, target: &Target) -> Option<Remembered>
         ensures right { IfSome result (IsRightAt self.old target.now.kind) }
         ensures same { self.new ≡ self.old }
@@ -82,7 +85,8 @@ impl Catalog {
         taken_from(&mut self.slots, at, target.kind)
     }
 
-    /// Keeps what is to be remembered after a call that came to this plan.
+    /// Keeps what is to be remembered after a call that came to this plan. Where that is nothing, the slot stays as `take` left
+    /// it.
     pub(crate) fn keep(&mut self, target: &Target, plan: &Plan, remembered: Option<Remembered>)
         requires { IfSome remembered (IsRightAt self.old target.now.kind) }
         ensures { self.new ≡ self.old }

@@ -1,5 +1,6 @@
-//! Writes of one object: from the state that is remembered of its text, or else from the text, and what is remembered
-//! afterwards.
+//! Writes of one object: PUT, PATCH and DELETE under its key. Each begins from the state that is remembered of the text that
+//! stands, or else from that text. Afterwards what was stored is remembered; what stands, where nothing was stored; and nothing
+//! of an object that is deleted. What a write does stands in `updating`, `applying` and `deleting`.
 
 ghost use Rattle.std.specs.Prelude.{◌≡◌, ◌≢◌, ◌≤◌, Err, IfOk, IfSome, None, option_map};
 ghost use Rattle.schema.specs.ObjectShape.{IsObjectShape};
@@ -31,6 +32,7 @@ use revtable::Object;
 use schema::Served;
 use std::alloc::Global;
 
+/// An update by the call's body, which is judged first.
 fn validate_put(
     alloc: Global,
     served: &Served,
@@ -51,6 +53,7 @@ fn validate_put(
     validate_update(alloc, served, current, live, key, &call.query, body)
 }
 
+/// An apply of the call's body, which is judged first.
 fn validate_patch(
     alloc: Global,
     served: &Served,
@@ -71,7 +74,8 @@ fn validate_patch(
     validate_apply(alloc, served, current, live, key, &call.query, body)
 }
 
-/// The plan of a write: what it stores is remembered in place of what was.
+/// The plan of a write, or of its refusal. What it stores is remembered in place of what was known; where it stores nothing,
+/// what was known stays.
 pub(crate) fn plan_written(
     alloc: Global,
     written: Result<Written, CallError>,
@@ -92,7 +96,7 @@ pub(crate) fn plan_written(
     }
 }
 
-/// The plan of a write over what stands, which is remembered unless the write stores another text.
+/// The same over what stands: that is what is known, so it is remembered unless the write stores another text.
 fn plan_over(
     alloc: Global,
     live: Live,

@@ -1,4 +1,6 @@
-//! The slots in which states are remembered: one object a slot, the last that was written or read of those that share it.
+//! The slots in which states are remembered: a table of a fixed size, in which many objects share a slot. A slot holds the
+//! state of one of them at most, the last that a write left there. What it holds is right for the texts of its type alone, so
+//! it is handed out for no other; which object it is of is not kept, since a state is used only under the very text that says it.
 
 ghost use Rattle.std.specs.Prelude.{◌≡◌, IfOk, IfSome, List};
 ghost use Rattle.schema.specs.TypesFile.{ServedShape};
@@ -8,17 +10,18 @@ use crate::remembered::Remembered;
 use std::alloc::{AllocError, Global};
 use std::mem;
 
-/// What is remembered of an object of the type with this number, if anything is.
+/// What is remembered of an object of the type with this number, if anything is. The number is the type's place in the types
+/// file; in an empty slot it says nothing.
 #[derive(Drop)]
 pub struct Slot {
     pub kind: u32,
     pub remembered: Option<Remembered>,
 }
 
-/// How many slots there are.
+/// How many slots there are: so many states stay in memory at most, each with a copy of its text.
 const SLOTS: usize = 64;
 
-/// The sum of a text's bytes, each weighed by its place.
+/// The sum of a text's bytes, each weighed by its place. It only spreads objects over slots: any number would be right.
 fn sum_of(start: u32, text: &str) -> u32 {
     let mut sum = start;
     for byte in text.as_bytes() {
@@ -46,7 +49,7 @@ pub(crate) fn empty_slots(alloc: Global) -> Result<Vec<Slot>, AllocError>
     Ok(slots)
 }
 
-/// What a slot holds of an object of the type: it holds that no longer.
+/// What a slot holds of an object of the type, which it holds no longer. A slot with an object of another type keeps that.
 pub(crate) fn taken_from(slots: &mut [Slot], at: usize, kind: u32) -> Option<Remembered>
     ensures right { (types : List ServedShape) → AreRight types slots.old → IfSome result (IsRightAt types kind) }
     ensures rest { (types : List ServedShape) → AreRight types slots.old → AreRight types slots.new }
@@ -62,7 +65,7 @@ pub(crate) fn taken_from(slots: &mut [Slot], at: usize, kind: u32) -> Option<Rem
     slot.remembered
 }
 
-/// Puts this in place of what the slot holds.
+/// Puts this in place of what the slot holds, of whichever object that is; a slot that isn't there changes nothing.
 pub(crate) fn put_in(slots: &mut [Slot], at: usize, slot: Slot)
     ensures { (types : List ServedShape) → AreRight types slots.old → IsRightIn types slot → AreRight types slots.new }
 {
