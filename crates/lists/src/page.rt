@@ -1,4 +1,5 @@
-//! The page that is asked for.
+//! The page that is asked for: rows of the store are read in batches, each twice as large as the one before up to
+//! 501, until the page is full of selected objects or no row is left.
 
 ghost use Rattle.std.specs.Prelude.{◌≡◌, ◌<◌, ◌≤◌, ◌++◌, IfOk, Some, map, option_map};
 ghost use Rattle.history.specs.Page.{listed};

@@ -1,4 +1,4 @@
-//! What a server is asked for.
+//! What a server of many connections is asked for: port, what is kept, how many lines at a time, patience.
 
 /// How connections are served.
 #[derive(Clone, Copy, Debug)]

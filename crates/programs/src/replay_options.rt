@@ -20,7 +20,7 @@ const TYPES_HELP: &str = "The types to serve, one JSON object {\"types\":[..]}";
 
 const SCRIPT_HELP: &str = "The events to play, one JSON object a line, like {\"open\":1}";
 
-/// What the words of `ssa-replay` name.
+/// What the arguments of `ssa-replay` name.
 #[derive(Clone, Copy, Debug)]
 pub struct ReplayOptions<'a> {
     /// The path of the types file.
@@ -39,7 +39,7 @@ fn replay_command<'a>(alloc: Global) -> Result<Command<'a>, AllocError>
         .arg(script)
 }
 
-/// Reads the words of `ssa-replay`, the program's name first: `--types FILE --script FILE`.
+/// Reads the arguments of `ssa-replay`, the program's name first: `--types FILE --script FILE`.
 pub fn options<'a, S: AsStr>(alloc: Global, words: &'a [S]) -> Result<ReplayOptions<'a>, Error>
     ensures types { IfOk result (λ o. first_of (codes "types") (matches_of ssa_replay (map S.text words.entry.now)) ≡ Some o.types.now) }
     ensures script { IfOk result (λ o. first_of (codes "script") (matches_of ssa_replay (map S.text words.entry.now)) ≡ Some o.script.now) }

@@ -1,4 +1,4 @@
-//! The words of `ssa-server`.
+//! The arguments of `ssa-server`.
 
 ghost use Rattle.std.specs.Prelude.{◌≡◌, [], IfOk, Some, codes, map};
 ghost use Rattle.clap.specs.Built.{FitsChain, IsAuto};
@@ -36,7 +36,7 @@ const CONCURRENT_HELP: &str = "Serve many connections at once, not one after ano
 const PATIENCE_HELP: &str =
     "With --concurrent: how many milliseconds to wait for a peer that sends or takes nothing, 30000 where it isn't given";
 
-/// What the words of `ssa-server` name.
+/// What the arguments of `ssa-server` name.
 #[derive(Clone, Copy, Debug)]
 pub struct ServerOptions<'a> {
     /// The path of the types file.
@@ -126,7 +126,7 @@ fn count_of(number: u64) -> u64
     if number == 0 { u64::MAX } else { number }
 }
 
-/// Reads the words of `ssa-server`, the program's name first.
+/// Reads the arguments of `ssa-server`, the program's name first.
 pub fn options<'a, S: AsStr>(
     alloc: Global,
     words: &'a [S],

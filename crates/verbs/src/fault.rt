@@ -1,4 +1,5 @@
-//! Why a step has no object to answer.
+//! The errors of calls: of a check, which refuses the call or is out of memory, and of a whole call, which is no refusal:
+//! memory, the store, or a stored text that is no object's.
 
 ghost use Rattle.verbs.specs.Seen.{RefusesFor};
 

@@ -1,4 +1,4 @@
-//! Texts put together.
+//! Two texts put together, for messages.
 
 ghost use Rattle.std.specs.Prelude.{◌≡◌, ◌++◌, IfOk, string_bytes};
 

@@ -1,4 +1,4 @@
-//! Numbers that have no one text.
+//! Whether a value has a float: such a number has no one text, and no text of an object has it.
 
 ghost use Rattle.std.specs.Prelude.{◌≡◌};
 ghost use Rattle.serde_json.specs.View.{items_view, members_view, view};
