@@ -16,7 +16,6 @@ use std::marker::Model;
 const LAST_REVISION: u64 = i64::MAX as u64;
 
 /// The objects of all types, by key, and their changes.
-#[derive(Drop)]
 pub struct Store {
     table: Table,
 }
@@ -33,6 +32,13 @@ impl Model for Store {
     ghost view = { λ s. view_of s.table };
 
     ghost invariant = { λ s. IsPruned s.table };
+}
+
+// It is written out, so that what holds a store does not prove again how each part is dropped.
+impl Drop for Store {
+    fn drop(self) {
+        let Store { table: _ } = self;
+    }
 }
 
 impl Store {

@@ -1,11 +1,11 @@
-//! The changes, kept in the rows of a database over two files in memory.
+//! The changes, kept in the rows of a database. Its store is any that is never in doubt (`clean`): the proofs say what they
+//! need of it, and the prover is done sooner than where it has a name. `memory` has the one that a table stands on.
 
 ghost use Rattle.std.specs.Prelude.{◌≡◌, [], ◌∷◌, ◌++◌, ℕ, ◌^◌, ◌<◌, ◌≤◌, IfOk, OnOk, OnErr, option_map, false};
 ghost use Rattle.history.specs.History.{IsRising};
 ghost use Rattle.history.specs.Kept.{kept};
 ghost use Rattle.history.specs.Read.{key_of};
-ghost use Rattle.revtable.specs.Rows.{change_schema, changes_in, AreBelow, IsAlwaysClean, IsAnswer, Keeps};
-ghost use Rattle.sqlite.specs.Files.{file_state};
+ghost use Rattle.revtable.specs.Rows.{change_schema, AreBelow, IsAlwaysClean, IsAnswer};
 ghost use Rattle.sqlite.specs.Given.{IsPlain};
 ghost use Rattle.sqlite.specs.Held.{state};
 ghost use Rattle.sqlite.specs.Listing.{reads_listing, understood};
@@ -14,86 +14,57 @@ ghost use Rattle.sqlite.specs.Values.{bound};
 
 use crate::compaction;
 use crate::fault::Fault;
-use crate::file::MemoryFile;
 use history::Key;
 use sqlite::types::ValueRef;
-use sqlite::{Alter, Connection, Error, FileStore, Files, Options, Row, params};
-use std::alloc::Global;
+use sqlite::{Alter, Connection, Error, Row, params};
 use std::marker::Model;
 use std::snapshot::Snapshot;
 
-/// How many changed pages a transaction keeps in memory before they go to the log. A compaction changes the pages of the
-/// index again and again; where they stay in memory, the log doesn't grow by each such change.
-const SPILL_PAGES: usize = 6_000;
-
 /// The rows of a database, seen as the changes that they keep. A store that fails may shut the database for good.
 /// From then on each call answers an error, and the rows are still seen as they were.
-#[derive(Drop)]
-pub(crate) struct Log {
-    base: Connection<FileStore<MemoryFile>>,
-    kept: Snapshot<Connection<FileStore<MemoryFile>>>,
+pub(crate) struct Log<S: Alter> {
+    base: Connection<S>,
+    kept: Snapshot<Connection<S>>,
 }
 
-impl Model for Log {
+impl<S: Alter> Model for Log<S> {
     ghost use Rattle.std.specs.Prelude.{List};
     ghost use Rattle.history.specs.History.{Change};
-    ghost use Rattle.sqlite.specs.Files.{file_state};
-    ghost use Rattle.revtable.specs.Rows.{changes_in, Keeps};
+    ghost use Rattle.sqlite.specs.Held.{state};
+    ghost use Rattle.revtable.specs.Rows.{changes_in, IsAlwaysClean, Keeps};
 
     ghost Value = { List Change };
 
-    ghost view = { λ l. changes_in (file_state l.kept.value) };
+    ghost view = { λ l. changes_in (state S.Store l.kept.value) };
 
-    ghost invariant = { λ l. Keeps (changes_in (file_state l.kept.value)) (file_state l.base) };
+    ghost invariant = { λ l. IsAlwaysClean S.Store × Keeps (changes_in (state S.Store l.kept.value)) (state S.Store l.base) };
 }
 
-/// An empty database over two empty files.
-fn empty(alloc: Global) -> Result<Connection<FileStore<MemoryFile>>, Error>
-    ensures { IfOk result (λ base. IsEmpty (file_state base)) }
-{
-    let files = Files {
-        log: MemoryFile::new(alloc),
-        db: MemoryFile::new(alloc),
-    };
-    let mut options = Options::new(1);
-    options.spill_pages = SPILL_PAGES;
-    match Connection::open_files(alloc, files, options) {
-        Ok(base) => Ok(base),
-        Err((error, _)) => Err(error),
+// It is written out, so that what holds a log does not prove again how each part is dropped.
+impl<S: Alter + Drop> Drop for Log<S> {
+    fn drop(self) {
+        let Log { base: _, kept: _ } = self;
     }
 }
 
-/// The database as it is now.
-fn as_it_is(base: &Connection<FileStore<MemoryFile>>) -> Snapshot<Connection<FileStore<MemoryFile>>>
-    ensures { result.value ≡ base.now }
-{
-    Snapshot::of(base)
-}
-
-/// The empty database with its table, and with an index by key and revision.
-fn with_table<S: Alter + Drop>(mut base: Connection<S>) -> Result<Connection<S>, Error>
-    requires clean { IsAlwaysClean S.Store }
-    requires empty { IsEmpty (state S.Store base) }
-    ensures keeps { IfOk result (λ made. Keeps (changes_in (state S.Store made)) (state S.Store made)) }
-    ensures none { IfOk result (λ made. changes_in (state S.Store made) ≡ []) }
-{
-    base.execute(
-        "CREATE TABLE change (revision INTEGER PRIMARY KEY, kind INTEGER NOT NULL, namespace TEXT NOT NULL, name TEXT NOT NULL, body TEXT, UNIQUE (kind, namespace, name, revision)) STRICT",
-        &[],
-    )?;
-    Ok(base)
-}
-
-impl Log {
-    /// A table without a row.
-    pub(crate) fn open(alloc: Global) -> Result<Log, Error>
+impl<S: Alter + Drop> Log<S> {
+    /// The rows of an empty database: none, once it has its table, with an index by key and revision.
+    pub(crate) fn new(mut base: Connection<S>) -> Result<Log<S>, Error>
+        requires clean { IsAlwaysClean S.Store }
+        requires empty { IsEmpty (state S.Store base) }
         ensures { IfOk result (λ log. log ≡ []) }
     {
-        let base = with_table(empty(alloc)?)?;
-        let kept = as_it_is(&base);
+        base.execute(
+            "CREATE TABLE change (revision INTEGER PRIMARY KEY, kind INTEGER NOT NULL, namespace TEXT NOT NULL, name TEXT NOT NULL, body TEXT, UNIQUE (kind, namespace, name, revision)) STRICT",
+            &[],
+        )?;
+        let kept = Snapshot::of(&base);
         Ok(Log { base, kept })
     }
+}
 
+// These ask no `Drop` of the store, which each caller that names one would have to prove.
+impl<S: Alter> Log<S> {
     /// Adds a change whose revision is above all others.
     pub(crate) fn insert(
         &mut self,
@@ -110,7 +81,7 @@ impl Log {
             "INSERT INTO change (revision, kind, namespace, name, body) VALUES (?1, ?2, ?3, ?4, ?5)",
             params![revision as i64, key.kind, &key.namespace, &key.name, body],
         )?;
-        self.kept = as_it_is(&self.base);
+        self.kept = Snapshot::of(&self.base);
         Ok(())
     }
 
@@ -124,7 +95,7 @@ impl Log {
         ensures err { OnErr result (self.new ≡ self.old) }
     {
         compaction::delete_between(&mut self.base, from, to)?;
-        self.kept = as_it_is(&self.base);
+        self.kept = Snapshot::of(&self.base);
         Ok(())
     }
 

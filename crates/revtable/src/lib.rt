@@ -10,6 +10,7 @@ mod change_log;
 mod compaction;
 mod fault;
 mod file;
+mod memory;
 mod paging;
 mod reading;
 mod row;

@@ -11,8 +11,8 @@ ghost use Rattle.sqlite.specs.Given.{IsPlain};
 ghost use Rattle.sqlite.specs.Listing.{reads_listing, understood};
 ghost use Rattle.sqlite.specs.Values.{bound};
 
-use crate::change_log::Log;
 use crate::fault::Fault;
+use crate::memory::{self, MemoryLog};
 use crate::paging;
 use crate::reading::{read_changes, read_entries, read_left};
 use crate::row::{Change, Entry, Marks, Object};
@@ -26,10 +26,9 @@ use std::marker::Model;
 const LAST_REVISION: u64 = i64::MAX as u64;
 
 /// A table of changes in memory. A contract sees it as a history of which only the kept changes are left.
-#[derive(Drop)]
 pub struct Table {
     alloc: Global,
-    log: Log,
+    log: MemoryLog,
     current: u64,
     compacted: u64,
 }
@@ -43,6 +42,18 @@ impl Model for Table {
     ghost view = { λ t. record { changes = t.log; current = t.current; compacted = t.compacted } };
 
     ghost invariant = { λ t. IsPruned (record { changes = t.log; current = t.current; compacted = t.compacted }) };
+}
+
+// It is written out, so that what holds a table does not prove again how each part is dropped.
+impl Drop for Table {
+    fn drop(self) {
+        let Table {
+            alloc: _,
+            log: _,
+            current: _,
+            compacted: _,
+        } = self;
+    }
 }
 
 impl Table {
@@ -61,7 +72,7 @@ impl Table {
     {
         Ok(Table {
             alloc,
-            log: Log::open(alloc)?,
+            log: memory::open(alloc)?,
             current: revision,
             compacted: revision,
         })

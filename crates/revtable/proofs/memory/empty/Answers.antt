@@ -1,6 +1,6 @@
 use Rattle.std.proofs.Common.{refl}
 use Rattle.revtable.proofs.Files.{always_clean, opens_empty}
-use Rattle.revtable.proofs.change_log.empty.Goals as goal
+use Rattle.revtable.proofs.memory.empty.Goals as goal
 
 pub returns-in-Ok : goal.returns-in-Ok
 returns-in-Ok c =

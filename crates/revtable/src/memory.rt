@@ -1,0 +1,40 @@
+//! The log over two files in memory. Here alone its store has a name.
+
+ghost use Rattle.std.specs.Prelude.{◌≡◌, [], IfOk};
+ghost use Rattle.sqlite.specs.Files.{file_state};
+ghost use Rattle.sqlite.specs.Steps.{IsEmpty};
+
+use crate::change_log::Log;
+use crate::file::MemoryFile;
+use sqlite::{Connection, Error, FileStore, Files, Options};
+use std::alloc::Global;
+
+/// How many changed pages a transaction keeps in memory before they go to the log. A compaction changes the pages of the
+/// index again and again; where they stay in memory, the log doesn't grow by each such change.
+const SPILL_PAGES: usize = 6_000;
+
+/// A log over two files in memory.
+pub(crate) type MemoryLog = Log<FileStore<MemoryFile>>;
+
+/// An empty database over two empty files.
+fn empty(alloc: Global) -> Result<Connection<FileStore<MemoryFile>>, Error>
+    ensures { IfOk result (λ base. IsEmpty (file_state base)) }
+{
+    let files = Files {
+        log: MemoryFile::new(alloc),
+        db: MemoryFile::new(alloc),
+    };
+    let mut options = Options::new(1);
+    options.spill_pages = SPILL_PAGES;
+    match Connection::open_files(alloc, files, options) {
+        Ok(base) => Ok(base),
+        Err((error, _)) => Err(error),
+    }
+}
+
+/// A log without a row.
+pub(crate) fn open(alloc: Global) -> Result<MemoryLog, Error>
+    ensures { IfOk result (λ log. log ≡ []) }
+{
+    Log::new(empty(alloc)?)
+}
