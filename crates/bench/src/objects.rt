@@ -48,14 +48,14 @@ fn content(alloc: Global, schema: &Schema, text: &str) -> Option<Tree> {
 }
 
 /// The object that has this content, owned by one manager.
-fn owned(alloc: Global, content: &Tree) -> Option<Owned> {
+fn owned(alloc: Global, content: Tree) -> Option<Owned> {
     let none = Owned::empty(alloc);
     apply(alloc, &none, "alice", content, false).ok()
 }
 
 fn object_text(alloc: Global, schema: &Schema, fields: &str) -> Option<String> {
     let content = content(alloc, schema, fields)?;
-    let owned = owned(alloc, &content)?;
+    let owned = owned(alloc, content)?;
     owned.to_object(alloc, schema, IDENTITY, 1).ok()
 }
 

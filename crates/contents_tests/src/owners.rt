@@ -66,7 +66,7 @@ fn try_apply(
     alloc: Global,
     live: &Owned,
     manager: &str,
-    config: &Tree,
+    config: Tree,
     force: bool,
 ) -> Result<Owned, ApplyFault> {
     apply(alloc, live, manager, config, force)
@@ -89,7 +89,7 @@ fn answer_to(
         return Ok(try_update(alloc, live, name, content));
     }
     let manager = name.strip_suffix("!").unwrap_or(name);
-    Ok(try_apply(alloc, live, manager, &content, manager != name))
+    Ok(try_apply(alloc, live, manager, content, manager != name))
 }
 
 /// Whether what was answered is as what stood.
@@ -255,19 +255,11 @@ fn mark(alloc: Global) -> Result<(), AllocError> {
     Ok(())
 }
 
-/// What stands with its owners, and a content beside it.
-fn seen(alloc: Global, schema: &Schema, live: &Owned, config: &Tree) -> Result<String, Fail> {
-    let mut text = shown(alloc, schema, live)?;
-    let wanted = printed(alloc, schema, config)?;
-    text.push_str(wanted.as_str())?;
-    Ok(text)
-}
-
 /// Alice's apply between marks.
 fn marked_apply(
     alloc: Global,
     live: &Owned,
-    config: &Tree,
+    config: Tree,
     force: bool,
 ) -> Result<Result<Owned, ApplyFault>, AllocError> {
     mark(alloc)?;
@@ -280,25 +272,25 @@ fn marked_apply(
 fn answer_or_again(
     alloc: Global,
     live: &Owned,
-    config: &Tree,
+    config: Tree,
     force: bool,
 ) -> Result<Result<Owned, ApplyFault>, AllocError> {
-    match marked_apply(alloc, live, config, force)? {
+    match marked_apply(alloc, live, config.try_copy(alloc)?, force)? {
         Err(ApplyFault::Memory) => Ok(try_apply(alloc, live, "alice", config, force)),
         answer => Ok(answer),
     }
 }
 
-/// What alice's apply answers, by force with `!` before its spec; refused memory, it leaves what it was given as it was,
-/// and answers anew. Nothing of it becomes what stands.
+/// What alice's apply answers, by force with `!` before its spec; refused memory, it leaves what stands as it was, and
+/// answers anew. Nothing of it becomes what stands.
 fn answer_anew(alloc: Global, schema: &Schema, live: &Owned, line: &str) -> Result<String, Fail> {
     let spec = line.strip_prefix("! ").unwrap_or(line);
     let config = body(alloc, schema, spec)?;
-    let before = seen(alloc, schema, live, &config)?;
-    let answer = answer_or_again(alloc, live, &config, spec != line)?;
-    let after = seen(alloc, schema, live, &config)?;
+    let before = shown(alloc, schema, live)?;
+    let answer = answer_or_again(alloc, live, config, spec != line)?;
+    let after = shown(alloc, schema, live)?;
     if before.as_str() != after.as_str() {
-        return Err("what was given was changed".into());
+        return Err("what stood was changed".into());
     }
     told(alloc, schema, &answer)
 }

@@ -75,6 +75,17 @@ fn printed_merged(alloc: Global, schema: &Schema, one: &str, other: &str) -> Res
     printed(alloc, schema, &merged)
 }
 
+fn printed_laid_over(
+    alloc: Global,
+    schema: &Schema,
+    one: &str,
+    other: &str,
+) -> Result<String, Fail> {
+    let other = tree(alloc, schema, other)?;
+    let laid = tree(alloc, schema, one)?.laid_over(alloc, &other)?;
+    printed(alloc, schema, &laid)
+}
+
 /// Puts the paths as conflicts show them, each behind a blank, and a bar.
 fn push_part(alloc: Global, text: &mut String, set: &FieldSet) -> Result<(), AllocError> {
     push_paths(alloc, text, set)?;
@@ -149,6 +160,7 @@ fn of_two(alloc: Global, schema: &Schema, call: &str, texts: &str) -> Result<Str
     let (one, other) = texts.split_once(" and ").ok_or("no other text")?;
     match call {
         "merge" => printed_merged(alloc, schema, one, other),
+        "lay" => printed_laid_over(alloc, schema, one, other),
         "compare" => differences(alloc, schema, one, other),
         "less" => left(alloc, schema, one, other),
         _ => Err("no such call".into()),
@@ -223,6 +235,7 @@ fn key_fields_put_back(rt: HostRuntime) -> Result<(), Fail> {
 
 const MERGED: &str =
     r#"merge {"spec":{"image":"a","replicas":1}} and {"spec":{"image":"b","config":null,"tags":[]}} => {"spec":{"image":"b","replicas":1}}
+lay {"spec":{"image":"a"}} and {"spec":{"image":"b","replicas":1}} => {"spec":{"image":"a","replicas":1}}
 "#;
 
 #[test]

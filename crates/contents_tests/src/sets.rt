@@ -4,7 +4,7 @@ use crate::given::{WIDGET_TYPES, first_schema, path, push_paths, types_of};
 use crate::rows::{Answers, expect_answers, expect_true};
 use fieldpath::Path;
 use fieldset::FieldSet;
-use pathmap::{Held, PathMap, put_over};
+use pathmap::{Held, PathMap, put_over, put_under};
 use std::alloc::{AllocError, Global};
 use std::collections::BTreeMap;
 use std::test::Fail;
@@ -164,6 +164,9 @@ fn joined(
 ) -> Result<PathMap, AllocError> {
     match name {
         "over" => put_over(other, alloc, one.try_copy(alloc)?),
+        "under" => put_under(other, alloc, one.try_copy(alloc)?),
+        "changed over" => put_over(other, alloc, one.try_copy(alloc)?)?.changed(alloc, other),
+        "changed under" => put_under(other, alloc, one.try_copy(alloc)?)?.changed(alloc, other),
         "without" => Ok(one.try_copy(alloc)?.without(other)),
         "changed" => one.try_copy(alloc)?.changed(alloc, other),
         _ => one.try_copy(alloc),
@@ -213,6 +216,9 @@ impl Answers for Maps {
 }
 
 const MAPS: &str = "over => paths .a .b .c .c.d
+under => paths .a .b .c .c.d
+changed over => paths .c.d
+changed under => paths .a .c.d
 without => paths
 changed => paths .a .c.d
 copy => paths .a .b .c.d

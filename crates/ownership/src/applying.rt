@@ -42,14 +42,14 @@ fn applied(
     alloc: Global,
     live: &Owned,
     manager: Manager,
-    config: &Tree,
+    config: Tree,
     changed: &FieldSet,
 ) -> Result<Owned, AllocError>
-    ensures { changed.now ≡ changed_paths config.now live.now.tree → IfOk result (λ o. state_of o ≡ applied (state_of live.now) config.now (manager_view manager)) }
+    ensures { changed.now ≡ changed_paths config live.now.tree → IfOk result (λ o. state_of o ≡ applied (state_of live.now) config (manager_view manager)) }
 {
     let owned = config.paths(alloc)?;
     let dropped = dropped(alloc, live, &manager, &owned)?;
-    let tree = live.tree.merge(alloc, config)?.without(&dropped);
+    let tree = config.laid_over(alloc, &live.tree)?.without(&dropped);
     let managers = live.managers.taken_over(alloc, manager, changed, owned)?;
     Ok(Owned { tree, managers })
 }
@@ -66,17 +66,17 @@ pub fn apply(
     alloc: Global,
     live: &Owned,
     manager: &str,
-    config: &Tree,
+    config: Tree,
     force: bool,
 ) -> Result<Owned, ApplyFault>
-    ensures applies { Applies (state_of live.now) config.now (manager_of manager.now apply_operation) force result }
+    ensures applies { Applies (state_of live.now) config (manager_of manager.now apply_operation) force result }
     ensures others { force ≡ false → IfOk result (λ o. OthersKeep (state_of live.now) (state_of o) (manager_of manager.now apply_operation)) }
-    ensures places { (s : Shape) → HasPlaces s live.now.tree → HasPlaces s config.now → IfOk result (λ o. HasPlaces s o.tree) }
+    ensures places { (s : Shape) → HasPlaces s live.now.tree → HasPlaces s config → IfOk result (λ o. HasPlaces s o.tree) }
     ensures stand { OwnedStand (state_of live.now) → IfOk result (λ o. OwnedStand (state_of o)) }
-    ensures leaves { (s : Shape) → HasPlaces s live.now.tree → HasPlaces s config.now → OwnedStand (state_of live.now) → LeavesOwned s (state_of live.now) → IfOk result (λ o. LeavesOwned s (state_of o)) }
-    ensures placed { (s : Shape) → IsContent s config.now → IsPlacedState s (state_of live.now) → IfOk result (λ o. IsPlacedState s (state_of o)) }
+    ensures leaves { (s : Shape) → HasPlaces s live.now.tree → HasPlaces s config → OwnedStand (state_of live.now) → LeavesOwned s (state_of live.now) → IfOk result (λ o. LeavesOwned s (state_of o)) }
+    ensures placed { (s : Shape) → IsContent s config → IsPlacedState s (state_of live.now) → IfOk result (λ o. IsPlacedState s (state_of o)) }
     ensures by_none { WroteByNone live.now.managers → IfOk result (λ o. WroteByNone o.managers) }
-    ensures again { IfOk result (λ o. IsSettled (state_of o) config.now (manager_of manager.now apply_operation)) }
+    ensures again { IfOk result (λ o. IsSettled (state_of o) config (manager_of manager.now apply_operation)) }
 {
     let manager = Manager::new(alloc, manager, Operation::Apply)?;
     let changed = config.changed_from(alloc, &live.tree)?;

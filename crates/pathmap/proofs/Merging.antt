@@ -7,11 +7,11 @@ use Rattle.std.specs.BTreeMap.{is_at}
 use Rattle.std.proofs.lemmas.Map.Keys.{sorted_head}
 use Rattle.std.proofs.Common.{◌≡◌, ℕ, Bool, true, false, cond, is_eq, nat_cmp, string_cmp, ap₂, List, [], ◌∷◌, Option, Some, None, String, Global, string_bytes, sym, ap, ◌∙◌, refl, rules}
 use Rattle.fieldpath.specs.Paths.{PathTexts}
-use Rattle.pathmap.specs.Contents.{Standing, nothing, here, over, gather}
+use Rattle.pathmap.specs.Contents.{Content, Standing, nothing, here, over, gather}
 use Rattle.pathmap.specs.Maps.{content, contents_in, at_top, standing, at_name, either_top, content_or_nothing, content_at}
 use Rattle.pathmap.specs.declared.held.Held.{Held}
 use Rattle.pathmap.specs.declared.pathmap.PathMap.{PathMap, out-PathMap, the_lemmas}
-use Rattle.pathmap.proofs.Contents.{path_cmp_total, same, either, either-None, get-nothing, get-here-below, get-over, nothing-over}
+use Rattle.pathmap.proofs.Contents.{path_cmp_total, same, either, either-None, get-nothing, get-here-below, get-over}
 use Rattle.pathmap.proofs.Trees.{get_in, past, ties, get-gather, get-gather-top, same_gather}
 
 pub get_in-content : (m : Option PathMap) (rest : PathTexts) → get_in m rest ≡ fin.get (content_or_nothing m) rest
@@ -38,21 +38,22 @@ removed g k (e ∷ es) apart = by_test (removed g k es apart) (is_eq (slice_cmp 
     by_test later true tie = sym (ap (λ b. cond b (Some e.1) (at_name g es)) (ap (λ f. is_eq (slice_cmp nat_cmp g f)) (sym (ties k (string_bytes e.0) tie)) ∙ apart))
     by_test later false other = ap (cond (is_eq (slice_cmp nat_cmp g (string_bytes e.0))) (Some e.1)) later
 
--- one more child put over what stands under its name
-pub put_one : (e : String Global × PathMap) (left : List (String Global × PathMap)) → IsStrictlySortedBy string_cmp (keys_of (e ∷ left)) → (es fs : List (String Global × PathMap))
-    → content_at (string_bytes e.0) fs ≡ over (content e.1) (content_at (string_bytes e.0) es) → ((g : List ℕ) → is_eq (slice_cmp nat_cmp g (string_bytes e.0)) ≡ false → at_name g fs ≡ at_name g es)
-    → (g : List ℕ) → over (content_at g left) (content_at g fs) ≡ over (content_at g (e ∷ left)) (content_at g es)
-put_one e left sorted es fs here others g = by_tie (is_eq (slice_cmp nat_cmp g (string_bytes e.0))) refl
-  where
-    by_tie : (b : Bool) → is_eq (slice_cmp nat_cmp g (string_bytes e.0)) ≡ b → over (content_at g left) (content_at g fs) ≡ over (content_or_nothing (cond b (Some e.1) (at_name g left))) (content_at g es)
-    by_tie true tie =
-        let is = ties g (string_bytes e.0) tie in
-        ap (λ m. over (content_or_nothing m) (content_at g fs)) (past e.0 g left is (sorted_head string_cmp e.0 (keys_of left) sorted)) ∙ nothing-over (content_at g fs) ∙ ap (λ k. content_at k fs) is ∙ here
-        ∙ ap (λ k. over (content e.1) (content_at k es)) (sym is)
-    by_tie false apart = ap (λ m. over (content_at g left) (content_or_nothing m)) (others g apart)
+-- one more child put over what stands under its name, or under it: both are a join that nothing leaves as it is
+module _ (join : Content → Content → Content) (joins_nothing : (c : Content) → join nothing c ≡ c) where
+  pub put_one : (e : String Global × PathMap) (left : List (String Global × PathMap)) → IsStrictlySortedBy string_cmp (keys_of (e ∷ left)) → (es fs : List (String Global × PathMap))
+      → content_at (string_bytes e.0) fs ≡ join (content e.1) (content_at (string_bytes e.0) es) → ((g : List ℕ) → is_eq (slice_cmp nat_cmp g (string_bytes e.0)) ≡ false → at_name g fs ≡ at_name g es)
+      → (g : List ℕ) → join (content_at g left) (content_at g fs) ≡ join (content_at g (e ∷ left)) (content_at g es)
+  put_one e left sorted es fs here others g = by_tie (is_eq (slice_cmp nat_cmp g (string_bytes e.0))) refl
+    where
+      by_tie : (b : Bool) → is_eq (slice_cmp nat_cmp g (string_bytes e.0)) ≡ b → join (content_at g left) (content_at g fs) ≡ join (content_or_nothing (cond b (Some e.1) (at_name g left))) (content_at g es)
+      by_tie true tie =
+          let is = ties g (string_bytes e.0) tie in
+          ap (λ m. join (content_or_nothing m) (content_at g fs)) (past e.0 g left is (sorted_head string_cmp e.0 (keys_of left) sorted)) ∙ joins_nothing (content_at g fs) ∙ ap (λ k. content_at k fs) is ∙ here
+          ∙ ap (λ k. join (content e.1) (content_at k es)) (sym is)
+      by_tie false apart = ap (λ m. join (content_at g left) (content_or_nothing m)) (others g apart)
 
-pub put_none : (it ts es ms : List (String Global × PathMap)) → it ≡ [] → ((g : List ℕ) → over (content_at g it) (content_at g es) ≡ over (content_at g ts) (content_at g ms)) → (g : List ℕ) → content_at g es ≡ over (content_at g ts) (content_at g ms)
-put_none it ts es ms none kept g = sym (nothing-over (content_at g es)) ∙ ap (λ l. over (content_at g l) (content_at g es)) (sym none) ∙ kept g
+  pub put_none : (it ts es ms : List (String Global × PathMap)) → it ≡ [] → ((g : List ℕ) → join (content_at g it) (content_at g es) ≡ join (content_at g ts) (content_at g ms)) → (g : List ℕ) → content_at g es ≡ join (content_at g ts) (content_at g ms)
+  put_none it ts es ms none kept g = sym (joins_nothing (content_at g es)) ∙ ap (λ l. join (content_at g l) (content_at g es)) (sym none) ∙ kept g
 
 pub content-out : (n : PathMap) → content n ≡ over (at_top (out-PathMap n).held) (gather (contents_in (out-PathMap n).below.entries))
 content-out n = search (rules, the_lemmas)

@@ -10,7 +10,7 @@ use fieldpath::ElemText;
 use std::alloc::{AllocError, Global};
 use std::collections::BTreeMap;
 
-fn copy_held(held: &Option<Held>) -> Result<Option<Held>, AllocError>
+pub(crate) fn copy_held(held: &Option<Held>) -> Result<Option<Held>, AllocError>
     ensures { IfOk result (λ h. at_top h ≡ at_top held.now) }
 {
     match held {

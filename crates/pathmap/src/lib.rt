@@ -12,8 +12,10 @@ mod over;
 mod pathmap;
 mod paths;
 mod pick;
+mod under;
 mod without;
 
 pub use held::Held;
 pub use over::put_over;
 pub use pathmap::PathMap;
+pub use under::put_under;

@@ -38,7 +38,7 @@ fn put_held(theirs: &Option<Held>, mine: &mut Option<Held>) -> Result<(), AllocE
 }
 
 /// Stands a copy of `theirs` under a name.
-fn put_new(
+pub(crate) fn put_new(
     theirs: &PathMap,
     alloc: Global,
     below: &mut BTreeMap<ElemText, PathMap>,
@@ -54,7 +54,7 @@ fn put_new(
 }
 
 /// Stands copies of all children where none stood.
-fn put_first(
+pub(crate) fn put_first(
     theirs: &BTreeMap<ElemText, PathMap>,
     alloc: Global,
     below: &mut BTreeMap<ElemText, PathMap>,

@@ -23,7 +23,7 @@ use crate::read::read_map;
 use crate::texts::Texts;
 use crate::without::read_without;
 use crate::write::texts_of_fields;
-use pathmap::{PathMap, put_over};
+use pathmap::{PathMap, put_over, put_under};
 use schema::Schema;
 use serde_json::Value;
 use std::alloc::{AllocError, Global};
@@ -105,6 +105,15 @@ impl Tree {
     {
         Ok(Tree {
             map: put_over(&other.map, alloc, self.map.try_copy(alloc)?)?,
+        })
+    }
+
+    /// This content laid over another: what the other has where this has nothing is copied, and nothing else.
+    pub fn laid_over(self, alloc: Global, other: &Tree) -> Result<Tree, AllocError>
+        ensures { IfOk result (λ t. t ≡ over self other.now) }
+    {
+        Ok(Tree {
+            map: put_under(&other.map, alloc, self.map)?,
         })
     }
 

@@ -36,24 +36,30 @@ fn applied_over(
     current: u64,
     key: Key,
     live: &Live,
-    intent: &Intent<'_>,
+    intent: Intent<'_>,
 ) -> Result<Written, CallError>
     requires numbered { current ≤ last_revision }
     requires shaped { IsObjectShape (types.served served.now).shape }
-    requires content { IsContent (types.served served.now).shape intent.now.content }
+    requires content { IsContent (types.served served.now).shape intent.content }
     requires said { state_of live.now.state ≡ state_of_live (types.served served.now) (option_map object_of live.now.object) }
     requires placed { IsPlacedState (types.served served.now).shape (state_of live.now.state) }
-    ensures plan { Gives written_plan result (applied_over (types.served served.now) current (key_of key) (option_map object_of live.now.object) (intent_seen intent.now)) }
+    ensures plan { Gives written_plan result (applied_over (types.served served.now) current (key_of key) (option_map object_of live.now.object) (intent_seen intent.entry)) }
     ensures right { IfOk result (RemembersRight (types.served served.now)) }
 {
     check_version(alloc, intent.version, live.object.as_ref())?;
+    let Intent {
+        content,
+        manager,
+        is_forced,
+        ..
+    } = intent;
     let owned = applied(
         alloc,
         served,
         &live.state,
-        &intent.content,
-        intent.manager.as_str(),
-        intent.is_forced,
+        content,
+        manager.as_str(),
+        is_forced,
     )?;
     stored_over(alloc, served, current, key, live, owned)
 }
@@ -84,5 +90,5 @@ pub(crate) fn validate_apply(
         key.name.as_str(),
         intent.body,
     )?;
-    applied_over(alloc, served, current, key, live, &intent)
+    applied_over(alloc, served, current, key, live, intent)
 }

@@ -106,12 +106,12 @@ pub fn applied(
     alloc: Global,
     served: &Served,
     live: &Owned,
-    config: &Tree,
+    config: Tree,
     manager: &str,
     force: bool,
 ) -> Result<Owned, CallError>
-    ensures validated { Gives state_of result (ownership_validated (api_version_of (types.served served.now)) (state_of live.now) config.now (manager_of manager.now apply_operation) force) }
-    ensures placed { (s : Shape) → IsContent s config.now → IsPlacedState s (state_of live.now) → IfOk result (λ o. IsPlacedState s (state_of o)) }
+    ensures validated { Gives state_of result (ownership_validated (api_version_of (types.served served.now)) (state_of live.now) config (manager_of manager.now apply_operation) force) }
+    ensures placed { (s : Shape) → IsContent s config → IsPlacedState s (state_of live.now) → IfOk result (λ o. IsPlacedState s (state_of o)) }
 {
     match apply(alloc, live, manager, config, force) {
         Ok(owned) => Ok(owned),

@@ -9,7 +9,7 @@ use Rattle.ownership.proofs.applying.apply.Goals as goal
 
 pub returns-then-is_refused : goal.returns-then-is_refused
 returns-then-is_refused c =
-    let cs = conflicts_are (state_of c.args.live.now) c.args.config.now (manager_of c.args.manager.now apply_operation) c.in_ok-changed.changed c.in_ok-changed.ensures
+    let cs = conflicts_are (state_of c.args.live.now) c.args.config (manager_of c.args.manager.now apply_operation) c.in_ok-changed.changed c.in_ok-changed.ensures
     (map conflict_of c.in_ok-conflicts.conflicts.items) (manager_view c.in_ok-manager.manager) c.in_ok-manager.ensures c.in_ok-conflicts.ensures in
     record {
       applies = (ap (λ l. is_refused l c.args.force) (sym cs) ∙ ap (λ l. is_refused (map conflict_of l) c.args.force) (sym c.deref.ensures.value) ∙ sym c.is_refused.ensures ∙ c.if-is_refused.true, cs);
@@ -25,7 +25,7 @@ returns-then-is_refused c =
 pub returns : goal.returns
 returns c =
     let live = state_of c.args.live.now in
-    let body = c.args.config.now in
+    let body = c.args.config in
     let m = manager_of c.args.manager.now apply_operation in
     let cs = conflicts_are live body m c.in_ok-changed.changed c.in_ok-changed.ensures
     (map conflict_of c.in_ok-conflicts.conflicts.items) (manager_view c.in_ok-manager.manager) c.in_ok-manager.ensures c.in_ok-conflicts.ensures in

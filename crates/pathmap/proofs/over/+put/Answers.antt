@@ -6,7 +6,7 @@ use Rattle.pathmap.specs.Contents.{gather, over}
 use Rattle.pathmap.specs.Maps.{at_name, content, content_at, content_or_nothing, contents_in}
 use Rattle.pathmap.specs.declared.pathmap.PathMap.{PathMap, out-PathMap}
 use Rattle.pathmap.specs.declared.pathmap.PathMap.TheViews.{roll-PathMap}
-use Rattle.pathmap.proofs.Contents.{over-nothing}
+use Rattle.pathmap.proofs.Contents.{nothing-over, over-nothing}
 use Rattle.pathmap.proofs.Inserting.{on_ok}
 use Rattle.pathmap.proofs.Levels.{below_rolled, held_rolled, no_entries}
 use Rattle.pathmap.proofs.Merging.{content-out, gather_over, level, put_none, put_one, written}
@@ -37,7 +37,7 @@ put_all-loop-name-preserved t c =
     let es = c.loop-name.below.entries in
     let fs = c.put_at.new.below.entries in
     let sorted = subst (λ l. IsStrictlySortedBy string_cmp (keys_of l)) c.in-Some.ensures.steps c.loop-name.invariant.1 in (
-      (λ g. put_one e left sorted es fs c.in_ok-put_at.ensures.here c.put_at.ensures.others g ∙ ap (λ l. over (content_at g l) (content_at g es)) (sym c.in-Some.ensures.steps) ∙ c.loop-name.invariant.0 g),
+      (λ g. put_one over nothing-over e left sorted es fs c.in_ok-put_at.ensures.here c.put_at.ensures.others g ∙ ap (λ l. over (content_at g l) (content_at g es)) (sym c.in-Some.ensures.steps) ∙ c.loop-name.invariant.0 g),
       sorted_tail string_cmp e.0 (keys_of left) sorted,
       c.put_at.ensures.ordered,
     )
@@ -47,7 +47,7 @@ put_all-returns t c =
     let ts = c.args.theirs.now.entries in
     let es = c.loop-name.below.entries in
     let ms = c.args.below.now.entries in
-    gather_over es ts ms c.loop-name.invariant.2 c.iter-name-items.ensures.ordered c.len.ensures.ordered (put_none c.loop-name.name-iterator ts es ms c.in-None.ensures.steps.0 c.loop-name.invariant.0)
+    gather_over es ts ms c.loop-name.invariant.2 c.iter-name-items.ensures.ordered c.len.ensures.ordered (put_none over nothing-over c.loop-name.name-iterator ts es ms c.in-None.ensures.steps.0 c.loop-name.invariant.0)
 
 pub put_into-returns : goal.put_into-returns
 put_into-returns t c =
