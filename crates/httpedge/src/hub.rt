@@ -23,7 +23,6 @@ use std::collections::{BTreeMap, BTreeSet};
 use verbs::{Api, Fault};
 
 /// Connections over one API: bytes in, reply bytes out.
-#[derive(Drop)]
 pub struct Hub {
     alloc: Global,
     api: Api,
@@ -36,6 +35,21 @@ pub struct Hub {
     highest: Option<u64>,
     /// The time of the last tick, in milliseconds after the start.
     last_tick: u64,
+}
+
+// It is written out, so that what holds a hub does not prove again how each part is dropped.
+impl Drop for Hub {
+    fn drop(self) {
+        let Hub {
+            alloc: _,
+            api: _,
+            connections: _,
+            open_count: _,
+            open_ids: _,
+            highest: _,
+            last_tick: _,
+        } = self;
+    }
 }
 
 fn is_above(highest: Option<u64>, id: u64) -> bool
