@@ -79,6 +79,19 @@ fn push_written(
     Ok(lines.push_str("\n")?)
 }
 
+/// What is written of that set without a value between, as a line.
+fn push_text(alloc: Global, schema: &Schema, value: &str, lines: &mut String) -> Result<(), Fail> {
+    match FieldSet::from_fields_v1(alloc, schema, &Value::from_str(alloc, value)?) {
+        Ok(set) => {
+            let mut text = Vec::new(alloc);
+            set.push_fields_v1(&mut text, alloc, schema)?;
+            lines.push_str(str::from_utf8(&text)?)?;
+        }
+        Err(fault) => lines.push_str(number(fault))?,
+    }
+    Ok(lines.push_str("\n")?)
+}
+
 /// The lines that stand before the arrows, each with what its value is read as.
 fn read_again(alloc: Global, table: &str) -> Result<String, Fail> {
     let types = types_of(alloc, WIDGET_TYPES)?;
@@ -102,6 +115,16 @@ fn written_again(alloc: Global, table: &str) -> Result<String, Fail> {
     Ok(lines)
 }
 
+fn texts_again(alloc: Global, table: &str) -> Result<String, Fail> {
+    let types = types_of(alloc, WIDGET_TYPES)?;
+    let schema = first_schema(&types)?;
+    let mut lines = String::new(alloc);
+    for value in table.lines() {
+        push_text(alloc, schema, value, &mut lines)?;
+    }
+    Ok(lines)
+}
+
 #[test]
 fn fields_v1_values_are_read(rt: HostRuntime) -> Result<(), Fail> {
     let alloc = rt.alloc();
@@ -113,5 +136,12 @@ fn fields_v1_values_are_read(rt: HostRuntime) -> Result<(), Fail> {
 fn fields_v1_values_are_written_again(rt: HostRuntime) -> Result<(), Fail> {
     let alloc = rt.alloc();
     assert_eq!(rt; written_again(alloc, WRITTEN)?.as_str(), WRITTEN);
+    Ok(())
+}
+
+#[test]
+fn fields_v1_texts_are_written_again(rt: HostRuntime) -> Result<(), Fail> {
+    let alloc = rt.alloc();
+    assert_eq!(rt; texts_again(alloc, WRITTEN)?.as_str(), WRITTEN);
     Ok(())
 }

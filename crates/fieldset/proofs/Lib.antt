@@ -10,3 +10,5 @@ pub mod Ordered
 pub mod Saying
 pub mod Back
 pub mod KeyNames
+pub mod Clean
+pub mod Appended

@@ -72,9 +72,10 @@ module _ (inner : List ℕ → Content → Members) where
   puts [] ms = ms
   puts (e ∷ es) ms = puts es (cond (is_full e.1) (put (string_bytes e.0) (object (inner (string_bytes e.0) (marks_in e.1))) ms) ms)
 
-  abbrev each_child : List (String Global × PathMap) → Members
+  -- a member for each child that has a path
+  abbrev pub each_child : List (String Global × PathMap) → Members
   each_child [] = no_members
-  each_child (e ∷ es) = cond (is_full e.1) (member (string_bytes e.0) (at e) (each_child es)) (each_child es)
+  each_child (e ∷ es) = cond (is_full e.1) (member (string_bytes e.0) (object (inner (string_bytes e.0) (marks_in e.1))) (each_child es)) (each_child es)
 
   pub puts_bare : (it left : List (String Global × PathMap)) (e : String Global × PathMap) → it ≡ e ∷ left → is_full e.1 ≡ false → (ms : Members) → puts left ms ≡ puts it ms
   puts_bare it left e steps bare ms = sym (ap (λ es. puts es ms) steps ∙ ap (λ b. puts left (cond b (put (string_bytes e.0) (at e) ms) ms)) bare)
@@ -137,11 +138,17 @@ module _ (inner : List ℕ → Content → Members) where
       by_full true = refl
       by_full false = refl
 
-  -- all put in turn are the members at the first elements
+  -- these are the members at the first elements
+  pub children_all : (n : PathMap) → IsOrdered string_cmp (out-PathMap n).below → each_child (out-PathMap n).below.entries ≡ each (λ e. inner e (inside e (marks_in n))) (heads (marks_in n))
+  children_all n sorted =
+      let es = (out-PathMap n).below.entries in
+      each_found n sorted es (found_all es sorted) ∙ ap (each (λ e. inner e (inside e (marks_in n)))) (sym (heads-marks n sorted))
+
+  -- and so are all put in turn
   pub puts_all : (n : PathMap) → IsOrdered string_cmp (out-PathMap n).below → puts (out-PathMap n).below.entries no_members ≡ each (λ e. inner e (inside e (marks_in n))) (heads (marks_in n))
   puts_all n sorted =
       let es = (out-PathMap n).below.entries in
-      puts_join es no_members sorted (after_none (keys_of es)) ∙ each_found n sorted es (found_all es sorted) ∙ ap (each (λ e. inner e (inside e (marks_in n)))) (sym (heads-marks n sorted))
+      puts_join es no_members sorted (after_none (keys_of es)) ∙ children_all n sorted
 
 -- ---- by shape
 

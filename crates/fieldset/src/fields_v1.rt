@@ -38,7 +38,7 @@ fn field_schema<'a>(fields: &'a [(String, Schema)], element: &ElemText) -> Optio
     }
 }
 
-fn schema_below<'a>(schema: &'a Schema, element: &ElemText) -> Option<&'a Schema>
+pub(crate) fn schema_below<'a>(schema: &'a Schema, element: &ElemText) -> Option<&'a Schema>
     ensures { option_map (λ s. shape s.now) result ≡ shape_below (shape schema.now) (string_bytes element.now) }
 {
     match schema {
@@ -81,7 +81,7 @@ fn put_item(
     put_leaf(members, alloc, String::from_str(alloc, ".")?)
 }
 
-fn put_as_item(
+pub(crate) fn put_as_item(
     members: &mut Map<String, Value>,
     alloc: Global,
     schema: &Schema,

@@ -1,11 +1,12 @@
 //! Finite sets of paths, and their equations.
 
-ghost use Rattle.std.specs.Prelude.{◌≡◌, IfOk, OnOk, OnErr, IsTrue, ◌↔◌};
+ghost use Rattle.std.specs.Prelude.{◌≡◌, ◌++◌, IfOk, OnOk, OnErr, IsTrue, ◌↔◌};
 ghost use Rattle.std.specs.FinSet as set;
 ghost use Rattle.pathmap.specs.Contents.{dom, in_order};
 ghost use Rattle.pathmap.specs.Beside.{clear_of, has_at_or_below};
 ghost use Rattle.pathmap.specs.Maps.{content};
 ghost use Rattle.serde_json.specs.View.{view};
+ghost use Rattle.serde_json.specs.Written.{compact_text};
 ghost use Rattle.schema.specs.Shape.{shape};
 ghost use Rattle.fieldset.specs.FieldsV1.{fields_v1_of};
 ghost use Rattle.fieldset.specs.Reading.{read_fields_v1};
@@ -14,6 +15,7 @@ ghost use Rattle.fieldset.specs.Seen.{Gives};
 use crate::fault::FieldsV1Fault;
 use crate::fields_v1::members;
 use crate::read::read_paths;
+use crate::write::push_members;
 use fieldpath::Path;
 use pathmap::{Held, PathMap, put_over};
 use schema::Schema;
@@ -145,6 +147,19 @@ impl FieldSet {
         ensures { IfOk result (λ v. view v ≡ fields_v1_of (shape schema.now) self.now) }
     {
         Ok(Value::Object(members(&self.map, alloc, Some(schema))?))
+    }
+
+    /// Appends the text of its FieldsV1 value: that of `to_fields_v1` as compact JSON.
+    pub fn push_fields_v1(
+        &self,
+        out: &mut Vec<u8>,
+        alloc: Global,
+        schema: &Schema,
+    ) -> Result<(), AllocError>
+        ensures { OnOk result (out.new.items ≡ out.old.items ++ compact_text (fields_v1_of (shape schema.now) self.now)) }
+    {
+        out.push(b'{')?;
+        push_members(&self.map, alloc, Some(schema), out)
     }
 
     /// The set of paths whose FieldsV1 value this is, or the first fault (Kubernetes API reference, ObjectMeta v1).

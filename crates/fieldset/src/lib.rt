@@ -8,8 +8,11 @@ mod both_ways;
 mod fault;
 mod fields_v1;
 mod fieldset;
+mod pushing;
 mod read;
+mod write;
 
 pub use both_ways::{readings_are_written, readings_have_places, written_is_read};
 pub use fault::FieldsV1Fault;
 pub use fieldset::FieldSet;
+pub use pushing::{push_comma, push_name, push_string, push_value};
