@@ -22,3 +22,5 @@ pub mod Counted
 pub mod Back
 pub mod Answered
 pub mod Listed
+pub mod EntryTexts
+pub mod MetadataTexts

@@ -121,12 +121,6 @@ listed_left ms =
 
 -- ---- entry by entry
 
-pub one_more : (s : Shape) (a : List ℕ) (vs : List Value) (v : Value) (es : List Entry) (e : Entry) → map view vs ≡ map (value_of s a) (pairs es) → view v ≡ value_of s a (pair e)
-    → map view (vs ++ v ∷ []) ≡ map (value_of s a) (pairs (es ++ e ∷ []))
-one_more s a vs v es e before same =
-    map-append view vs (v ∷ []) ∙ ap₂ (λ l x. l ++ x ∷ []) before same
-    ∙ sym (ap (map (value_of s a)) (map-append pair es (e ∷ [])) ∙ map-append (value_of s a) (pairs es) (pair e ∷ []))
-
 -- entries are read one by one
 pub goes_on : (s : Shape) (before : Pairs) (e : Manager × PathSet) (d : Data) (ds : Items) → entry_in s d ≡ Some e
     → option_map (λ es. (before ++ e ∷ []) ++ es) (entries_in s ds) ≡ option_map (λ es. before ++ es) (entries_in s (item d ds))

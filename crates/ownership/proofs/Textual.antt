@@ -116,7 +116,7 @@ module _ (s : Shape) (lawful : is_lawful s ≡ true) where
   entries_fine no_items labels h fine = fine
   entries_fine (item d ds) labels h fine = fine_put 102 (codes "managedFields") (array (item d ds)) labels (h.0, h.1, one_deeper (items_depth (item d ds)) 101 h.2) fine
 
-  pub metadata_fine : (of : Identity) (version : ℕ) (owners : Owners) (labels : Members) → Fine 102 labels → IsFine 103 (object (metadata_of s of version owners labels))
+  metadata_fine : (of : Identity) (version : ℕ) (owners : Owners) (labels : Members) → Fine 102 labels → IsFine 103 (object (metadata_of s of version owners labels))
   metadata_fine of version owners labels fine =
       let entries = entries_fine (entry_items s of.api_version (fin.entries owners)) labels (items_fine of.api_version (fin.entries owners)) fine in
       let numbered = fine_put 102 (codes "resourceVersion") (string (decimal version)) _ (fine_text 102 (decimal version)) entries in

@@ -40,7 +40,7 @@ labels_printed all c lawful =
     let up = (and_parts (ascend (names_of all)) (are_well_formed all) (well_formed (struct_of all false) lawful)).0 in
     ap members_printed (field_printed (codes "metadata") all c up ∙ ap (get_member (codes "metadata")) (sym (printed_members (print_fields all c no_members))))
 
-put_more : (k : List ℕ) (d : Data) (ms : Members) (old new : Texts) → old ≡ texts_of ms → new ≡ put_text k (compact_text d) old → new ≡ texts_of (put k d ms)
+pub put_more : (k : List ℕ) (d : Data) (ms : Members) (old new : Texts) → old ≡ texts_of ms → new ≡ put_text k (compact_text d) old → new ≡ texts_of (put k d ms)
 put_more k d ms old new before is = is ∙ ap (put_text k (compact_text d)) before ∙ sym (texts_of-put k d ms)
 
 pub struct_text : (all : Fields) (of : Identity) (version : ℕ) (state : State) (metadata : Members) (one two three four : Texts) (t : List ℕ)

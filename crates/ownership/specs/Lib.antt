@@ -12,3 +12,4 @@ pub mod Outcomes
 pub mod ReadBack
 pub mod Parts
 pub mod Labels
+pub mod EntryTexts

@@ -1,10 +1,11 @@
-//! The entries of `managedFields`, read. With each comes the entry as it is printed, made of the FieldsV1 value that was
-//! read: of a text it is the one that its set has, so FieldsV1 isn't printed again.
-ghost use Rattle.std.specs.Prelude.{◌≡◌, true, codes, IfOk, Some, option_map, option_and_then};
+//! The entries of `managedFields`, read. With them comes their text, made of the FieldsV1 values that were read: of a
+//! text they are those that the sets have, so FieldsV1 isn't made again.
+ghost use Rattle.std.specs.Prelude.{◌≡◌, ◌++◌, true, codes, IfOk, Some, option_map, option_and_then};
 ghost use Rattle.std.specs.FinMap as fin;
-ghost use Rattle.serde_json.specs.Data.{Data};
+ghost use Rattle.serde_json.specs.Data.{Data, array};
 ghost use Rattle.serde_json.specs.Find.{as_array};
 ghost use Rattle.serde_json.specs.View.{items_view, members_view, view};
+ghost use Rattle.serde_json.specs.Written.{compact_text};
 ghost use Rattle.fieldpath.specs.Spelled.{AreSpelled, IsSpelled, MembersAreSpelled};
 ghost use Rattle.schema.specs.Lawful.{is_type_shape};
 ghost use Rattle.schema.specs.Shape.{shape};
@@ -16,10 +17,10 @@ ghost use Rattle.ownership.specs.Parts.{Gives, entries_in, entry_in, if_ok, item
 
 use crate::envelope::{into_object, take, text_at};
 use crate::fault::ObjectFault;
+use crate::listing::push_entry_with;
 use crate::manager::{Manager, Operation};
 use crate::managers::{Entry, Managers};
-use crate::object::entry_with;
-use fieldset::{FieldSet, FieldsV1Fault};
+use fieldset::{FieldSet, FieldsV1Fault, push_comma};
 use schema::Schema;
 use serde_json::{Map, Value};
 use std::alloc::Global;
@@ -77,44 +78,50 @@ fn read_set(
     Ok((paths, value))
 }
 
-/// An entry, and as it is printed.
+/// An entry, which is appended as it is printed.
 fn read_entry(
     alloc: Global,
     schema: &Schema,
     api_version: &str,
     value: Value,
-) -> Result<(Entry, Value), ObjectFault>
-    ensures entry { Gives (λ o. pair o.0) result (entry_in (shape schema.now) (view value)) }
-    ensures item { IfOk result (λ o. is_type_shape (shape schema.now) ≡ true → IsSpelled (view value)
-        → view o.1 ≡ entry_value (shape schema.now) api_version.now (pair o.0).0 (pair o.0).1) }
+    text: &mut Vec<u8>,
+) -> Result<Entry, ObjectFault>
+    ensures entry { Gives pair result (entry_in (shape schema.now) (view value)) }
+    ensures item { IfOk result (λ e. is_type_shape (shape schema.now) ≡ true → IsSpelled (view value)
+        → text.new.items ≡ text.old.items ++ compact_text (entry_value (shape schema.now) api_version.now (pair e).0 (pair e).1)) }
 {
     let Some(members) = into_object(value) else {
         return Err(ObjectFault::NotCanonical);
     };
     let manager = read_manager(alloc, &members)?;
     let (paths, fields) = read_set(alloc, schema, members)?;
-    let item = entry_with(alloc, api_version, &manager, fields)?;
-    Ok((Entry { manager, paths }, item))
+    push_entry_with(text, alloc, api_version, &manager, &fields)?;
+    Ok(Entry { manager, paths })
 }
 
+/// The entries, and their text.
 fn read_entries(
     alloc: Global,
     schema: &Schema,
     api_version: &str,
     values: Vec<Value>,
-) -> Result<(Vec<Entry>, Vec<Value>), ObjectFault>
+) -> Result<(Vec<Entry>, Vec<u8>), ObjectFault>
     ensures entries { Gives (λ o. pairs o.0.items) result (entries_in (shape schema.now) (items_view values.items)) }
     ensures items { IfOk result (λ o. is_type_shape (shape schema.now) ≡ true → AreSpelled (items_view values.items)
-        → items_view o.1.items ≡ entry_items (shape schema.now) api_version.now (pairs o.0.items)) }
+        → o.1.items ≡ compact_text (array (entry_items (shape schema.now) api_version.now (pairs o.0.items)))) }
 {
     let mut entries = Vec::new(alloc);
-    let mut items = Vec::new(alloc);
+    let mut text = Vec::new(alloc);
+    text.push(b'[')?;
+    let mut later = false;
     for value in values {
-        let (entry, item) = read_entry(alloc, schema, api_version, value)?;
+        push_comma(&mut text, later)?;
+        let entry = read_entry(alloc, schema, api_version, value, &mut text)?;
         entries.push(entry)?;
-        items.push(item)?;
+        later = true;
     }
-    Ok((entries, items))
+    text.push(b']')?;
+    Ok((entries, text))
 }
 
 fn into_array(value: Value) -> Option<Vec<Value>>
@@ -136,23 +143,23 @@ fn items_in(alloc: Global, listed: Option<Value>) -> Option<Vec<Value>>
     }
 }
 
-/// Who owns what, as the value of `managedFields` says it, and its items as they are printed.
+/// Who owns what, as the value of `managedFields` says it, and its text.
 pub(crate) fn read_owners(
     alloc: Global,
     schema: &Schema,
     api_version: &str,
     listed: Option<Value>,
-) -> Result<(Managers, Vec<Value>), ObjectFault>
+) -> Result<(Managers, Vec<u8>), ObjectFault>
     ensures owners { Gives (λ o. o.0) result (owners_listed (shape schema.now) (option_map view listed)) }
     ensures items { IfOk result (λ o. is_type_shape (shape schema.now) ≡ true → ((d : Data) → option_map view listed ≡ Some d → IsSpelled d)
-        → items_view o.1.items ≡ entry_items (shape schema.now) api_version.now (fin.entries o.0)) }
+        → o.1.items ≡ compact_text (array (entry_items (shape schema.now) api_version.now (fin.entries o.0)))) }
 {
     let Some(values) = items_in(alloc, listed) else {
         return Err(ObjectFault::NotCanonical);
     };
-    let (entries, items) = read_entries(alloc, schema, api_version, values)?;
+    let (entries, text) = read_entries(alloc, schema, api_version, values)?;
     match Managers::with_entries(entries) {
-        Some(managers) => Ok((managers, items)),
+        Some(managers) => Ok((managers, text)),
         None => Err(ObjectFault::NotCanonical),
     }
 }

@@ -2,9 +2,10 @@
 
 ghost use Rattle.std.specs.Prelude.{◌≡◌, true, false, IfOk, IfSome, OnOk, option_map, option_and_then, string_bytes};
 ghost use Rattle.std.specs.FinMap as fin;
-ghost use Rattle.serde_json.specs.Data.{object, put, string};
+ghost use Rattle.serde_json.specs.Data.{array, object, put, string};
 ghost use Rattle.serde_json.specs.Find.{as_object};
 ghost use Rattle.serde_json.specs.View.{items_view, members_view, view};
+ghost use Rattle.serde_json.specs.Written.{compact_text};
 ghost use Rattle.schema.specs.Lawful.{is_lawful};
 ghost use Rattle.schema.specs.Shape.{fields_in, shape, struct_of};
 ghost use Rattle.typed.specs.Fitting.{IsContent};
@@ -12,6 +13,7 @@ ghost use Rattle.ownership.specs.Managers.{pair, pairs, manager_view};
 ghost use Rattle.ownership.specs.ObjectText.{entry_items, entry_value, members_or_none, members_with, metadata_members, metadata_with, object_text, object_value, put_entries, put_filled, put_manager};
 ghost use Rattle.ownership.specs.Results.{identity_of, state_of};
 
+use crate::listing::managed_text;
 use crate::manager::Manager;
 use crate::managers::Entry;
 use crate::owned::Owned;
@@ -58,7 +60,7 @@ fn put_manager(
 }
 
 /// An entry with this FieldsV1 value.
-pub(crate) fn entry_with(
+fn entry_with(
     alloc: Global,
     api_version: &str,
     manager: &Manager,
@@ -247,63 +249,61 @@ impl Owned {
         self.value_with(alloc, schema, of, version, items)
     }
 
-    /// The object's text under a struct of these fields, where the items of `managedFields` are at hand: the texts of its
-    /// members, put together.
+    /// The object's text under a struct of these fields, where that of `managedFields` is at hand: the texts of its members,
+    /// put together.
     fn fields_text(
         &self,
         alloc: Global,
         fields: &[(String, Schema)],
         of: Identity<'_>,
         version: u64,
-        items: Vec<Value>,
+        managed: Vec<u8>,
     ) -> Result<String, AllocError>
-        ensures { items_view items.items ≡ entry_items (struct_of (fields_in fields.now) false) of.entry.api_version.now (fin.entries self.now.managers)
+        ensures { managed.items ≡ compact_text (array (entry_items (struct_of (fields_in fields.now) false) of.entry.api_version.now (fin.entries self.now.managers)))
             → is_lawful (struct_of (fields_in fields.now) false) ≡ true → IsContent (struct_of (fields_in fields.now) false) self.now.tree
             → IfOk result (λ t. string_bytes t ≡ object_text (struct_of (fields_in fields.now) false) (identity_of of.entry) version (state_of self.now)) }
     {
         let printed = self.tree.field_value(alloc, fields, "metadata")?;
         let labels = members_of(alloc, printed);
-        let members = metadata_with(alloc, of, version, items, labels)?;
-        let metadata = Value::Object(members);
+        let metadata = self.metadata_text(alloc, of, version, managed, &labels)?;
         let mut texts = self.tree.texts(alloc, fields)?;
-        typed::put_value(&mut texts, alloc, "metadata", &metadata)?;
+        typed::put_text(&mut texts, alloc, "metadata", metadata)?;
         typed::put_string(&mut texts, alloc, "kind", of.kind)?;
         typed::put_string(&mut texts, alloc, "apiVersion", of.api_version)?;
         typed::object_of(alloc, &texts)
     }
 
+    /// The object's text where its shape is no struct with fields of their own: that of its value.
     fn value_text(
         &self,
         alloc: Global,
         schema: &Schema,
         of: Identity<'_>,
         version: u64,
-        items: Vec<Value>,
     ) -> Result<String, AllocError>
-        ensures { items_view items.items ≡ entry_items (shape schema.now) of.entry.api_version.now (fin.entries self.now.managers)
-            → is_lawful (shape schema.now) ≡ true → IsContent (shape schema.now) self.now.tree
+        ensures { is_lawful (shape schema.now) ≡ true → IsContent (shape schema.now) self.now.tree
             → IfOk result (λ t. string_bytes t ≡ object_text (shape schema.now) (identity_of of.entry) version (state_of self.now)) }
     {
-        let value = self.value_with(alloc, schema, of, version, items)?;
+        let value = self.to_value(alloc, schema, of, version)?;
         value.to_string(alloc)
     }
 
-    /// The object's text, where the items of `managedFields` are at hand.
+    /// The object's text, where that of `managedFields` is at hand.
     pub(crate) fn text_with(
         &self,
         alloc: Global,
         schema: &Schema,
         of: Identity<'_>,
         version: u64,
-        items: Vec<Value>,
+        managed: Vec<u8>,
     ) -> Result<String, AllocError>
-        ensures { items_view items.items ≡ entry_items (shape schema.now) of.entry.api_version.now (fin.entries self.now.managers)
+        ensures { managed.items ≡ compact_text (array (entry_items (shape schema.now) of.entry.api_version.now (fin.entries self.now.managers)))
             → is_lawful (shape schema.now) ≡ true → IsContent (shape schema.now) self.now.tree
             → IfOk result (λ t. string_bytes t ≡ object_text (shape schema.now) (identity_of of.entry) version (state_of self.now)) }
     {
         match granular_fields(schema) {
-            Some(fields) => self.fields_text(alloc, fields, of, version, items),
-            None => self.value_text(alloc, schema, of, version, items),
+            Some(fields) => self.fields_text(alloc, fields, of, version, managed),
+            None => self.value_text(alloc, schema, of, version),
         }
     }
 
@@ -318,7 +318,7 @@ impl Owned {
         ensures { is_lawful (shape schema.now) ≡ true → IsContent (shape schema.now) self.now.tree
             → IfOk result (λ t. string_bytes t ≡ object_text (shape schema.now) (identity_of of.entry) version (state_of self.now)) }
     {
-        let items = self.items(alloc, schema, of.api_version)?;
-        self.text_with(alloc, schema, of, version, items)
+        let managed = managed_text(alloc, schema, of.api_version, self.managers.entries())?;
+        self.text_with(alloc, schema, of, version, managed)
     }
 }

@@ -1,8 +1,10 @@
 //! Objects read back from their texts.
 ghost use Rattle.std.specs.Prelude.{◌≡◌, ℕ, true, IfOk};
 ghost use Rattle.std.specs.FinMap as fin;
+ghost use Rattle.serde_json.specs.Data.{array};
 ghost use Rattle.serde_json.specs.Read.{read};
-ghost use Rattle.serde_json.specs.View.{items_view, view};
+ghost use Rattle.serde_json.specs.View.{view};
+ghost use Rattle.serde_json.specs.Written.{compact_text};
 ghost use Rattle.fieldpath.specs.Spelled.{IsSpelled};
 ghost use Rattle.schema.specs.Lawful.{is_type_shape};
 ghost use Rattle.schema.specs.ObjectShape.{IsObjectShape};
@@ -56,17 +58,16 @@ fn read_content(alloc: Global, schema: &Schema, value: &Value) -> Result<Tree, O
     }
 }
 
-/// What stands in an object's value and who owns it, its version, and the items of its `managedFields` as they are
-/// printed.
+/// What stands in an object's value and who owns it, its version, and the text of its `managedFields`.
 fn read_parts(
     alloc: Global,
     schema: &Schema,
     api_version: &str,
     value: Value,
-) -> Result<((Owned, u64), Vec<Value>), ObjectFault>
+) -> Result<((Owned, u64), Vec<u8>), ObjectFault>
     ensures parts { Gives {Y = State × ℕ} (λ o. (state_of o.0.0, o.0.1)) result (parts_in (shape schema.now) (view value)) }
     ensures items { IfOk result (λ o. is_type_shape (shape schema.now) ≡ true → IsSpelled (view value)
-        → items_view o.1.items ≡ entry_items (shape schema.now) api_version.now (fin.entries o.0.0.managers)) }
+        → o.1.items ≡ compact_text (array (entry_items (shape schema.now) api_version.now (fin.entries o.0.0.managers)))) }
 {
     let Some((others, metadata)) = split(value) else {
         return Err(ObjectFault::NotCanonical);
@@ -75,9 +76,9 @@ fn read_parts(
         return Err(ObjectFault::NotCanonical);
     };
     let (fields, listed) = fields_of(alloc, others, metadata)?;
-    let (managers, items) = read_owners(alloc, schema, api_version, listed)?;
+    let (managers, text) = read_owners(alloc, schema, api_version, listed)?;
     let tree = read_content(alloc, schema, &fields)?;
-    Ok(((Owned { tree, managers }, version), items))
+    Ok(((Owned { tree, managers }, version), text))
 }
 
 /// Whether each of these paths stands in the content.
@@ -120,11 +121,11 @@ impl Owned {
         ensures { IsObjectShape (shape schema.now) → IsReadBack (shape schema.now) (identity_of of.entry) text.now result }
     {
         let value = read_value(alloc, text)?;
-        let ((owned, version), items) = read_parts(alloc, schema, of.api_version, value)?;
+        let ((owned, version), managed) = read_parts(alloc, schema, of.api_version, value)?;
         if !owned.owned_stand(alloc)? {
             return Err(ObjectFault::NotCanonical);
         }
-        let printed = owned.text_with(alloc, schema, of, version, items)?;
+        let printed = owned.text_with(alloc, schema, of, version, managed)?;
         if printed.as_str() == text {
             return Ok((owned, version));
         }

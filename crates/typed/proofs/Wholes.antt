@@ -7,9 +7,7 @@ use Rattle.std.specs.Result.{OnOk}
 use Rattle.std.specs.declared.result.Result.{Result}
 use Rattle.std.specs.declared.result.Result.TheVariants.{Ok, Err}
 use Rattle.std.proofs.lemmas.List.{drop_all, drop_more}
-use Rattle.json.specs.Print.{print, print_from, quoted, token_text}
-use Rattle.json.specs.Token.{Token}
-use Rattle.json.specs.Written.{Written}
+use Rattle.json.specs.Print.{quoted}
 use Rattle.serde_json.specs.Data.{Data, Members, no_members, member, put}
 use Rattle.serde_json.specs.Written.{comma_if, compact_text, members_text}
 use Rattle.fieldpath.specs.Elements.{field_name, name_text}
@@ -19,6 +17,7 @@ use Rattle.pathmap.specs.Maps.{content}
 use Rattle.pathmap.specs.declared.pathmap.PathMap.{PathMap, out-PathMap}
 use Rattle.schema.specs.Shape.{Fields, Shape, fields_in, map_of, shape, struct_of}
 use Rattle.schema.specs.declared.schema.Schema.{Schema}
+use Rattle.fieldset.proofs.Appended.{regroup}
 use Rattle.typed.specs.Printing.{each_member, object_or_none, print as printed, print_fields, value_at, with_member}
 use Rattle.typed.specs.Rows.{AllFit, Fits, IsThere, row_of_children, row_of_fields, text_or_none, then_member, then_named}
 use Rattle.typed.specs.Texts.{Texts, joined, object_of, put_text, texts_in, texts_of}
@@ -29,17 +28,6 @@ use Rattle.typed.proofs.Rows.{children_row, opened, struct_row, there}
 pub weaker : {X E : Type 0} {P Q : Type 0} (r : Result X E) → (P → Q) → OnOk r P → OnOk r Q
 weaker (Ok x) f h = f h
 weaker (Err e) f h = tt
-
--- a writer of one token after what was there
-pub one_token : (w v : Written) (t : Token) (start out : List ℕ) → w.before ≡ start → w.tokens ≡ [] → v.before ≡ w.before → v.tokens ≡ w.tokens ++ t ∷ [] → out ≡ v.before ++ print v.tokens → out ≡ start ++ token_text t
-unfolding print_from
-one_token w v t start out before none kept put is =
-    is ∙ ap₂ (λ b ts. b ++ print ts) (kept ∙ before) (put ∙ ap (λ ts. ts ++ t ∷ []) none) ∙ ap (λ x. start ++ x) (append-nil (token_text t))
-
-regroup : (o c q t r : List ℕ) → (((o ++ c) ++ (q ++ 58 ∷ [])) ++ t) ++ r ≡ o ++ (c ++ (q ++ 58 ∷ (t ++ r)))
-regroup o c q t r =
-    append_assoc ((o ++ c) ++ (q ++ 58 ∷ [])) t r ∙ append_assoc (o ++ c) (q ++ 58 ∷ []) (t ++ r) ∙ append_assoc o c ((q ++ 58 ∷ []) ++ (t ++ r))
-    ∙ ap (λ x. o ++ (c ++ x)) (append_assoc q (58 ∷ []) (t ++ r))
 
 -- one member more
 pub one_member : (s : Shape) (c : Content) (k old one two three : List ℕ) (later : Bool) → IsThere s c → one ≡ old ++ comma_if later → two ≡ one ++ (quoted k ++ 58 ∷ []) → three ≡ two ++ text_or_none (printed s c)

@@ -1,57 +1,15 @@
-//! JSON texts, appended piece by piece.
-ghost use Rattle.std.specs.Prelude.{◌≡◌, ◌∷◌, ◌++◌, [], false, OnOk, option_map};
-ghost use Rattle.json.specs.Print.{quoted};
+//! JSON texts of what stands at a path, appended.
+ghost use Rattle.std.specs.Prelude.{◌≡◌, ◌++◌, OnOk, option_map};
 ghost use Rattle.pathmap.specs.Maps.{content, standing};
-ghost use Rattle.serde_json.specs.Data.{string};
 ghost use Rattle.serde_json.specs.View.{view};
-ghost use Rattle.serde_json.specs.Written.{comma_if, compact_text, has_float};
 ghost use Rattle.typed.specs.Printing.{value_at, value_of};
 ghost use Rattle.typed.specs.Rows.{HasNoFloat, text_or_none};
 
 use crate::print_parts::print_held;
-use json::Writer;
+use fieldset::{push_string, push_value};
 use pathmap::{Held, PathMap};
 use serde_json::Value;
 use std::alloc::{AllocError, Global};
-use std::mem;
-
-/// Appends a comma, where something stands before.
-pub(crate) fn push_comma(out: &mut Vec<u8>, later: bool) -> Result<(), AllocError>
-    ensures { OnOk result (out.new.items ≡ out.old.items ++ comma_if later) }
-{
-    if later {
-        out.push(b',')?;
-    }
-    Ok(())
-}
-
-/// Appends a string.
-pub(crate) fn push_string(out: &mut Vec<u8>, alloc: Global, text: &str) -> Result<(), AllocError>
-    ensures { OnOk result (out.new.items ≡ out.old.items ++ compact_text (string text.now)) }
-{
-    let mut writer = Writer::new(mem::replace(out, Vec::new(alloc)));
-    writer.string(text)?;
-    *out = writer.into_inner();
-    Ok(())
-}
-
-/// Appends a member's name and the colon.
-pub(crate) fn push_name(out: &mut Vec<u8>, alloc: Global, name: &str) -> Result<(), AllocError>
-    ensures { OnOk result (out.new.items ≡ out.old.items ++ (quoted name.now ++ 58 ∷ [])) }
-{
-    let mut writer = Writer::new(mem::replace(out, Vec::new(alloc)));
-    writer.key(name)?;
-    *out = writer.into_inner();
-    Ok(())
-}
-
-/// Appends a value.
-pub(crate) fn push_value(out: &mut Vec<u8>, alloc: Global, value: &Value) -> Result<(), AllocError>
-    ensures { has_float (view value.now) ≡ false → OnOk result (out.new.items ≡ out.old.items ++ compact_text (view value.now)) }
-{
-    let text = value.to_vec(alloc)?;
-    out.extend_from_slice(text.as_slice())
-}
 
 /// Appends a value, if there is one.
 pub(crate) fn push_some(

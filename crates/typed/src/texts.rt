@@ -5,7 +5,7 @@ ghost use Rattle.serde_json.specs.View.{view};
 ghost use Rattle.serde_json.specs.Written.{compact_text, has_float};
 ghost use Rattle.typed.specs.Texts.{joined, object_of, put_text, texts_in};
 
-use crate::pushing::{push_comma, push_name, push_string, push_value};
+use fieldset::{push_comma, push_name, push_string, push_value};
 use serde_json::Value;
 use std::alloc::{AllocError, Global};
 use std::collections::BTreeMap;

@@ -10,8 +10,9 @@ ghost use Rattle.typed.specs.Rows.{AllFit, EachFits, Fits, HasNoFloat, IsThere, 
 ghost use Rattle.typed.specs.Texts.{texts_in, texts_of};
 
 use crate::print::{field_in, print_map};
-use crate::pushing::{push_comma, push_name, push_some, push_top};
+use crate::pushing::{push_some, push_top};
 use crate::texts::{Texts, put_text};
+use fieldset::{push_comma, push_name};
 use pathmap::PathMap;
 use schema::Schema;
 use std::alloc::{AllocError, Global};

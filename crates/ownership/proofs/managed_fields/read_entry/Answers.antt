@@ -1,13 +1,16 @@
-use Rattle.std.proofs.Common.{◌∙◌, ap}
+use Rattle.std.proofs.Common.{◌∙◌, ◌++◌, ap}
+use Rattle.fieldset.proofs.Clean.{fields_v1_clean}
+use Rattle.schema.specs.Shape.{shape}
 use Rattle.serde_json.specs.Data.{Data, object}
 use Rattle.serde_json.specs.View.{members_view, view}
+use Rattle.serde_json.specs.Written.{compact_text, has_float}
 use Rattle.ownership.specs.Managers.{manager_view}
 use Rattle.ownership.specs.ObjectText.{members_with}
 use Rattle.ownership.proofs.Listed.{object_spelled}
 use Rattle.ownership.proofs.managed_fields.read_entry.Goals as goal
 
 pub returns-clause-item : goal.returns-clause-item
-returns-clause-item c = λ shape spelled.
-    c.in_ok-item.ensures
-    ∙ ap (λ (d : Data). object (members_with c.args.api_version.now (manager_view c.in_ok-manager.manager) d))
-    (c.in_ok-paths.ensures.value shape (object_spelled (view c.args.value) (members_view c.in-Some.members.entries) c.in-Some.ensures spelled))
+returns-clause-item c = λ typed spelled.
+    let same = c.in_ok-paths.ensures.value typed (object_spelled (view c.args.value) (members_view c.in-Some.members.entries) c.in-Some.ensures spelled) in
+    c.in_ok-push_entry_with.ensures (ap has_float same ∙ fields_v1_clean (shape c.args.schema.now) c.in_ok-paths.paths)
+    ∙ ap (λ (d : Data). c.args.text.now.items ++ compact_text (object (members_with c.args.api_version.now (manager_view c.in_ok-manager.manager) d))) same

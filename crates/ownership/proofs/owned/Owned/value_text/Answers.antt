@@ -9,7 +9,7 @@ use Rattle.ownership.proofs.owned.Owned.value_text.Goals as goal
 
 pub returns : goal.returns
 unfolding object_text
-returns c = λ listed lawful content.
-    let is = c.in_ok-value.ensures listed in
+returns c = λ lawful content.
+    let is = c.in_ok-value.ensures in
     let clean = ap has_float is ∙ (value_textual (shape c.args.schema.now) lawful (identity_of c.args.of) c.args.version (state_of c.args.self.now) content).1 in
     ok_map c.to_string.result (λ t text. text clean ∙ ap compact_text is) c.to_string.ensures.text
