@@ -1,63 +1,22 @@
 #!/usr/bin/env python3
-"""Times requests and watches through the hub: makes scripts, and plays them by the built program bench.
+"""Times requests and watches through the hub: makes scripts, and plays them by the built program ssa_replay.
 
-Usage: bench/serving.py [PROGRAM]   (default: crates/bench/out/bench; build it first by `rt run` in crates/bench)
+Usage: bench/serving.py [PROGRAM]   (default: crates/ssa_replay/out/ssa_replay; build it first by `rt run` in crates/ssa_replay)
 
-A script's time is the processor time of its play (one core), the least of three runs. What is timed is the difference of two
-scripts: one that only makes the objects and watches, and one that goes on from there. Tables go to standard output.
+How a script is timed stands in bench/scripts.py. Tables go to standard output.
 """
-import json
 import os
-import subprocess
 import sys
 import tempfile
 
-RUNS = 3
-BASE = "/apis/demo.example/v1/"
-WIDGETS = BASE + "namespaces/default/widgets"
-
-
-class Script:
-    """The lines of a script."""
-
-    def __init__(self):
-        self.lines = []
-        self.last_id = 0
-
-    def copy(self):
-        other = Script()
-        other.lines, other.last_id = list(self.lines), self.last_id
-        return other
-
-    def line(self, event):
-        self.lines.append(json.dumps(event, separators=(",", ":")))
-
-    def request(self, method, target, body=None):
-        """A request on a connection of its own, in one piece."""
-        self.last_id += 1
-        self.line({"open": self.last_id})
-        head = f"{method} {target} HTTP/1.1\r\nHost: localhost\r\n"
-        if body is not None:
-            media = "application/apply-patch+yaml" if method == "PATCH" else "application/json"
-            head += f"Content-Type: {media}\r\nContent-Length: {len(body)}\r\n"
-        self.line({"in": [self.last_id, head + "\r\n" + (body or "")]})
-        return self.last_id
-
-
-def widget(name, fields, turn):
-    """An object of so many fields, of which one has another value at each turn."""
-    config = {f"key-{n:05d}": f"value-{n}" for n in range(fields)}
-    config[f"key-{turn % fields:05d}"] = f"changed-{turn}"
-    return json.dumps({"apiVersion": "demo.example/v1", "kind": "Widget", "metadata": {"name": name}, "spec": {"config": config}},
-                      separators=(",", ":"))
+from scripts import BASE, WIDGETS, Script, a_second, best, head, microseconds, program_of, row, text_of, timed, widget
 
 
 def filled(name, size, turn):
     """An object of one field and about so many bytes as it is stored; every hundredth is labelled `app=rare`, the others `app=web`."""
     value = f"{turn:08d}" + "x" * max(0, size - 450)
     metadata = {"name": name, "labels": {"app": "web" if turn % 100 else "rare"}}
-    return json.dumps({"apiVersion": "demo.example/v1", "kind": "Widget", "metadata": metadata, "spec": {"config": {"a": value}}},
-                      separators=(",", ":"))
+    return text_of({"apiVersion": "demo.example/v1", "kind": "Widget", "metadata": metadata, "spec": {"config": {"a": value}}})
 
 
 def store_of(objects):
@@ -67,53 +26,6 @@ def store_of(objects):
         made.request("POST", WIDGETS, filled(f"w{n:06d}", 1024, n))
     return made
 
-
-# ---- runs
-
-def play(program, folder, script):
-    """The processor time of a play, in nanoseconds, and the peak memory of its process, in MiB."""
-    path = os.path.join(folder, "script.jsonl")
-    with open(path, "w") as out:
-        out.write("\n".join(script.lines) + "\n")
-    child = subprocess.Popen([program, "script", path], stdout=subprocess.DEVNULL, stderr=subprocess.PIPE, text=True)
-    told = child.stderr.read()
-    _, status, usage = os.wait4(child.pid, 0)
-    if status != 0:
-        sys.exit(f"the program ended with status {status}: {told}")
-    # "line of the script: COUNT in TOOK ns, .."
-    return int(told.split(" in ")[1].split(" ns")[0]), usage.ru_maxrss / 1024
-
-
-def best(program, folder, script):
-    return min(play(program, folder, script) for _ in range(RUNS))
-
-
-PLAYED = {}
-
-
-def timed(program, folder, before, after, count):
-    """The time of one of so many things that the longer script does more, and the peak memory of its play."""
-    if id(before) not in PLAYED:
-        PLAYED[id(before)] = before, best(program, folder, before)
-    base, _ = PLAYED[id(before)][1]
-    took, peak = best(program, folder, after)
-    return max(0, took - base) / count, peak
-
-
-def row(*cells):
-    print("| " + " | ".join(str(cell) for cell in cells) + " |", flush=True)
-
-
-def head(*cells):
-    row(*cells)
-    row(*["---"] * len(cells))
-
-
-def microseconds(nanoseconds):
-    return f"{nanoseconds / 1000:.0f} us"
-
-
-# ---- what is timed
 
 def requests_of(method, fields, count, made):
     """A script that goes on with so many requests of a method over objects of so many fields, and the one to compare it with."""
@@ -146,7 +58,7 @@ def single_objects(program, folder):
             count = many * 4 if method == "GET" else many
             for made in stores:
                 one, _ = timed(program, folder, *requests_of(method, fields, count, made), count)
-                cells += [microseconds(one), f"{1e9 / max(1, one):,.0f}"]
+                cells += [microseconds(one), a_second(one)]
             row(fields, "apply" if method == "PATCH" else method, count, *cells)
 
 
@@ -159,8 +71,8 @@ def small_gets(program, folder):
         for _ in range(20_000):
             script.request("GET", WIDGETS + "/w000000")
         one, _ = timed(program, folder, made, script, 20_000)
-        _, peak = play(program, folder, made)
-        row(objects, f"{one / 1000:.1f} us", f"{1e9 / max(1, one):,.0f}", f"{peak:.0f} MiB")
+        _, peak = best(program, folder, made)
+        row(objects, f"{one / 1000:.1f} us", a_second(one), f"{peak:.0f} MiB")
 
 
 def lists(program, folder):
@@ -177,7 +89,7 @@ def lists(program, folder):
             for _ in range(count):
                 script.request("GET", WIDGETS + query)
             one, _ = timed(program, folder, made, script, count)
-            row(objects, f"`{query}`" if query else "whole", count, f"{one / 1e6:.2f} ms", f"{1e9 / max(1, one):,.0f}",
+            row(objects, f"`{query}`" if query else "whole", count, f"{one / 1e6:.2f} ms", a_second(one),
                 f"{one / items / 1000:.2f} us")
 
 
@@ -232,7 +144,7 @@ def idle_watches(program, folder):
 
 def main():
     top = os.path.dirname(os.path.dirname(os.path.abspath(__file__)))
-    program = sys.argv[1] if len(sys.argv) > 1 else os.path.join(top, "crates/bench/out/bench")
+    program = sys.argv[1] if len(sys.argv) > 1 else program_of(top)
     print(f"cores: {os.cpu_count()}")
     with tempfile.TemporaryDirectory() as folder:
         for part in (small_gets, single_objects, lists, watches_that_follow, idle_watches):

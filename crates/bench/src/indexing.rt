@@ -6,12 +6,11 @@ use crate::timing::{spent, tell};
 use indexer::{IndexBy, Indexer, Object, ObjectKey};
 use std::alloc::{AllocError, Global};
 use std::collections::BTreeMap;
-use std::time::CpuClock;
 
 /// An index by the revision's last three digits, or by the namespace.
 #[derive(Drop)]
-struct By {
-    is_part: bool,
+pub(crate) struct By {
+    pub(crate) is_part: bool,
 }
 
 impl IndexBy for By {
@@ -35,59 +34,41 @@ impl IndexBy for By {
     }
 }
 
-fn object(alloc: Global, i: u64, revision: u64) -> Result<Object, AllocError> {
-    let namespace = i % 20;
-    Ok(Object {
-        namespace: format!(in alloc; "namespace-{namespace}")?,
-        name: format!(in alloc; "object-{i}")?,
-        revision,
-        labels: BTreeMap::new(alloc),
-        text: String::new(alloc),
-    })
-}
-
+/// So many objects, whose revisions ascend from the first.
 fn objects(alloc: Global, size: u64, first: u64) -> Result<Vec<Object>, AllocError> {
     let mut all = Vec::new(alloc);
     for i in 0..size {
-        all.push(object(alloc, i, first.saturating_add(i))?)?;
+        let namespace = i % 20;
+        all.push(Object {
+            namespace: format!(in alloc; "namespace-{namespace}")?,
+            name: format!(in alloc; "object-{i}")?,
+            revision: first.saturating_add(i),
+            labels: BTreeMap::new(alloc),
+            text: String::new(alloc),
+        })?;
     }
     Ok(all)
 }
 
-fn count_under(indexer: &Indexer<By>, keys: &[String]) -> u64 {
-    let mut count: u64 = 0;
-    for key in keys {
-        if let Some(objects) = indexer.by_index("part", key) {
-            count = count.saturating_add(objects.len() as u64);
-        }
+/// The keys of so many objects.
+fn keys(alloc: Global, size: u64) -> Result<Vec<ObjectKey>, AllocError> {
+    let mut keys = Vec::new(alloc);
+    for i in 0..size {
+        let namespace = i % 20;
+        keys.push(ObjectKey {
+            namespace: format!(in alloc; "namespace-{namespace}")?,
+            name: format!(in alloc; "object-{i}")?,
+        })?;
     }
-    count
+    Ok(keys)
 }
 
-fn count_held(indexer: &Indexer<By>, keys: &[ObjectKey]) -> u64 {
-    let mut count: u64 = 0;
-    for key in keys {
-        if indexer.get(key).is_some() {
-            count = count.saturating_add(1);
-        }
-    }
-    count
-}
-
+/// The last three digits of so many revisions.
 fn parts(alloc: Global, size: u64) -> Result<Vec<String>, AllocError> {
     let mut keys = Vec::new(alloc);
     for i in 0..size {
         let part = (i % 1000 + 500) % 1000;
         keys.push(part.to_string(alloc)?)?;
-    }
-    Ok(keys)
-}
-
-fn keys(alloc: Global, size: u64) -> Result<Vec<ObjectKey>, AllocError> {
-    let mut keys = Vec::new(alloc);
-    for i in 0..size {
-        let object = object(alloc, i, i)?;
-        keys.push(ObjectKey::of(&object)?)?;
     }
     Ok(keys)
 }
@@ -99,115 +80,78 @@ fn empty(alloc: Global) -> anyhow::Result<Indexer<By>> {
     Ok(Indexer::new(alloc, indexes)?)
 }
 
-fn put(indexer: &mut Indexer<By>, object: Object) -> Result<(), AllocError> {
-    indexer.put(object)?;
-    Ok(())
-}
-
 fn time_puts(
-    rt: &(impl Print + Eprint + CpuClock),
-    what: &str,
+    rt: &HostRuntime,
     indexer: &mut Indexer<By>,
-    objects: Vec<Object>,
+    what: &str,
+    size: u64,
+    first: u64,
 ) -> anyhow::Result<()> {
-    let size = objects.len() as u64;
+    let objects = objects(rt.alloc(), size, first)?;
     let start = spent(rt)?;
     for object in objects {
-        put(indexer, object)?;
+        indexer.put(object)?;
     }
-    tell(rt, what, size, start)?;
-    Ok(())
+    Ok(tell(rt, what, size, start)?)
+}
+
+fn time_replace(
+    rt: &HostRuntime,
+    indexer: &mut Indexer<By>,
+    what: &str,
+    size: u64,
+    first: u64,
+) -> anyhow::Result<()> {
+    let objects = objects(rt.alloc(), size, first)?;
+    let start = spent(rt)?;
+    indexer.replace(objects)?;
+    Ok(tell(rt, what, size, start)?)
 }
 
 /// How many of so many objects are held.
-fn time_gets(
-    rt: &(impl Print + Eprint + CpuClock),
-    alloc: Global,
-    indexer: &Indexer<By>,
-    size: u64,
-) -> anyhow::Result<u64> {
-    let wanted = keys(alloc, size)?;
+fn time_gets(rt: &HostRuntime, indexer: &Indexer<By>, size: u64) -> anyhow::Result<u64> {
+    let keys = keys(rt.alloc(), size)?;
+    let mut count: u64 = 0;
     let start = spent(rt)?;
-    let held = count_held(indexer, &wanted);
+    for key in &keys {
+        if indexer.get(key).is_some() {
+            count = count.saturating_add(1);
+        }
+    }
     tell(rt, "get", size, start)?;
-    Ok(held)
+    Ok(count)
 }
 
 /// How many objects are found by the parts of so many.
-fn time_finds(
-    rt: &(impl Print + Eprint + CpuClock),
-    alloc: Global,
-    indexer: &Indexer<By>,
-    size: u64,
-) -> anyhow::Result<u64> {
-    let wanted = parts(alloc, size)?;
+fn time_finds(rt: &HostRuntime, indexer: &Indexer<By>, size: u64) -> anyhow::Result<u64> {
+    let parts = parts(rt.alloc(), size)?;
+    let mut count: u64 = 0;
     let start = spent(rt)?;
-    let under = count_under(indexer, &wanted);
+    for part in &parts {
+        if let Some(objects) = indexer.by_index("part", part) {
+            count = count.saturating_add(objects.len() as u64);
+        }
+    }
     tell(rt, "by_index", size, start)?;
-    Ok(under)
+    Ok(count)
 }
 
-fn find(
-    rt: &(impl Print + Eprint + CpuClock),
-    alloc: Global,
-    indexer: &Indexer<By>,
-    size: u64,
-) -> anyhow::Result<()> {
-    let held = time_gets(rt, alloc, indexer, size)?;
-    let under = time_finds(rt, alloc, indexer, size)?;
+/// Puts so many objects, puts each anew with another key, and finds them.
+fn run_puts(rt: &HostRuntime, size: u64) -> anyhow::Result<()> {
+    let mut indexer = empty(rt.alloc())?;
+    time_puts(rt, &mut indexer, "put of a new object", size, 1)?;
+    time_puts(rt, &mut indexer, "put in place of one", size, 500)?;
+    let held = time_gets(rt, &indexer, size)?;
+    let under = time_finds(rt, &indexer, size)?;
     println!(rt; "indexer: {held} of {size} held, {under} found by their parts")?;
     Ok(())
 }
 
-/// Puts so many objects, puts each anew with another key, and finds them.
-fn run_puts(rt: &(impl Print + Eprint + CpuClock), alloc: Global, size: u64) -> anyhow::Result<()> {
-    let mut indexer = empty(alloc)?;
-    for (what, first) in [("put of a new object", 1), ("put in place of one", 500)] {
-        time_puts(rt, what, &mut indexer, objects(alloc, size, first)?)?;
-    }
-    find(rt, alloc, &indexer, size)
-}
-
-fn replace(indexer: &mut Indexer<By>, objects: Vec<Object>) -> Result<(), AllocError> {
-    indexer.replace(objects)?;
-    Ok(())
-}
-
-fn time_replace(
-    rt: &(impl Print + Eprint + CpuClock),
-    what: &str,
-    indexer: &mut Indexer<By>,
-    objects: Vec<Object>,
-) -> anyhow::Result<()> {
-    let size = objects.len() as u64;
-    let start = spent(rt)?;
-    replace(indexer, objects)?;
-    tell(rt, what, size, start)?;
-    Ok(())
-}
-
-/// Replaces so many objects by others.
-fn run_replace(
-    rt: &(impl Print + Eprint + CpuClock),
-    alloc: Global,
-    size: u64,
-) -> anyhow::Result<()> {
-    let mut indexer = empty(alloc)?;
-    for (what, first) in [
-        ("object into an empty indexer by replace", 1),
-        ("object by replace", 500),
-    ] {
-        time_replace(rt, what, &mut indexer, objects(alloc, size, first)?)?;
-    }
-    Ok(())
-}
-
-/// Times both.
-pub(crate) fn run(
-    rt: &(impl Print + Eprint + CpuClock),
-    alloc: Global,
-    size: u64,
-) -> anyhow::Result<()> {
-    run_puts(rt, alloc, size)?;
-    run_replace(rt, alloc, size)
+/// Puts so many objects, and replaces so many by others.
+pub(crate) fn run(rt: &HostRuntime, size: u64) -> anyhow::Result<()> {
+    run_puts(rt, size)?;
+    let mut indexer = empty(rt.alloc())?;
+    let first = "object into an empty indexer by replace";
+    time_replace(rt, &mut indexer, first, size, 1)?;
+    time_replace(rt, &mut indexer, "object by replace", size, 500)
 }

@@ -1,56 +1,37 @@
-//! `bench WORD..` times the layers: a number sets the size, and `selectors`, `indexer`, `reader`, `tables`, `hub`,
-//! `objects` or `client` runs that layer at it. `bench script FILE..` plays the scripts of files through the hub. What was
-//! done goes to standard output, the processor times to standard error.
+//! `bench WORD..` times the layers: a number sets the size, and `selectors`, `indexer`, `reader`, `tables`, `objects` or
+//! `client` runs that layer at it. What was done goes to standard output, the processor times to standard error.
 #![tactic(auto)]
 
 mod indexing;
 mod mirroring;
 mod objects;
 mod reading;
-mod requests;
-mod scripting;
 mod selecting;
-mod serving;
 mod storing;
 mod timing;
 
 use anyhow::bail;
-use std::alloc::Global;
 use std::env;
-use std::time::CpuClock;
 
-fn run_layer(
-    rt: &(impl Print + Eprint + CpuClock),
-    alloc: Global,
-    layer: &str,
-    size: u32,
-) -> anyhow::Result<()> {
-    let count = u64::from(size);
+fn run_layer(rt: &HostRuntime, layer: &str, size: u64) -> anyhow::Result<()> {
     match layer {
-        "selectors" => selecting::run(rt, alloc, count),
-        "indexer" => indexing::run(rt, alloc, count),
-        "reader" => reading::run(rt, alloc, count),
-        "tables" => storing::run(rt, alloc, count),
-        "hub" => serving::run(rt, alloc, count),
-        "objects" => objects::run(rt, alloc, count),
-        "client" => mirroring::run(rt, alloc, count),
+        "selectors" => selecting::run(rt, size),
+        "indexer" => indexing::run(rt, size),
+        "reader" => reading::run(rt, size),
+        "tables" => storing::run(rt, size),
+        "objects" => objects::run(rt, size),
+        "client" => mirroring::run(rt, size),
         _ => bail!("no such layer: {layer}"),
     }
 }
 
 fn main(rt: HostRuntime) -> anyhow::Result<()> {
     let words: Vec<String> = env::args(&rt)?.collect(rt.alloc())?;
-    let mut size = 1_000;
-    let mut is_script = false;
+    let mut size: u64 = 1_000;
     for word in words.iter().skip(1) {
-        if is_script {
-            scripting::run(&rt, rt.alloc(), word.as_str())?;
-            continue;
-        }
         match word.parse::<u32>() {
-            Ok(number) => size = number,
-            Err(_) if word.as_str() == "script" => is_script = true,
-            Err(_) => run_layer(&rt, rt.alloc(), word, size)?,
+            Ok(number) => size = u64::from(number),
+            Err(_) => run_layer(&rt, word, size)?,
         }
     }
     Ok(())

@@ -6,7 +6,7 @@ use ownership::{Identity, Owned, apply};
 use schema::{Schema, Types};
 use serde_json::Value;
 use std::alloc::{AllocError, Global};
-use std::time::CpuClock;
+use std::io;
 use typed::Tree;
 
 const TYPES: &str =
@@ -22,23 +22,20 @@ const IDENTITY: Identity<'static> = Identity {
 /// How many times each text is read.
 const ROUNDS: u64 = 200;
 
-/// So many fields, as an object has them.
+/// So many fields, at least one, as an object has them.
 fn fields(alloc: Global, size: u64) -> Result<String, AllocError> {
-    let mut text = String::from_str(alloc, "{\"spec\":{\"config\":{")?;
-    for i in 0..size {
-        if i > 0 {
-            text.push(',')?;
-        }
-        let field = format!(in alloc; "\"key-{i:05}\":\"value-{i}\"")?;
+    let mut text = String::from_str(alloc, "{\"spec\":{\"config\":{\"key-00000\":\"value-0\"")?;
+    for i in 1..size {
+        let field = format!(in alloc; ",\"key-{i:05}\":\"value-{i}\"")?;
         text.push_str(&field)?;
     }
     text.push_str("}}}")?;
     Ok(text)
 }
 
-fn types(alloc: Global) -> anyhow::Result<Types> {
-    let value = Value::from_str(alloc, TYPES)?;
-    Ok(Types::read(alloc, &value)?)
+fn types(alloc: Global, text: &str) -> Option<Types> {
+    let value = Value::from_str(alloc, text).ok()?;
+    Types::read(alloc, &value).ok()
 }
 
 /// The content of a text of fields, if it has one.
@@ -47,95 +44,66 @@ fn content(alloc: Global, schema: &Schema, text: &str) -> Option<Tree> {
     Tree::read(schema, alloc, &value).ok()
 }
 
-/// The object that has this content, owned by one manager.
-fn owned(alloc: Global, content: Tree) -> Option<Owned> {
-    let none = Owned::empty(alloc);
-    apply(alloc, &none, "alice", content, false).ok()
-}
-
+/// The text of the object that has these fields, owned by one manager.
 fn object_text(alloc: Global, schema: &Schema, fields: &str) -> Option<String> {
     let content = content(alloc, schema, fields)?;
-    let owned = owned(alloc, content)?;
+    let owned = apply(alloc, &Owned::empty(alloc), "alice", content, false).ok()?;
     owned.to_object(alloc, schema, IDENTITY, 1).ok()
 }
 
-fn is_content(alloc: Global, schema: &Schema, text: &str) -> bool {
-    content(alloc, schema, text).is_some()
-}
-
-fn is_object(alloc: Global, schema: &Schema, text: &str) -> bool {
+fn is_read(alloc: Global, schema: &Schema, text: &str, is_body: bool) -> bool {
+    if is_body {
+        return content(alloc, schema, text).is_some();
+    }
     Owned::from_object(alloc, schema, IDENTITY, text).is_ok()
 }
 
-fn count_contents(alloc: Global, schema: &Schema, text: &str) -> u64 {
+/// How many times, of so many, a text is read.
+fn count_read(alloc: Global, schema: &Schema, text: &str, is_body: bool) -> u64 {
     let mut count: u64 = 0;
     for _ in 0..ROUNDS {
-        if is_content(alloc, schema, text) {
+        if is_read(alloc, schema, text, is_body) {
             count = count.saturating_add(1);
         }
     }
     count
 }
 
-fn count_objects(alloc: Global, schema: &Schema, text: &str) -> u64 {
-    let mut count: u64 = 0;
-    for _ in 0..ROUNDS {
-        if is_object(alloc, schema, text) {
-            count = count.saturating_add(1);
-        }
-    }
-    count
-}
-
-fn time_contents(
-    rt: &(impl Print + Eprint + CpuClock),
-    alloc: Global,
+fn time_reads(
+    rt: &HostRuntime,
     schema: &Schema,
+    what: &str,
     text: &str,
-) -> anyhow::Result<()> {
+    is_body: bool,
+) -> io::Result<u64> {
     let start = spent(rt)?;
-    let count = count_contents(alloc, schema, text);
-    tell(rt, "body read", ROUNDS, start)?;
-    println!(rt; "objects: {count} of {ROUNDS} bodies read")?;
-    Ok(())
+    let count = count_read(rt.alloc(), schema, text, is_body);
+    tell(rt, what, ROUNDS, start)?;
+    Ok(count)
 }
 
-fn time_objects(
-    rt: &(impl Print + Eprint + CpuClock),
-    alloc: Global,
-    schema: &Schema,
-    text: &str,
-) -> anyhow::Result<()> {
-    let start = spent(rt)?;
-    let count = count_objects(alloc, schema, text);
-    tell(rt, "object's text read back", ROUNDS, start)?;
-    println!(rt; "objects: {count} of {ROUNDS} texts read back")?;
-    Ok(())
+fn time_both(rt: &HostRuntime, schema: &Schema, fields: &str, object: &str) -> io::Result<()> {
+    let bodies = time_reads(rt, schema, "body read", fields, true)?;
+    println!(rt; "objects: {bodies} of {ROUNDS} bodies read")?;
+    let texts = time_reads(rt, schema, "object's text read back", object, false)?;
+    println!(rt; "objects: {texts} of {ROUNDS} texts read back")
 }
 
-fn time_both(
-    rt: &(impl Print + Eprint + CpuClock),
-    alloc: Global,
-    schema: &Schema,
-    fields: &str,
-) -> anyhow::Result<()> {
-    time_contents(rt, alloc, schema, fields)?;
-    let Some(text) = object_text(alloc, schema, fields) else {
-        bail!("no object");
+fn run_type(rt: &HostRuntime, schema: &Schema, size: u64) -> anyhow::Result<()> {
+    let fields = fields(rt.alloc(), size)?;
+    let Some(object) = object_text(rt.alloc(), schema, &fields) else {
+        bail!("no object")
     };
-    time_objects(rt, alloc, schema, text.as_str())
+    Ok(time_both(rt, schema, &fields, &object)?)
 }
 
 /// Reads an object of so many fields, as a body and from its own text.
-pub(crate) fn run(
-    rt: &(impl Print + Eprint + CpuClock),
-    alloc: Global,
-    size: u64,
-) -> anyhow::Result<()> {
-    let types = types(alloc)?;
-    let Some(served) = types.get(0) else {
-        bail!("no type");
+pub(crate) fn run(rt: &HostRuntime, size: u64) -> anyhow::Result<()> {
+    let Some(types) = types(rt.alloc(), TYPES) else {
+        bail!("no types")
     };
-    let fields = fields(alloc, size)?;
-    time_both(rt, alloc, &served.schema, fields.as_str())
+    let Some(served) = types.get(0) else {
+        bail!("no type")
+    };
+    run_type(rt, &served.schema, size)
 }

@@ -1,10 +1,10 @@
 //! Selectors matched a second.
 
 use crate::timing::{spent, tell};
-use selector::{ReadError, Selector};
+use selector::Selector;
 use std::alloc::{AllocError, Global};
 use std::collections::BTreeMap;
-use std::time::CpuClock;
+use std::io;
 
 const SELECTORS: [&str; 4] = [
     "app=web",
@@ -31,51 +31,49 @@ fn add(
 }
 
 fn labels_of(alloc: Global, i: usize) -> Result<BTreeMap<String, String>, AllocError> {
+    let environment = if i % 7 == 0 { "test" } else { "production" };
     let mut labels = BTreeMap::new(alloc);
     add(alloc, &mut labels, "app", APPS[i % 3])?;
     add(alloc, &mut labels, "tier", TIERS[i % 4])?;
+    add(alloc, &mut labels, "env", environment)?;
     if i % 5 == 0 {
         add(alloc, &mut labels, "old", "")?;
     }
-    add(
-        alloc,
-        &mut labels,
-        "env",
-        if i % 7 == 0 { "test" } else { "production" },
-    )?;
     Ok(labels)
 }
 
-fn met(selector: &Selector, all: &[BTreeMap<String, String>]) -> u64 {
+fn all_labels(alloc: Global, size: u64) -> Result<Vec<BTreeMap<String, String>>, AllocError> {
+    let mut all = Vec::new(alloc);
+    for i in 0..size {
+        all.push(labels_of(alloc, i as usize)?)?;
+    }
+    Ok(all)
+}
+
+fn time_matches(
+    rt: &HostRuntime,
+    text: &str,
+    selector: &Selector,
+    all: &[BTreeMap<String, String>],
+) -> io::Result<()> {
+    let size = all.len();
     let mut count: u64 = 0;
+    let start = spent(rt)?;
     for labels in all {
         if selector.matches(labels) {
             count = count.saturating_add(1);
         }
     }
-    count
-}
-
-fn read(alloc: Global, text: &str) -> Result<Selector, ReadError> {
-    Selector::read(alloc, text)
+    tell(rt, text, size as u64, start)?;
+    println!(rt; "{text}: {count} of {size}")
 }
 
 /// Matches each selector with so many sets of labels.
-pub(crate) fn run(
-    rt: &(impl Print + Eprint + CpuClock),
-    alloc: Global,
-    size: u64,
-) -> anyhow::Result<()> {
-    let mut all = Vec::new(alloc);
-    for i in 0..size {
-        all.push(labels_of(alloc, i as usize)?)?;
-    }
-    for text in SELECTORS {
-        let selector = read(alloc, text)?;
-        let start = spent(rt)?;
-        let count = met(&selector, &all);
-        tell(rt, text, size, start)?;
-        println!(rt; "{text}: {count} of {size}")?;
+pub(crate) fn run(rt: &HostRuntime, size: u64) -> anyhow::Result<()> {
+    let all = all_labels(rt.alloc(), size)?;
+    for text in &SELECTORS {
+        let selector = Selector::read(rt.alloc(), text)?;
+        time_matches(rt, text, &selector, &all)?;
     }
     Ok(())
 }

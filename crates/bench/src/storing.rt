@@ -2,10 +2,9 @@
 
 use crate::timing::{spent, tell};
 use history::Key;
-use revstore::{ChangesFault, CompactFault, ListFault, Store, WriteFault};
-use revtable::{Fault, Object, Table};
+use revstore::{CompactFault, ListFault, Store, WriteFault};
+use revtable::{Fault, Table};
 use std::alloc::{AllocError, Global};
-use std::time::CpuClock;
 
 /// How many entries a page has.
 const PAGE: u64 = 500;
@@ -16,137 +15,68 @@ const ROUNDS: u64 = 4;
 /// A prime, so that all keys are met one after the other in no order, but of sizes that it divides.
 const STRIDE: u64 = 38_197;
 
-fn key(alloc: Global, i: u64) -> Result<Key, AllocError> {
-    Ok(Key {
-        kind: 1,
-        namespace: String::from_str(alloc, "default")?,
-        name: format!(in alloc; "object-{i:08}")?,
-    })
-}
-
-fn body(alloc: Global) -> Result<String, AllocError> {
-    let mut text = String::new(alloc);
-    for _ in 0..64 {
-        text.push_str("0123456789abcdef")?;
-    }
-    Ok(text)
-}
-
 /// All keys, each so many places after the one before it, and round again at the end.
 fn keys(alloc: Global, size: u64, stride: u64) -> Result<Vec<Key>, AllocError> {
     let mut all = Vec::new(alloc);
     for i in 0..size {
-        all.push(key(alloc, i.saturating_mul(stride) % size.max(1))?)?;
+        let number = i.saturating_mul(stride) % size.max(1);
+        all.push(Key {
+            kind: 1,
+            namespace: String::from_str(alloc, "default")?,
+            name: format!(in alloc; "object-{number:08}")?,
+        })?;
     }
     Ok(all)
 }
 
-fn open(alloc: Global) -> Result<Store, Fault> {
-    Ok(Store::new(Table::open(alloc)?))
-}
-
-fn write(store: &mut Store, key: &Key, body: &str) -> Result<u64, WriteFault> {
-    store.write(key, Some(body))
-}
-
 fn write_all(store: &mut Store, keys: &[Key], body: &str) -> Result<(), WriteFault> {
     for key in keys {
-        write(store, key, body)?;
+        store.write(key, Some(body))?;
     }
     Ok(())
-}
-
-fn get(store: &mut Store, key: &Key) -> Result<Option<Object>, Fault> {
-    store.get(key)
 }
 
 fn count_found(store: &mut Store, keys: &[Key]) -> Result<u64, Fault> {
     let mut count: u64 = 0;
     for key in keys {
-        if get(store, key)?.is_some() {
+        if store.get(key)?.is_some() {
             count = count.saturating_add(1);
         }
     }
     Ok(count)
 }
 
-fn page_after(store: &mut Store, revision: u64, name: &str) -> Result<usize, ListFault> {
-    Ok(
-        store
-            .list_at(1, None, revision, Some(("default", name)), PAGE)?
-            .len(),
-    )
-}
-
-fn changes_after(store: &mut Store, revision: u64) -> Result<usize, ChangesFault> {
-    Ok(store.changes(1, None, revision, PAGE)?.len())
-}
-
-fn compact(store: &mut Store, revision: u64) -> Result<(), CompactFault> {
-    store.compact(revision)
+/// How many entries the page has that is asked for so many times.
+fn pages_after(store: &mut Store, revision: u64, name: &str) -> Result<usize, ListFault> {
+    let mut found = 0;
+    for _ in 0..ROUNDS {
+        let page = store.list_at(1, None, revision, Some(("default", name)), PAGE)?;
+        found = page.len();
+    }
+    Ok(found)
 }
 
 /// So many compactions, each by one revision.
 fn compact_each(store: &mut Store, from: u64, count: u64) -> Result<(), CompactFault> {
     for i in 0..count {
-        compact(store, from.saturating_add(i))?;
-    }
-    Ok(())
-}
-
-fn pages_after(
-    store: &mut Store,
-    revision: u64,
-    name: &str,
-    count: u64,
-) -> Result<usize, ListFault> {
-    let mut found = 0;
-    for _ in 0..count {
-        found = page_after(store, revision, name)?;
-    }
-    Ok(found)
-}
-
-fn pages(
-    rt: &(impl Print + Eprint + CpuClock),
-    alloc: Global,
-    store: &mut Store,
-    size: u64,
-    revision: u64,
-) -> anyhow::Result<()> {
-    for (what, first) in [
-        ("a page from the front", 0),
-        ("a page from the middle", size / 2),
-        ("a page to the end", size.saturating_sub(PAGE)),
-    ] {
-        let name = format!(in alloc; "object-{first:08}")?;
-        let what = format!(in alloc; "{what} at {revision}")?;
-        let start = spent(rt)?;
-        let found = pages_after(store, revision, &name, ROUNDS)?;
-        tell(rt, &what, ROUNDS, start)?;
-        println!(rt; "tables: {what} has {found}")?;
+        store.compact(from.saturating_add(i))?;
     }
     Ok(())
 }
 
 fn time_writes(
-    rt: &(impl Print + Eprint + CpuClock),
-    what: &str,
+    rt: &HostRuntime,
     store: &mut Store,
+    what: &str,
     keys: &[Key],
     body: &str,
 ) -> anyhow::Result<()> {
     let start = spent(rt)?;
     write_all(store, keys, body)?;
-    tell(rt, what, keys.len() as u64, start)?;
-    Ok(())
+    Ok(tell(rt, what, keys.len() as u64, start)?)
 }
 
-fn time_gets(
-    rt: &(impl Print + Eprint + CpuClock),
-    store: &mut Store,
-    keys: &[Key],
-) -> anyhow::Result<()> {
+fn time_gets(rt: &HostRuntime, store: &mut Store, keys: &[Key]) -> anyhow::Result<()> {
     let start = spent(rt)?;
     let found = count_found(store, keys)?;
     tell(rt, "get", keys.len() as u64, start)?;
@@ -154,77 +84,92 @@ fn time_gets(
     Ok(())
 }
 
-fn run_writes(
-    rt: &(impl Print + Eprint + CpuClock),
-    alloc: Global,
+/// A page at this revision, from the object of this number on.
+fn time_page(
+    rt: &HostRuntime,
     store: &mut Store,
-    size: u64,
-    stride: u64,
-) -> anyhow::Result<()> {
-    let keys = keys(alloc, size, stride)?;
-    let body = body(alloc)?;
-    for what in ["first write", "second write"] {
-        time_writes(rt, what, store, &keys, &body)?;
-    }
-    let (some, _) = keys.split_at(keys.len().min(1_000));
-    time_gets(rt, store, some)
-}
-
-fn time_changes(
-    rt: &(impl Print + Eprint + CpuClock),
-    store: &mut Store,
+    part: &str,
+    first: u64,
     revision: u64,
 ) -> anyhow::Result<()> {
+    let name = format!(in rt.alloc(); "object-{first:08}")?;
+    let what = format!(in rt.alloc(); "a page {part} at {revision}")?;
     let start = spent(rt)?;
-    let changed = changes_after(store, revision)?;
+    let found = pages_after(store, revision, &name)?;
+    tell(rt, &what, ROUNDS, start)?;
+    println!(rt; "tables: {what} has {found}")?;
+    Ok(())
+}
+
+fn time_changes(rt: &HostRuntime, store: &mut Store, revision: u64) -> anyhow::Result<()> {
+    let start = spent(rt)?;
+    let changed = store.changes(1, None, revision, PAGE)?.len();
     tell(rt, "500 changes", 1, start)?;
     println!(rt; "tables: {changed} changes")?;
     Ok(())
 }
 
-/// The first writes supersede nothing, each of the second writes supersedes one of them.
-fn time_compactions(
-    rt: &(impl Print + Eprint + CpuClock),
-    store: &mut Store,
-    size: u64,
-) -> anyhow::Result<()> {
-    let first = size.saturating_add(1);
-    let singles = size.min(100);
-    let current = store.current();
-    let start = spent(rt)?;
-    compact(store, first)?;
-    tell(rt, "compaction that removes nothing", size, start)?;
-    let start = spent(rt)?;
-    compact_each(store, first.saturating_add(1), singles)?;
-    tell(rt, "compaction by one revision", singles, start)?;
-    let start = spent(rt)?;
-    compact(store, current)?;
-    tell(rt, "compaction of half of the changes", 1, start)?;
-    Ok(())
+/// Pages at this revision.
+fn time_pages(rt: &HostRuntime, store: &mut Store, size: u64, revision: u64) -> anyhow::Result<()> {
+    time_page(rt, store, "from the front", 0, revision)?;
+    time_page(rt, store, "from the middle", size / 2, revision)?;
+    time_page(rt, store, "to the end", size.saturating_sub(PAGE), revision)
 }
 
-fn run_once(
-    rt: &(impl Print + Eprint + CpuClock),
-    alloc: Global,
-    size: u64,
-    stride: u64,
+/// So many compactions, each by one revision, told as what so many calls took.
+fn time_compactions(
+    rt: &HostRuntime,
+    store: &mut Store,
+    what: &str,
+    from: u64,
+    count: u64,
+    calls: u64,
 ) -> anyhow::Result<()> {
-    let mut store = open(alloc)?;
-    run_writes(rt, alloc, &mut store, size, stride)?;
+    let start = spent(rt)?;
+    compact_each(store, from, count)?;
+    Ok(tell(rt, what, calls, start)?)
+}
+
+/// The first writes supersede nothing, each of the second writes supersedes one of them.
+fn compact_all(rt: &HostRuntime, store: &mut Store, size: u64) -> anyhow::Result<()> {
+    let first = size.saturating_add(1);
+    let some = size.min(100);
     let current = store.current();
-    pages(rt, alloc, &mut store, size, current)?;
-    pages(rt, alloc, &mut store, size, size.saturating_add(1))?;
-    time_changes(rt, &mut store, size)?;
-    time_compactions(rt, &mut store, size)
+    time_compactions(rt, store, "compaction that removes nothing", first, 1, size)?;
+    let next = first.saturating_add(1);
+    time_compactions(rt, store, "compaction by one revision", next, some, some)?;
+    time_compactions(
+        rt,
+        store,
+        "compaction of half of the changes",
+        current,
+        1,
+        1,
+    )
+}
+
+fn run_once(rt: &HostRuntime, store: &mut Store, size: u64, stride: u64) -> anyhow::Result<()> {
+    let body = "0123456789abcdef".repeat(rt.alloc(), 64)?;
+    let keys = keys(rt.alloc(), size, stride)?;
+    time_writes(rt, store, "first write", &keys, &body)?;
+    time_writes(rt, store, "second write", &keys, &body)?;
+    let (some, _) = keys.split_at(keys.len().min(1_000));
+    time_gets(rt, store, some)?;
+    let current = store.current();
+    time_pages(rt, store, size, current)?;
+    time_pages(rt, store, size, size.saturating_add(1))?;
+    time_changes(rt, store, size)?;
+    compact_all(rt, store, size)
+}
+
+fn run_order(rt: &HostRuntime, size: u64, stride: u64) -> anyhow::Result<()> {
+    let mut store = Store::new(Table::open(rt.alloc())?);
+    run_once(rt, &mut store, size, stride)
 }
 
 /// Writes so many objects of 1 KB twice, reads single ones, pages at two revisions and changes, and compacts half of
 /// the changes; first with keys that ascend, and then with keys in no order.
-pub(crate) fn run(
-    rt: &(impl Print + Eprint + CpuClock),
-    alloc: Global,
-    size: u64,
-) -> anyhow::Result<()> {
-    run_once(rt, alloc, size, 1)?;
-    run_once(rt, alloc, size, STRIDE)
+pub(crate) fn run(rt: &HostRuntime, size: u64) -> anyhow::Result<()> {
+    run_order(rt, size, 1)?;
+    run_order(rt, size, STRIDE)
 }
