@@ -153,7 +153,7 @@ fn creations(rt: HostRuntime) -> Result<(), Fail> {
     let lines = r#"POST -  ,"metadata":{"name":"w1"},"spec":{"replicas":3}
 POST -  ,"metadata":{"name":"w1"},"spec":{"replicas":3}
 POST -  
-POST -  ,"metadata":{"name":"W1"}
+POST -  ,"metadata":{"name":"Web"}
 POST -  ,"metadata":{"name":"w2","resourceVersion":"2"}
 POST -  ,"metadata":{"name":"w2","resourceVersion":"02"}
 POST -  ,"metadata":{"name":"w2","namespace":"other"}
