@@ -1,100 +1,22 @@
 //! Requests and replies by their bytes, and connections over an API of widgets.
 
-use crate::given::text_of;
-use crate::hub_rows::expect_rows;
 use httpedge::{
     Decision, Head, Refusal, checked_media, path_of, query_of, read_body, read_head, reply_bytes,
 };
 use std::alloc::Global;
 use std::test::Fail;
 
-/// The text of a request's body.
-fn body_text(alloc: Global, head: &Head<'_>) -> Result<String, Fail> {
-    match read_body(alloc, head)? {
-        Decision::Accepted(Some(body)) => Ok(body.value().to_string(alloc)?),
-        _ => Err("no body".into()),
-    }
-}
-
-fn media_told<'b>(head: &Head<'b>) -> Result<&'b str, Fail> {
-    Ok(str::from_utf8(checked_media(head).ok_or("no media type")?)?)
-}
-
-/// The path, the query, the media type and the body.
-fn head_told(alloc: Global, head: &Head<'_>) -> Result<String, Fail> {
-    let path = path_of(head.request_target);
-    let query = query_of(head.request_target);
-    let media = media_told(head)?;
-    let body = body_text(alloc, head)?;
-    Ok(format!(in alloc; "{path} {query} {media} {body}")?)
-}
-
-fn request_told(alloc: Global, request: &str) -> Result<String, Fail> {
-    match read_head(request.as_bytes()) {
-        Decision::Accepted(head) => head_told(alloc, &head),
-        _ => Err("no head".into()),
-    }
-}
-
-#[test]
-fn request_is_read(rt: HostRuntime) -> Result<(), Fail> {
-    let request =
-        "\r\nDELETE /a?b=c HTTP/1.1\nHOST: x\r\ncontent-type: t/u\r\nContent-Length: 02\r\ncontent-length: 2\r\n\r\n{}more";
-    assert_eq!(rt;
-        request_told(rt.alloc(), request)?.as_str(),
-        "/a b=c t/u {}"
-    );
-    Ok(())
-}
-
-/// The code of its reason, and the reason and message with which a request is refused.
-fn refusal_told(alloc: Global, refusal: Refusal) -> Result<String, Fail> {
-    let code = refusal.reason().code();
-    let denied = refusal.denied();
-    let reason = denied.reason.text();
-    let message = denied.message;
-    let allow = denied.allow.unwrap_or("none");
-    Ok(format!(in alloc; "{code} {reason}, {message}, {allow}")?)
-}
-
-#[test]
-fn refusal_is_told(rt: HostRuntime) -> Result<(), Fail> {
-    assert_eq!(rt;
-        refusal_told(rt.alloc(), Refusal::BodyTooLarge)?.as_str(),
-        "413 RequestEntityTooLarge, body over 65536 bytes, none"
-    );
-    assert_eq!(rt; Refusal::BodyTooLarge.message(), "body over 65536 bytes");
-    Ok(())
-}
-
-fn reply_told(alloc: Global, status: u16, allow: Option<&str>, body: &str) -> Result<String, Fail> {
-    text_of(alloc, &reply_bytes(alloc, status, allow, body)?)
-}
-
-#[test]
-fn reply_is_written(rt: HostRuntime) -> Result<(), Fail> {
-    assert_eq!(rt;
-        reply_told(rt.alloc(), 405, Some("PATCH"), "{}")?.as_str(),
-        "HTTP/1.1 405 Method Not Allowed\r\nContent-Type: application/json\r\nContent-Length: 2\r\nConnection: close\r\nAllow: PATCH\r\n\r\n{}"
-    );
-    Ok(())
-}
-
-#[test]
-fn request_byte_by_byte(rt: HostRuntime) -> Result<(), Fail> {
-    let rows = r#"open 1 2 => -
+/// `hub_rows` says what the rows are, and plays them.
+pub const CONNECTIONS: &str = r#"request_byte_by_byte on widgets
+open 1 2 => -
 bytes 1 PATCH namespaces/default/widgets/w1?fieldManager=alice {"apiVersion":"demo.example/v1","kind":"Widget","metadata":{"name":"w1"},"spec":{"image":"a","replicas":3}} => HTTP/1.1 201 Created|$Content-Type: application/json|$Content-Length: 317|$Connection: close|$|${"apiVersion":"demo.example/v1","kind":"Widget","metadata":{"managedFields":[{"apiVersion":"demo.example/v1","fieldsType":"FieldsV1","fieldsV1":{"f:spec":{"f:image":{},"f:replicas":{}}},"manager":"alice","operation":"Apply"}],"name":"w1","namespace":"default","resourceVersion":"2"},"spec":{"image":"a","replicas":3}}
 stand 1 => 0 false true
 stand 2 => 0 true false
 ask 2 GET namespaces/default/widgets/w1 => -
-out 2 => HTTP/1.1 200 OK|$Content-Type: application/json|$Content-Length: 317|$Connection: close|$|${"apiVersion":"demo.example/v1","kind":"Widget","metadata":{"managedFields":[{"apiVersion":"demo.example/v1","fieldsType":"FieldsV1","fieldsV1":{"f:spec":{"f:image":{},"f:replicas":{}}},"manager":"alice","operation":"Apply"}],"name":"w1","namespace":"default","resourceVersion":"2"},"spec":{"image":"a","replicas":3}}"#;
-    expect_rows(rt.alloc(), rows)
-}
+out 2 => HTTP/1.1 200 OK|$Content-Type: application/json|$Content-Length: 317|$Connection: close|$|${"apiVersion":"demo.example/v1","kind":"Widget","metadata":{"managedFields":[{"apiVersion":"demo.example/v1","fieldsType":"FieldsV1","fieldsV1":{"f:spec":{"f:image":{},"f:replicas":{}}},"manager":"alice","operation":"Apply"}],"name":"w1","namespace":"default","resourceVersion":"2"},"spec":{"image":"a","replicas":3}}
 
-/// Of several causes the least counts.
-#[test]
-fn hub_refusals(rt: HostRuntime) -> Result<(), Fail> {
-    let rows = r#"open 5 => -
+hub_refusals on widgets: of several causes the least counts
+open 5 => -
 open 3 => IdNotAbove
 open 5 => IdNotAbove
 in 9 GET => UnknownId
@@ -113,15 +35,10 @@ compact 2 => CompactionRefused
 compact 1 => -
 gone 5 => -
 pump 5 0 => NoLines
-in 5 GET => -"#;
-    expect_rows(rt.alloc(), rows)
-}
+in 5 GET => -
 
-/// A watch is one of the open connections.
-#[test]
-fn too_many_connections(rt: HostRuntime) -> Result<(), Fail> {
-    let rows =
-        r#"ask 1 GET widgets?watch=true => HTTP/1.1 200 OK|$Content-Type: application/json|$Transfer-Encoding: chunked|$Connection: close|$|$
+too_many_connections on widgets: a watch is one of the open connections
+ask 1 GET widgets?watch=true => HTTP/1.1 200 OK|$Content-Type: application/json|$Transfer-Encoding: chunked|$Connection: close|$|$
 open 2 1024 => -
 stand 1024 => 0 true false
 open 1025 => -
@@ -133,43 +50,88 @@ in 1025 GET => -
 out 1025 => -
 gone 1 => -
 open 1027 => -
-stand 1027 => 0 true false"#;
-    expect_rows(rt.alloc(), rows)
-}
+stand 1027 => 0 true false
 
-#[test]
-fn bytes_are_taken(rt: HostRuntime) -> Result<(), Fail> {
-    let rows =
-        r#"ask 2 PATCH namespaces/default/widgets/w1?fieldManager=alice {"apiVersion":"demo.example/v1","kind":"Widget","metadata":{"name":"w1"},"spec":{"image":"a","replicas":3}} => -
+bytes_are_taken on widgets
+ask 2 PATCH namespaces/default/widgets/w1?fieldManager=alice {"apiVersion":"demo.example/v1","kind":"Widget","metadata":{"name":"w1"},"spec":{"image":"a","replicas":3}} => -
 take 2 96 => 317
 take 2 1000 => 0
 stand 2 => 0 false true
 take 3 5 => 0
 ask 4 GET namespaces/default/widgets/w2 => -
-out 4 => HTTP/1.1 404 Not Found|$Content-Type: application/json|$Content-Length: 149|$Connection: close|$|${"apiVersion":"v1","code":404,"kind":"Status","message":"widgets.demo.example \"w2\" not found","metadata":{},"reason":"NotFound","status":"Failure"}"#;
-    expect_rows(rt.alloc(), rows)
-}
+out 4 => HTTP/1.1 404 Not Found|$Content-Type: application/json|$Content-Length: 149|$Connection: close|$|${"apiVersion":"v1","code":404,"kind":"Status","message":"widgets.demo.example \"w2\" not found","metadata":{},"reason":"NotFound","status":"Failure"}
 
-/// One that goes makes room, and the next one is served.
-#[test]
-fn served_after_a_peer_has_gone(rt: HostRuntime) -> Result<(), Fail> {
-    let rows = r#"open 1 1024 => -
+served_after_a_peer_has_gone on widgets: one that goes makes room, and the next one is served
+open 1 1024 => -
 ask 1025 GET namespaces/default/widgets/w1 => -
 out 1025 => HTTP/1.1 503 Service Unavailable|$Content-Type: application/json|$Content-Length: 142|$Connection: close|$|${"apiVersion":"v1","code":503,"kind":"Status","message":"too many connections","metadata":{},"reason":"ServiceUnavailable","status":"Failure"}
 gone 1 => -
 ask 1026 GET namespaces/default/widgets/w1 => -
 out 1026 => HTTP/1.1 404 Not Found|$Content-Type: application/json|$Content-Length: 149|$Connection: close|$|${"apiVersion":"v1","code":404,"kind":"Status","message":"widgets.demo.example \"w1\" not found","metadata":{},"reason":"NotFound","status":"Failure"}
-stand 1026 => 0 false true"#;
-    expect_rows(rt.alloc(), rows)
-}
+stand 1026 => 0 false true
 
-/// A request that isn't whole keeps nobody waiting.
-#[test]
-fn nobody_waits_for_another(rt: HostRuntime) -> Result<(), Fail> {
-    let rows = r#"open 1 => -
+nobody_waits_for_another on widgets: a request that isn't whole keeps nobody waiting
+open 1 => -
 in 1 PATCH /apis/demo => -
 ask 2 GET namespaces/default/widgets/w1 => -
 out 2 => HTTP/1.1 404 Not Found|$Content-Type: application/json|$Content-Length: 149|$Connection: close|$|${"apiVersion":"v1","code":404,"kind":"Status","message":"widgets.demo.example \"w1\" not found","metadata":{},"reason":"NotFound","status":"Failure"}
 stand 1 => 0 true false"#;
-    expect_rows(rt.alloc(), rows)
+
+/// The path, the query, the media type and the body.
+fn head_told(alloc: Global, head: &Head<'_>) -> Result<String, Fail> {
+    let path = path_of(head.request_target);
+    let query = query_of(head.request_target);
+    let media = str::from_utf8(checked_media(head).ok_or("no media type")?)?;
+    match read_body(alloc, head)? {
+        Decision::Accepted(Some(body)) => {
+            let body = body.value().to_string(alloc)?;
+            Ok(format!(in alloc; "{path} {query} {media} {body}")?)
+        }
+        _ => Err("no body".into()),
+    }
+}
+
+fn request_told(alloc: Global, request: &str) -> Result<String, Fail> {
+    match read_head(request.as_bytes()) {
+        Decision::Accepted(head) => head_told(alloc, &head),
+        _ => Err("no head".into()),
+    }
+}
+
+/// The code of its reason, and the reason and message with which a request is refused.
+fn refusal_told(alloc: Global, refusal: Refusal) -> Result<String, Fail> {
+    let code = refusal.reason().code();
+    let denied = refusal.denied();
+    let reason = denied.reason.text();
+    let allow = denied.allow.unwrap_or("none");
+    if denied.message != refusal.message() {
+        return Err("another message".into());
+    }
+    let message = denied.message;
+    Ok(format!(in alloc; "{code} {reason}, {message}, {allow}")?)
+}
+
+fn expect(text: String, wanted: &str) -> Result<(), Fail> {
+    if text.as_str() == wanted {
+        return Ok(());
+    }
+    Err(Fail::new(text))
+}
+
+/// A request is read, a refusal is told, a reply is written.
+#[test]
+fn parts_of_requests_and_replies(rt: HostRuntime) -> Result<(), Fail> {
+    let alloc = rt.alloc();
+    let request =
+        "\r\nDELETE /a?b=c HTTP/1.1\nHOST: x\r\ncontent-type: t/u\r\nContent-Length: 02\r\ncontent-length: 2\r\n\r\n{}more";
+    expect(request_told(alloc, request)?, "/a b=c t/u {}")?;
+    expect(
+        refusal_told(alloc, Refusal::BodyTooLarge)?,
+        "413 RequestEntityTooLarge, body over 65536 bytes, none",
+    )?;
+    let reply = reply_bytes(alloc, 405, Some("PATCH"), "{}")?;
+    expect(
+        String::from_str(alloc, str::from_utf8(&reply)?)?,
+        "HTTP/1.1 405 Method Not Allowed\r\nContent-Type: application/json\r\nContent-Length: 2\r\nConnection: close\r\nAllow: PATCH\r\n\r\n{}",
+    )
 }

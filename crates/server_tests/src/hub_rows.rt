@@ -1,4 +1,6 @@
-//! Rows that are played on a fresh hub of widgets, one a line: `STEP => ANSWER`.
+//! Examples, each of which is played on a hub of its own: a line `NAME on WHAT: WHY`, and rows `STEP => ANSWER` up to the
+//! next blank line. WHAT is `widgets`, `ports` (widgets with a list of ports) or `the last revision` (widgets, where one
+//! revision is left); `: WHY` may be absent.
 //!
 //! | step | what happens |
 //! |---|---|
@@ -6,126 +8,123 @@
 //! | `ask K METHOD TARGET BODY` | a request comes in one piece on K, which opens unless it waits |
 //! | `bytes K METHOD TARGET BODY` | it comes byte by byte, and nothing is written before the last |
 //! | `in K TEXT`, `gone K`, `pump K N`, `tick MS`, `compact C` | the event |
+//! | `told K METHOD TARGET BODY`, `got K METHOD TARGET BODY` | as `ask`; nothing without METHOD TARGET BODY |
 //! | `out K` | nothing: the bytes that are out on K are taken |
 //! | `take K N` | the next N of them are taken: how many are left |
 //! | `stand K` | nothing: how many are out, whether K waits, whether it has ended |
 //!
-//! The answer of an event is why the hub refuses it, or the bytes that then are out on connection 1, which are taken. A
-//! carriage return is shown as `|`, a line feed as `$`, nothing as `-`.
+//! The answer of an event is why the hub refuses it, or the bytes that then are out on connection 1, which are taken. Of
+//! `told` it is the status and the message of the reply on K, or else the version of its object; of `got` the status and
+//! the body. In requests and replies a carriage return is shown as `|`, a line feed as `$`; where nothing is out it is `-`.
+//!
+//! Each level of calls is as expensive to prove as a function or two, so there are few.
 
-use crate::given::{WIDGET_TYPES, media_of, text_of, types_of};
+use crate::connections::CONNECTIONS;
+use crate::given::{PORT_TYPES, WIDGET_TYPES};
+use crate::list_rows::LISTS;
+use crate::single_objects::SINGLE_OBJECTS;
+use crate::watch_rows::WATCHES;
 use httpedge::{Event, Hub, HubFault};
+use schema::Types;
+use serde_json::Value;
 use std::alloc::Global;
+use std::mem;
 use std::test::Fail;
 use verbs::Api;
 use wireclient::request_bytes;
 
-/// The test fails where rows are answered otherwise, and shows those as they are answered.
-pub fn expect_rows(alloc: Global, rows: &str) -> Result<(), Fail> {
-    let text = answered_otherwise(alloc, rows)?;
-    if text.is_empty() {
-        Ok(())
-    } else {
-        Err(Fail::new(text))
-    }
-}
-
-fn answered_otherwise(alloc: Global, rows: &str) -> Result<String, Fail> {
-    let api = Api::new(alloc, types_of(alloc, WIDGET_TYPES)?)?;
-    let mut hub = Hub::new(alloc, api);
-    all_otherwise(alloc, &mut hub, rows)
-}
-
-/// The rows that a hub answers otherwise, as it answers them.
-fn all_otherwise(alloc: Global, hub: &mut Hub, rows: &str) -> Result<String, Fail> {
-    let mut text = String::new(alloc);
-    for row in rows.lines() {
-        push_otherwise(alloc, &mut text, hub, row)?;
-    }
-    Ok(text)
-}
-
-fn push_otherwise(alloc: Global, text: &mut String, hub: &mut Hub, row: &str) -> Result<(), Fail> {
-    let (step, wanted) = row.split_once(" => ").ok_or("no answer is wanted")?;
-    let answer = answer_to(alloc, hub, step)?;
-    if answer.as_str() != wanted {
-        text.push_str(step)?;
-        text.push_str(" => ")?;
-        text.push_str(answer.as_str())?;
-        text.push_str("\n")?;
-    }
-    Ok(())
-}
-
-fn answer_to(alloc: Global, hub: &mut Hub, step: &str) -> Result<String, Fail> {
-    let (word, rest) = first_word(step);
-    match word {
-        "ask" => asked(alloc, hub, rest),
-        "bytes" => asked_by_bytes(alloc, hub, rest),
-        "out" => taken_out(alloc, hub, number(rest)?),
-        "take" => taken(alloc, hub, rest),
-        "stand" => standing(alloc, hub, number(rest)?),
-        "open" => opened(alloc, hub, rest),
-        _ => handed(alloc, hub, &event_of(alloc, word, rest)?),
-    }
-}
-
 /// A text up to its first blank, and what is behind it.
-fn first_word(text: &str) -> (&str, &str) {
+pub fn first_word(text: &str) -> (&str, &str) {
     text.split_once(' ').unwrap_or((text, ""))
 }
 
-fn number(text: &str) -> Result<u64, Fail> {
-    Ok(text.parse::<u64>().ok().ok_or("no number")?)
+/// The bytes that a text in one line shows.
+pub fn bytes_of(alloc: Global, text: &str) -> Result<Vec<u8>, Fail> {
+    let text = text.replace(alloc, '|', "\r")?;
+    let text = text.as_str().replace(alloc, '$', "\n")?;
+    Ok(Vec::from_slice(alloc, text.as_bytes())?)
 }
 
-/// The event of a step.
-fn event_of(alloc: Global, word: &str, rest: &str) -> Result<Event, Fail> {
-    let (first, second) = first_word(rest);
-    let first = number(first)?;
-    match word {
-        "in" => Ok(Event::In(first, Vec::from_slice(alloc, second.as_bytes())?)),
-        "gone" => Ok(Event::Gone(first)),
-        "pump" => Ok(Event::Pump(first, number(second)?)),
-        "tick" => Ok(Event::Tick(first)),
-        "compact" => Ok(Event::Compact(first)),
-        _ => Err("no step".into()),
-    }
+/// The bytes of a request of `METHOD TARGET BODY`; the target stands behind the path of the version.
+fn request_of(alloc: Global, line: &str) -> Result<Vec<u8>, Fail> {
+    let (method, line) = line.split_once(' ').ok_or("no target")?;
+    let (target, body) = line.split_once(' ').unwrap_or((line, ""));
+    let target = format!(in alloc; "/apis/demo.example/v1/{target}")?;
+    let media = match method {
+        "PATCH" => "application/apply-patch+yaml",
+        _ => "application/json",
+    };
+    let content = (media, body.as_bytes());
+    Ok(request_bytes(alloc, method, target.as_str(), Some(content))?)
 }
 
 fn on(hub: &mut Hub, event: &Event) -> Result<(), HubFault> {
     hub.on(event)
 }
 
-/// Hands an event to the hub.
-fn handed(alloc: Global, hub: &mut Hub, event: &Event) -> Result<String, Fail> {
-    match on(hub, event) {
-        Ok(()) => taken_out(alloc, hub, 1),
-        Err(fault) => Ok(format!(in alloc; "{fault:?}")?),
+/// What the hub says to the event of a step. Where a request comes, its connection opens before; that is refused, and
+/// changes nothing, where it waits.
+fn handed(
+    alloc: Global,
+    hub: &mut Hub,
+    word: &str,
+    id: u64,
+    rest: &str,
+) -> Result<Result<(), HubFault>, Fail> {
+    let event = match word {
+        "open" => Event::Open(id),
+        "in" => Event::In(id, bytes_of(alloc, rest)?),
+        "gone" => Event::Gone(id),
+        "pump" => Event::Pump(id, rest.parse::<u64>().ok().ok_or("no number")?),
+        "tick" => Event::Tick(id),
+        "compact" => Event::Compact(id),
+        "ask" | "told" | "got" => {
+            let _ = on(hub, &Event::Open(id));
+            Event::In(id, request_of(alloc, rest)?)
+        }
+        _ => return Err("no step".into()),
+    };
+    Ok(on(hub, &event))
+}
+
+/// Opens each connection from one to another.
+fn open_all(hub: &mut Hub, first: u64, last: u64) -> Result<(), HubFault> {
+    for id in first..=last {
+        on(hub, &Event::Open(id))?;
     }
+    Ok(())
 }
 
-/// The bytes that are out on a connection; they are taken.
-fn taken_out(alloc: Global, hub: &mut Hub, id: u64) -> Result<String, Fail> {
-    let text = shown(alloc, hub.out(id))?;
+/// The next byte comes on a connection, on which nothing was written yet.
+fn comes_next(alloc: Global, hub: &mut Hub, id: u64, byte: u8) -> Result<(), Fail> {
+    if !hub.wants(id) || !hub.out(id).is_empty() {
+        return Err("written too early".into());
+    }
+    Ok(on(hub, &Event::In(id, Vec::from_slice(alloc, &[byte])?))?)
+}
+
+/// A request comes byte by byte.
+fn comes_by_bytes(alloc: Global, hub: &mut Hub, id: u64, line: &str) -> Result<(), Fail> {
+    let _ = on(hub, &Event::Open(id));
+    let bytes = request_of(alloc, line)?;
+    for byte in &bytes {
+        comes_next(alloc, hub, id, *byte)?;
+    }
+    Ok(())
+}
+
+/// The bytes that are out on a connection, in one line; they are taken.
+fn shown(alloc: Global, hub: &mut Hub, id: u64) -> Result<String, Fail> {
+    let text = str::from_utf8(hub.out(id))?.replace(alloc, '\r', "|")?;
     hub.take(id, usize::MAX);
-    Ok(text)
-}
-
-/// Bytes in one line.
-fn shown(alloc: Global, bytes: &[u8]) -> Result<String, Fail> {
-    if bytes.is_empty() {
+    if text.is_empty() {
         return Ok(String::from_str(alloc, "-")?);
     }
-    let text = text_of(alloc, bytes)?;
-    let text = text.as_str().replace(alloc, '\r', "|")?;
     Ok(text.as_str().replace(alloc, '\n', "$")?)
 }
 
-/// Takes bytes that are out on a connection.
-fn taken(alloc: Global, hub: &mut Hub, rest: &str) -> Result<String, Fail> {
-    let (id, count) = first_word(rest);
-    let id = number(id)?;
+/// Takes bytes that are out on a connection: how many are left.
+fn taken(alloc: Global, hub: &mut Hub, id: u64, count: &str) -> Result<String, Fail> {
     hub.take(id, count.parse::<usize>().ok().ok_or("no number")?);
     let left = hub.out(id).len();
     Ok(format!(in alloc; "{left}")?)
@@ -138,63 +137,110 @@ fn standing(alloc: Global, hub: &Hub, id: u64) -> Result<String, Fail> {
     Ok(format!(in alloc; "{length} {wants} {has_ended}")?)
 }
 
-/// Opens a connection, or each from one to another, up to the first that is refused.
-fn opened(alloc: Global, hub: &mut Hub, rest: &str) -> Result<String, Fail> {
-    let (first, last) = first_word(rest);
-    let first = number(first)?;
-    if last.is_empty() {
-        return handed(alloc, hub, &Event::Open(first));
-    }
-    for id in first..number(last)? {
-        on(hub, &Event::Open(id))?;
-    }
-    handed(alloc, hub, &Event::Open(number(last)?))
+/// What stands between two texts, behind the last of the first.
+fn between<'a>(text: &'a str, before: &str, after: &str) -> Option<&'a str> {
+    let (_, rest) = text.rsplit_once(before)?;
+    let (found, _) = rest.split_once(after)?;
+    Some(found)
 }
 
-/// The bytes of a request of `METHOD TARGET BODY`; the target stands behind the path of the version.
-fn request_of(alloc: Global, line: &str) -> Result<Vec<u8>, Fail> {
-    let (method, line) = first_word(line);
-    let (target, body) = first_word(line);
-    let target = format!(in alloc; "/apis/demo.example/v1/{target}")?;
-    let content = (media_of(method), body.as_bytes());
-    Ok(request_bytes(alloc, method, target.as_str(), Some(content))?)
+/// The status of a reply in one line, and its body, or else the words that it tells.
+fn told(alloc: Global, reply: &str, is_whole: bool) -> Result<String, Fail> {
+    let (head, body) = reply.split_once("|$|$").ok_or("no reply")?;
+    let status = between(head, "HTTP/1.1 ", " ").ok_or("no status")?;
+    let message = between(body, "\"message\":\"", "\",\"metadata\":");
+    let version = between(body, "\"resourceVersion\":\"", "\"");
+    let words = message.or(version).unwrap_or("");
+    let words = if is_whole { body } else { words };
+    Ok(format!(in alloc; "{status} {words}")?)
 }
 
-fn open_unless_waiting(hub: &mut Hub, id: u64) -> Result<(), Fail> {
-    if !hub.wants(id) {
-        on(hub, &Event::Open(id))?;
+fn answer_to(alloc: Global, hub: &mut Hub, step: &str) -> Result<String, Fail> {
+    let (word, rest) = first_word(step);
+    let (first, rest) = first_word(rest);
+    let id = first.parse::<u64>().ok().ok_or("no number")?;
+    match word {
+        "out" => return shown(alloc, hub, id),
+        "take" => return taken(alloc, hub, id, rest),
+        "stand" => return standing(alloc, hub, id),
+        "bytes" => comes_by_bytes(alloc, hub, id, rest)?,
+        "open" if !rest.is_empty() => {
+            open_all(hub, id, rest.parse::<u64>().ok().ok_or("no number")?)?;
+        }
+        "told" | "got" if rest.is_empty() => {}
+        _ => {
+            if let Err(fault) = handed(alloc, hub, word, id, rest)? {
+                return Ok(format!(in alloc; "{fault:?}")?);
+            }
+        }
+    }
+    match word {
+        "told" | "got" => told(alloc, shown(alloc, hub, id)?.as_str(), word == "got"),
+        _ => shown(alloc, hub, 1),
+    }
+}
+
+/// Plays the rows of an example; the first that is answered otherwise fails, and is shown as it is answered.
+fn play_rows(alloc: Global, hub: &mut Hub, heading: &str, rows: &str) -> Result<(), Fail> {
+    for row in rows.lines() {
+        let (step, wanted) = row.split_once(" => ").ok_or("no answer is wanted")?;
+        let answer = answer_to(alloc, hub, step)?;
+        if answer.as_str() != wanted {
+            return Err(Fail::new(format!(in alloc; "{heading}\n{step} => {answer}")?));
+        }
     }
     Ok(())
 }
 
-/// A request comes in one piece.
-fn asked(alloc: Global, hub: &mut Hub, rest: &str) -> Result<String, Fail> {
-    let (id, line) = first_word(rest);
-    let id = number(id)?;
-    open_unless_waiting(hub, id)?;
-    handed(alloc, hub, &Event::In(id, request_of(alloc, line)?))
-}
-
-/// The next byte comes on a connection, on which nothing was written yet.
-fn comes_next(alloc: Global, hub: &mut Hub, id: u64, byte: u8) -> Result<(), Fail> {
-    if !hub.wants(id) || !hub.out(id).is_empty() {
-        return Err("written too early".into());
+/// The API without objects that an example begins from.
+fn api_of(alloc: Global, heading: &str) -> Result<Api, Fail> {
+    let (heading, _) = heading.split_once(": ").unwrap_or((heading, ""));
+    let has_ports = heading.ends_with(" on ports");
+    let text = if has_ports { PORT_TYPES } else { WIDGET_TYPES };
+    let types = Types::read(alloc, &Value::from_str(alloc, text)?)?;
+    if heading.ends_with(" on the last revision") {
+        return Ok(Api::new_at(alloc, types, 9_223_372_036_854_775_806)?);
     }
-    Ok(on(hub, &Event::In(id, Vec::from_slice(alloc, &[byte])?))?)
+    Ok(Api::new(alloc, types)?)
 }
 
-fn comes_by_bytes(alloc: Global, hub: &mut Hub, id: u64, bytes: &[u8]) -> Result<(), Fail> {
-    for byte in bytes {
-        comes_next(alloc, hub, id, *byte)?;
+/// Plays an example. The hub is not dropped, and no other function holds one: one that drops a hub takes a minute to prove.
+fn play(alloc: Global, example: &str) -> Result<(), Fail> {
+    let (heading, rows) = example.split_once('\n').ok_or("no rows")?;
+    let mut hub = Hub::new(alloc, api_of(alloc, heading)?);
+    let played = play_rows(alloc, &mut hub, heading, rows);
+    mem::forget(hub);
+    played
+}
+
+#[test]
+fn single_objects(rt: HostRuntime) -> Result<(), Fail> {
+    for example in SINGLE_OBJECTS.split("\n\n") {
+        play(rt.alloc(), example)?;
     }
     Ok(())
 }
 
-/// A request comes byte by byte.
-fn asked_by_bytes(alloc: Global, hub: &mut Hub, rest: &str) -> Result<String, Fail> {
-    let (id, line) = first_word(rest);
-    let id = number(id)?;
-    open_unless_waiting(hub, id)?;
-    comes_by_bytes(alloc, hub, id, &request_of(alloc, line)?)?;
-    taken_out(alloc, hub, 1)
+#[test]
+fn lists(rt: HostRuntime) -> Result<(), Fail> {
+    for example in LISTS.split("\n\n") {
+        play(rt.alloc(), example)?;
+    }
+    Ok(())
+}
+
+#[test]
+fn watches(rt: HostRuntime) -> Result<(), Fail> {
+    for example in WATCHES.split("\n\n") {
+        play(rt.alloc(), example)?;
+    }
+    Ok(())
+}
+
+#[test]
+fn connections(rt: HostRuntime) -> Result<(), Fail> {
+    for example in CONNECTIONS.split("\n\n") {
+        play(rt.alloc(), example)?;
+    }
+    Ok(())
 }

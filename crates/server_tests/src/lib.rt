@@ -1,12 +1,9 @@
 //! Tests of calls on objects, of the server's side of the wire and of the programs, by public calls alone.
 //!
-//! Each call stands in a helper with no clause, so that a test carries few facts.
+//! Each call stands in a helper with no clause, so that a test carries few facts. All that is done to hubs are rows of text
+//! that one function plays (`hub_rows`): they cost the prover nothing, and each function some seconds.
 #![tactic(auto)]
 
-#[cfg(test)]
-mod apis;
-#[cfg(test)]
-mod calls;
 #[cfg(test)]
 mod connections;
 #[cfg(test)]
@@ -19,8 +16,6 @@ mod list_rows;
 mod recording;
 #[cfg(test)]
 mod replays;
-#[cfg(test)]
-mod scripts;
 #[cfg(test)]
 mod single_objects;
 #[cfg(test)]

@@ -1,6 +1,5 @@
 //! A runtime that keeps what a program prints.
 
-use crate::given::text_of;
 use std::alloc::{Allocator, Global};
 use std::cell::RefCell;
 use std::fmt::Display;
@@ -14,52 +13,34 @@ use std::test::Fail;
 #[derive(Drop)]
 pub struct Recording<'a> {
     rt: &'a HostRuntime,
-    output: RefCell<Vec<u8>>,
-    errors: RefCell<Vec<u8>>,
-}
-
-/// Puts bytes behind those that are kept.
-fn keep(kept: &RefCell<Vec<u8>>, bytes: &[u8]) -> io::Result<()> {
-    match kept.try_borrow_mut() {
-        Ok(mut kept) => Ok(kept.extend_from_slice(bytes)?),
-        Err(_) => Err(io::Error::from(ErrorKind::ResourceBusy)),
-    }
-}
-
-fn keep_shown<D: Display + Drop>(
-    alloc: Global,
-    kept: &RefCell<Vec<u8>>,
-    value: D,
-    end: &str,
-) -> io::Result<()> {
-    let text = format!(in alloc; "{value}{end}")?;
-    keep(kept, text.as_bytes())
-}
-
-fn text_in(alloc: Global, kept: &RefCell<Vec<u8>>) -> Result<String, Fail> {
-    match kept.try_borrow() {
-        Ok(kept) => text_of(alloc, &kept),
-        Err(_) => Err("in use".into()),
-    }
+    printed: RefCell<Vec<u8>>,
+    /// Whether nothing can be printed on the standard output.
+    is_full: bool,
 }
 
 impl<'a> Recording<'a> {
-    pub fn new(rt: &'a HostRuntime) -> Recording<'a> {
+    pub fn new(rt: &'a HostRuntime, is_full: bool) -> Recording<'a> {
         Recording {
             rt,
-            output: RefCell::new(Vec::new(rt.alloc())),
-            errors: RefCell::new(Vec::new(rt.alloc())),
+            printed: RefCell::new(Vec::new(rt.alloc())),
+            is_full,
         }
     }
 
-    /// What was printed on the standard output.
-    pub fn output(&self) -> Result<String, Fail> {
-        text_in(self.rt.alloc(), &self.output)
+    /// Puts bytes behind what was printed.
+    fn keep(&self, bytes: &[u8]) -> io::Result<()> {
+        match self.printed.try_borrow_mut() {
+            Ok(mut printed) => Ok(printed.extend_from_slice(bytes)?),
+            Err(_) => Err(io::Error::from(ErrorKind::ResourceBusy)),
+        }
     }
 
-    /// What was printed on the standard error.
-    pub fn errors(&self) -> Result<String, Fail> {
-        text_in(self.rt.alloc(), &self.errors)
+    /// What was printed; what went to the standard error has a `!` before it.
+    pub fn printed(&self) -> Result<Vec<u8>, Fail> {
+        match self.printed.try_borrow() {
+            Ok(printed) => Ok(Vec::from_slice(self.rt.alloc(), &printed)?),
+            Err(_) => Err("in use".into()),
+        }
     }
 }
 
@@ -73,25 +54,32 @@ impl Alloc for Recording<'_> {
 
 impl Print for Recording<'_> {
     fn print<D: Display + Drop>(&self, value: D) -> io::Result<()> {
-        keep_shown(self.rt.alloc(), &self.output, value, "")
+        let text = format!(in self.rt.alloc(); "{value}")?;
+        self.write_all(text.as_bytes())
     }
 
     fn println<D: Display + Drop>(&self, value: D) -> io::Result<()> {
-        keep_shown(self.rt.alloc(), &self.output, value, "\n")
+        let text = format!(in self.rt.alloc(); "{value}\n")?;
+        self.write_all(text.as_bytes())
     }
 
     fn write_all(&self, bytes: &[u8]) -> io::Result<()> {
-        keep(&self.output, bytes)
+        if self.is_full {
+            return Err(io::Error::from(ErrorKind::BrokenPipe));
+        }
+        self.keep(bytes)
     }
 }
 
 impl Eprint for Recording<'_> {
     fn eprint<D: Display + Drop>(&self, value: D) -> io::Result<()> {
-        keep_shown(self.rt.alloc(), &self.errors, value, "")
+        let text = format!(in self.rt.alloc(); "!{value}")?;
+        self.keep(text.as_bytes())
     }
 
     fn eprintln<D: Display + Drop>(&self, value: D) -> io::Result<()> {
-        keep_shown(self.rt.alloc(), &self.errors, value, "\n")
+        let text = format!(in self.rt.alloc(); "!{value}\n")?;
+        self.keep(text.as_bytes())
     }
 }
 

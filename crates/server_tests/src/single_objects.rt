@@ -1,201 +1,82 @@
-//! Single objects: got, created, updated, applied and deleted, with the replies of the worked examples.
+//! Single objects: got, created, updated, applied and deleted, and what is refused in which order, with the replies of the worked
+//! examples.
 
-use crate::apis::{Given, Rows, answers};
-use crate::given::media_of;
-use serde_json::Value;
-use std::alloc::Global;
-use std::test::Fail;
-use verbs::{Answer, Api, Body, Call, Target};
+/// `hub_rows` says what the rows are, and plays them.
+pub const SINGLE_OBJECTS: &str = r#"update_and_version on widgets
+got 1 PATCH namespaces/default/widgets/w1?fieldManager=bob {"apiVersion":"demo.example/v1","kind":"Widget","spec":{"image":"a","replicas":5}} => 201 {"apiVersion":"demo.example/v1","kind":"Widget","metadata":{"managedFields":[{"apiVersion":"demo.example/v1","fieldsType":"FieldsV1","fieldsV1":{"f:spec":{"f:image":{},"f:replicas":{}}},"manager":"bob","operation":"Apply"}],"name":"w1","namespace":"default","resourceVersion":"2"},"spec":{"image":"a","replicas":5}}
+told 2 PUT namespaces/default/widgets/w1?fieldManager=dave {"apiVersion":"demo.example/v1","kind":"Widget","metadata":{"resourceVersion":"1"},"spec":{"image":"a","replicas":5}} => 409 version 1 is not the stored one, 2
+got 3 PUT namespaces/default/widgets/w1?fieldManager=dave {"apiVersion":"demo.example/v1","kind":"Widget","metadata":{"resourceVersion":"2"},"spec":{"image":"a","replicas":5}} => 200 {"apiVersion":"demo.example/v1","kind":"Widget","metadata":{"managedFields":[{"apiVersion":"demo.example/v1","fieldsType":"FieldsV1","fieldsV1":{"f:spec":{"f:image":{},"f:replicas":{}}},"manager":"bob","operation":"Apply"}],"name":"w1","namespace":"default","resourceVersion":"2"},"spec":{"image":"a","replicas":5}}
+got 4 PUT namespaces/default/widgets/w1 {"apiVersion":"demo.example/v1","kind":"Widget","spec":{"image":"b","replicas":5}} => 200 {"apiVersion":"demo.example/v1","kind":"Widget","metadata":{"managedFields":[{"apiVersion":"demo.example/v1","fieldsType":"FieldsV1","fieldsV1":{"f:spec":{"f:replicas":{}}},"manager":"bob","operation":"Apply"},{"apiVersion":"demo.example/v1","fieldsType":"FieldsV1","fieldsV1":{"f:spec":{"f:image":{}}},"manager":"unknown","operation":"Update"}],"name":"w1","namespace":"default","resourceVersion":"3"},"spec":{"image":"b","replicas":5}}
+told 5 PUT namespaces/default/widgets/w2?fieldManager=dave {"apiVersion":"demo.example/v1","kind":"Widget","spec":{"image":"a"}} => 404 widgets.demo.example \"w2\" not found
 
-/// What `METHOD` of a name asks, or of the collection, where the name is `-`.
-fn admitted(alloc: Global, api: &Api, method: &str, name: &str) -> Result<Target, Fail> {
-    let mut path = String::from_str(alloc, "/apis/demo.example/v1/namespaces/default/widgets")?;
-    if name != "-" {
-        path.push_str("/")?;
-        path.push_str(name)?;
-    }
-    Ok(api.admit(method, path.as_str(), Some(media_of(method).as_bytes()))?)
-}
+item_kept_for_other_owner_of_an_update on ports
+ask 2 PATCH namespaces/default/widgets/w1?fieldManager=alice {"apiVersion":"demo.example/v1","kind":"Widget","spec":{"ports":[{"name":"web","port":80}]}} => -
+ask 3 PUT namespaces/default/widgets/w1?fieldManager=carol {"apiVersion":"demo.example/v1","kind":"Widget","spec":{"ports":[{"name":"web","note":"x","port":80}]}} => -
+got 4 PATCH namespaces/default/widgets/w1?fieldManager=alice {"apiVersion":"demo.example/v1","kind":"Widget"} => 200 {"apiVersion":"demo.example/v1","kind":"Widget","metadata":{"managedFields":[{"apiVersion":"demo.example/v1","fieldsType":"FieldsV1","fieldsV1":{"f:spec":{"f:ports":{"k:{\"name\":\"web\"}":{"f:note":{}}}}},"manager":"carol","operation":"Update"}],"name":"w1","namespace":"default","resourceVersion":"4"},"spec":{"ports":[{"name":"web","note":"x"}]}}
 
-/// The body of a write; `rest` stands behind its envelope.
-fn enveloped(alloc: Global, rest: &str) -> Result<Body, Fail> {
-    let text = format!(in alloc;
-        "{{\"apiVersion\":\"demo.example/v1\",\"kind\":\"Widget\"{rest}}}"
-    )?;
-    Ok(Body::read(alloc, text.as_bytes())?)
-}
+delete_with_precondition on widgets
+got 1 PATCH namespaces/default/widgets/w1?fieldManager=a {"apiVersion":"demo.example/v1","kind":"Widget"} => 201 {"apiVersion":"demo.example/v1","kind":"Widget","metadata":{"name":"w1","namespace":"default","resourceVersion":"2"}}
+told 2 DELETE namespaces/default/widgets/w1 {"preconditions":{"resourceVersion":"1"}} => 409 version 1 is not the stored one, 2
+told 3 DELETE namespaces/default/widgets/w1?dryRun=All {"preconditions":{"resourceVersion":"2"}} => 400 bad parameter: dryRun
+told 4 DELETE namespaces/default/widgets/w1 {"preconditions":{"uid":"x"}} => 400 bad delete options
+told 5 DELETE namespaces/default/widgets/w1 {"dryRun":["All"]} => 400 bad delete options
+told 6 DELETE namespaces/default/widgets/w1 [] => 400 bad delete options
+told 7 DELETE namespaces/default/widgets/w1 {"preconditions":""} => 400 bad delete options
+got 8 DELETE namespaces/default/widgets/w1 {"preconditions":{"resourceVersion":"2"},"dryRun":[],"propagationPolicy":"Orphan"} => 200 {"apiVersion":"demo.example/v1","kind":"Widget","metadata":{"name":"w1","namespace":"default","resourceVersion":"3"}}
+told 9 GET namespaces/default/widgets/w1 => 404 widgets.demo.example \"w1\" not found
+told 10 DELETE namespaces/default/widgets/w1 => 404 widgets.demo.example \"w1\" not found
+told 11 PUT namespaces/default/widgets/w1 {"apiVersion":"demo.example/v1","kind":"Widget"} => 404 widgets.demo.example \"w1\" not found
 
-/// A deletion's body stands as it is; without one it is absent.
-fn body_of(alloc: Global, method: &str, rest: &str) -> Result<Option<Body>, Fail> {
-    if method == "GET" || (method == "DELETE" && rest.is_empty()) {
-        return Ok(None);
-    }
-    if method == "DELETE" {
-        return Ok(Some(Body::read(alloc, rest.as_bytes())?));
-    }
-    Ok(Some(enveloped(alloc, rest)?))
-}
+creations on widgets
+got 1 POST namespaces/default/widgets {"apiVersion":"demo.example/v1","kind":"Widget","metadata":{"name":"w1"},"spec":{"replicas":3}} => 201 {"apiVersion":"demo.example/v1","kind":"Widget","metadata":{"managedFields":[{"apiVersion":"demo.example/v1","fieldsType":"FieldsV1","fieldsV1":{"f:spec":{"f:replicas":{}}},"manager":"unknown","operation":"Update"}],"name":"w1","namespace":"default","resourceVersion":"2"},"spec":{"replicas":3}}
+told 2 POST namespaces/default/widgets {"apiVersion":"demo.example/v1","kind":"Widget","metadata":{"name":"w1"},"spec":{"replicas":3}} => 409 widgets.demo.example \"w1\" already exists
+told 3 POST namespaces/default/widgets {"apiVersion":"demo.example/v1","kind":"Widget"} => 422 metadata.name: required
+told 4 POST namespaces/default/widgets {"apiVersion":"demo.example/v1","kind":"Widget","metadata":{"name":"Web"}} => 422 metadata.name: bad name
+told 5 POST namespaces/default/widgets {"apiVersion":"demo.example/v1","kind":"Widget","metadata":{"name":"w2","resourceVersion":"2"}} => 400 metadata.resourceVersion must not be set
+told 6 POST namespaces/default/widgets {"apiVersion":"demo.example/v1","kind":"Widget","metadata":{"name":"w2","resourceVersion":"02"}} => 400 metadata.resourceVersion: bad version
+told 7 POST namespaces/default/widgets {"apiVersion":"demo.example/v1","kind":"Widget","metadata":{"name":"w2","namespace":"other"}} => 400 metadata.namespace must be default
+got 8 POST namespaces/default/widgets?force=yes {"apiVersion":"demo.example/v1","kind":"Widget","metadata":{"name":"w2","managedFields":3}} => 201 {"apiVersion":"demo.example/v1","kind":"Widget","metadata":{"name":"w2","namespace":"default","resourceVersion":"3"}}
+got 9 GET namespaces/default/widgets/w1?resourceVersion=3 => 200 {"apiVersion":"demo.example/v1","kind":"Widget","metadata":{"managedFields":[{"apiVersion":"demo.example/v1","fieldsType":"FieldsV1","fieldsV1":{"f:spec":{"f:replicas":{}}},"manager":"unknown","operation":"Update"}],"name":"w1","namespace":"default","resourceVersion":"2"},"spec":{"replicas":3}}
+told 10 GET namespaces/default/widgets/w1?resourceVersion=4 => 504 Too large resource version: 4, current: 3
+told 11 GET namespaces/default/widgets/w3?resourceVersion=4 => 404 widgets.demo.example \"w3\" not found
+told 12 GET namespaces/default/widgets/w1?resourceVersion=x => 400 bad parameter: resourceVersion
 
-/// A line of `METHOD NAME QUERY REST`.
-pub fn call_of(alloc: Global, api: &Api, line: &str) -> Result<Call, Fail> {
-    let (method, line) = line.split_once(' ').ok_or("no method")?;
-    let (name, line) = line.split_once(' ').ok_or("no name")?;
-    let (query, rest) = line.split_once(' ').ok_or("no query")?;
-    Ok(Call {
-        target: admitted(alloc, api, method, name)?,
-        query: Vec::from_slice(alloc, query.as_bytes())?,
-        body: body_of(alloc, method, rest)?,
-    })
-}
+the_last_revision on the last revision
+got 1 POST namespaces/default/widgets {"apiVersion":"demo.example/v1","kind":"Widget","metadata":{"name":"w1"}} => 201 {"apiVersion":"demo.example/v1","kind":"Widget","metadata":{"name":"w1","namespace":"default","resourceVersion":"9223372036854775807"}}
+got 2 PUT namespaces/default/widgets/w1 {"apiVersion":"demo.example/v1","kind":"Widget","spec":{}} => 200 {"apiVersion":"demo.example/v1","kind":"Widget","metadata":{"name":"w1","namespace":"default","resourceVersion":"9223372036854775807"}}
+told 3 PUT namespaces/default/widgets/w1 {"apiVersion":"demo.example/v1","kind":"Widget","spec":{"replicas":1}} => 503 revisions are used up
+told 4 DELETE namespaces/default/widgets/w1 => 503 revisions are used up
+got 5 GET namespaces/default/widgets/w1 => 200 {"apiVersion":"demo.example/v1","kind":"Widget","metadata":{"name":"w1","namespace":"default","resourceVersion":"9223372036854775807"}}
 
-/// Plans a call and makes its change.
-pub fn answered(api: &mut Api, call: &Call) -> Result<Answer, Fail> {
-    let plan = api.plan(call)?;
-    api.commit(&plan)?;
-    Ok(plan.answer)
-}
+revisions_are_used_up on the last revision
+told 1 PATCH namespaces/default/widgets/w1?fieldManager=m {"apiVersion":"demo.example/v1","kind":"Widget","spec":{"replicas":3}} => 201 9223372036854775807
+told 2 PATCH namespaces/default/widgets/w1?fieldManager=m {"apiVersion":"demo.example/v1","kind":"Widget","spec":{"replicas":3}} => 200 9223372036854775807
+told 3 PATCH namespaces/default/widgets/w1?fieldManager=m {"apiVersion":"demo.example/v1","kind":"Widget","spec":{"replicas":4}} => 503 revisions are used up
+told 4 PATCH namespaces/default/widgets/w2?fieldManager=m {"apiVersion":"demo.example/v1","kind":"Widget"} => 503 revisions are used up
 
-/// The message of a refusal, or else the object.
-fn shown(alloc: Global, answer: &Answer) -> Result<String, Fail> {
-    let status = answer.status;
-    let body = Value::from_str(alloc, &answer.body)?;
-    let message = body.get("message").and_then(|text| text.as_str());
-    let words = message.unwrap_or(&answer.body);
-    Ok(format!(in alloc; "{status} {words}\n")?)
-}
+refusals_in_their_order on widgets
+told 1 PATCH namespaces/default/widgets/w1?fieldManager=m {"apiVersion":"demo.example/v1","kind":"Widget","spec":{"replicas":3}} => 201 2
+told 2 PATCH namespaces/default/widgets/w1?fieldManager=m&force=yes {"apiVersion":"demo.example/v1","kind":"Widget","spec":{"nope":1}} => 400 .spec.nope: unknown field
+told 3 PATCH namespaces/default/widgets/w1?fieldManager=m&force=yes {"apiVersion":"demo.example/v1","kind":"Widget","metadata":{"labels":{"-a":"b"}}} => 400 bad parameter: force
+told 4 PATCH namespaces/default/widgets/w1?x=y {"apiVersion":"demo.example/v1","kind":"Widget","metadata":{"labels":{"-a":"b"}}} => 422 fieldManager: 1 to 128 printable characters
+told 5 PATCH namespaces/default/widgets/w1?fieldManager=m {"apiVersion":"demo.example/v1","kind":"Widget","metadata":{"labels":{"-a":"b"},"resourceVersion":"9"}} => 422 metadata.labels: bad key
+told 6 PATCH namespaces/default/widgets/w1?fieldManager=m {"apiVersion":"demo.example/v1","kind":"Widget","metadata":{"resourceVersion":"9"}} => 409 version 9 is not the stored one, 2
+told 7 PATCH namespaces/default/widgets/w2?fieldManager=m {"apiVersion":"demo.example/v1","kind":"Widget","metadata":{"resourceVersion":"9"}} => 409 version 9 was given and there is no object
+told 8 PATCH namespaces/default/widgets/w1?fieldManager=b {"apiVersion":"demo.example/v1","kind":"Widget","metadata":{"resourceVersion":"9"},"spec":{"replicas":4}} => 409 version 9 is not the stored one, 2
+told 9 PATCH namespaces/default/widgets/w1?fieldManager=b {"apiVersion":"demo.example/v1","kind":"Widget","spec":{"replicas":4}} => 409 Apply failed with 1 conflict(s)
+told 10 PATCH namespaces/default/widgets/w1?fieldManager=b&force=true {"apiVersion":"demo.example/v1","kind":"Widget","spec":{"replicas":4}} => 200 3
+told 11 PATCH namespaces/default/widgets/w1?fieldManager=b {"apiVersion":"demo.example/v1","kind":"Widget","spec":{"replicas":4}} => 200 3
 
-fn push_answer(alloc: Global, all: &mut String, api: &mut Api, line: &str) -> Result<(), Fail> {
-    let call = call_of(alloc, api, line)?;
-    let answer = answered(api, &call)?;
-    Ok(all.push_str(shown(alloc, &answer)?.as_str())?)
-}
+route_method_and_media_type on widgets: a media type in any case, with a parameter behind it, is the same
+open 1 5 => -
+in 1 GET /apis/demo.example HTTP/1.1|$Host: x|$|$ => HTTP/1.1 404 Not Found|$Content-Type: application/json|$Content-Length: 124|$Connection: close|$|${"apiVersion":"v1","code":404,"kind":"Status","message":"no such path","metadata":{},"reason":"NotFound","status":"Failure"}
+in 2 BREW /apis/demo.example/v1/namespaces/default/widgets/w1 HTTP/1.1|$Host: x|$|$ => -
+out 2 => HTTP/1.1 405 Method Not Allowed|$Content-Type: application/json|$Content-Length: 142|$Connection: close|$Allow: DELETE, GET, PATCH, PUT|$|${"apiVersion":"v1","code":405,"kind":"Status","message":"method not served here","metadata":{},"reason":"MethodNotAllowed","status":"Failure"}
+in 3 PATCH /apis/demo.example/v1/namespaces/default/widgets/w1 HTTP/1.1|$Host: x|$Content-Length: 2|$|${} => -
+out 3 => HTTP/1.1 415 Unsupported Media Type|$Content-Type: application/json|$Content-Length: 145|$Connection: close|$|${"apiVersion":"v1","code":415,"kind":"Status","message":"media type not served","metadata":{},"reason":"UnsupportedMediaType","status":"Failure"}
+in 4 PATCH /apis/demo.example/v1/namespaces/default/widgets/w1?fieldManager=m HTTP/1.1|$Host: x|$Content-Type: Application/Apply-Patch+YAML ; charset=utf-8|$Content-Length: 70|$|${"apiVersion":"demo.example/v1","kind":"Widget","spec":{"replicas":3}} => -
+told 4 => 201 2
 
-/// Does lines, and tells the answers, a line each.
-pub fn all_answered(alloc: Global, api: &mut Api, lines: &str) -> Result<String, Fail> {
-    let mut all = String::new(alloc);
-    for line in lines.split('\n') {
-        push_answer(alloc, &mut all, api, line)?;
-    }
-    Ok(all)
-}
-
-/// The answers of a fresh API.
-pub fn fresh_answers(alloc: Global, lines: &str) -> Result<String, Fail> {
-    answers(alloc, Given::Widgets, Rows::Calls, lines)
-}
-
-#[test]
-fn update_and_version(rt: HostRuntime) -> Result<(), Fail> {
-    let lines = r#"PATCH w1 fieldManager=bob ,"spec":{"image":"a","replicas":5}
-PUT w1 fieldManager=dave ,"metadata":{"resourceVersion":"1"},"spec":{"image":"a","replicas":5}
-PUT w1 fieldManager=dave ,"metadata":{"resourceVersion":"2"},"spec":{"image":"a","replicas":5}
-PUT w1  ,"spec":{"image":"b","replicas":5}
-PUT w2 fieldManager=dave ,"spec":{"image":"a"}"#;
-    assert_eq!(rt;
-        fresh_answers(rt.alloc(), lines)?.as_str(),
-        r#"201 {"apiVersion":"demo.example/v1","kind":"Widget","metadata":{"managedFields":[{"apiVersion":"demo.example/v1","fieldsType":"FieldsV1","fieldsV1":{"f:spec":{"f:image":{},"f:replicas":{}}},"manager":"bob","operation":"Apply"}],"name":"w1","namespace":"default","resourceVersion":"2"},"spec":{"image":"a","replicas":5}}
-409 version 1 is not the stored one, 2
-200 {"apiVersion":"demo.example/v1","kind":"Widget","metadata":{"managedFields":[{"apiVersion":"demo.example/v1","fieldsType":"FieldsV1","fieldsV1":{"f:spec":{"f:image":{},"f:replicas":{}}},"manager":"bob","operation":"Apply"}],"name":"w1","namespace":"default","resourceVersion":"2"},"spec":{"image":"a","replicas":5}}
-200 {"apiVersion":"demo.example/v1","kind":"Widget","metadata":{"managedFields":[{"apiVersion":"demo.example/v1","fieldsType":"FieldsV1","fieldsV1":{"f:spec":{"f:replicas":{}}},"manager":"bob","operation":"Apply"},{"apiVersion":"demo.example/v1","fieldsType":"FieldsV1","fieldsV1":{"f:spec":{"f:image":{}}},"manager":"unknown","operation":"Update"}],"name":"w1","namespace":"default","resourceVersion":"3"},"spec":{"image":"b","replicas":5}}
-404 widgets.demo.example "w2" not found
-"#
-    );
-    Ok(())
-}
-
-#[test]
-fn item_kept_for_other_owner_of_an_update(rt: HostRuntime) -> Result<(), Fail> {
-    let lines = r#"PATCH w1 fieldManager=alice ,"spec":{"ports":[{"name":"web","port":80}]}
-PUT w1 fieldManager=carol ,"spec":{"ports":[{"name":"web","note":"x","port":80}]}
-PATCH w1 fieldManager=alice "#;
-    let answers = answers(rt.alloc(), Given::Ports, Rows::Calls, lines)?;
-    let last = answers.as_str().split('\n').nth(2).unwrap_or("");
-    assert_eq!(rt;
-        last,
-        r#"200 {"apiVersion":"demo.example/v1","kind":"Widget","metadata":{"managedFields":[{"apiVersion":"demo.example/v1","fieldsType":"FieldsV1","fieldsV1":{"f:spec":{"f:ports":{"k:{\"name\":\"web\"}":{"f:note":{}}}}},"manager":"carol","operation":"Update"}],"name":"w1","namespace":"default","resourceVersion":"4"},"spec":{"ports":[{"name":"web","note":"x"}]}}"#
-    );
-    Ok(())
-}
-
-#[test]
-fn delete_with_precondition(rt: HostRuntime) -> Result<(), Fail> {
-    let lines = r#"PATCH w1 fieldManager=a 
-DELETE w1  {"preconditions":{"resourceVersion":"1"}}
-DELETE w1 dryRun=All {"preconditions":{"resourceVersion":"2"}}
-DELETE w1  {"preconditions":{"uid":"x"}}
-DELETE w1  {"dryRun":["All"]}
-DELETE w1  []
-DELETE w1  {"preconditions":""}
-DELETE w1  {"preconditions":{"resourceVersion":"2"},"dryRun":[],"propagationPolicy":"Orphan"}
-GET w1  
-DELETE w1  
-PUT w1  "#;
-    assert_eq!(rt;
-        fresh_answers(rt.alloc(), lines)?.as_str(),
-        r#"201 {"apiVersion":"demo.example/v1","kind":"Widget","metadata":{"name":"w1","namespace":"default","resourceVersion":"2"}}
-409 version 1 is not the stored one, 2
-400 bad parameter: dryRun
-400 bad delete options
-400 bad delete options
-400 bad delete options
-400 bad delete options
-200 {"apiVersion":"demo.example/v1","kind":"Widget","metadata":{"name":"w1","namespace":"default","resourceVersion":"3"}}
-404 widgets.demo.example "w1" not found
-404 widgets.demo.example "w1" not found
-404 widgets.demo.example "w1" not found
-"#
-    );
-    Ok(())
-}
-
-#[test]
-fn creations(rt: HostRuntime) -> Result<(), Fail> {
-    let lines = r#"POST -  ,"metadata":{"name":"w1"},"spec":{"replicas":3}
-POST -  ,"metadata":{"name":"w1"},"spec":{"replicas":3}
-POST -  
-POST -  ,"metadata":{"name":"Web"}
-POST -  ,"metadata":{"name":"w2","resourceVersion":"2"}
-POST -  ,"metadata":{"name":"w2","resourceVersion":"02"}
-POST -  ,"metadata":{"name":"w2","namespace":"other"}
-POST - force=yes ,"metadata":{"name":"w2","managedFields":3}
-GET w1 resourceVersion=3 
-GET w1 resourceVersion=4 
-GET w3 resourceVersion=4 
-GET w1 resourceVersion=x "#;
-    assert_eq!(rt;
-        fresh_answers(rt.alloc(), lines)?.as_str(),
-        r#"201 {"apiVersion":"demo.example/v1","kind":"Widget","metadata":{"managedFields":[{"apiVersion":"demo.example/v1","fieldsType":"FieldsV1","fieldsV1":{"f:spec":{"f:replicas":{}}},"manager":"unknown","operation":"Update"}],"name":"w1","namespace":"default","resourceVersion":"2"},"spec":{"replicas":3}}
-409 widgets.demo.example "w1" already exists
-422 metadata.name: required
-422 metadata.name: bad name
-400 metadata.resourceVersion must not be set
-400 metadata.resourceVersion: bad version
-400 metadata.namespace must be default
-201 {"apiVersion":"demo.example/v1","kind":"Widget","metadata":{"name":"w2","namespace":"default","resourceVersion":"3"}}
-200 {"apiVersion":"demo.example/v1","kind":"Widget","metadata":{"managedFields":[{"apiVersion":"demo.example/v1","fieldsType":"FieldsV1","fieldsV1":{"f:spec":{"f:replicas":{}}},"manager":"unknown","operation":"Update"}],"name":"w1","namespace":"default","resourceVersion":"2"},"spec":{"replicas":3}}
-504 Too large resource version: 4, current: 3
-404 widgets.demo.example "w3" not found
-400 bad parameter: resourceVersion
-"#
-    );
-    Ok(())
-}
-
-#[test]
-fn the_last_revision(rt: HostRuntime) -> Result<(), Fail> {
-    let lines = r#"POST -  ,"metadata":{"name":"w1"}
-PUT w1  ,"spec":{}
-PUT w1  ,"spec":{"replicas":1}
-DELETE w1  
-GET w1  "#;
-    assert_eq!(rt;
-        answers(rt.alloc(), Given::LastRevision, Rows::Calls, lines)?.as_str(),
-        r#"201 {"apiVersion":"demo.example/v1","kind":"Widget","metadata":{"name":"w1","namespace":"default","resourceVersion":"9223372036854775807"}}
-200 {"apiVersion":"demo.example/v1","kind":"Widget","metadata":{"name":"w1","namespace":"default","resourceVersion":"9223372036854775807"}}
-503 revisions are used up
-503 revisions are used up
-200 {"apiVersion":"demo.example/v1","kind":"Widget","metadata":{"name":"w1","namespace":"default","resourceVersion":"9223372036854775807"}}
-"#
-    );
-    Ok(())
-}
+status_names_code_and_reason on widgets
+open 1 => -
+in 1 GET / HTTP/1.0|$Host: x|$|$ => HTTP/1.1 505 HTTP Version Not Supported|$Content-Type: application/json|$Content-Length: 145|$Connection: close|$|${"apiVersion":"v1","code":505,"kind":"Status","message":"HTTP/1.1 is needed","metadata":{},"reason":"HTTPVersionNotSupported","status":"Failure"}"#;

@@ -3,6 +3,8 @@
 use schema::Types;
 use serde_json::Value;
 use std::alloc::Global;
+use std::io::{Read, Write};
+use std::net::{SocketAddr, TcpStream};
 use std::test::Fail;
 use verbs::Api;
 
@@ -24,6 +26,9 @@ pub const APPLY: &str =
 /// Its reply.
 pub const CREATED: &str =
     "HTTP/1.1 201 Created\r\nContent-Type: application/json\r\nContent-Length: 317\r\nConnection: close\r\n\r\n{\"apiVersion\":\"demo.example/v1\",\"kind\":\"Widget\",\"metadata\":{\"managedFields\":[{\"apiVersion\":\"demo.example/v1\",\"fieldsType\":\"FieldsV1\",\"fieldsV1\":{\"f:spec\":{\"f:image\":{},\"f:replicas\":{}}},\"manager\":\"alice\",\"operation\":\"Apply\"}],\"name\":\"w1\",\"namespace\":\"default\",\"resourceVersion\":\"2\"},\"spec\":{\"image\":\"a\",\"replicas\":3}}";
+
+/// The front of a request.
+pub const HALF: &str = "GET / HTTP/1.1\r\n";
 
 /// A watch of all widgets.
 pub const WATCH: &str =
@@ -47,23 +52,28 @@ pub fn fresh_api(alloc: Global) -> Result<Api, Fail> {
     Ok(Api::new(alloc, types)?)
 }
 
-/// The text that these bytes are.
-pub fn text_of(alloc: Global, bytes: &[u8]) -> Result<String, Fail> {
-    Ok(String::from_str(alloc, str::from_utf8(bytes)?)?)
+/// A connection over loopback that has sent this.
+pub fn sent(rt: &HostRuntime, addr: SocketAddr, text: &str) -> Result<TcpStream, Fail> {
+    let mut stream = TcpStream::connect(rt, addr)?;
+    stream.write_all(text.as_bytes())?;
+    Ok(stream)
+}
+
+/// The test fails unless this is what a stream gives, where it is asked for so many bytes more.
+pub fn expect_heard(alloc: Global, stream: &TcpStream, text: &str, more: u64) -> Result<(), Fail> {
+    let mut bytes = Vec::new(alloc);
+    let mut front = stream.take((text.len() as u64).saturating_add(more));
+    front.read_to_end(&mut bytes)?;
+    expect(
+        bytes.as_slice() == text.as_bytes(),
+        "another text was heard",
+    )
 }
 
 /// The test fails unless this holds.
 pub fn expect(holds: bool, otherwise: &'static str) -> Result<(), Fail> {
     if !holds {
         return Err(Fail::from(otherwise));
-    }
-    Ok(())
-}
-
-/// The test fails unless this text was wanted, and shows it.
-pub fn expect_text(text: String, wanted: &str) -> Result<(), Fail> {
-    if text.as_str() != wanted {
-        return Err(Fail::new(text));
     }
     Ok(())
 }

@@ -2,7 +2,7 @@
 //! memory, where streams fail, and over loopback within this process.
 //!
 //! Each call stands in a helper with no clause, so that a test carries few facts; one function of each module holds a hub
-//! or a server, since each function that drops one is expensive to prove.
+//! or a server, and lets it go without a drop, which would be expensive to prove.
 #![tactic(auto)]
 
 #[cfg(test)]
@@ -11,10 +11,6 @@ mod given;
 mod loopback;
 #[cfg(test)]
 mod polled_loopback;
-#[cfg(test)]
-mod polled_streams;
-#[cfg(test)]
-mod polled_turns;
 #[cfg(test)]
 mod streams;
 #[cfg(test)]

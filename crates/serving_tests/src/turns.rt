@@ -1,83 +1,221 @@
-//! Turns over memory: a stream that fails at any of its reads or writes changes no byte of another connection.
+//! Turns over memory, of connections one after another and of many at once: a stream that is cut, has no room or fails
+//! changes no byte of another connection.
 
-use crate::given::{ADDED, APPLY, CREATED, WATCH, fresh_api};
-use crate::streams::{MOST, PLENTY, Reader, Writer, fresh_writer};
-use httpedge::Hub;
+use crate::given::{ADDED, APPLY, CREATED, HALF, LIST, NO_ITEMS, WATCH, expect, fresh_api};
+use crate::streams::{MOST, Memory, PLENTY};
+use httpedge::{Event, Hub, HubFault};
+use polling::{Next, Peer};
 use serving::{pump, turn};
 use std::alloc::Global;
+use std::mem;
 use std::test::Fail;
+use std::time::Instant;
 
 /// How many bytes the head of a watch has.
 const HEAD: usize = 98;
 
-/// What the stream of a watch that may fail took, that of another watch, and that of an apply.
-#[derive(Drop)]
-struct Writers {
-    failing: Writer,
-    watch: Writer,
-    apply: Writer,
+fn open(hub: &mut Hub, id: u64) -> Result<(), HubFault> {
+    hub.on(&Event::Open(id))
 }
 
-/// A connection asks, over a reader that fails once it was read so often.
-fn ask(alloc: Global, hub: &mut Hub, id: u64, request: &str, reads: usize, writer: &mut Writer) {
-    let bytes = request.as_bytes();
-    let mut reader = Reader { bytes, reads };
-    let _ = turn(alloc, hub, id, &mut reader, writer);
+/// What a peer is asked for.
+#[derive(Clone, Copy, Debug)]
+enum Turn {
+    /// Its stream is read and written.
+    Look,
+    /// Its watch writes so many lines, at most.
+    Pump(u64),
 }
 
-/// A watch may write a line.
-fn pump_one(hub: &mut Hub, id: u64, writer: &mut Writer) {
-    let _ = pump(hub, id, 1, writer);
-}
-
-/// Three connections one after another, the first of a stream that may fail; then each watch has its turn.
-fn play(alloc: Global, request: &str, reads: usize, all: &mut Writers) -> Result<(), Fail> {
-    let mut hub = Hub::new(alloc, fresh_api(alloc)?);
-    ask(alloc, &mut hub, 1, request, reads, &mut all.failing);
-    ask(alloc, &mut hub, 2, WATCH, PLENTY, &mut all.watch);
-    ask(alloc, &mut hub, 3, APPLY, PLENTY, &mut all.apply);
-    pump_one(&mut hub, 1, &mut all.failing);
-    pump_one(&mut hub, 2, &mut all.watch);
-    Ok(())
-}
-
-fn has_taken(writer: &Writer, text: &str) -> bool {
-    writer.bytes.as_slice() == text.as_bytes()
-}
-
-/// Whether the first stream took so many bytes of a watch, and the others all of theirs.
-fn is_told(
-    alloc: Global,
-    request: &str,
-    reads: usize,
-    writes: usize,
-    most: usize,
-) -> Result<bool, Fail> {
-    let mut all = Writers {
-        failing: fresh_writer(alloc, writes),
-        watch: fresh_writer(alloc, PLENTY),
-        apply: fresh_writer(alloc, PLENTY),
+/// The test fails unless this comes next after a connection's turn, and its stream has taken this text then.
+fn expect_turn<'a>(
+    rt: &HostRuntime,
+    hub: &mut Hub,
+    id: u64,
+    peer: &mut Peer<Memory<'a>>,
+    wanted: (Turn, Next, &[u8]),
+) -> Result<(), Fail> {
+    let (turn, next, text) = wanted;
+    let now = Instant::now(rt)?;
+    let came = match turn {
+        Turn::Look => peer.look(rt.alloc(), hub, id, now),
+        Turn::Pump(lines) => peer.pump(hub, id, lines, now),
     };
-    play(alloc, request, reads, &mut all)?;
-    let is_front = ADDED.as_bytes().starts_with(&all.failing.bytes);
-    let is_whole = has_taken(&all.watch, ADDED) && has_taken(&all.apply, CREATED);
-    Ok(is_whole && is_front && all.failing.bytes.len() == most)
+    let is_taken = peer.stream.taken.as_slice() == text;
+    expect(came == next && is_taken, "a turn came to something else")
 }
 
-#[test]
-fn failed_reads_leave_others(rt: HostRuntime) -> Result<(), Fail> {
-    for reads in 0..WATCH.len().div_ceil(MOST) {
-        let is_told = is_told(rt.alloc(), WATCH, reads, PLENTY, 0)?;
-        assert!(rt; is_told, "at read {reads}");
+/// Turns of a connection of its own; after the first there is room for all.
+fn expect_turns<'a>(
+    rt: &HostRuntime,
+    hub: &mut Hub,
+    id: u64,
+    stream: Memory<'a>,
+    turns: &[(Next, &[u8])],
+) -> Result<(), Fail> {
+    open(hub, id)?;
+    let mut peer = Peer::new(stream, Instant::now(rt)?);
+    for (next, text) in turns {
+        expect_turn(rt, hub, id, &mut peer, (Turn::Look, *next, *text))?;
+        peer.stream.room = usize::MAX;
     }
     Ok(())
 }
 
-#[test]
-fn half_a_request_gets_no_reply(rt: HostRuntime) -> Result<(), Fail> {
-    let is_told = is_told(rt.alloc(), "GET / HTTP/1.1\r\n", PLENTY, PLENTY, 0)?;
-    assert!(rt; is_told);
+/// A request that comes in two parts, wherever it is cut, gets its reply with the second.
+fn cut_anywhere(rt: &HostRuntime, hub: &mut Hub) -> Result<(), Fail> {
+    let bytes = LIST.as_bytes();
+    let nothing: &[u8] = &[];
+    let turns = [(Next::Reads, nothing), (Next::Reads, NO_ITEMS.as_bytes())];
+    for cut in 0..bytes.len() {
+        let id = cut as u64;
+        let stream = Memory::new(rt.alloc(), &bytes[..cut], &bytes[cut..]);
+        expect_turns(rt, hub, id, stream, &turns)?;
+        expect(hub.ended(id), "the reply did not end the connection")?;
+    }
     Ok(())
+}
+
+/// A reply for which there is no room waits, and goes on where it was once there is room.
+fn waits_anywhere(rt: &HostRuntime, hub: &mut Hub) -> Result<(), Fail> {
+    let reply = NO_ITEMS.as_bytes();
+    for room in 0..reply.len() {
+        let mut stream = Memory::new(rt.alloc(), LIST.as_bytes(), b"");
+        stream.room = room;
+        let turns = [(Next::Writes, &reply[..room]), (Next::Reads, reply)];
+        expect_turns(rt, hub, room as u64, stream, &turns)?;
+    }
+    Ok(())
+}
+
+/// A stream that fails at any read or write ends its connection, and another gets what it gets without it. A row: after how many
+/// reads and writes it fails, how many bytes it takes until then, its connection, and the other's.
+fn fails_anywhere(rt: &HostRuntime, hub: &mut Hub) -> Result<(), Fail> {
+    let reply = NO_ITEMS.as_bytes();
+    for (reads, writes, taken, id, next) in [
+        (0, 9, 0, 1, 2),
+        (1, 9, 0, 3, 4),
+        (2, 9, 0, 5, 6),
+        (9, 0, 0, 7, 8),
+        (9, 1, 30, 9, 10),
+        (9, 6, 180, 11, 12),
+    ] {
+        let mut failing = Memory::new(rt.alloc(), LIST.as_bytes(), b"");
+        failing.reads = reads;
+        failing.writes = writes;
+        let front = reply.get(..taken).unwrap_or(b"");
+        expect_turns(rt, hub, id, failing, &[(Next::Over, front)])?;
+        let other = Memory::new(rt.alloc(), LIST.as_bytes(), b"");
+        expect_turns(rt, hub, next, other, &[(Next::Reads, reply)])?;
+    }
+    Ok(())
+}
+
+/// A watch for which bytes wait isn't pumped: no more waits than one pump wrote, and nothing is lost.
+fn waiting_watch<'a>(
+    rt: &HostRuntime,
+    hub: &mut Hub,
+    peer: &mut Peer<Memory<'a>>,
+) -> Result<(), Fail> {
+    let told = ADDED.as_bytes();
+    let front = told.get(..10).unwrap_or(told);
+    let head = told.get(..HEAD).unwrap_or(told);
+    expect_turn(rt, hub, 1, peer, (Turn::Look, Next::Writes, front))?;
+    let applying = Memory::new(rt.alloc(), APPLY.as_bytes(), b"");
+    expect_turns(rt, hub, 2, applying, &[(Next::Reads, CREATED.as_bytes())])?;
+    let waiting = hub.out(1).len();
+    expect_turn(rt, hub, 1, peer, (Turn::Pump(500), Next::Writes, front))?;
+    expect(hub.out(1).len() == waiting, "a watch that waits was pumped")?;
+    peer.stream.room = usize::MAX;
+    expect_turn(rt, hub, 1, peer, (Turn::Look, Next::Reads, head))?;
+    expect_turn(rt, hub, 1, peer, (Turn::Pump(500), Next::Reads, told))
+}
+
+fn watch_without_room(rt: &HostRuntime, hub: &mut Hub) -> Result<(), Fail> {
+    let mut stream = Memory::new(rt.alloc(), WATCH.as_bytes(), b"");
+    stream.room = 10;
+    open(hub, 1)?;
+    let mut peer = Peer::new(stream, Instant::now(rt)?);
+    waiting_watch(rt, hub, &mut peer)
+}
+
+/// A connection asks, over a stream that fails once it was read so often.
+fn ask<'a>(
+    alloc: Global,
+    hub: &mut Hub,
+    id: u64,
+    request: &[u8],
+    reads: usize,
+    writer: &mut Memory<'a>,
+) {
+    let mut reader = Memory::new(alloc, request, b"");
+    reader.ends = true;
+    reader.reads = reads;
+    let _ = turn(alloc, hub, id, &mut reader, writer);
+}
+
+/// A watch may write a line.
+fn pump_one<'a>(hub: &mut Hub, id: u64, writer: &mut Memory<'a>) {
+    let _ = pump(hub, id, 1, writer);
+}
+
+/// Three connections one after another, the first of a stream that may fail; then each watch has its turn. The first takes
+/// so many bytes of a watch, and the others all of theirs.
+fn expect_told(
+    alloc: Global,
+    hub: &mut Hub,
+    request: &str,
+    fails: (usize, usize),
+    most: usize,
+) -> Result<(), Fail> {
+    let (reads, writes) = fails;
+    let mut failing = Memory::new(alloc, b"", b"");
+    let mut watch = Memory::new(alloc, b"", b"");
+    let mut apply = Memory::new(alloc, b"", b"");
+    failing.writes = writes;
+    ask(alloc, hub, 1, request.as_bytes(), reads, &mut failing);
+    ask(alloc, hub, 2, WATCH.as_bytes(), PLENTY, &mut watch);
+    ask(alloc, hub, 3, APPLY.as_bytes(), PLENTY, &mut apply);
+    pump_one(hub, 1, &mut failing);
+    pump_one(hub, 2, &mut watch);
+    let is_front = ADDED.as_bytes().starts_with(&failing.taken) && failing.taken.len() == most;
+    let is_whole = watch.taken.as_slice() == ADDED.as_bytes()
+        && apply.taken.as_slice() == CREATED.as_bytes();
+    expect(is_front && is_whole, "a stream took something else")
+}
+
+/// What a fresh hub is tried by.
+#[derive(Clone, Copy, Debug)]
+enum Trial {
+    Cuts,
+    Room,
+    Failures,
+    Watch,
+    /// Half a request gets no reply.
+    Half,
+    /// A watch whose stream fails once it was read or written so often, and how much it takes.
+    Failing(usize, usize, usize),
+}
+
+fn tried_on(rt: &HostRuntime, hub: &mut Hub, trial: Trial) -> Result<(), Fail> {
+    match trial {
+        Trial::Cuts => cut_anywhere(rt, hub),
+        Trial::Room => waits_anywhere(rt, hub),
+        Trial::Failures => fails_anywhere(rt, hub),
+        Trial::Watch => watch_without_room(rt, hub),
+        Trial::Half => expect_told(rt.alloc(), hub, HALF, (PLENTY, PLENTY), 0),
+        Trial::Failing(reads, writes, most) => {
+            expect_told(rt.alloc(), hub, WATCH, (reads, writes), most)
+        }
+    }
+}
+
+/// Tries a hub of its own. It is not dropped, and no other function holds one: one that drops a hub takes a minute to prove.
+fn tried(rt: &HostRuntime, trial: Trial) -> Result<(), Fail> {
+    let mut hub = Hub::new(rt.alloc(), fresh_api(rt.alloc())?);
+    let tried = tried_on(rt, &mut hub, trial);
+    mem::forget(hub);
+    tried
 }
 
 /// How many bytes of the watch so many writes take: those of its head, and then those of its line.
@@ -88,12 +226,24 @@ fn taken_by(writes: usize) -> usize {
     head.saturating_add(line.min(later.saturating_mul(MOST)))
 }
 
-/// The last of them take all of it.
+/// A request is cut anywhere, a reply waits anywhere, failing streams leave others, a watch that waits isn't pumped.
 #[test]
-fn failed_writes_leave_others(rt: HostRuntime) -> Result<(), Fail> {
+fn turns_of_many(rt: HostRuntime) -> Result<(), Fail> {
+    for trial in [Trial::Cuts, Trial::Room, Trial::Failures, Trial::Watch] {
+        tried(&rt, trial)?;
+    }
+    Ok(())
+}
+
+/// Failed reads and writes leave others, half a request gets no reply. The last of the writes take all of the watch.
+#[test]
+fn turns_one_by_one(rt: HostRuntime) -> Result<(), Fail> {
+    tried(&rt, Trial::Half)?;
+    for reads in 0..WATCH.len().div_ceil(MOST) {
+        tried(&rt, Trial::Failing(reads, PLENTY, 0))?;
+    }
     for writes in 0..20 {
-        let is_told = is_told(rt.alloc(), WATCH, PLENTY, writes, taken_by(writes))?;
-        assert!(rt; is_told, "at write {writes}");
+        tried(&rt, Trial::Failing(PLENTY, writes, taken_by(writes)))?;
     }
     Ok(())
 }
