@@ -95,7 +95,7 @@ fn answer_to(
 /// Whether what was answered is as what stood.
 fn is_same(alloc: Global, live: &Owned, answer: &Result<Owned, ApplyFault>) -> Result<bool, Fail> {
     match answer {
-        Ok(owned) => Ok(owned.is_same(alloc, live)?),
+        Ok(owned) => Ok(ownership::is_same(alloc, owned, live)?),
         Err(_) => Ok(false),
     }
 }

@@ -22,11 +22,11 @@ use Rattle.lists.specs.Labels.{label_members, labels_of, texts_of}
 use Rattle.typed.specs.Placed.{ArePlaced, IsPlaced}
 use Rattle.typed.specs.Printing.{object_or_none, print, print_fields, with_member}
 use Rattle.typed.proofs.Fitting.{content_placed}
-use Rattle.ownership.specs.Apply.{State}
-use Rattle.ownership.specs.ObjectText.{Identity, entry_items, members_printed, metadata_members, metadata_of, object_value, put_entries}
-use Rattle.ownership.proofs.Back.{text_read}
-use Rattle.ownership.proofs.Envelopes.{found_field, members_back}
-use Rattle.ownership.proofs.Taken.{apart, no_some, same_some}
+use Rattle.objects.specs.State.{State}
+use Rattle.objects.specs.ObjectText.{Identity, entry_items, members_printed, metadata_members, metadata_of, object_value, put_entries}
+use Rattle.objects.proofs.Back.{text_read}
+use Rattle.objects.proofs.Envelopes.{found_field, members_back}
+use Rattle.objects.proofs.Taken.{apart, no_some, same_some}
 use Rattle.label_laws.specs.Labels.{LabelsAreOfContents, label_in, text_standing}
 use Rattle.label_laws.proofs.Texts.{labels_by}
 use Rattle.label_laws.proofs.Printed.{all_texts, member_at}

@@ -15,7 +15,7 @@ use Rattle.lists.specs.Labels.{texts_of}
 use Rattle.typed.specs.Printing.{each_member, with_member, with_named}
 use Rattle.typed.proofs.Putting.{with_other}
 use Rattle.typed.proofs.RoundTrip.{prefix_name}
-use Rattle.ownership.proofs.Taken.{cmp, same_text}
+use Rattle.objects.proofs.Taken.{cmp, same_text}
 
 abbrev pub IsText : Data → Type 0
 IsText d = (s : List ℕ) × (d ≡ string s)

@@ -9,9 +9,9 @@ use Rattle.pathmap.specs.Contents as standing
 use Rattle.schema.specs.ObjectShape.{IsObjectShape}
 use Rattle.schema.specs.Shape.{Shape}
 use Rattle.lists.specs.Labels.{labels_of}
-use Rattle.ownership.specs.Apply.{State}
-use Rattle.ownership.specs.ObjectText.{Identity}
-use Rattle.ownership.specs.ReadBack.{IsObjectText}
+use Rattle.objects.specs.State.{State}
+use Rattle.objects.specs.ObjectText.{Identity}
+use Rattle.objects.specs.ReadBack.{IsObjectText}
 
 -- where a label's value stands
 abbrev pub label_path : List ℕ → PathTexts

@@ -1,6 +1,6 @@
 //! Laws that join what selects objects to what objects hold. Each function does nothing; what it promises is the law.
 //!
-//! Stands on `lists` for the labels that an object's text gives, on `ownership` for the text of a content, and on
+//! Stands on `lists` for the labels that an object's text gives, on `objects` for the text of a content, and on
 //! `decoder` for the labels that a client reads.
 #![tactic(auto)]
 

@@ -24,7 +24,7 @@ use Rattle.lists.specs.Lists.{key_after, list_of, page_limit, page_of, text_at}
 use Rattle.lists.specs.Revision.{revision_of}
 use Rattle.lists.specs.Tokens.{whole_list}
 use Rattle.lists.proofs.Bounds.{revision_between}
-use Rattle.ownership.specs.ReadBack.{max_version}
+use Rattle.objects.specs.ReadBack.{max_version}
 use Rattle.decoder.specs.Wanted.{Wanted, is_in}
 use Rattle.line_laws.specs.Listed.{AreKept, AreWanted, IsKept, IsReadAsPage, IsWanted}
 use Rattle.line_laws.proofs.Pages.{page_is_read}

@@ -11,8 +11,8 @@ use Rattle.serde_json.specs.Find.{as_object, get_member}
 use Rattle.serde_json.specs.Written.{comma_if, compact_text, members_text}
 use Rattle.serde_json.proofs.OnLiterals.{serde_json_on_literals}
 use Rattle.std.specs.Fmt.{digits}
-use Rattle.ownership.specs.ReadBack.{max_version}
-use Rattle.ownership.proofs.Taken.{same_some}
+use Rattle.objects.specs.ReadBack.{max_version}
+use Rattle.objects.proofs.Taken.{same_some}
 use Rattle.watchline.specs.Lines.{expired_message, expired_value}
 use Rattle.watchline.specs.Versions.{metadata_at, value_at, value_of, without}
 

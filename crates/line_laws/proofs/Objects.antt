@@ -26,13 +26,13 @@ use Rattle.schema.specs.TypesFile.{metadata}
 use Rattle.typed.specs.Placed.{ArePlaced, IsPlaced}
 use Rattle.typed.specs.Printing.{each_member, object_or_none, print, print_fields, value_of, with_member, with_named}
 use Rattle.typed.proofs.Fitting.{content_placed}
-use Rattle.ownership.specs.Apply.{State}
-use Rattle.ownership.specs.Keeping.{IsPlacedState}
-use Rattle.ownership.specs.ObjectText.{Identity, entry_items, members_printed, metadata_members, metadata_of, object_value, put_entries}
-use Rattle.ownership.specs.ReadBack.{max_version}
-use Rattle.ownership.proofs.Envelopes.{found_field, members_back}
-use Rattle.ownership.proofs.Taken.{apart, cmp}
-use Rattle.ownership.proofs.Textual.{value_textual}
+use Rattle.objects.specs.State.{State}
+use Rattle.objects.specs.Placed.{IsPlacedState}
+use Rattle.objects.specs.ObjectText.{Identity, entry_items, members_printed, metadata_members, metadata_of, object_value, put_entries}
+use Rattle.objects.specs.ReadBack.{max_version}
+use Rattle.objects.proofs.Envelopes.{found_field, members_back}
+use Rattle.objects.proofs.Taken.{apart, cmp}
+use Rattle.objects.proofs.Textual.{value_textual}
 use Rattle.indexer.specs.Objects.{Stored}
 use Rattle.decoder.specs.declared.malformed.Malformed.TheVariants.{ApiVersion, Kind, Labels, Metadata, Name, Namespace, Number, Version}
 use Rattle.decoder.specs.Members.{Read, ◌>>=◌, is_text, or_amiss, unless, unless_empty, unless_null}

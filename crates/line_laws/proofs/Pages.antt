@@ -12,9 +12,9 @@ use Rattle.history.specs.History.{Key, Object}
 use Rattle.history.specs.Seen.{SeenPage}
 use Rattle.lists.specs.Body.{Collection, continued_at, item_texts, joined_text, list_text, list_value, metadata_of}
 use Rattle.lists.proofs.Values.{lists_are_json}
-use Rattle.ownership.specs.ObjectText.{object_value}
-use Rattle.ownership.specs.ReadBack.{max_version}
-use Rattle.ownership.proofs.Back.{text_read}
+use Rattle.objects.specs.ObjectText.{object_value}
+use Rattle.objects.specs.ReadBack.{max_version}
+use Rattle.objects.proofs.Back.{text_read}
 use Rattle.indexer.specs.Objects.{Stored}
 use Rattle.decoder.specs.declared.malformed.Malformed.TheVariants.{ApiVersion, Json, Kind, Version}
 use Rattle.decoder.specs.Members.{Read, ◌>>=◌, is_text, or_amiss, unless, unless_empty}

@@ -25,14 +25,14 @@ use Rattle.typed.proofs.FieldTexts.{members_fine, put_depth}
 use Rattle.typed.proofs.Fitting.{content_placed}
 use Rattle.typed.proofs.RoundTrip.{round}
 use Rattle.typed.proofs.Spelling.{lawful_depth}
-use Rattle.ownership.specs.Apply.{State}
-use Rattle.ownership.specs.ObjectText.{Identity, entry_items, entry_members, entry_value, members_printed, metadata_members, metadata_of, object_text, object_value, put_entries, put_filled}
-use Rattle.ownership.specs.Owners.{Manager, Owners, operation_text}
-use Rattle.ownership.specs.Parts.{less}
-use Rattle.ownership.specs.ReadBack.{IsObjectText, max_version}
-use Rattle.ownership.proofs.Back.{text_read}
-use Rattle.ownership.proofs.Taken.{apart, cmp, found_depth, put_back, same_text}
-use Rattle.ownership.proofs.Textual.{value_textual}
+use Rattle.objects.specs.State.{State}
+use Rattle.objects.specs.ObjectText.{Identity, entry_items, entry_members, entry_value, members_printed, metadata_members, metadata_of, object_text, object_value, put_entries, put_filled}
+use Rattle.objects.specs.Owners.{Manager, Owners, operation_text}
+use Rattle.objects.specs.Parts.{less}
+use Rattle.objects.specs.ReadBack.{IsObjectText, max_version}
+use Rattle.objects.proofs.Back.{text_read}
+use Rattle.objects.proofs.Taken.{apart, cmp, found_depth, put_back, same_text}
+use Rattle.objects.proofs.Textual.{value_textual}
 use Rattle.watchline.specs.Versions.{text_at_version, text_of, value_at, value_of, without}
 use Rattle.line_laws.specs.Shown.{IsShown}
 

@@ -12,9 +12,9 @@ use Rattle.names.specs.Decimals.{version_of}
 use Rattle.names.proofs.Decimals.{exact}
 use Rattle.schema.specs.ObjectShape.{IsObjectShape}
 use Rattle.schema.specs.Shape.{Shape}
-use Rattle.ownership.specs.Apply.{State}
-use Rattle.ownership.specs.ObjectText.{Identity, object_value}
-use Rattle.ownership.specs.ReadBack.{IsObjectText, max_version}
+use Rattle.objects.specs.State.{State}
+use Rattle.objects.specs.ObjectText.{Identity, object_value}
+use Rattle.objects.specs.ReadBack.{IsObjectText, max_version}
 use Rattle.history.specs.History.{Object}
 use Rattle.history.specs.Seen.{SeenChange, SeenKind, Added, Modified, Deleted}
 use Rattle.indexer.specs.Objects.{Stored}

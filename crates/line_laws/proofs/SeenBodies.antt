@@ -9,7 +9,7 @@ use Rattle.history.specs.Seen.{SeenChange, Selection, if_wanted, seen_among, see
 use Rattle.history.proofs.Keys.{get-put_or_remove}
 use Rattle.history.proofs.Lists.{all-filter}
 use Rattle.history.proofs.Selecting.{entries-selected}
-use Rattle.ownership.proofs.Taken.{no_some}
+use Rattle.objects.proofs.Taken.{no_some}
 use Rattle.watchline.specs.Lines.{added}
 use Rattle.watchline.specs.Watches.{Cursor, Left, changes_left, coming, entries_left, from_history, key_at, left_from, none_left, objects_left, wanted}
 use Rattle.line_laws.proofs.Kept.{each_entry}

@@ -14,8 +14,8 @@ use Rattle.serde_json.specs.Data.{Num, unsigned, negative, float, Data, null, bo
 use Rattle.serde_json.specs.Find.{as_object, get_member}
 use Rattle.serde_json.specs.Written.{comma_if, compact_text, items_text, members_text, number_text}
 use Rattle.fieldpath.specs.Spelled.{IsSpelledNumber, IsSpelled, AreSpelled, MembersAreSpelled}
-use Rattle.ownership.specs.ReadBack.{max_version}
-use Rattle.ownership.proofs.Taken.{same_some}
+use Rattle.objects.specs.ReadBack.{max_version}
+use Rattle.objects.proofs.Taken.{same_some}
 use Rattle.watchline.specs.Versions.{metadata_at, value_at, value_of, without}
 
 -- ---- of texts that are UTF-8

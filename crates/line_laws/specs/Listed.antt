@@ -5,9 +5,9 @@ use Rattle.std.specs.List.{AllByRecursion}
 use Rattle.std.specs.declared.result.Result.TheVariants.{Ok}
 use Rattle.schema.specs.ObjectShape.{IsObjectShape}
 use Rattle.schema.specs.Shape.{Shape}
-use Rattle.ownership.specs.Apply.{State}
-use Rattle.ownership.specs.ObjectText.{Identity}
-use Rattle.ownership.specs.ReadBack.{IsObjectText}
+use Rattle.objects.specs.State.{State}
+use Rattle.objects.specs.ObjectText.{Identity}
+use Rattle.objects.specs.ReadBack.{IsObjectText}
 use Rattle.history.specs.History.{Key, Object, Objects}
 use Rattle.history.specs.Seen.{SeenPage}
 use Rattle.indexer.specs.Objects.{Stored}

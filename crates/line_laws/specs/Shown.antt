@@ -9,8 +9,8 @@ use Rattle.history.specs.Seen.{SeenKind, Added, Modified, Deleted}
 use Rattle.indexer.specs.Objects.{Stored}
 use Rattle.schema.specs.Shape.{Shape}
 use Rattle.typed.specs.Printing.{print}
-use Rattle.ownership.specs.Apply.{State}
-use Rattle.ownership.specs.ObjectText.{Identity, metadata_members, object_text}
+use Rattle.objects.specs.State.{State}
+use Rattle.objects.specs.ObjectText.{Identity, metadata_members, object_text}
 use Rattle.decoder.specs.Lines as reads
 use Rattle.decoder.specs.Members.{at}
 use Rattle.decoder.specs.Objects.{labels_of}

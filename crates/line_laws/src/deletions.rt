@@ -3,9 +3,9 @@
 ghost use Rattle.std.specs.Prelude.{◌≡◌, ◌≤◌, ℕ, List};
 ghost use Rattle.schema.specs.ObjectShape.{IsObjectShape};
 ghost use Rattle.schema.specs.Shape.{Shape};
-ghost use Rattle.ownership.specs.Apply.{State};
-ghost use Rattle.ownership.specs.ObjectText.{Identity, object_text};
-ghost use Rattle.ownership.specs.ReadBack.{IsObjectText, max_version};
+ghost use Rattle.objects.specs.State.{State};
+ghost use Rattle.objects.specs.ObjectText.{Identity, object_text};
+ghost use Rattle.objects.specs.ReadBack.{IsObjectText, max_version};
 ghost use Rattle.watchline.specs.Versions.{text_at_version};
 
 /// An object's text at another version is the text of the same object at that version: so the object in the line of a

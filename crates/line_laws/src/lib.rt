@@ -1,7 +1,7 @@
 //! Laws of the lines of watches and of the pages of lists: what the server prints, the client reads, and what a watch
 //! tells is all there was to tell. Each function does nothing; what it promises is the law.
 //!
-//! Stands on `watchline` for the lines, `lists` for the pages, `decoder` for what either says to a client, `ownership`
+//! Stands on `watchline` for the lines, `lists` for the pages, `decoder` for what either says to a client, `objects`
 //! for the texts of objects.
 #![tactic(auto)]
 

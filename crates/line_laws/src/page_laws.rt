@@ -1,7 +1,7 @@
 //! What the server prints of a list, the client reads.
 
 ghost use Rattle.std.specs.Prelude.{◌≡◌, ◌≤◌, ℕ, List, IsUtf8, Ok};
-ghost use Rattle.ownership.specs.ReadBack.{max_version};
+ghost use Rattle.objects.specs.ReadBack.{max_version};
 ghost use Rattle.history.specs.History.{Objects};
 ghost use Rattle.history.specs.Seen.{SeenPage};
 ghost use Rattle.params.specs.Values.{Values};

@@ -9,12 +9,14 @@ use Rattle.pathmap.specs.Beside.{changed, same_value}
 use Rattle.pathmap.proofs.Contents.{path_cmp_total}
 use Rattle.pathmap.proofs.Sets.{same_paths, contains-changed, contains-dom}
 use Rattle.schema.specs.Shape.{Shape}
-use Rattle.ownership.specs.Owners.{Manager, Owners, is_same, owned_by, taken_over}
-use Rattle.ownership.specs.Apply.{State}
-use Rattle.ownership.specs.Keeping.{Stands, Owns, OwnedStand, LeavesOwned}
+use Rattle.objects.specs.Owners.{Manager, Owners, is_same, owned_by, taken_over}
+use Rattle.objects.specs.State.{State}
+use Rattle.objects.specs.Placed.{Stands, Owns, OwnedStand}
+use Rattle.ownership.specs.Keeping.{LeavesOwned}
 use Rattle.ownership.specs.Update.{removed, updated}
-use Rattle.ownership.proofs.Sameness.{left_true, right_true, both_true, same_manager-is, same_value-is}
-use Rattle.ownership.proofs.Taking.{empty-difference, owned_mine, owned_other}
+use Rattle.objects.proofs.Within.{left_true, right_true, both_true, same_manager-is}
+use Rattle.ownership.proofs.Sameness.{same_value-is}
+use Rattle.objects.proofs.Taking.{empty-difference, owned_mine, owned_other}
 
 pub empty-union : (s : PathSet) → set.union set.empty s ≡ s
 empty-union s = same_paths (set.union set.empty s) s (λ q. set.contains-union path_cmp_total set.empty s q ∙ ap (λ b. b || set.contains s q) (set.contains-empty path_cmp q))

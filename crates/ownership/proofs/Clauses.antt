@@ -2,9 +2,11 @@
 use Rattle.std.proofs.Common.{◌≡◌, Bool, false, [], sym, ap, ◌∙◌, subst}
 use Rattle.pathmap.specs.Contents.{Content}
 use Rattle.schema.specs.Shape.{Shape}
-use Rattle.ownership.specs.Owners.{Manager, WroteByNone}
-use Rattle.ownership.specs.Apply.{State, conflicts, applied, is_refused}
-use Rattle.ownership.specs.Keeping.{OthersKeep, OwnedStand, HasPlaces, IsPlacedState, LeavesOwned, IsSettled}
+use Rattle.objects.specs.Owners.{Manager, WroteByNone}
+use Rattle.objects.specs.State.{State}
+use Rattle.ownership.specs.Apply.{conflicts, applied, is_refused}
+use Rattle.ownership.specs.Keeping.{OthersKeep, HasPlaces, LeavesOwned, IsSettled}
+use Rattle.objects.specs.Placed.{OwnedStand, IsPlacedState}
 use Rattle.typed.specs.Fitting.{IsContent}
 use Rattle.ownership.proofs.Placed.{applied_by_none, applied_placed}
 use Rattle.ownership.proofs.Keeping.{others_keep, owned_stand, again}

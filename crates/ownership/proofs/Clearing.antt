@@ -7,7 +7,7 @@ use Rattle.pathmap.specs.Contents.{PathSet}
 use Rattle.pathmap.specs.Beside.{is_front, has_at_or_below, clear_of}
 use Rattle.pathmap.proofs.Contents.{path_cmp_total}
 use Rattle.pathmap.proofs.Sets.{same_paths, contains-clear_of}
-use Rattle.ownership.specs.Owners.{Manager}
+use Rattle.objects.specs.Owners.{Manager}
 use Rattle.ownership.specs.Apply.{all_paths, clear_of_all}
 use Rattle.ownership.proofs.Keeping.{one_below, some_below}
 

@@ -7,8 +7,9 @@ use Rattle.fieldpath.specs.Paths.{path_cmp}
 use Rattle.pathmap.specs.Contents.{Content, PathSet, dom, over}
 use Rattle.pathmap.specs.Beside.{has_at_or_below, clear_of, changed, without}
 use Rattle.pathmap.proofs.Contents.{path_cmp_total, path_cmp_antisymmetric}
-use Rattle.ownership.specs.Owners.{Manager, Owners, owned_by, others, taken_over}
-use Rattle.ownership.specs.Apply.{State, Conflict, conflicts_with, conflicts, all_paths, dropped, applied}
+use Rattle.objects.specs.Owners.{Manager, Owners, owned_by, others, taken_over}
+use Rattle.objects.specs.State.{State}
+use Rattle.ownership.specs.Apply.{Conflict, conflicts_with, conflicts, all_paths, dropped, applied}
 
 false-and : (b c : Bool) → b ≡ false → (b && c) ≡ false
 false-and b c e = ap (λ x. x && c) e

@@ -12,7 +12,7 @@ use Rattle.schema.specs.Shape.{atomic, set, keyed, Shape, text, whole, truth, st
 use Rattle.schema.specs.declared.place.Place.{Place}
 use Rattle.schema.specs.declared.place.Place.TheVariants.{Leaf, SetItem}
 use Rattle.ownership.specs.Keeping.{is_end}
-use Rattle.ownership.proofs.Sameness.{left_true, right_true}
+use Rattle.objects.proofs.Within.{left_true, right_true}
 
 abbrev Places : Type 0
 Places = PathTexts → Option Place

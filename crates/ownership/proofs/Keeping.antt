@@ -14,12 +14,15 @@ use Rattle.pathmap.proofs.Contents.{path_cmp_total, same, either, get-over}
 use Rattle.pathmap.proofs.Order.{dom-marked, is_marked, in_order-nothing}
 use Rattle.pathmap.proofs.Cutting.{nothing-above}
 use Rattle.pathmap.proofs.Sets.{dom-nothing, same_paths, contains-dom, contains-changed, contains-clear_of, get-without, passes_some, passes_one}
-use Rattle.ownership.specs.Owners.{Manager, is_same, owned_by, others, taken_over, manager_cmp}
-use Rattle.ownership.specs.Apply.{State, Conflict, conflicts_with, conflicts, all_paths, dropped, applied, is_refused}
-use Rattle.ownership.specs.Keeping.{Stands, Owns, OthersKeep, OwnedStand, IsSettled}
-use Rattle.ownership.proofs.Sameness.{left_true, right_true, both_true, none_left, same_value-is, same_value-itself, same_manager-is}
-use Rattle.ownership.proofs.Entries.{Pairs}
-use Rattle.ownership.proofs.Taking.{find-others, owned_mine, owned_other, taken_again}
+use Rattle.objects.specs.Owners.{Manager, is_same, owned_by, others, taken_over, manager_cmp}
+use Rattle.objects.specs.State.{State}
+use Rattle.ownership.specs.Apply.{Conflict, conflicts_with, conflicts, all_paths, dropped, applied, is_refused}
+use Rattle.objects.specs.Placed.{Stands, Owns, OwnedStand}
+use Rattle.ownership.specs.Keeping.{OthersKeep, IsSettled}
+use Rattle.objects.proofs.Within.{left_true, right_true, both_true, none_left, same_manager-is}
+use Rattle.ownership.proofs.Sameness.{same_value-is, same_value-itself}
+use Rattle.objects.proofs.Entries.{Pairs}
+use Rattle.objects.proofs.Taking.{find-others, owned_mine, owned_other, taken_again}
 
 not_both : {A : Type 0} (b : Bool) → b ≡ true → b ≡ false → A
 not_both b t f = absurd (true≢false (sym t ∙ f))

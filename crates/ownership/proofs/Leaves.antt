@@ -14,15 +14,17 @@ use Rattle.pathmap.proofs.Contents.{path_cmp_total, either, get-over}
 use Rattle.pathmap.proofs.Sets.{contains-dom, contains-changed, contains-clear_of, get-without}
 use Rattle.schema.specs.Place.{place_of}
 use Rattle.schema.specs.Shape.{Shape}
-use Rattle.ownership.specs.Owners.{Manager, is_same, owned_by, others, manager_cmp}
-use Rattle.ownership.specs.Apply.{State, all_paths, applied, dropped}
-use Rattle.ownership.specs.Keeping.{Owns, OwnedStand, HasPlaces, LeavesOwned, is_end}
+use Rattle.objects.specs.Owners.{Manager, is_same, owned_by, others, manager_cmp}
+use Rattle.objects.specs.State.{State}
+use Rattle.ownership.specs.Apply.{all_paths, applied, dropped}
+use Rattle.objects.specs.Placed.{Owns, OwnedStand}
+use Rattle.ownership.specs.Keeping.{HasPlaces, LeavesOwned, is_end}
 use Rattle.ownership.proofs.Ends.{ends}
-use Rattle.ownership.proofs.Entries.{Pairs, fst, snd}
+use Rattle.objects.proofs.Entries.{Pairs, fst, snd}
 use Rattle.ownership.proofs.Keeping.{front_itself, some_below, one_above, still_owned}
-use Rattle.ownership.proofs.Sameness.{same_manager-is}
-use Rattle.ownership.proofs.Taking.{none_above, find-others, sorted-others, owned_mine}
-use Rattle.ownership.proofs.Orders.{manager_total, manager_antisymmetric}
+use Rattle.objects.proofs.Within.{same_manager-is}
+use Rattle.objects.proofs.Taking.{none_above, find-others, sorted-others, owned_mine}
+use Rattle.objects.proofs.Orders.{manager_total, manager_antisymmetric}
 
 -- some entry has the path
 abbrev Found : Pairs → PathTexts → Type 0

@@ -1,7 +1,4 @@
-pub mod Orders
-pub mod Entries
 pub mod Sameness
-pub mod Taking
 pub mod Dropping
 pub mod Clearing
 pub mod Keeping
@@ -10,17 +7,3 @@ pub mod Leaves
 pub mod Placed
 pub mod Clauses
 pub mod Changing
-pub mod Objects
-pub mod Taken
-pub mod Rising
-pub mod Standing
-pub mod Envelopes
-pub mod Entered
-pub mod Textual
-pub mod Wholly
-pub mod Counted
-pub mod Back
-pub mod Answered
-pub mod Listed
-pub mod EntryTexts
-pub mod MetadataTexts

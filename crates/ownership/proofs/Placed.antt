@@ -5,13 +5,14 @@ use Rattle.pathmap.specs.Beside.{changed}
 use Rattle.schema.specs.Shape.{Shape}
 use Rattle.typed.specs.Fitting.{IsContent}
 use Rattle.typed.proofs.Keeping.{over_content, without_content}
-use Rattle.ownership.specs.Owners.{Manager, WroteByNone}
-use Rattle.ownership.specs.Apply.{State, applied, dropped}
-use Rattle.ownership.specs.Keeping.{IsPlacedState}
+use Rattle.objects.specs.Owners.{Manager, WroteByNone}
+use Rattle.objects.specs.State.{State}
+use Rattle.ownership.specs.Apply.{applied, dropped}
+use Rattle.objects.specs.Placed.{IsPlacedState}
 use Rattle.ownership.specs.Update.{updated}
 use Rattle.ownership.proofs.Changing.{updated_stand}
 use Rattle.ownership.proofs.Keeping.{owned_stand}
-use Rattle.ownership.proofs.Taking.{taken_by_none, taken_have_paths}
+use Rattle.objects.proofs.Taking.{taken_by_none, taken_have_paths}
 
 pub applied_placed : (live : State) (body : Content) (m : Manager) (s : Shape) → m.subresource ≡ [] → IsContent s body → IsPlacedState s live → IsPlacedState s (applied live body m)
 unfolding applied

@@ -1,56 +1,23 @@
 -- That two states are one exactly where they are equal.
-use Rattle.std.proofs.Common.{◌≡◌, ℕ, zero, suc, Bool, true, false, not, ◌&&◌, List, [], ◌∷◌, length, Option, Some, None, is_some, refl, sym, ap, ap₂, ◌∙◌, true≢false, ◌↔◌, ◌==◌}
+use Rattle.std.proofs.Common.{◌≡◌, Bool, true, false, not, ◌&&◌, List, [], ◌∷◌, length, Option, Some, None, is_some, refl, sym, ap, ap₂, ◌∙◌, true≢false, ◌↔◌}
 use Rattle.std.specs.FinMap as fin
 use Rattle.std.specs.FinSet as set
 use Rattle.std.specs.FinMap.{int_cmp-IsAntisymmetric}
 use Rattle.std.specs.Ordering.{int_cmp, is_eq}
 use Rattle.std.specs.Cmp.{Equal-is, tied_itself, int_cmp_total}
 use Rattle.std.specs.Cmp.Lexicographic.{bytes_decides}
-use Rattle.fieldpath.specs.Paths.{PathTexts, path_cmp}
+use Rattle.fieldpath.specs.Paths.{PathTexts}
 use Rattle.pathmap.specs.Contents.{Standing, text, whole, truth, plain, mark, Content, PathSet}
 use Rattle.pathmap.specs.Beside.{same_standing, same_value, changed}
 use Rattle.pathmap.proofs.Contents.{path_cmp_total, same}
 use Rattle.pathmap.proofs.Sets.{same_paths, contains-changed}
-use Rattle.ownership.specs.Owners.{Manager, is_same, is_empty, manager_cmp}
-use Rattle.ownership.specs.Apply.{State}
-use Rattle.ownership.specs.Managers.{pairs}
-use Rattle.ownership.specs.declared.managers.Entry.{Entry}
-use Rattle.ownership.proofs.Entries.{not_zero, length-pairs}
-use Rattle.ownership.specs.Sameness.{is_within, same_entry, same_entries, is_unchanged, same_content, same_state}
-use Rattle.ownership.proofs.Orders.{manager_total, manager_antisymmetric}
-
--- ---- truth values
-pub left_true : (a b : Bool) → (a && b) ≡ true → a ≡ true
-left_true true b e = refl
-left_true false b e = e
-
-pub right_true : (a b : Bool) → (a && b) ≡ true → b ≡ true
-right_true true b e = e
-right_true false b e = absurd (true≢false (sym e))
-
-pub both_true : (a b : Bool) → a ≡ true → b ≡ true → (a && b) ≡ true
-both_true a b p q = ap₂ (λ x y. x && y) p q
-
-pub none_left : (b : Bool) → not b ≡ false → b ≡ true
-none_left true e = refl
-none_left false e = absurd (true≢false e)
-
--- ---- sets without a path
-pub no_paths : (s : PathSet) → is_empty s ≡ true → s ≡ set.empty
-no_paths s e = by_length (set.len s) refl e
-  where
-    by_length : (n : ℕ) → set.len s ≡ n → (n == 0) ≡ true → s ≡ set.empty
-    by_length zero is e = set.empty_of_len s is
-    by_length (suc n) is e = absurd (true≢false (sym e ∙ not_zero n))
-
-pub empty_is_empty : (s : PathSet) → s ≡ set.empty → is_empty s ≡ true
-empty_is_empty s e = ap (λ t. set.len t == 0) e ∙ ap (λ n. n == 0) (set.len-empty path_cmp)
-
-pub has_no_path : (s : PathSet) → is_empty s ≡ true → (q : PathTexts) → set.contains s q ≡ false
-has_no_path s e q = ap (λ t. set.contains t q) (no_paths s e) ∙ set.contains-empty path_cmp q
-
-pub without_path : (s : PathSet) → ((q : PathTexts) → set.contains s q ≡ false) → is_empty s ≡ true
-without_path s none = empty_is_empty s (same_paths s set.empty (λ q. none q ∙ sym (set.contains-empty path_cmp q)))
+use Rattle.objects.specs.Owners.{Manager, is_same, is_within}
+use Rattle.objects.specs.State.{State}
+use Rattle.objects.specs.Managers.{pairs}
+use Rattle.objects.specs.declared.managers.Entry.{Entry}
+use Rattle.ownership.specs.Sameness.{same_entry, same_entries, is_unchanged, same_content, same_state}
+use Rattle.objects.proofs.Entries.{length-pairs}
+use Rattle.objects.proofs.Within.{left_true, right_true, both_true, none_left, has_no_path, without_path, within_at, same_manager-is, same_manager-itself}
 
 -- ---- values
 pub same_standing-is : (v w : Standing) → same_standing v w ≡ true → v ≡ w
@@ -109,9 +76,6 @@ within_both true false e f = absurd (true≢false e)
 within_both false true e f = absurd (true≢false f)
 within_both false false e f = refl
 
-pub within_at : (s t : PathSet) → is_within s t ≡ true → (q : PathTexts) → (set.contains s q && not (set.contains t q)) ≡ false
-within_at s t e q = sym (set.contains-difference path_cmp_total s t q) ∙ has_no_path (set.difference s t) e q
-
 pub within_both_ways : (s t : PathSet) → (is_within s t && is_within t s) ≡ true → s ≡ t
 within_both_ways s t e =
     same_paths s t (λ q. within_both (set.contains s q) (set.contains t q) (within_at s t (left_true (is_within s t) (is_within t s) e) q) (within_at t s (right_true (is_within s t) (is_within t s) e) q))
@@ -122,12 +86,6 @@ itself_within false = refl
 
 within-itself : (s : PathSet) → is_within s s ≡ true
 within-itself s = without_path (set.difference s s) (λ q. set.contains-difference path_cmp_total s s q ∙ itself_within (set.contains s q))
-
-pub same_manager-is : (m k : Manager) → is_same m k ≡ true → m ≡ k
-same_manager-is m k e = manager_antisymmetric m k ((Equal-is (manager_cmp m k)).0 e)
-
-pub same_manager-itself : (m : Manager) → is_same m m ≡ true
-same_manager-itself m = ap is_eq (tied_itself manager_total m)
 
 pub same_entry-is : (e f : Manager × PathSet) → same_entry e f ≡ true → e ≡ f
 same_entry-is e f h =

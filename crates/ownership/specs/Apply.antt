@@ -4,12 +4,8 @@ use Rattle.std.specs.FinSet as set
 use Rattle.fieldpath.specs.Paths.{PathTexts}
 use Rattle.pathmap.specs.Contents.{Content, PathSet, over, dom, in_order}
 use Rattle.pathmap.specs.Beside.{changed, clear_of, without}
-use Rattle.ownership.specs.Owners.{Manager, Owners, owned_by, others, taken_over}
-
--- an object: its content, and who owns which paths of it
-pub record State : Type 0 where
-  pub content : Content
-  pub owners : Owners
+use Rattle.objects.specs.Owners.{Manager, owned_by, others, taken_over}
+use Rattle.objects.specs.State.{State}
 
 -- a path that another manager owns and to which the body gives another value
 abbrev pub Conflict : Type 0

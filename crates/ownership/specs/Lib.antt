@@ -1,15 +1,6 @@
-pub mod Owners
-pub mod Codes
-pub mod Managers
-pub mod Ranks
-pub mod Results
 pub mod Apply
+pub mod Results
 pub mod Sameness
 pub mod Keeping
 pub mod Update
-pub mod ObjectText
 pub mod Outcomes
-pub mod ReadBack
-pub mod Parts
-pub mod Labels
-pub mod EntryTexts

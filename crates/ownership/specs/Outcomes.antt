@@ -1,6 +1,6 @@
 -- What a write does: it creates the object, changes its content or owners, or neither.
 use Rattle.std.specs.Prelude.{Bool, if◌then◌else◌, Option, None, Some}
-use Rattle.ownership.specs.Apply.{State}
+use Rattle.objects.specs.State.{State}
 use Rattle.ownership.specs.Sameness.{same_state}
 use Rattle.ownership.specs.declared.outcome.Outcome.{Outcome}
 use Rattle.ownership.specs.declared.outcome.Outcome.TheVariants.{Created, Configured, Unchanged}

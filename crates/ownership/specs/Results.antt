@@ -3,22 +3,16 @@ use Rattle.std.specs.Prelude.{◌≡◌, Bool, true, false, map}
 use Rattle.std.specs.declared.result.Result.{Result}
 use Rattle.std.specs.declared.result.Result.TheVariants.{Ok, Err}
 use Rattle.pathmap.specs.Contents.{Content}
-use Rattle.ownership.specs.Owners.{Manager}
-use Rattle.ownership.specs.Managers.{manager_view}
+use Rattle.objects.specs.Owners.{Manager}
+use Rattle.objects.specs.Managers.{manager_view}
 use Rattle.ownership.specs.Apply as def
-use Rattle.ownership.specs.Apply.{State, conflicts, applied, is_refused}
+use Rattle.objects.specs.State.{State}
+use Rattle.ownership.specs.Apply.{conflicts, applied, is_refused}
+use Rattle.objects.specs.Views.{state_of}
 use Rattle.ownership.specs.declared.conflict.ApplyFault.{ApplyFault}
 use Rattle.ownership.specs.declared.conflict.ApplyFault.TheVariants.{Conflicts, Memory}
 use Rattle.ownership.specs.declared.conflict.Conflict.{Conflict}
-use Rattle.ownership.specs.ObjectText as text
-use Rattle.ownership.specs.declared.object.Identity.{Identity}
-use Rattle.ownership.specs.declared.owned.Owned.{Owned}
-
-abbrev pub state_of : Owned → State
-state_of o = record { content = o.tree; owners = o.managers }
-
-abbrev pub identity_of : Identity → text.Identity
-identity_of i = record { api_version = i.api_version.now; kind = i.kind.now; namespace = i.namespace.now; name = i.name.now }
+use Rattle.objects.specs.declared.owned.Owned.{Owned}
 
 abbrev pub conflict_of : Conflict → def.Conflict
 conflict_of c = (c.path, manager_view c.manager)

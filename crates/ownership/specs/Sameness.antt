@@ -1,14 +1,10 @@
 -- When two states are one: no path of either content has another value in the other, and the entries are the same.
 use Rattle.std.specs.Prelude.{Bool, true, false, ◌&&◌, List, [], ◌∷◌}
 use Rattle.std.specs.FinMap as fin
-use Rattle.std.specs.FinSet as set
 use Rattle.pathmap.specs.Contents.{Content, PathSet}
 use Rattle.pathmap.specs.Beside.{changed}
-use Rattle.ownership.specs.Owners.{Manager, is_empty, is_same}
-use Rattle.ownership.specs.Apply.{State}
-
-abbrev pub is_within : PathSet → PathSet → Bool
-is_within s t = is_empty (set.difference s t)
+use Rattle.objects.specs.Owners.{Manager, is_empty, is_same, is_within}
+use Rattle.objects.specs.State.{State}
 
 abbrev pub same_entry : Manager × PathSet → Manager × PathSet → Bool
 same_entry e f = is_same e.0 f.0 && (is_within e.1 f.1 && is_within f.1 e.1)

@@ -2,8 +2,8 @@
 use Rattle.std.specs.FinSet as set
 use Rattle.pathmap.specs.Contents.{Content, PathSet, dom}
 use Rattle.pathmap.specs.Beside.{changed}
-use Rattle.ownership.specs.Owners.{Manager, owned_by, taken_over}
-use Rattle.ownership.specs.Apply.{State}
+use Rattle.objects.specs.Owners.{Manager, owned_by, taken_over}
+use Rattle.objects.specs.State.{State}
 
 -- the paths that were there and are no more
 unfoldable pub removed : Content → Content → PathSet

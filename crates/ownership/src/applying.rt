@@ -5,16 +5,18 @@ ghost use Rattle.schema.specs.Shape.{Shape};
 ghost use Rattle.pathmap.specs.Beside.{changed as changed_paths};
 ghost use Rattle.pathmap.specs.Contents.{Content, dom};
 ghost use Rattle.typed.specs.Fitting.{IsContent};
-ghost use Rattle.ownership.specs.Owners.{WroteByNone, apply_operation, manager_of};
+ghost use Rattle.objects.specs.Owners.{WroteByNone, apply_operation, manager_of};
 ghost use Rattle.ownership.specs.Apply.{applied, dropped, is_refused};
-ghost use Rattle.ownership.specs.Keeping.{HasPlaces, IsPlacedState, IsSettled, LeavesOwned, OthersKeep, OwnedStand};
-ghost use Rattle.ownership.specs.Managers.{manager_view};
-ghost use Rattle.ownership.specs.Results.{Applies, conflict_of, state_of};
+ghost use Rattle.ownership.specs.Keeping.{HasPlaces, IsSettled, LeavesOwned, OthersKeep};
+ghost use Rattle.objects.specs.Placed.{IsPlacedState, OwnedStand};
+ghost use Rattle.objects.specs.Managers.{manager_view};
+ghost use Rattle.ownership.specs.Results.{Applies, conflict_of};
+ghost use Rattle.objects.specs.Views.{state_of};
 
 use crate::conflict::{ApplyFault, Conflict};
-use crate::manager::{Manager, Operation};
-use crate::owned::Owned;
+use crate::others::{clear_of_others, conflicts_with_others};
 use fieldset::FieldSet;
+use objects::{Manager, Operation, Owned};
 use std::alloc::{AllocError, Global};
 use typed::Tree;
 
@@ -30,7 +32,7 @@ fn dropped(
     match live.managers.get(manager) {
         Some(owned) => {
             let left = owned.clear_of(alloc, body)?;
-            live.managers.clear_of_others(alloc, manager, left)
+            clear_of_others(&live.managers, alloc, manager, left)
         }
         None => Ok(FieldSet::new(alloc)),
     }
@@ -80,7 +82,7 @@ pub fn apply(
 {
     let manager = Manager::new(alloc, manager, Operation::Apply)?;
     let changed = config.changed_from(alloc, &live.tree)?;
-    let conflicts = live.managers.conflicts(alloc, &manager, &changed)?;
+    let conflicts = conflicts_with_others(&live.managers, alloc, &manager, &changed)?;
     if is_refused(&conflicts, force) {
         return Err(ApplyFault::Conflicts(conflicts));
     }

@@ -1,7 +1,7 @@
 //! What an apply is refused for.
 
-use crate::manager::Manager;
 use fieldpath::Path;
+use objects::Manager;
 use std::alloc::{AllocError, AllocFailed};
 use thiserror::Error;
 

@@ -1,35 +1,22 @@
-//! Who owns which paths of an object: Server-Side Apply and update.
+//! What a write does to an object: Server-Side Apply, update, and when two objects are one.
 //!
 //! Promises: an apply is refused for all its conflicts or changes content and owners exactly as defined;
-//! without force it changes no path that another manager owns. An object's text says one version, content and owners.
-//! Stands on `fieldset` for sets of paths and on `typed` for contents.
+//! without force it changes no path that another manager owns.
+//! Stands on `objects` for objects and their owners, on `fieldset` for sets of paths and on `typed` for contents.
 #![tactic(auto)]
 
 mod applying;
 mod conflict;
-mod envelope;
-mod fault;
-mod labels;
-mod laws;
-mod listing;
-mod managed_fields;
-mod manager;
-mod managers;
-mod metadata;
-mod object;
+mod others;
 mod outcome;
-mod owned;
-mod read_back;
 mod same;
 mod updating;
 
 pub use applying::apply;
 pub use conflict::{ApplyFault, Conflict};
-pub use fault::ObjectFault;
-pub use laws::objects_are_one_for_one;
-pub use manager::{Manager, Operation};
-pub use managers::{Entry, Managers};
-pub use object::Identity;
-pub use outcome::Outcome;
-pub use owned::Owned;
+pub use objects::{
+    Entry, Identity, Manager, Managers, ObjectFault, Operation, Owned, objects_are_one_for_one,
+};
+pub use outcome::{Outcome, written_over};
+pub use same::is_same;
 pub use updating::update;

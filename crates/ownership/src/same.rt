@@ -1,13 +1,13 @@
 //! Whether two objects have the same content and the same owners.
 
 ghost use Rattle.std.specs.Prelude.{◌≡◌, ◌↔◌, IfOk, IsTrue};
-ghost use Rattle.ownership.specs.Managers.{pair, pairs};
-ghost use Rattle.ownership.specs.Results.{state_of};
-ghost use Rattle.ownership.specs.Sameness.{is_unchanged, is_within, same_content, same_entries, same_entry, same_state};
+ghost use Rattle.objects.specs.Managers.{pair, pairs};
+ghost use Rattle.objects.specs.Views.{state_of};
+ghost use Rattle.ownership.specs.Sameness.{is_unchanged, same_content, same_entries, same_entry, same_state};
+ghost use Rattle.objects.specs.Owners.{is_within};
 
-use crate::managers::Entry;
-use crate::owned::Owned;
 use fieldset::FieldSet;
+use objects::{Entry, Owned};
 use std::alloc::{AllocError, Global};
 use typed::Tree;
 
@@ -55,15 +55,13 @@ fn is_same_content(alloc: Global, mine: &Tree, theirs: &Tree) -> Result<bool, Al
     Ok(is_unchanged(alloc, mine, theirs)? && is_unchanged(alloc, theirs, mine)?)
 }
 
-impl Owned {
-    /// Whether both have the same content and the same owners.
-    pub fn is_same(&self, alloc: Global, other: &Owned) -> Result<bool, AllocError>
-        ensures value { IfOk result (λ b. b ≡ same_state (state_of self.now) (state_of other.now)) }
-        ensures same { IfOk result (λ b. IsTrue b ↔ (state_of self.now ≡ state_of other.now)) }
-    {
-        Ok(
-            is_same_content(alloc, &self.tree, &other.tree)?
-                && are_same_entries(alloc, self.managers.entries(), other.managers.entries())?,
-        )
-    }
+/// Whether both have the same content and the same owners.
+pub fn is_same(alloc: Global, one: &Owned, other: &Owned) -> Result<bool, AllocError>
+    ensures value { IfOk result (λ b. b ≡ same_state (state_of one.now) (state_of other.now)) }
+    ensures same { IfOk result (λ b. IsTrue b ↔ (state_of one.now ≡ state_of other.now)) }
+{
+    Ok(
+        is_same_content(alloc, &one.tree, &other.tree)?
+            && are_same_entries(alloc, one.managers.entries(), other.managers.entries())?,
+    )
 }

@@ -2,18 +2,17 @@
 
 ghost use Rattle.std.specs.Prelude.{◌≡◌, IfOk};
 ghost use Rattle.std.specs.FinSet as set;
-ghost use Rattle.ownership.specs.Owners.{WroteByNone, manager_of, owned_by, update_operation};
+ghost use Rattle.objects.specs.Owners.{WroteByNone, manager_of, owned_by, update_operation};
 ghost use Rattle.schema.specs.Shape.{Shape};
 ghost use Rattle.typed.specs.Fitting.{IsContent};
-ghost use Rattle.ownership.specs.Keeping.{IsPlacedState, LeavesOwned, OwnedStand};
-ghost use Rattle.ownership.specs.Managers.{manager_view};
-ghost use Rattle.ownership.specs.Results.{state_of};
+ghost use Rattle.objects.specs.Placed.{IsPlacedState, OwnedStand};
+ghost use Rattle.ownership.specs.Keeping.{LeavesOwned};
+ghost use Rattle.objects.specs.Managers.{manager_view};
+ghost use Rattle.objects.specs.Views.{state_of};
 ghost use Rattle.ownership.specs.Update.{removed, updated};
 
-use crate::manager::{Manager, Operation};
-use crate::managers::Managers;
-use crate::owned::Owned;
 use fieldset::FieldSet;
+use objects::{Manager, Managers, Operation, Owned};
 use std::alloc::{AllocError, Global};
 use typed::Tree;
 

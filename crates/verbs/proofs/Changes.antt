@@ -9,7 +9,7 @@ use Rattle.history.proofs.Keys.{get-put_or_remove, tied}
 use Rattle.history.proofs.Lists.{all-filter}
 use Rattle.history.proofs.Revisions.{changed-append, up_to-all}
 use Rattle.history.proofs.Wholes.{whole_is, whole_writes}
-use Rattle.ownership.proofs.Taken.{no_some, same_some}
+use Rattle.objects.proofs.Taken.{no_some, same_some}
 use Rattle.verbs.specs.Machine.{AreTexts, IsBodyAt, IsMachine, IsNext, IsOfTypes, IsTextAt}
 
 -- ---- what stands

@@ -16,7 +16,7 @@ use Rattle.typed.specs.Reading.{content_of}
 use Rattle.typed.proofs.FieldTexts.{put_depth}
 use Rattle.typed.proofs.Keeping.{reading_content}
 use Rattle.schema.specs.ObjectShape.{IsObjectShape}
-use Rattle.ownership.proofs.Taken.{Kept, found_spelled, found_depth}
+use Rattle.objects.proofs.Taken.{Kept, found_spelled, found_depth}
 use Rattle.verbs.specs.Json.{IsJson}
 use Rattle.verbs.specs.Envelope.{Envelope, Expected, envelope_of, given_validated, kind_validated, managers_by, member_of, members_but, metadata_in, metadata_validated, metadata_names, put_metadata, rest_of, top_names, version_allowed, version_validated, with_others}
 use Rattle.verbs.specs.Validated.{Validated}

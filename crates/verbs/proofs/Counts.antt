@@ -4,7 +4,7 @@ use Rattle.std.specs.Prelude.{codes, option_and_then}
 use Rattle.serde_json.specs.Data.{Data, Members, no_members, member}
 use Rattle.serde_json.specs.Events.{members_len}
 use Rattle.serde_json.specs.Find.{as_object, get}
-use Rattle.ownership.specs.Labels.{label_count, labels_of, size}
+use Rattle.objects.specs.Labels.{label_count, labels_of, size}
 use Rattle.verbs.specs.Naming.{metadata_object}
 use Rattle.verbs.specs.Size.{count, count_if_there}
 

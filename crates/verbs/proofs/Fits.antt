@@ -7,10 +7,10 @@ use Rattle.params.specs.declared.params.Asked.TheVariants as asked
 use Rattle.schema.specs.TypesFile.{ServedShape}
 use Rattle.history.specs.History.{Change, Key, Object, Objects}
 use Rattle.history.specs.View.{View}
-use Rattle.ownership.specs.Apply.{State}
-use Rattle.ownership.specs.Owners.{apply_operation, manager_of}
+use Rattle.objects.specs.State.{State}
+use Rattle.objects.specs.Owners.{apply_operation, manager_of}
 use Rattle.ownership.specs.Sameness.{same_state}
-use Rattle.ownership.proofs.Taken.{no_some}
+use Rattle.objects.proofs.Taken.{no_some}
 use Rattle.verbs.specs.declared.method.Method.{Method}
 use Rattle.verbs.specs.declared.method.Method.TheVariants.{Delete, Get, Patch, Post, Put}
 use Rattle.verbs.specs.Calls.{Answer, Call, Plan}

@@ -9,8 +9,8 @@ use Rattle.schema.specs.TypesFile.{ServedShape}
 use Rattle.history.specs.History.{Change, History, Key, Object, Objects, compacted_to, standing}
 use Rattle.history.specs.View.{View, compacted_in, written_in}
 use Rattle.history.proofs.Seen.{view_compacts, view_writes}
-use Rattle.ownership.specs.ReadBack.{IsObjectText}
-use Rattle.ownership.proofs.Taken.{same_some}
+use Rattle.objects.specs.ReadBack.{IsObjectText}
+use Rattle.objects.proofs.Taken.{same_some}
 use Rattle.verbs.specs.declared.api.Api.{Api}
 use Rattle.verbs.specs.declared.body.Body.{Body}
 use Rattle.verbs.specs.declared.calls.Call.{Call as TheCall}

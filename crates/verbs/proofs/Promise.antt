@@ -19,16 +19,19 @@ use Rattle.typed.specs.Fitting.{IsContent}
 use Rattle.typed.specs.Reading.{content_of}
 use Rattle.history.specs.History.{Key, Change, Object, Objects, History, is_same_key, last_revision, object_by, put_or_remove, standing, state_at}
 use Rattle.history.proofs.Keys.{get-put_or_remove, tied}
-use Rattle.ownership.specs.Owners.{Manager, is_same, manager_of, apply_operation, owned_by, update_operation}
+use Rattle.objects.specs.Owners.{Manager, is_same, manager_of, apply_operation, owned_by, update_operation}
 use Rattle.ownership.specs.Update.{removed, updated}
 use Rattle.schema.specs.ObjectShape.{IsObjectShape}
-use Rattle.ownership.specs.ReadBack.{IsObjectText}
+use Rattle.objects.specs.ReadBack.{IsObjectText}
 use Rattle.ownership.proofs.Placed.{applied_placed, updated_placed}
-use Rattle.ownership.proofs.Sameness.{both_true, same_manager-is, same_value-itself}
-use Rattle.ownership.proofs.Taken.{no_some, same_some}
-use Rattle.ownership.proofs.Taking.{owned_other}
-use Rattle.ownership.specs.Apply.{State, conflicts, applied, is_refused}
-use Rattle.ownership.specs.Keeping.{IsPlacedState, OthersKeep}
+use Rattle.objects.proofs.Within.{both_true, same_manager-is}
+use Rattle.ownership.proofs.Sameness.{same_value-itself}
+use Rattle.objects.proofs.Taken.{no_some, same_some}
+use Rattle.objects.proofs.Taking.{owned_other}
+use Rattle.objects.specs.State.{State}
+use Rattle.ownership.specs.Apply.{conflicts, applied, is_refused}
+use Rattle.objects.specs.Placed.{IsPlacedState}
+use Rattle.ownership.specs.Keeping.{OthersKeep}
 use Rattle.ownership.specs.Sameness.{same_state}
 use Rattle.ownership.proofs.Keeping.{others_keep}
 use Rattle.verbs.specs.declared.method.Method.{Method}

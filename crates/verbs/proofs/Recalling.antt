@@ -5,9 +5,9 @@ use Rattle.std.specs.declared.result.Result.{Result}
 use Rattle.schema.specs.ObjectShape.{IsObjectShape}
 use Rattle.schema.specs.TypesFile.{ServedShape}
 use Rattle.history.specs.History.{Key, last_revision}
-use Rattle.ownership.specs.Apply.{State}
-use Rattle.ownership.specs.Keeping.{IsPlacedState}
-use Rattle.ownership.proofs.Taken.{same_some}
+use Rattle.objects.specs.State.{State}
+use Rattle.objects.specs.Placed.{IsPlacedState}
+use Rattle.objects.proofs.Taken.{same_some}
 use Rattle.verbs.specs.declared.calls.Plan.{Plan as ThePlan}
 use Rattle.verbs.specs.declared.remembered.Remembered.{Remembered}
 use Rattle.verbs.specs.Remembered.{IsRight, IsRightAt, IsSaidBy}

@@ -13,7 +13,7 @@ use Rattle.fieldpath.specs.Spelled.{MembersAreSpelled, member_names}
 use Rattle.schema.specs.Keywords.{is_in}
 use Rattle.typed.specs.Without.{but, kept, members_kept}
 use Rattle.typed.proofs.Plains.{AreBelow, members_after, members_after-after, members_after-none, put_last, still_below}
-use Rattle.ownership.proofs.Taken.{absent_above, ascend_rest, cmp, first_below, found_spelled, further, no_some, rest_above, same_some, tied}
+use Rattle.objects.proofs.Taken.{absent_above, ascend_rest, cmp, first_below, found_spelled, further, no_some, rest_above, same_some, tied}
 use Rattle.verbs.specs.declared.fault.CallError.{CallError}
 use Rattle.verbs.specs.declared.fault.CallError.TheVariants as call_error
 use Rattle.verbs.specs.Envelope.{Envelope, Expected, envelope_of, kind_validated, left_out, members_but, metadata_in, metadata_names, metadata_validated, object_validated, put_metadata, rest_of, top_names, with_others}

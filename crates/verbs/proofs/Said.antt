@@ -11,16 +11,16 @@ use Rattle.schema.specs.Shape.{Shape}
 use Rattle.schema.specs.TypesFile.{ServedShape}
 use Rattle.typed.specs.Fitting.{IsContent}
 use Rattle.history.specs.History.{Key}
-use Rattle.ownership.specs.Apply.{State}
-use Rattle.ownership.specs.Keeping.{IsPlacedState}
-use Rattle.ownership.specs.ObjectText.{Identity, object_text}
-use Rattle.ownership.specs.Owners.{Manager, Owners, manager_cmp, owned_by}
-use Rattle.ownership.specs.Parts.{parts_in}
+use Rattle.objects.specs.State.{State}
+use Rattle.objects.specs.Placed.{IsPlacedState}
+use Rattle.objects.specs.ObjectText.{Identity, object_text}
+use Rattle.objects.specs.Owners.{Manager, Owners, manager_cmp, owned_by}
+use Rattle.objects.specs.Parts.{parts_in}
 use Rattle.schema.specs.ObjectShape.{IsObjectShape}
-use Rattle.ownership.specs.ReadBack.{IsObjectText, max_version}
-use Rattle.ownership.proofs.Back.{parts_back, text_read}
-use Rattle.ownership.proofs.Taken.{no_some}
-use Rattle.ownership.proofs.Textual.{value_textual}
+use Rattle.objects.specs.ReadBack.{IsObjectText, max_version}
+use Rattle.objects.proofs.Back.{parts_back, text_read}
+use Rattle.objects.proofs.Taken.{no_some}
+use Rattle.objects.proofs.Textual.{value_textual}
 use Rattle.verbs.specs.Machine.{AreObjectTypes, identity_of, no_state, state_or_none, state_said}
 use Rattle.verbs.specs.Remembered.{IsSaidBy}
 use Rattle.verbs.specs.Step.{printed, text_at}

@@ -10,11 +10,11 @@ use Rattle.pathmap.specs.Contents.{nothing}
 use Rattle.history.specs.History.{Key, Change, Object, Objects, History, last_revision, standing, written}
 use Rattle.history.specs.View.{View, state_in}
 use Rattle.history.specs.Whole.{IsWhole}
-use Rattle.ownership.specs.Apply.{State}
-use Rattle.ownership.specs.ObjectText.{Identity}
-use Rattle.ownership.specs.Parts.{parts_in}
+use Rattle.objects.specs.State.{State}
+use Rattle.objects.specs.ObjectText.{Identity}
+use Rattle.objects.specs.Parts.{parts_in}
 use Rattle.schema.specs.ObjectShape.{IsObjectShape}
-use Rattle.ownership.specs.ReadBack.{IsObjectText}
+use Rattle.objects.specs.ReadBack.{IsObjectText}
 use Rattle.names.specs.Names.{is_dns_label, is_dns_subdomain}
 use Rattle.verbs.specs.Envelope.{api_version_of}
 use Rattle.verbs.specs.Size.{max_bytes}

@@ -10,9 +10,10 @@ use Rattle.schema.specs.TypesFile.{ServedShape}
 use Rattle.fieldpath.specs.Paths.{PathTexts}
 use Rattle.history.specs.History.{Change, Key, Object, History, compacted_to, fresh, last_revision, standing, state_at}
 use Rattle.history.specs.View.{view}
-use Rattle.ownership.specs.Owners.{Manager, manager_of, apply_operation, update_operation}
-use Rattle.ownership.specs.Apply.{State}
-use Rattle.ownership.specs.Keeping.{OthersKeep, Owns}
+use Rattle.objects.specs.Owners.{Manager, manager_of, apply_operation, update_operation}
+use Rattle.objects.specs.State.{State}
+use Rattle.ownership.specs.Keeping.{OthersKeep}
+use Rattle.objects.specs.Placed.{Owns}
 use Rattle.verbs.specs.declared.method.Method.TheVariants.{Get, Patch, Put}
 use Rattle.verbs.specs.Calls.{Call, Target}
 use Rattle.verbs.specs.Json.{IsJsonBody}

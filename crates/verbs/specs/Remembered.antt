@@ -2,9 +2,9 @@
 use Rattle.std.specs.Prelude.{◌≡◌, ℕ, IfSome, List, Some, slice_get, string_bytes}
 use Rattle.std.specs.List.{All}
 use Rattle.schema.specs.TypesFile.{ServedShape}
-use Rattle.ownership.specs.Apply.{State}
-use Rattle.ownership.specs.Keeping.{IsPlacedState}
-use Rattle.ownership.specs.Results.{state_of}
+use Rattle.objects.specs.State.{State}
+use Rattle.objects.specs.Placed.{IsPlacedState}
+use Rattle.objects.specs.Views.{state_of}
 use Rattle.verbs.specs.Machine.{state_said}
 use Rattle.verbs.specs.declared.remembered.Remembered.{Remembered}
 use Rattle.verbs.specs.declared.slot.Slot.{Slot}

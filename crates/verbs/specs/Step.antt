@@ -13,13 +13,14 @@ use Rattle.typed.specs.declared.fault.Cause.{Cause}
 use Rattle.typed.specs.declared.fault.Cause.TheVariants.{NotAnObject, UnknownField, WrongType, DuplicateItem, KeyFieldMissing}
 use Rattle.typed.specs.Faults.{Read, cause_text}
 use Rattle.typed.specs.Reading.{content_of}
-use Rattle.ownership.specs.Owners.{Manager, manager_of, apply_operation, update_operation}
+use Rattle.objects.specs.Owners.{Manager, manager_of, apply_operation, update_operation}
 use Rattle.history.specs.History.{Key, Object, Objects, History, last_revision, standing}
 use Rattle.history.specs.View.{View, state_in}
-use Rattle.ownership.specs.Apply.{State, Conflict, conflicts, applied, is_refused}
+use Rattle.objects.specs.State.{State}
+use Rattle.ownership.specs.Apply.{Conflict, conflicts, applied, is_refused}
 use Rattle.ownership.specs.Update.{updated}
 use Rattle.ownership.specs.Sameness.{same_state}
-use Rattle.ownership.specs.ObjectText.{object_value}
+use Rattle.objects.specs.ObjectText.{object_value}
 use Rattle.lists.specs.Body.{Collection}
 use Rattle.lists.specs.Lists.{list_of}
 use Rattle.lists.specs.declared.refusal.Refusal.{Refusal}

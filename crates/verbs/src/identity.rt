@@ -2,7 +2,7 @@
 
 ghost use Rattle.std.specs.Prelude.{◌≡◌};
 ghost use Rattle.schema.specs.Served as types;
-ghost use Rattle.ownership.specs.Results as objects;
+ghost use Rattle.objects.specs.Views as objects;
 ghost use Rattle.history.specs.Read.{key_of};
 ghost use Rattle.verbs.specs.Envelope.{api_version_of};
 ghost use Rattle.verbs.specs.Machine.{identity_of};

@@ -2,8 +2,8 @@
 
 ghost use Rattle.std.specs.Prelude.{◌≡◌, ◌≢◌, Err, IfOk, IfSome, Some, option_map};
 ghost use Rattle.schema.specs.Served as types;
-ghost use Rattle.ownership.specs.Keeping.{IsPlacedState};
-ghost use Rattle.ownership.specs.Results.{state_of};
+ghost use Rattle.objects.specs.Placed.{IsPlacedState};
+ghost use Rattle.objects.specs.Views.{state_of};
 ghost use Rattle.schema.specs.ObjectShape.{IsObjectShape};
 ghost use Rattle.schema.specs.TypesFile.{ServedShape};
 ghost use Rattle.history.specs.Read.{key_of};

@@ -6,8 +6,8 @@ ghost use Rattle.std.specs.Prelude.{◌≡◌, ◌≢◌, ◌≤◌, Err, IfOk, 
 ghost use Rattle.schema.specs.ObjectShape.{IsObjectShape};
 ghost use Rattle.schema.specs.Served as types;
 ghost use Rattle.schema.specs.TypesFile.{ServedShape};
-ghost use Rattle.ownership.specs.Keeping.{IsPlacedState};
-ghost use Rattle.ownership.specs.Results.{state_of};
+ghost use Rattle.objects.specs.Placed.{IsPlacedState};
+ghost use Rattle.objects.specs.Views.{state_of};
 ghost use Rattle.history.specs.History.{last_revision};
 ghost use Rattle.history.specs.Read.{key_of};
 ghost use Rattle.verbs.specs.Calls as calls;

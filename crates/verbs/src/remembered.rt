@@ -2,7 +2,7 @@
 
 ghost use Rattle.std.specs.Prelude.{◌≡◌, IfSome, string_bytes};
 ghost use Rattle.schema.specs.TypesFile.{ServedShape};
-ghost use Rattle.ownership.specs.Results.{state_of};
+ghost use Rattle.objects.specs.Views.{state_of};
 ghost use Rattle.verbs.specs.Remembered.{IsRight, IsSaidBy};
 
 use ownership::Owned;

@@ -8,8 +8,8 @@ ghost use Rattle.schema.specs.Served as types;
 ghost use Rattle.schema.specs.TypesFile.{ServedShape};
 ghost use Rattle.typed.specs.Fitting.{IsContent};
 ghost use Rattle.schema.specs.ObjectShape.{IsObjectShape};
-ghost use Rattle.ownership.specs.Keeping.{IsPlacedState};
-ghost use Rattle.ownership.specs.Results.{state_of};
+ghost use Rattle.objects.specs.Placed.{IsPlacedState};
+ghost use Rattle.objects.specs.Views.{state_of};
 ghost use Rattle.verbs.specs.Machine.{state_of_live};
 ghost use Rattle.history.specs.Read.{key_of};
 ghost use Rattle.verbs.specs.Seen.{Gives, object_of, plan_of};
@@ -31,7 +31,7 @@ use crate::size::validate_size;
 use crate::texts::joined;
 use crate::written::Written;
 use history::Key;
-use ownership::{Outcome, Owned};
+use ownership::{Outcome, Owned, written_over};
 use revtable::Object;
 use schema::Served;
 use std::alloc::{AllocError, Global};
@@ -224,7 +224,7 @@ pub fn stored_over(
     ensures plan { Gives written_plan result (stored_over (types.served served.now) current (key_of key) (option_map object_of live.now.object) (state_of owned)) }
     ensures right { IfOk result (RemembersRight (types.served served.now)) }
 {
-    match owned.written_over(alloc, live.before())? {
+    match written_over(alloc, &owned, live.before())? {
         Outcome::Created => stored(alloc, served, current, key, 201, owned),
         Outcome::Configured => stored(alloc, served, current, key, 200, owned),
         Outcome::Unchanged => match &live.object {

@@ -5,8 +5,8 @@ use Rattle.schema.specs.TypesFile.{ServedShape}
 use Rattle.names.specs.Names.{is_dns_label, is_dns_subdomain}
 use Rattle.history.specs.History.{History, IsHistory, Key, Object, Objects, standing, state_at}
 use Rattle.history.proofs.Wholes.{whole_is}
-use Rattle.ownership.specs.ReadBack.{IsObjectText, max_version}
-use Rattle.ownership.proofs.Taken.{same_some}
+use Rattle.objects.specs.ReadBack.{IsObjectText, max_version}
+use Rattle.objects.proofs.Taken.{same_some}
 use Rattle.params.specs.Values.{Values}
 use Rattle.lists.specs.declared.refusal.Refusal.{Refusal}
 use Rattle.lists.specs.Body.{Collection, list_text}

@@ -10,8 +10,8 @@ use Rattle.history.specs.History.{Change, History, IsHistory, Key, Object, objec
 use Rattle.history.specs.Seen.{SeenChange, SeenKind, Added, Modified, Deleted}
 use Rattle.history.proofs.Revisions.{all_within}
 use Rattle.history.proofs.Wholes.{whole_is}
-use Rattle.ownership.specs.ObjectText.{Identity, object_value}
-use Rattle.ownership.specs.ReadBack.{max_version}
+use Rattle.objects.specs.ObjectText.{Identity, object_value}
+use Rattle.objects.specs.ReadBack.{max_version}
 use Rattle.watchline.specs.declared.event.EventType.TheVariants as event
 use Rattle.watchline.specs.Lines.{bookmark_line, bookmark_value, error_line, expired_message, expired_value, line, line_of, text_shown, type_of}
 use Rattle.watchline.specs.Watches.{Cursor, bookmarked, coming, expiring, from_history, is_bookmark_due, telling}

@@ -9,8 +9,8 @@ use Rattle.httparse.specs.Grammar.{RequestHead, is_value_byte}
 use Rattle.serde_json.proofs.OnLiterals.{serde_json_on_literals}
 use Rattle.serde_json.specs.Data.{Data}
 use Rattle.serde_json.specs.Written.{compact_text}
-use Rattle.ownership.specs.Apply.{State}
-use Rattle.ownership.specs.Owners.{apply_operation, manager_of}
+use Rattle.objects.specs.State.{State}
+use Rattle.objects.specs.Owners.{apply_operation, manager_of}
 use Rattle.ownership.specs.Sameness.{same_state}
 use Rattle.schema.specs.TypesFile.{ServedShape}
 use Rattle.verbs.specs.declared.method.Method.{Method}

@@ -4,7 +4,7 @@ ghost use Rattle.std.specs.Prelude.{◌≡◌, ◌≤◌, ℕ, IsUtf8, List, [],
 ghost use Rattle.std.specs.List.{AllByRecursion};
 ghost use Rattle.schema.specs.TypesFile.{ServedShape};
 ghost use Rattle.history.specs.History.{History};
-ghost use Rattle.ownership.specs.ReadBack.{max_version};
+ghost use Rattle.objects.specs.ReadBack.{max_version};
 ghost use Rattle.watchline.specs.Watches.{Cursor, coming, from_history};
 ghost use Rattle.verbs.specs.Calls.{Call};
 ghost use Rattle.verbs.specs.Machine.{AreUnicode, IsMachine};

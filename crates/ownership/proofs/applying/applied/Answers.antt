@@ -1,6 +1,6 @@
 use Rattle.std.proofs.Common.{refl}
-use Rattle.ownership.specs.Managers.{manager_view}
-use Rattle.ownership.specs.Results.{state_of}
+use Rattle.objects.specs.Managers.{manager_view}
+use Rattle.objects.specs.Views.{state_of}
 use Rattle.ownership.proofs.Dropping.{state_is}
 use Rattle.ownership.proofs.applying.applied.Goals as goal
 

@@ -1,8 +1,10 @@
 use Rattle.std.proofs.Common.{◌≡◌, false, map, refl, sym, ap, ◌∙◌}
-use Rattle.ownership.specs.Apply.{State, applied, conflicts, is_refused}
-use Rattle.ownership.specs.Managers.{manager_view}
-use Rattle.ownership.specs.Owners.{manager_of, apply_operation}
-use Rattle.ownership.specs.Results.{state_of, conflict_of}
+use Rattle.objects.specs.State.{State}
+use Rattle.ownership.specs.Apply.{applied, conflicts, is_refused}
+use Rattle.objects.specs.Managers.{manager_view}
+use Rattle.objects.specs.Owners.{manager_of, apply_operation}
+use Rattle.objects.specs.Views.{state_of}
+use Rattle.ownership.specs.Results.{conflict_of}
 use Rattle.ownership.proofs.Clauses.{keeps_others, keeps_places, keeps_standing, keeps_leaves, keeps_placed, keeps_by_none, settles}
 use Rattle.ownership.proofs.Dropping.{conflicts_are}
 use Rattle.ownership.proofs.applying.apply.Goals as goal

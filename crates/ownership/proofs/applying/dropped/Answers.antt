@@ -2,9 +2,9 @@ use Rattle.std.proofs.Common.{◌≡◌, IfOk, sym, ap, ◌∙◌, subst}
 use Rattle.pathmap.specs.Contents.{dom}
 use Rattle.pathmap.specs.Beside.{clear_of}
 use Rattle.ownership.specs.Apply.{clear_of_all}
-use Rattle.ownership.specs.Owners.{others}
-use Rattle.ownership.specs.Managers.{manager_view}
-use Rattle.ownership.specs.Results.{state_of}
+use Rattle.objects.specs.Owners.{others}
+use Rattle.objects.specs.Managers.{manager_view}
+use Rattle.objects.specs.Views.{state_of}
 use Rattle.ownership.proofs.Clearing.{clear_of-all_paths}
 use Rattle.ownership.proofs.Dropping.{dropped_some, dropped_none}
 use Rattle.ownership.proofs.applying.dropped.Goals as goal

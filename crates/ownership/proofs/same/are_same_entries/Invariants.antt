@@ -1,7 +1,7 @@
 use Rattle.std.proofs.Common.{◌≡◌, length}
 use Rattle.std.specs.Iterator.Adapters.{zip_first, zip_second}
 use Rattle.std.specs.Slice.Iter.{iter_rest}
-use Rattle.ownership.specs.Managers.{pairs}
+use Rattle.objects.specs.Managers.{pairs}
 use Rattle.ownership.specs.Sameness.{same_entries}
 use Rattle.ownership.proofs.same.are_same_entries.Given as goal
 

@@ -1,6 +1,6 @@
 use Rattle.std.proofs.Common.{sym, ap, ◌∙◌}
-use Rattle.ownership.specs.Owners.{is_empty}
-use Rattle.ownership.proofs.Entries.{empty_is}
+use Rattle.objects.specs.Owners.{is_empty}
+use Rattle.objects.proofs.Entries.{empty_is}
 use Rattle.ownership.proofs.same.is_within.Goals as goal
 
 pub returns : goal.returns

@@ -1,6 +1,6 @@
 use Rattle.std.proofs.Common.{◌≡◌, IfOk, sym, ap, ◌∙◌, subst}
 use Rattle.std.specs.FinSet as set
-use Rattle.ownership.specs.Managers.{manager_view}
+use Rattle.objects.specs.Managers.{manager_view}
 use Rattle.ownership.proofs.Changing.{then_some, then_none}
 use Rattle.ownership.proofs.updating.owned_then.Goals as goal
 

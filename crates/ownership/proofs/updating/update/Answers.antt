@@ -1,11 +1,11 @@
 use Rattle.std.proofs.Common.{◌≡◌, refl, sym, subst}
-use Rattle.ownership.specs.Apply.{State}
-use Rattle.ownership.specs.Managers.{manager_view}
-use Rattle.ownership.specs.Owners.{WroteByNone, manager_of, update_operation}
-use Rattle.ownership.specs.Results.{state_of}
+use Rattle.objects.specs.State.{State}
+use Rattle.objects.specs.Managers.{manager_view}
+use Rattle.objects.specs.Owners.{WroteByNone, manager_of, update_operation}
+use Rattle.objects.specs.Views.{state_of}
 use Rattle.ownership.specs.Update.{updated}
 use Rattle.ownership.proofs.Changing.{updated_is, update_stands, update_leaves}
-use Rattle.ownership.specs.Keeping.{IsPlacedState}
+use Rattle.objects.specs.Placed.{IsPlacedState}
 use Rattle.ownership.proofs.Placed.{updated_by_none, updated_placed}
 use Rattle.ownership.proofs.updating.update.Goals as goal
 

@@ -1,10 +1,10 @@
 use Rattle.std.proofs.Common.{Err, ap, subst, sym, ◌∙◌, List, ℕ}
 use Rattle.schema.specs.Served.{served}
 use Rattle.history.specs.Read.{key_of}
-use Rattle.ownership.specs.ObjectText.{Identity}
-use Rattle.ownership.specs.ReadBack.{IsObjectText, IsReadBack}
-use Rattle.ownership.specs.Results.{identity_of as identity_seen, state_of}
-use Rattle.ownership.specs.declared.fault.ObjectFault.{ObjectFault}
+use Rattle.objects.specs.ObjectText.{Identity}
+use Rattle.objects.specs.ReadBack.{IsObjectText, IsReadBack}
+use Rattle.objects.specs.Views.{identity_of as identity_seen, state_of}
+use Rattle.objects.specs.declared.fault.ObjectFault.{ObjectFault}
 use Rattle.verbs.specs.Machine.{identity_of, state_said}
 use Rattle.verbs.proofs.Said.{said_back}
 use Rattle.verbs.proofs.live.read_stored.Goals as goal

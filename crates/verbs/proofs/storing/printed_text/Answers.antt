@@ -1,9 +1,9 @@
 use Rattle.std.proofs.Common.{◌∙◌, ap, sym}
 use Rattle.schema.specs.Served.{served}
 use Rattle.history.specs.Read.{key_of}
-use Rattle.ownership.specs.ObjectText.{object_text}
-use Rattle.ownership.specs.Results.{state_of}
-use Rattle.ownership.proofs.Answered.{ok_map}
+use Rattle.objects.specs.ObjectText.{object_text}
+use Rattle.objects.specs.Views.{state_of}
+use Rattle.objects.proofs.Answered.{ok_map}
 use Rattle.verbs.proofs.Said.{text_is}
 use Rattle.verbs.proofs.storing.printed_text.Goals as goal
 

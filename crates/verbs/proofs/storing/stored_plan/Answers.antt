@@ -1,7 +1,7 @@
 use Rattle.std.proofs.Common.{add-one, ap, ◌∙◌, ℕ, suc}
 use Rattle.std.specs.Prelude.{string_bytes}
 use Rattle.schema.specs.Served.{served}
-use Rattle.ownership.specs.Results.{state_of}
+use Rattle.objects.specs.Views.{state_of}
 use Rattle.history.specs.Read.{key_of}
 use Rattle.verbs.specs.Machine.{identity_of}
 use Rattle.verbs.specs.Step.{printed, text_at}

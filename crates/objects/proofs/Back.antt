@@ -1,0 +1,261 @@
+-- An object's value is read back as what it was written of, and what is read is a content.
+use Rattle.std.proofs.Common.{◌≡◌, ◌≤◌, ℕ, suc, Bool, true, false, cond, ◌&&◌, List, [], ◌∷◌, Option, Some, None, refl, sym, ap, ap₂, ◌∙◌, true≢false, subst, arith}
+use Rattle.std.specs.Prelude.{codes, decimal, option_map, option_and_then, ◌^◌, ◌<◌}
+use Rattle.std.proofs.lemmas.Bool.{and_parts}
+use Rattle.std.specs.FinMap as fin
+use Rattle.std.specs.List.{AllByRecursion}
+use Rattle.std.specs.declared.result.Result.TheVariants.{Ok, Err}
+use Rattle.serde_json.specs.Data.{Data, null, boolean, number, string, array, object, Items, no_items, item, Members, no_members, member, put, depth, members_depth}
+use Rattle.serde_json.specs.Find.{get_member, as_object, as_str}
+use Rattle.serde_json.specs.Read.{read, max_depth}
+use Rattle.fieldpath.specs.Elements.{name_text}
+use Rattle.fieldpath.specs.Scalars.{ascend}
+use Rattle.fieldpath.specs.Spelled.{IsSpelled, member_names}
+use Rattle.fieldpath.proofs.Spelled.{put_ascend, put_spelled}
+use Rattle.names.specs.Decimals.{version_of}
+use Rattle.names.proofs.Decimals.{exact}
+use Rattle.pathmap.specs.Contents.{Content, PathSet}
+use Rattle.pathmap.specs.Insides.{inside}
+use Rattle.schema.specs.Lawful.{is_lawful, is_well_formed, names_of, are_well_formed}
+use Rattle.schema.specs.ObjectShape.{IsObjectShape}
+use Rattle.schema.specs.Shape.{Shape, text, whole, truth, struct_of, map_of, list_of, Fields, shape_at}
+use Rattle.schema.specs.TypesFile.{metadata}
+use Rattle.typed.specs.Faults.{Read}
+use Rattle.typed.specs.Fitting.{IsContent}
+use Rattle.typed.specs.Printing.{object_or_none, print, print_fields}
+use Rattle.typed.specs.Reading.{content_of}
+use Rattle.typed.proofs.FieldTexts.{put_depth}
+use Rattle.typed.proofs.Fitting.{content_placed}
+use Rattle.typed.proofs.Keeping.{reading_content}
+use Rattle.typed.proofs.Places.{places}
+use Rattle.typed.proofs.RoundTrip.{round}
+use Rattle.typed.proofs.Spelling.{printed_textual}
+use Rattle.objects.specs.State.{State}
+use Rattle.fieldset.proofs.Written.{written}
+use Rattle.fieldset.specs.BothWays.{HavePlaces}
+use Rattle.objects.specs.Placed.{IsPlacedState}
+use Rattle.objects.specs.ObjectText.{Identity, members_printed, metadata_members, metadata_of, entry_items, object_value, object_text}
+use Rattle.objects.specs.Owners.{Manager, Owners, HavePaths, WroteByNone, manager_of}
+use Rattle.objects.specs.Parts.{if_read, less, own_members, in_two, split, version_in, labels_left, put_labels, text_at, operation_named, manager_in, set_in, entry_of, entry_in, entries_in, items_or_none, owners_of, owners_in, fields_of, state_with, parts_of, parts_in}
+use Rattle.objects.specs.Ranks.{have_paths, rising}
+use Rattle.objects.specs.ReadBack.{IsObjectText, OneForOne, max_version}
+use Rattle.objects.proofs.Entered.{AllPlaced, entries_there, items_put, owners_back}
+use Rattle.objects.proofs.Envelopes.{found_field, absent_field, metadata_printed, members_back, with_name, labels_back, version_there, items_there, with_metadata, whole as the_whole, whole_split, fields_back, content_back}
+use Rattle.objects.proofs.Entries.{Pairs}
+use Rattle.objects.proofs.Rising.{all_found, owners_by_none, owners_have_paths}
+use Rattle.objects.proofs.Within.{right_true}
+use Rattle.objects.proofs.Standing.{entries_stand}
+use Rattle.objects.proofs.Taken.{Kept, less_kept, found_spelled, found_depth, no_some, same_some}
+use Rattle.objects.proofs.Textual.{one_deeper, value_textual}
+
+fits : 9223372036854775807 < 2 ^ 64
+fits = omega arith
+
+version_back : (v : ℕ) → v ≤ max_version → version_of (decimal v) ≡ Some v
+version_back v low = (exact 9223372036854775807 (decimal v) v fits).1 (low, refl)
+
+-- ---- forwards
+
+module _ (all : Fields) (of : Identity) (v : ℕ) (state : State) where
+  abbrev pub type_of_all : Shape
+  type_of_all = struct_of all false
+
+  abbrev pub fields_printed : Members
+  fields_printed = print_fields all state.content no_members
+
+  module _ (lawful : is_lawful type_of_all ≡ true) (has_metadata : shape_at (codes "metadata") all ≡ Some metadata) (no_version : shape_at (codes "apiVersion") all ≡ None) (no_kind : shape_at (codes "kind") all ≡ None) (placed : IsPlacedState type_of_all state) (low : v ≤ max_version) where
+    formed : is_well_formed type_of_all ≡ true
+    formed = (and_parts (is_well_formed type_of_all) _ lawful).0
+
+    up : ascend (names_of all) ≡ true
+    up = (and_parts (ascend (names_of all)) (are_well_formed all) formed).0
+
+    abbrev pub in_metadata : Content
+    in_metadata = inside (name_text (codes "metadata")) state.content
+
+    abbrev pub own_labels : Members
+    own_labels = (metadata_printed in_metadata).0
+
+    metadata_there : get_member (codes "metadata") fields_printed ≡ object_or_none own_labels
+    metadata_there = found_field (codes "metadata") metadata all state.content no_members up has_metadata refl ∙ (metadata_printed in_metadata).1
+
+    labels_are : metadata_members (print type_of_all state.content) ≡ own_labels
+    labels_are = ap (λ ms. members_printed (get_member (codes "metadata") ms)) (members_back fields_printed) ∙ ap members_printed metadata_there ∙ members_back own_labels
+
+    abbrev pub listed : Items
+    listed = entry_items type_of_all of.api_version (fin.entries state.owners)
+
+    abbrev pub meta : Members
+    meta = with_name of.name of.namespace (decimal v) listed own_labels (metadata_printed in_metadata).2
+
+    pub version_free : get_member (codes "apiVersion") fields_printed ≡ None
+    version_free = absent_field (codes "apiVersion") all state.content no_members no_version
+
+    pub kind_free : get_member (codes "kind") fields_printed ≡ None
+    kind_free = absent_field (codes "kind") all state.content no_members no_kind
+
+    abbrev pub beside : Members
+    beside = less (codes "metadata") (with_metadata of.api_version of.kind meta fields_printed version_free kind_free)
+
+    value_is : object_value type_of_all of v state ≡ object (the_whole of.api_version of.kind meta fields_printed version_free kind_free)
+    unfolding object_value
+    value_is =
+        ap₂ (λ ls ms. object (put (codes "apiVersion") (string of.api_version) (put (codes "kind") (string of.kind) (put (codes "metadata") (object (metadata_of type_of_all of v state.owners ls)) ms)))) labels_are (members_back fields_printed)
+
+    in_order : (ms : Members) → print type_of_all state.content ≡ object_or_none ms → ascend (member_names ms) ≡ true
+    in_order no_members is = refl
+    in_order (member k d ms) is = (printed_textual type_of_all state.content (object (member k d ms)) lawful placed.0 is).0.0
+
+    content_there : content_of type_of_all (fields_of beside meta) ≡ Ok state.content
+    content_there =
+        ap (content_of type_of_all) (fields_back of.api_version of.kind meta fields_printed version_free kind_free own_labels (in_order fields_printed refl) metadata_there (labels_back of.name of.namespace (decimal v) listed own_labels (metadata_printed in_metadata).2))
+        ∙ content_back all state.content (round type_of_all state.content formed (content_placed type_of_all formed state.content placed.0))
+
+    all_placed : AllPlaced type_of_all (fin.entries state.owners)
+    all_placed =
+        all_found (λ k paths. (k.subresource ≡ []) × HavePlaces type_of_all paths) (fin.entries state.owners) (fin.entries_sorted state.owners)
+        (λ k paths is. (placed.1.2 k paths (fin.get-entries state.owners k ∙ is), λ p there. places type_of_all state.content (content_placed type_of_all formed state.content placed.0) p (entries_stand state placed.1.1 k paths (fin.get-entries state.owners k ∙ is) p there)))
+
+    owners_there : owners_in type_of_all meta ≡ Some state.owners
+    owners_there =
+        ap (λ o. option_and_then owners_of (option_and_then (entries_in type_of_all) (items_or_none o))) (items_there of.name of.namespace (decimal v) listed own_labels (metadata_printed in_metadata).2)
+        ∙ ap (λ o. option_and_then owners_of (option_and_then (entries_in type_of_all) o)) (items_put listed own_labels (metadata_printed in_metadata).2.3)
+        ∙ ap (option_and_then owners_of) (entries_there type_of_all of.api_version (fin.entries state.owners) (λ paths have. written type_of_all paths lawful have) all_placed)
+        ∙ owners_back state.owners placed.1.0
+
+    version_read : version_in meta ≡ Some v
+    version_read = ap (λ o. option_and_then version_of (option_and_then as_str o)) (version_there of.name of.namespace (decimal v) listed own_labels (metadata_printed in_metadata).2) ∙ version_back v low
+
+    pub struct_back : parts_in type_of_all (object_value type_of_all of v state) ≡ Some (state, v)
+    struct_back =
+        ap (parts_in type_of_all) value_is ∙ ap (option_and_then (parts_of type_of_all)) (whole_split of.api_version of.kind meta fields_printed version_free kind_free)
+        ∙ ap (option_and_then (state_with type_of_all beside meta)) version_read
+        ∙ ap (option_and_then (λ owners. option_map (λ x. (record { content = x; owners = owners }, v)) (if_read (content_of type_of_all (fields_of beside meta))))) owners_there
+        ∙ ap (λ r. option_map (λ x. (record { content = x; owners = state.owners }, v)) (if_read r)) content_there
+
+-- an object's value says what it was written of
+pub parts_back : (s : Shape) (of : Identity) (v : ℕ) (state : State) → IsObjectShape s → IsPlacedState s state → v ≤ max_version → parts_in s (object_value s of v state) ≡ Some (state, v)
+parts_back text of v state shaped placed low = absurd (true≢false (sym shaped.0))
+parts_back whole of v state shaped placed low = absurd (true≢false (sym shaped.0))
+parts_back truth of v state shaped placed low = absurd (true≢false (sym shaped.0))
+parts_back (struct_of all true) of v state shaped placed low = absurd (true≢false (sym shaped.0))
+parts_back (struct_of all false) of v state shaped placed low = struct_back all of v state shaped.1 shaped.2 shaped.3 shaped.4 placed low
+parts_back (map_of s b) of v state shaped placed low = absurd (true≢false (sym shaped.0))
+parts_back (list_of s kind) of v state shaped placed low = absurd (true≢false (sym shaped.0))
+
+-- an object's text is read as its value
+pub text_read : (s : Shape) (of : Identity) (v : ℕ) (state : State) (t : List ℕ) → IsObjectShape s → IsObjectText s of v state t → read t ≡ Some (object_value s of v state)
+unfolding object_text
+text_read s of v state t shaped said = ap read said.is_text ∙ (value_textual s shaped.1 of v state said.placed.0).3
+
+pub one_for_one : OneForOne
+one_for_one s of v w a b t shaped one other =
+    let same : object_value s of v a ≡ object_value s of w b = same_some _ _ (sym (text_read s of v a t shaped one) ∙ text_read s of w b t shaped other) in
+    let both : (a, v) ≡ (b, w) = same_some _ _ (sym (parts_back s of v a shaped one.placed one.numbered) ∙ ap (parts_in s) same ∙ parts_back s of w b shaped other.placed other.numbered) in
+    (ap (λ p. p.1) both, ap (λ p. p.0) both)
+
+-- ---- backwards: what is read of a spelled value is a content, at a version
+
+then_some : {A B : Type 0} (f : A → Option B) (o : Option A) (y : B) → option_and_then f o ≡ Some y → (x : A) × (o ≡ Some x) × (f x ≡ Some y)
+then_some f None y e = no_some y (sym e)
+then_some f (Some x) y e = (x, refl, e)
+
+map_some : {A B : Type 0} (f : A → B) (o : Option A) (y : B) → option_map f o ≡ Some y → (x : A) × (o ≡ Some x) × (f x ≡ y)
+map_some f None y e = no_some y (sym e)
+map_some f (Some x) y e = (x, refl, same_some (f x) y e)
+
+read_some : {X : Type 0} (r : Read X) (x : X) → if_read r ≡ Some x → r ≡ Ok x
+read_some (Ok y) x e = ap Ok (same_some y x e)
+read_some (Err f) x e = no_some x (sym e)
+
+object_is : (d : Data) (ms : Members) → as_object d ≡ Some ms → d ≡ object ms
+object_is null ms e = no_some ms (sym e)
+object_is (boolean b) ms e = no_some ms (sym e)
+object_is (number n) ms e = no_some ms (sym e)
+object_is (string t) ms e = no_some ms (sym e)
+object_is (array ds) ms e = no_some ms (sym e)
+object_is (object ns) ms e = ap object (same_some ns ms e)
+
+itself : (n : ℕ) → n ≤ n
+itself n = omega arith
+
+put_kept : (n : ℕ) (k : List ℕ) (d : Data) (ms : Members) → IsSpelled d → depth d ≤ n → Kept n ms → Kept n (put k d ms)
+put_kept n k d ms spelled deep h = (put_ascend k d ms h.0, put_spelled k d ms spelled h.1, put_depth n k d ms deep h.2)
+
+at_most : (a m n : ℕ) → suc a ≤ suc m → suc m ≤ n → suc a ≤ n
+at_most a m n h k = omega (arith, h, k)
+
+labels_kept : (n : ℕ) (labels ms : Members) (m : ℕ) → suc m ≤ n → Kept m labels → Kept n ms → Kept n (put_labels labels ms)
+labels_kept n no_members ms m low l h = h
+labels_kept n (member k d labels) ms m low l h = put_kept n (codes "metadata") (object (member k d labels)) ms (l.0, l.1) (at_most (members_depth (member k d labels)) m n (one_deeper (members_depth (member k d labels)) m l.2) low) h
+
+fields_kept : (ms others envelope : Members) → Kept (members_depth ms) ms → in_two (own_members ms) ≡ Some (others, envelope) → Kept (members_depth ms) (put_labels (labels_left envelope) others)
+fields_kept ms others envelope kept is =
+    let n = members_depth ms in
+    let own = less_kept n (codes "kind") (less (codes "apiVersion") ms) (less_kept n (codes "apiVersion") ms kept) in
+    let found = map_some (λ m. (less (codes "metadata") (own_members ms), m)) (option_and_then as_object (get_member (codes "metadata") (own_members ms))) (others, envelope) is in
+    let value = then_some as_object (get_member (codes "metadata") (own_members ms)) found.0 found.1 in
+    let is_object = object_is value.0 found.0 value.2 in
+    let there : get_member (codes "metadata") (own_members ms) ≡ Some (object found.0) = value.1 ∙ ap Some is_object in
+    let spelled = found_spelled (codes "metadata") (object found.0) (own_members ms) own.1 there in
+    let deep = found_depth n (codes "metadata") (object found.0) (own_members ms) own.2 there in
+    let m = members_depth found.0 in
+    let inner : Kept m found.0 = (spelled.0, spelled.1, itself m) in
+    let left = less_kept m (codes "managedFields") _ (less_kept m (codes "resourceVersion") _ (less_kept m (codes "namespace") _ (less_kept m (codes "name") found.0 inner))) in
+    let whole = labels_kept n (labels_left found.0) (less (codes "metadata") (own_members ms)) m deep left (less_kept n (codes "metadata") (own_members ms) own) in
+    subst (λ p. Kept n (put_labels (labels_left p.1) p.0)) found.2 whole
+
+owners_have : (es : Pairs) (w : Owners) → owners_of es ≡ Some w → HavePaths w
+owners_have es w is = by_test (rising es && have_paths es) refl is
+  where
+    by_test : (b : Bool) → (rising es && have_paths es) ≡ b → cond b (Some (fin.from_entries es)) None ≡ Some w → HavePaths w
+    by_test true h there = subst HavePaths (same_some (fin.from_entries es) w there) (owners_have_paths es (right_true (rising es) (have_paths es) h))
+    by_test false h there = no_some w (sym there)
+
+owners_wrote : (es : Pairs) (w : Owners) → owners_of es ≡ Some w → AllByRecursion (λ e. e.0.subresource ≡ []) es → WroteByNone w
+owners_wrote es w is all = by_test (rising es && have_paths es) is
+  where
+    by_test : (b : Bool) → cond b (Some (fin.from_entries es)) None ≡ Some w → WroteByNone w
+    by_test true there = subst WroteByNone (same_some (fin.from_entries es) w there) (owners_by_none es all)
+    by_test false there = no_some w (sym there)
+
+-- each manager that is read wrote by no subresource
+manager_by_none : (ms : Members) (m : Manager) → manager_in ms ≡ Some m → m.subresource ≡ []
+manager_by_none ms m is =
+    let named = then_some (λ name. option_map (manager_of name) (option_and_then operation_named (text_at (codes "operation") ms))) (text_at (codes "manager") ms) m is in
+    let made = map_some (manager_of named.0) (option_and_then operation_named (text_at (codes "operation") ms)) m named.2 in
+    ap (λ (n : Manager). n.subresource) (sym made.2)
+
+entry_by_none : (s : Shape) (d : Data) (e : Manager × PathSet) → entry_in s d ≡ Some e → e.0.subresource ≡ []
+entry_by_none s d e is =
+    let ms = then_some (entry_of s) (as_object d) e is in
+    let m = then_some (λ m. option_map (λ paths. (m, paths)) (set_in s ms.0)) (manager_in ms.0) e ms.2 in
+    let made = map_some (λ paths. (m.0, paths)) (set_in s ms.0) e m.2 in
+    ap (λ (x : Manager × PathSet). x.0.subresource) (sym made.2) ∙ manager_by_none ms.0 m.0 m.1
+
+entries_by_none : (s : Shape) (ds : Items) (es : Pairs) → entries_in s ds ≡ Some es → AllByRecursion (λ e. e.0.subresource ≡ []) es
+entries_by_none s no_items es is = subst (AllByRecursion (λ e. e.0.subresource ≡ [])) (same_some [] es is) tt
+entries_by_none s (item d ds) es is =
+    let first = then_some (λ y. option_map (λ ys. y ∷ ys) (entries_in s ds)) (entry_in s d) es is in
+    let rest = map_some (λ ys. first.0 ∷ ys) (entries_in s ds) es first.2 in
+    subst (AllByRecursion (λ e. e.0.subresource ≡ [])) rest.2 (entry_by_none s d first.0 first.1, entries_by_none s ds rest.0 rest.1)
+
+pub parts_content : (s : Shape) (d : Data) (state : State) (v : ℕ) → is_well_formed s ≡ true → IsSpelled d → depth d ≤ max_depth → parts_in s d ≡ Some (state, v) → IsContent s state.content × HavePaths state.owners × WroteByNone state.owners × (v ≤ max_version)
+parts_content s d state v formed spelled deep is =
+    let two = then_some (parts_of s) (split d) (state, v) is in
+    let top = then_some (λ ms. in_two (own_members ms)) (as_object d) two.0 two.1 in
+    let same = object_is d top.0 top.1 in
+    let spelled_object = subst IsSpelled same spelled in
+    let deep_object : suc (members_depth top.0) ≤ 127 = subst (λ x. depth x ≤ max_depth) same deep in
+    let kept = fields_kept top.0 two.0.0 two.0.1 (spelled_object.0, spelled_object.1, itself (members_depth top.0)) top.2 in
+    let version = then_some (state_with s two.0.0 two.0.1) (version_in two.0.1) (state, v) two.2 in
+    let owners = then_some (λ w. option_map (λ c. (record { content = c; owners = w }, version.0)) (if_read (content_of s (fields_of two.0.0 two.0.1)))) (owners_in s two.0.1) (state, v) version.2 in
+    let content = map_some (λ c. (record { content = c; owners = owners.0 }, version.0)) (if_read (content_of s (fields_of two.0.0 two.0.1))) (state, v) owners.2 in
+    let reads = read_some (content_of s (fields_of two.0.0 two.0.1)) content.0 content.1 in
+    let is_content = reading_content s (fields_of two.0.0 two.0.1) content.0 formed (kept.0, kept.1) (at_most _ (members_depth top.0) 127 (one_deeper _ (members_depth top.0) kept.2) deep_object) reads in
+    let numeral = then_some version_of (option_and_then as_str (get_member (codes "resourceVersion") two.0.1)) version.0 version.1 in
+    let numbered = ((exact 9223372036854775807 numeral.0 version.0 fits).0 numeral.2).0 in
+    let entries = then_some owners_of (option_and_then (entries_in s) (items_or_none (get_member (codes "managedFields") two.0.1))) owners.0 owners.1 in
+    let items = then_some (entries_in s) (items_or_none (get_member (codes "managedFields") two.0.1)) entries.0 entries.1 in
+    let by_none = owners_wrote entries.0 owners.0 entries.2 (entries_by_none s items.0 entries.0 items.2) in
+    (subst (λ p. IsContent s p.0.content) content.2 is_content, subst (λ p. HavePaths p.0.owners) content.2 (owners_have entries.0 owners.0 entries.2), subst (λ p. WroteByNone p.0.owners) content.2 by_none, subst (λ p. p.1 ≤ max_version) content.2 numbered)

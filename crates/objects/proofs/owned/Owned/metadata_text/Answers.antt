@@ -1,0 +1,22 @@
+use Rattle.std.proofs.Common.{ℕ, Vec, Global, ◌∙◌, ap, sym, string_bytes}
+use Rattle.std.specs.FinMap as fin
+use Rattle.serde_json.specs.Data.{array, string}
+use Rattle.serde_json.specs.View.{members_view}
+use Rattle.serde_json.specs.Written.{compact_text}
+use Rattle.typed.specs.Texts.{put_text, texts_in, texts_of}
+use Rattle.objects.specs.ObjectText.{entry_items, put_entries}
+use Rattle.objects.specs.Views.{identity_of}
+use Rattle.objects.proofs.MetadataTexts.{metadata_is}
+use Rattle.objects.proofs.owned.Owned.metadata_text.Goals as goal
+
+pub returns : goal.returns
+returns c = λ clean s managed.
+    let of = identity_of c.args.of in
+    let labels = members_view c.args.labels.now.entries in
+    let listed = c.entries.ensures.entries in
+    ap (λ (v : Vec ℕ Global). v.items) c.into_bytes.ensures.value
+    ∙ metadata_is of c.args.version (entry_items s of.api_version (fin.entries c.args.self.now.managers)) labels
+    (texts_in c.put_managed.new.texts.entries) (texts_in c.put_version.new.texts.entries) (texts_in c.put_string.new.texts.entries) (texts_in c.put_string-2.new.texts.entries) (string_bytes c.in_ok-text.text)
+    (c.in_ok-put_managed.ensures s of.api_version labels (managed ∙ sym (ap (λ es. compact_text (array (entry_items s of.api_version es))) listed)) (c.in_ok-texts.ensures clean)
+    ∙ ap (λ es. texts_of (put_entries (entry_items s of.api_version es) labels)) listed)
+    c.in_ok-put_version.ensures c.in_ok-put_string.ensures c.in_ok-put_string-2.ensures c.in_ok-text.ensures

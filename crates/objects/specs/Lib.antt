@@ -1,0 +1,12 @@
+pub mod Owners
+pub mod Codes
+pub mod Managers
+pub mod State
+pub mod Ranks
+pub mod Placed
+pub mod ObjectText
+pub mod Views
+pub mod ReadBack
+pub mod Parts
+pub mod Labels
+pub mod EntryTexts

@@ -1,0 +1,133 @@
+-- For private clauses: the parts of an object's value.
+use Rattle.std.specs.Prelude.{◌≡◌, ℕ, Bool, ◌&&◌, List, [], ◌∷◌, Option, Some, None, option_map, option_and_then, if◌then◌else◌, codes}
+use Rattle.std.specs.declared.result.Result.{Result}
+use Rattle.std.specs.declared.result.Result.TheVariants.{Ok, Err}
+use Rattle.std.specs.FinMap as fin
+use Rattle.std.specs.List.{list_all}
+use Rattle.std.specs.Ordering.{nat_cmp, match_ordering}
+use Rattle.std.specs.Cmp.Lexicographic.{slice_cmp}
+use Rattle.std.specs.Str.{bytes_eq}
+use Rattle.serde_json.specs.Data.{Data, object, Items, no_items, item, Members, no_members, member, put}
+use Rattle.serde_json.specs.Find.{get_member, as_object, as_array, as_str}
+use Rattle.names.specs.Decimals.{version_of}
+use Rattle.pathmap.specs.Contents.{PathSet}
+use Rattle.schema.specs.Shape.{Shape}
+use Rattle.typed.specs.Faults.{Read}
+use Rattle.typed.specs.Reading.{content_of}
+use Rattle.objects.specs.declared.fault.ObjectFault.{ObjectFault}
+use Rattle.objects.specs.declared.fault.ObjectFault.TheVariants.{NotCanonical, Memory}
+use Rattle.objects.specs.declared.manager.Operation.{Operation}
+use Rattle.objects.specs.declared.manager.Operation.TheVariants.{Apply, Update}
+use Rattle.objects.specs.State.{State}
+use Rattle.fieldset.specs.Reading.{Refusal, read_fields_v1}
+use Rattle.objects.specs.Owners.{Manager, Owners, manager_of, is_within}
+use Rattle.objects.specs.Ranks.{have_paths, rising}
+
+-- What a call returned, by its view, is what was read, unless memory ran out; refused, nothing was.
+abbrev pub Gives : {X Y : Type 0} → (X → Y) → Result X ObjectFault → Option Y → Type 0
+Gives view (Ok x) read = read ≡ Some (view x)
+Gives view (Err NotCanonical) read = read ≡ None
+Gives view (Err Memory) read = Unit {0}
+
+abbrev pub if_read : {X : Type 0} → Read X → Option X
+if_read (Ok x) = Some x
+if_read (Err e) = None
+
+abbrev pub if_ok : {X : Type 0} → Result X Refusal → Option X
+if_ok (Ok x) = Some x
+if_ok (Err e) = None
+
+-- ---- members
+
+-- the members without the one of this name
+abbrev pub less : List ℕ → Members → Members
+less k no_members = no_members
+less k (member l d ms) = match_ordering (slice_cmp nat_cmp k l) (member l d (less k ms)) ms (member l d (less k ms))
+
+abbrev pub text_at : List ℕ → Members → Option (List ℕ)
+text_at k ms = option_and_then as_str (get_member k ms)
+
+-- ---- the envelope
+
+abbrev pub own_members : Members → Members
+own_members ms = less (codes "kind") (less (codes "apiVersion") ms)
+
+-- the members but for the envelope's, and those of `metadata`
+abbrev pub in_two : Members → Option (Members × Members)
+in_two ms = option_map (λ metadata. (less (codes "metadata") ms, metadata)) (option_and_then as_object (get_member (codes "metadata") ms))
+
+abbrev pub split : Data → Option (Members × Members)
+split d = option_and_then (λ ms. in_two (own_members ms)) (as_object d)
+
+abbrev pub version_in : Members → Option ℕ
+version_in metadata = option_and_then version_of (text_at (codes "resourceVersion") metadata)
+
+-- labels and annotations
+abbrev pub labels_left : Members → Members
+labels_left metadata = less (codes "managedFields") (less (codes "resourceVersion") (less (codes "namespace") (less (codes "name") metadata)))
+
+-- `metadata`, where something is left in it
+abbrev pub put_labels : Members → Members → Members
+put_labels no_members ms = ms
+put_labels (member k d labels) ms = put (codes "metadata") (object (member k d labels)) ms
+
+-- ---- entries
+
+abbrev pub operation_named : List ℕ → Option Operation
+operation_named s = if bytes_eq s (codes "Apply") then Some Apply else if bytes_eq s (codes "Update") then Some Update else None
+
+-- by no subresource; an entry that names one is printed otherwise
+abbrev pub manager_in : Members → Option Manager
+manager_in ms = option_and_then (λ name. option_map (manager_of name) (option_and_then operation_named (text_at (codes "operation") ms))) (text_at (codes "manager") ms)
+
+abbrev pub set_in : Shape → Members → Option PathSet
+set_in s ms = option_and_then (λ d. if_ok (read_fields_v1 s d)) (get_member (codes "fieldsV1") ms)
+
+abbrev pub entry_of : Shape → Members → Option (Manager × PathSet)
+entry_of s ms = option_and_then (λ m. option_map (λ paths. (m, paths)) (set_in s ms)) (manager_in ms)
+
+abbrev pub entry_in : Shape → Data → Option (Manager × PathSet)
+entry_in s d = option_and_then (entry_of s) (as_object d)
+
+abbrev pub one_more : {X : Type 0} → Option X → Option (List X) → Option (List X)
+one_more x xs = option_and_then (λ y. option_map (λ ys. y ∷ ys) xs) x
+
+abbrev pub entries_in : Shape → Items → Option (List (Manager × PathSet))
+entries_in s no_items = Some []
+entries_in s (item d ds) = one_more (entry_in s d) (entries_in s ds)
+
+-- the items of `managedFields`; none where it is absent
+abbrev pub items_or_none : Option Data → Option Items
+items_or_none None = Some no_items
+items_or_none (Some d) = as_array d
+
+-- the owners that have these entries
+abbrev pub owners_of : List (Manager × PathSet) → Option Owners
+owners_of es = if rising es && have_paths es then Some (fin.from_entries es) else None
+
+-- the owners that a value of `managedFields` says
+abbrev pub owners_listed : Shape → Option Data → Option Owners
+owners_listed s listed = option_and_then owners_of (option_and_then (entries_in s) (items_or_none listed))
+
+abbrev pub owners_in : Shape → Members → Option Owners
+owners_in s metadata = owners_listed s (get_member (codes "managedFields") metadata)
+
+-- ---- the whole
+
+-- the value of the fields
+abbrev pub fields_of : Members → Members → Data
+fields_of others metadata = object (put_labels (labels_left metadata) others)
+
+abbrev pub state_with : Shape → Members → Members → ℕ → Option (State × ℕ)
+state_with s others metadata version =
+    option_and_then (λ owners. option_map (λ c. (record { content = c; owners = owners }, version)) (if_read (content_of s (fields_of others metadata)))) (owners_in s metadata)
+
+abbrev pub parts_of : Shape → Members × Members → Option (State × ℕ)
+parts_of s p = option_and_then (state_with s p.0 p.1) (version_in p.1)
+
+-- what stands in a value and who owns it, and its version
+abbrev pub parts_in : Shape → Data → Option (State × ℕ)
+parts_in s d = option_and_then (parts_of s) (split d)
+
+abbrev pub all_within : PathSet → List (Manager × PathSet) → Bool
+all_within paths es = list_all (λ e. is_within e.1 paths) es

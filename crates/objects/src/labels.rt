@@ -1,0 +1,59 @@
+//! How many labels an object has.
+ghost use Rattle.std.specs.Prelude.{◌≡◌, ℕ, true, codes, IfOk, option_and_then, option_map};
+ghost use Rattle.schema.specs.Lawful.{is_lawful};
+ghost use Rattle.schema.specs.Shape.{shape};
+ghost use Rattle.serde_json.specs.Find.{as_object, get_member};
+ghost use Rattle.serde_json.specs.View.{members_view};
+ghost use Rattle.typed.specs.Printing.{print};
+ghost use Rattle.objects.specs.Labels.{label_count, size};
+ghost use Rattle.objects.specs.ObjectText as texts;
+ghost use Rattle.objects.specs.ObjectText.{metadata_members, object_value};
+ghost use Rattle.objects.specs.Views.{state_of};
+
+use crate::envelope::member;
+use crate::object::{granular_fields, labels_of, members_of};
+use crate::owned::Owned;
+use schema::Schema;
+use serde_json::{Map, Value};
+use std::alloc::{AllocError, Global};
+
+fn labels_in(metadata: &Map<String, Value>) -> Option<&Map<String, Value>>
+    ensures { option_map (λ m. members_view m.now.entries) result ≡ option_and_then as_object (get_member (codes "labels") (members_view metadata.now.entries)) }
+{
+    member(metadata, "labels")?.as_object()
+}
+
+fn count_labels(metadata: &Map<String, Value>) -> usize
+    ensures { result ≡ size (option_and_then as_object (get_member (codes "labels") (members_view metadata.now.entries))) }
+{
+    match labels_in(metadata) {
+        Some(labels) => labels.len(),
+        None => 0,
+    }
+}
+
+impl Owned {
+    /// The labels and annotations that are printed.
+    fn marks(&self, alloc: Global, schema: &Schema) -> Result<Map<String, Value>, AllocError>
+        ensures { is_lawful (shape schema.now) ≡ true → IfOk result (λ m. members_view m.entries ≡ metadata_members (print (shape schema.now) self.now.tree)) }
+    {
+        match granular_fields(schema) {
+            Some(fields) => {
+                let printed = self.tree.field_value(alloc, fields, "metadata")?;
+                Ok(members_of(alloc, printed))
+            }
+            None => {
+                let value = self.tree.to_value(alloc, schema)?;
+                labels_of(alloc, &value)
+            }
+        }
+    }
+
+    /// How many labels the object is printed with, whatever its key and version.
+    pub fn label_count(&self, alloc: Global, schema: &Schema) -> Result<usize, AllocError>
+        ensures { is_lawful (shape schema.now) ≡ true → IfOk result (λ n. (of : texts.Identity) (version : ℕ) → n ≡ label_count (object_value (shape schema.now) of version (state_of self.now))) }
+    {
+        let marks = self.marks(alloc, schema)?;
+        Ok(count_labels(&marks))
+    }
+}

@@ -1,0 +1,25 @@
+//! An object, its content and who owns which paths of it, and its text both ways.
+//!
+//! Promises: an object's text says one version, content and owners, and every text that is none is refused.
+//! Stands on `fieldset` for sets of paths and on `typed` for contents.
+#![tactic(auto)]
+
+mod envelope;
+mod fault;
+mod labels;
+mod laws;
+mod listing;
+mod managed_fields;
+mod manager;
+mod managers;
+mod metadata;
+mod object;
+mod owned;
+mod read_back;
+
+pub use fault::ObjectFault;
+pub use laws::objects_are_one_for_one;
+pub use manager::{Manager, Operation};
+pub use managers::{Entry, Managers};
+pub use object::Identity;
+pub use owned::Owned;

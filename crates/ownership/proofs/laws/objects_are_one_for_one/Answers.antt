@@ -1,5 +1,0 @@
-use Rattle.ownership.proofs.Back.{one_for_one}
-use Rattle.ownership.proofs.laws.objects_are_one_for_one.Goals as goal
-
-pub returns : goal.returns
-returns c = one_for_one

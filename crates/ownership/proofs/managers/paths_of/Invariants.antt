@@ -1,8 +1,0 @@
-use Rattle.std.proofs.Common.{◌≡◌, drop}
-use Rattle.std.specs.FinMap.{find}
-use Rattle.ownership.specs.Managers.{pairs, manager_view}
-use Rattle.ownership.proofs.managers.paths_of.Given as goal
-use Rattle.ownership.specs.Owners.{manager_cmp}
-
-abbrev pub invariant-loop-entry : goal.invariant-loop-entry
-invariant-loop-entry l = find manager_cmp (manager_view l.manager) (pairs (drop l.entry-index l.entries)) ≡ find manager_cmp (manager_view l.manager) (pairs l.entries)

@@ -1,8 +1,0 @@
-//! Laws of the texts of objects.
-
-ghost use Rattle.ownership.specs.ReadBack.{OneForOne};
-
-/// An object's text says one version, one content and its owners: no other object of the type and key has this text.
-pub fn objects_are_one_for_one()
-    ensures { OneForOne }
-{}
