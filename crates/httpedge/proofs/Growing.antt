@@ -7,11 +7,12 @@ use Rattle.std.specs.Ordering.{nat_cmp, eq_by_cmp}
 use Rattle.std.proofs.lemmas.List.{take-append-drop}
 use Rattle.schema.specs.TypesFile.{ServedShape}
 use Rattle.history.specs.History.{History}
-use Rattle.httpedge.specs.Asks.{CallDecision}
+use Rattle.requests.specs.Asks.{CallDecision}
 use Rattle.httpedge.specs.Connections.{Connection, Connections, Standing, waiting, watching, ended, gone, each, has_gone, is_new, is_open, left_out, out_of, out_on, with_standing, written_on}
-use Rattle.httpedge.specs.Decision.{undecided, refused, accepted}
+use Rattle.requests.specs.Decision.{undecided, refused, accepted}
 use Rattle.httpedge.specs.Runs.{Follows, Happening, happens, starves, takes}
-use Rattle.httpedge.specs.Steps.{Event, State, opens, comes, goes, pumps, ticks, compacts, after_turn, answer_bytes, by_connection, connection_after, dead, dead_or_ticked, opening, received_by, refusal, refusal_reply, carried_out, starved, unless_refused, turn_bytes, with_connection, with_turn, writes_at}
+use Rattle.httpedge.specs.Steps.{Event, State, opens, comes, goes, pumps, ticks, compacts, after_turn, by_connection, connection_after, dead, dead_or_ticked, opening, received_by, refusal, carried_out, starved, unless_refused, turn_bytes, with_connection, with_turn, writes_at}
+use Rattle.requests.specs.Replies.{answer_bytes, refusal_reply}
 use Rattle.httpedge.specs.Watches.{Turn, Watch, pumped, ticked}
 use Rattle.verbs.specs.Step.{planned}
 use Rattle.httpedge.proofs.Connected.{got_each, tied_same, unknown}

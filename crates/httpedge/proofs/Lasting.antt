@@ -14,11 +14,11 @@ use Rattle.verbs.specs.Json.{IsJsonBody}
 use Rattle.verbs.specs.Machine.{IsMachine}
 use Rattle.verbs.proofs.Machines.{compactions_keep_machines}
 use Rattle.verbs.proofs.Promise.{steps_keep_machines}
-use Rattle.httpedge.specs.Asks.{CallDecision, asked_by, call_in}
-use Rattle.httpedge.specs.Bodies.{body_in, body_of, checked_media, declared_body, declared_length, json_in, path_of, query_of, some_json}
+use Rattle.requests.specs.Asks.{CallDecision, asked_by, call_in}
+use Rattle.requests.specs.Bodies.{body_in, body_of, checked_media, declared_body, declared_length, json_in, path_of, query_of, some_json}
 use Rattle.httpedge.specs.Connections.{Connection, Standing, waiting, watching, ended, gone}
-use Rattle.httpedge.specs.Decision.{Decision, undecided, refused, accepted, and_then, decided_by}
-use Rattle.httpedge.specs.Heads.{HeadDecision, Request}
+use Rattle.requests.specs.Decision.{Decision, undecided, refused, accepted, and_then, decided_by}
+use Rattle.requests.specs.Heads.{HeadDecision, Request}
 use Rattle.httpedge.specs.Runs.{AsksIf, Follows, Happening, Runs, bytes_at, happens, starves, takes}
 use Rattle.httpedge.specs.Steps.{Event, State, opens, comes, goes, pumps, ticks, compacts, by_connection, carried_out, machine_after, received_by, refusal, starved, unless_refused}
 

@@ -7,13 +7,14 @@ use Rattle.history.specs.History.{History}
 use Rattle.verbs.specs.Machine.{after}
 use Rattle.watchline.specs.Opening.{WatchFrom}
 use Rattle.verbs.specs.Step.{planned}
-use Rattle.httpedge.specs.Asks.{CallDecision, Asks, asked_by}
+use Rattle.requests.specs.Asks.{CallDecision, Asks, asked_by}
 use Rattle.httpedge.specs.Connections.{Connection, Standing, waiting, watching, ended, gone, is_waiting, with_standing, with_written}
-use Rattle.httpedge.specs.Decision.{undecided, refused, accepted}
-use Rattle.httpedge.specs.Heads.{HeadDecision, ReadsHead}
+use Rattle.requests.specs.Decision.{undecided, refused, accepted}
+use Rattle.requests.specs.Heads.{HeadDecision, ReadsHead}
 use Rattle.httpedge.specs.Runs.{AsksIf, all_bytes, bytes_at, Steps, Happening, happens, starves, takes, Follows, Runs}
-use Rattle.httpedge.specs.Steps.{State, Event, answer_bytes, answer_standing, comes, by_connection, connection_after, machine_after, received, received_by, refusal_reply, stepped, with_connection, with_connections, with_machine, unless_refused}
-use Rattle.httpedge.proofs.Deciding.{asks_more, asks_one}
+use Rattle.httpedge.specs.Steps.{State, Event, answer_standing, comes, by_connection, connection_after, machine_after, received, received_by, stepped, with_connection, with_connections, with_machine, unless_refused}
+use Rattle.requests.specs.Replies.{answer_bytes, refusal_reply}
+use Rattle.requests.proofs.Deciding.{asks_more, asks_one}
 use Rattle.httpedge.proofs.Connected.{put_there, put_again}
 
 -- ---- bytes in two pieces

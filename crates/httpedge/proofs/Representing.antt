@@ -26,16 +26,17 @@ use Rattle.httpedge.specs.declared.fault.HubFault.TheVariants.{IdNotAbove, Unkno
 use Rattle.std.specs.BTreeSet.{BTreeSet, contains}
 use Rattle.std.proofs.lemmas.List.{length-drop}
 use Rattle.httpedge.specs.declared.watching.Watch.{Watch as TheWatch}
-use Rattle.httpedge.specs.Asks.{CallDecision}
+use Rattle.requests.specs.Asks.{CallDecision}
 use Rattle.httpedge.specs.Connections.{Connection, Connections, Standing, waiting, watching, ended, gone, has_ended, is_new, is_open, is_waiting, is_watching, left_out, open_count, open_on, opened, out_of, with_standing, with_taken, with_written}
-use Rattle.httpedge.specs.Decision.{undecided, refused, accepted}
+use Rattle.requests.specs.Decision.{undecided, refused, accepted}
 use Rattle.httpedge.specs.Held.{BecomesAt, DiesAt, Holds, HoldsAt, Lists, PutAt, ReceivedAt, ReceivedBy, Represents, count_after, has_ended_in, is_above, is_open_in, is_waiting_in, is_watching_in, left, out_in, waiting_for}
 use Rattle.httpedge.specs.Faults.{hub_fault_of}
 use Rattle.httpedge.specs.HubSeen.{Happened, IsIn, found_none, refusal_number}
 use Rattle.httpedge.specs.declared.hub.Hub.{Hub}
-use Rattle.httpedge.specs.Refusals.{as_denied, too_many_connections}
+use Rattle.requests.specs.Refusals.{as_denied, too_many_connections}
 use Rattle.httpedge.specs.Runs.{Follows, Happening, happens, starves, Runs, Starves, Steps}
-use Rattle.httpedge.specs.Steps.{Event, State, opens, comes, goes, pumps, ticks, compacts, after_turn, by_connection, connection_after, dead, machine_after, opening, received, refusal, refusal_reply, start, carried_out, unless_refused, with_bytes_taken, with_connection, with_connections, with_machine, with_turn}
+use Rattle.httpedge.specs.Steps.{Event, State, opens, comes, goes, pumps, ticks, compacts, after_turn, by_connection, connection_after, dead, machine_after, opening, received, refusal, start, carried_out, unless_refused, with_bytes_taken, with_connection, with_connections, with_machine, with_turn}
+use Rattle.requests.specs.Replies.{refusal_reply}
 use Rattle.httpedge.specs.Watches.{Turn, Watch, pumped}
 use Rattle.httpedge.proofs.Connected.{Entries, ids, itself, new_put, new_still, one_if, open_put, opens_in, opens_of, tied_same, unknown}
 use Rattle.httpedge.proofs.Outcomes.{ComesBy, ComesOn}

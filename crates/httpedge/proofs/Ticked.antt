@@ -16,7 +16,7 @@ use Rattle.schema.specs.TypesFile.{ServedShape}
 use Rattle.verbs.specs.declared.api.Api.{Api}
 use Rattle.httpedge.specs.declared.connection.Connection as conns
 use Rattle.httpedge.specs.Connections.{Connection, Connections, Standing, waiting, watching, ended, gone, each, is_new, is_open, is_watching, open_count, open_on}
-use Rattle.httpedge.specs.Decision.{undecided}
+use Rattle.requests.specs.Decision.{undecided}
 use Rattle.httpedge.specs.Held.{Holds, HoldsAt, Lists, PutAt, Represents, count_after, is_open_in}
 use Rattle.httpedge.specs.Runs.{Starves, Steps}
 use Rattle.httpedge.specs.Steps.{State, ticks, dead_or_ticked, refusal, unless_refused, with_tick, with_turn, writes_at}

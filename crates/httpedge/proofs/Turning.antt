@@ -19,8 +19,9 @@ use Rattle.httpedge.specs.declared.out.Out.{Out}
 use Rattle.httpedge.specs.declared.watching.Watch.{Watch as TheWatch}
 use Rattle.httpedge.specs.Connections.{Connection, Standing, waiting, watching, ended, gone, is_open, opened, with_standing, with_written}
 use Rattle.httpedge.specs.Held.{Holds, Turns, left, watch_of}
-use Rattle.httpedge.specs.ReplyBytes.{chunks}
-use Rattle.httpedge.specs.Steps.{after_turn, answer_bytes, answer_standing, answered, dead, dead_or_ticked, has_no_next, standing_after, turn_bytes, with_turn, writes_at}
+use Rattle.requests.specs.ReplyBytes.{chunks}
+use Rattle.httpedge.specs.Steps.{after_turn, answer_standing, answered, dead, dead_or_ticked, has_no_next, standing_after, turn_bytes, with_turn, writes_at}
+use Rattle.requests.specs.Replies.{answer_bytes}
 use Rattle.httpedge.specs.Watches.{Turn, Watch, is_due, is_over, line_list, marked, pumped, ticked, turned, unless_ended, with_cursor}
 
 wrong : false ≡ true → ⊥

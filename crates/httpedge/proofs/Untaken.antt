@@ -6,12 +6,13 @@ use Rattle.std.specs.FinMap as fin
 use Rattle.std.specs.Ordering.{nat_cmp, eq_by_cmp}
 use Rattle.schema.specs.TypesFile.{ServedShape}
 use Rattle.history.specs.History.{History}
-use Rattle.httpedge.specs.Asks.{CallDecision}
+use Rattle.requests.specs.Asks.{CallDecision}
 use Rattle.httpedge.specs.Connections.{AllIsOut, Connection, Connections, IsUntaken, Standing, waiting, watching, ended, gone, each, has_gone, is_open, left_out, opened, out_of, out_on, with_standing, with_written, written_on}
-use Rattle.httpedge.specs.Decision.{undecided, refused, accepted}
-use Rattle.httpedge.specs.Refusals.{as_denied, too_many_connections}
+use Rattle.requests.specs.Decision.{undecided, refused, accepted}
+use Rattle.requests.specs.Refusals.{as_denied, too_many_connections}
 use Rattle.httpedge.specs.Runs.{Follows, Happening, IsNoGoing, LeavesOut, Steps, happens, peer_goes, starves, takes}
-use Rattle.httpedge.specs.Steps.{Event, State, opens, comes, goes, pumps, ticks, compacts, after_turn, answer_standing, by_connection, connection_after, dead, dead_or_ticked, opening, received_by, refusal, refusal_reply, standing_after, start, starved, carried_out, unless_refused, with_turn, writes_at}
+use Rattle.httpedge.specs.Steps.{Event, State, opens, comes, goes, pumps, ticks, compacts, after_turn, answer_standing, by_connection, connection_after, dead, dead_or_ticked, opening, received_by, refusal, standing_after, start, starved, carried_out, unless_refused, with_turn, writes_at}
+use Rattle.requests.specs.Replies.{refusal_reply}
 use Rattle.httpedge.specs.Watches.{Turn, Watch, pumped, ticked}
 use Rattle.watchline.specs.Opening.{WatchFrom}
 use Rattle.verbs.specs.Step.{planned}

@@ -7,20 +7,17 @@ use Rattle.std.specs.FinMap as fin
 use Rattle.schema.specs.TypesFile.{ServedShape}
 use Rattle.verbs.specs.declared.api.Api.{Api}
 use Rattle.history.specs.History.{History}
-use Rattle.verbs.specs.Calls.{Call}
-use Rattle.verbs.specs.Machine.{after}
 use Rattle.verbs.specs.Seen.{Stands}
-use Rattle.verbs.specs.Step.{planned}
 use Rattle.httpedge.specs.declared.connection.Connection as conns
 use Rattle.httpedge.specs.declared.connection.Connection.TheVariants as conn
 use Rattle.httpedge.specs.declared.out.Out as outs
 use Rattle.httpedge.specs.declared.watching.Watch as watches
-use Rattle.httpedge.specs.Asks.{CallDecision, Asks}
+use Rattle.requests.specs.Asks.{CallDecision, Asks}
 use Rattle.httpedge.specs.Connections.{Connection, Connections, Standing, waiting, watching, ended, gone, opened, with_standing, open_count, open_on, is_new}
-use Rattle.httpedge.specs.Pendings.{Awaits}
-use Rattle.httpedge.specs.Steps.{State, answer_bytes, connection_after, machine_after, turn_bytes}
+use Rattle.requests.specs.Fronts.{front_bytes}
+use Rattle.requests.specs.Pendings.{Awaits}
+use Rattle.httpedge.specs.Steps.{State, connection_after, machine_after, turn_bytes}
 use Rattle.httpedge.specs.Watches.{Turn, Watch, unless_ended}
-use Rattle.watchline.specs.Opening.{WatchFrom}
 
 -- ---- one connection
 
@@ -71,18 +68,13 @@ waiting_for front = with_standing opened (waiting front)
 
 -- the code holds this connection, by these types
 abbrev pub Holds : List ServedShape → conns.Connection → Connection → Type 0
-Holds types (conn.Head front) c = c ≡ waiting_for front.bytes.items
+Holds types (conn.Head front) c = c ≡ waiting_for (front_bytes front)
 Holds types (conn.Body p) c = (front : List ℕ) × (c ≡ waiting_for front) × Awaits types front p
 Holds types (conn.Watch w out) c = (c.standing ≡ watching (watch_of w)) × (drop c.taken c.written ≡ left out) × (c.taken ≤ length c.written)
 Holds types (conn.Ended out) c = (c.standing ≡ ended) × (drop c.taken c.written ≡ left out)
 Holds types (conn.Gone had_ended) c = c.standing ≡ gone had_ended
 
 -- ---- what bytes make of it
-
--- these bytes and this watch answer the call, and the API then stands for the machine after it
-abbrev pub Serves : List ServedShape → History → Call → List ℕ → Option WatchFrom → Api → Type 0
-Serves types m call bytes watch api =
-    (bytes ≡ answer_bytes (planned types m call).answer watch) × (watch ≡ (planned types m call).answer.watch) × Stands api types (after m (planned types m call).change)
 
 -- by all these bytes a connection that waited becomes this one, after this tick, and the API then stands for the machine that they lead to
 abbrev pub Becomes : List ServedShape → History → ℕ → List ℕ → conns.Connection → Api → Type 0

@@ -1,16 +1,7 @@
-pub mod Decision
-pub mod Refusals
-pub mod Heads
-pub mod HeadEnds
-pub mod Bodies
-pub mod ReplyBytes
-pub mod Asks
 pub mod Watches
 pub mod Connections
 pub mod Steps
 pub mod Runs
-pub mod Views
-pub mod Pendings
 pub mod Held
 pub mod Ticks
 pub mod HubSeen

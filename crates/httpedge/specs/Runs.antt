@@ -2,9 +2,9 @@
 use Rattle.std.specs.Prelude.{◌≡◌, ◌≢◌, ℕ, Bool, true, false, ◌&&◌, List, [], ◌∷◌, ◌++◌, Option, Some, None, option_and_then, ⊤}
 use Rattle.std.specs.List.{list_any}
 use Rattle.std.specs.FinMap as fin
-use Rattle.httpedge.specs.Asks.{CallDecision, Asks}
+use Rattle.requests.specs.Asks.{CallDecision, Asks}
 use Rattle.httpedge.specs.Connections.{Standing, waiting, watching, ended, gone, waiting_on, watching_on}
-use Rattle.httpedge.specs.Decision.{undecided}
+use Rattle.requests.specs.Decision.{undecided}
 use Rattle.httpedge.specs.Steps.{State, Event, opens, comes, goes, pumps, ticks, compacts, refusal, stepped, starved, with_bytes_taken, writes_at}
 
 -- ---- what an event asks

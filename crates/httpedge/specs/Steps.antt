@@ -1,19 +1,17 @@
 -- The hub: what each event makes of its machine and its connections.
 use Rattle.std.specs.Prelude.{ℕ, Bool, true, false, ◌&&◌, ◌==◌, nat_lt, nat_le, if◌then◌else◌, List, ◌++◌, Option, Some, None}
 use Rattle.std.specs.FinMap as fin
-use Rattle.serde_json.specs.Written.{compact_text}
 use Rattle.schema.specs.TypesFile.{ServedShape}
 use Rattle.history.specs.History.{History, compacted_to}
-use Rattle.verbs.specs.Calls.{Answer, Denied}
+use Rattle.verbs.specs.Calls.{Answer}
 use Rattle.verbs.specs.Machine.{after}
-use Rattle.verbs.specs.Reasons.{code_of}
-use Rattle.verbs.specs.Status.{status_value}
 use Rattle.verbs.specs.Step.{planned}
-use Rattle.httpedge.specs.Asks.{CallDecision}
+use Rattle.requests.specs.Asks.{CallDecision}
 use Rattle.httpedge.specs.Connections.{Connection, Connections, Standing, waiting, watching, ended, gone, opened, with_standing, with_written, with_taken, has_ended, is_known, is_new, is_open, open_count, max_open, each}
-use Rattle.httpedge.specs.Decision.{undecided, refused, accepted}
-use Rattle.httpedge.specs.Refusals.{as_denied, too_many_connections}
-use Rattle.httpedge.specs.ReplyBytes.{chunks, reply, watch_head}
+use Rattle.requests.specs.Decision.{undecided, refused, accepted}
+use Rattle.requests.specs.Refusals.{as_denied, too_many_connections}
+use Rattle.requests.specs.Replies.{answer_bytes, refusal_reply}
+use Rattle.requests.specs.ReplyBytes.{chunks}
 use Rattle.httpedge.specs.Watches.{Watch, Turn, begun_at, is_due, pumped, ticked}
 use Rattle.watchline.specs.Opening.{WatchFrom}
 
@@ -73,24 +71,11 @@ on_connection s id f = by_connection s (fin.get s.connections id) f
 
 -- ---- an opening
 
--- the reply of a refusal: its Status as compact JSON
-abbrev pub refusal_reply : Denied → List ℕ
-refusal_reply d = reply (code_of d.reason) d.allow (compact_text (status_value d.reason d.message))
-
 -- a new connection; where as many are open as may be, it gets the reply that says so, and has ended
 abbrev pub opening : Connections → Connection
 opening all = if nat_le max_open (open_count all) then with_written opened (refusal_reply (as_denied too_many_connections)) ended else opened
 
 -- ---- bytes that come
-
--- the reply of a call's answer, whose body is a text
-abbrev pub answer_reply : Answer → List ℕ
-answer_reply a = reply a.status None a.body
-
--- what is written of an answer: its reply, or the head of the watch that it opens
-abbrev pub answer_bytes : Answer → Option WatchFrom → List ℕ
-answer_bytes a None = answer_reply a
-answer_bytes a (Some from) = watch_head a.status
 
 -- with its reply a connection has ended; a watch goes on from here
 abbrev pub answer_standing : ℕ → Option WatchFrom → Standing

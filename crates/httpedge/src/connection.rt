@@ -8,16 +8,15 @@ ghost use Rattle.verbs.specs.Seen.{Stands};
 ghost use Rattle.httpedge.specs.Connections as model;
 ghost use Rattle.httpedge.specs.Connections.{Connections, ended, gone, open_count, opened, with_standing, with_taken};
 ghost use Rattle.httpedge.specs.Held.{Becomes, Holds, Received, has_ended_in, is_open_in, is_waiting_in, left, out_in};
-ghost use Rattle.httpedge.specs.Pendings.{Awaits, Finds};
-ghost use Rattle.httpedge.specs.Steps.{answer_bytes, answered, opening};
+ghost use Rattle.requests.specs.Fronts.{front_bytes};
+ghost use Rattle.requests.specs.Pendings.{Awaits, Finds};
+ghost use Rattle.httpedge.specs.Steps.{answered, opening};
+ghost use Rattle.requests.specs.Replies.{answer_bytes};
 ghost use Rattle.watchline.specs.Views.{watch_from};
 
-use crate::answering::{Served, refusal_reply, serve};
-use crate::asking::{Pending, Progress, ask, ask_on};
-use crate::front::Front;
 use crate::out::Out;
-use crate::refusal::Refusal;
 use crate::watching::Watch;
+use requests::{Front, Pending, Progress, Refusal, Served, ask, ask_on, refusal_reply, serve};
 use std::alloc::{AllocError, Global};
 use std::mem;
 use verbs::{Api, Fault};
@@ -162,7 +161,7 @@ fn receive_head(
     bytes: &[u8],
     last_tick: u64,
 ) -> Result<Connection, Fault>
-    ensures ok { (types : List ServedShape) (m : History) → Stands api.old types m → IfOk result (λ c. Becomes types m last_tick (front.bytes.items ++ bytes.now) c api.new) }
+    ensures ok { (types : List ServedShape) (m : History) → Stands api.old types m → IfOk result (λ c. Becomes types m last_tick (front_bytes front ++ bytes.now) c api.new) }
     ensures err { (types : List ServedShape) (m : History) → Stands api.old types m → OnErr result (Stands api.new types m) }
 {
     let mut front = front.with(bytes)?;

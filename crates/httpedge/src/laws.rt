@@ -1,23 +1,15 @@
 //! Laws of what a hub does, which crates above build on. Each function does nothing of use; what it promises is the law.
 
-ghost use Rattle.std.specs.Prelude.{◌≡◌, ◌≢◌, ◌++◌, ℕ, Bool, true, false, List, [], Some, None, drop, option_map, take};
+ghost use Rattle.std.specs.Prelude.{◌≡◌, ◌++◌, ℕ, Bool, true, false, List, [], Some, None, drop, option_map, take};
 ghost use Rattle.std.specs.FinMap as fin;
 ghost use Rattle.schema.specs.TypesFile.{ServedShape};
 ghost use Rattle.history.specs.History.{History};
 ghost use Rattle.verbs.specs.Machine.{IsMachine};
-ghost use Rattle.httpedge.specs.Asks.{CallDecision, Asks};
 ghost use Rattle.httpedge.specs.Connections.{AllIsOut, Connection, Connections, IsUntaken, each, ended_on, gone_on, has_gone, out_on, watching_on, written_on};
-ghost use Rattle.httpedge.specs.Decision.{undecided};
 ghost use Rattle.httpedge.specs.Runs.{Follows, Happening, HappensElsewhere, LeavesOut, Runs, Starves, Steps, bytes_at, peer_goes};
 ghost use Rattle.httpedge.specs.Steps.{Event, State, comes, start, ticks, with_bytes_taken};
 
-use crate::head::read_head;
-
-/// Bytes ask one thing; and what they ask stays asked, whatever bytes follow, once it is decided.
-pub fn one_asked()
-    ensures one { (types : List ServedShape) (bytes : List ℕ) (a b : CallDecision) → Asks types bytes a → Asks types bytes b → a ≡ b }
-    ensures stays { (types : List ServedShape) (bytes more : List ℕ) (asked : CallDecision) → Asks types bytes asked → asked ≢ undecided → Asks types (bytes ++ more) asked }
-{}
+use requests::read_head;
 
 /// Bytes that come on a connection in two events, with none between them, leave the hub as in one: what a
 /// connection gets doesn't depend on how its bytes were cut.

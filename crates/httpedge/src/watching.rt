@@ -6,11 +6,11 @@ ghost use Rattle.history.specs.History.{History};
 ghost use Rattle.verbs.specs.Seen.{Stands};
 ghost use Rattle.watchline.specs.Views.{watch_from};
 ghost use Rattle.httpedge.specs.Held.{Turns, left, watch_of};
-ghost use Rattle.httpedge.specs.ReplyBytes.{chunks};
+ghost use Rattle.requests.specs.ReplyBytes.{chunks};
 ghost use Rattle.httpedge.specs.Watches.{begun_at, is_due, is_over, line_list, pumped, ticked};
 
-use crate::chunks::{chunks, push_chunk, push_end};
 use crate::out::Out;
+use requests::{chunks, push_chunk, push_end};
 use std::alloc::{AllocError, Global};
 use verbs::{Api, Fault};
 use watchline::{WatchCursor, WatchFrom};

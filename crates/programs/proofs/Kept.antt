@@ -6,7 +6,7 @@ use Rattle.std.specs.FinMap as fin
 use Rattle.std.specs.Ordering.{eq_by_cmp, is_eq, nat_cmp}
 use Rattle.std.specs.declared.cmp.Ordering.{Ordering}
 use Rattle.std.specs.declared.cmp.Ordering.TheVariants.{Less, Equal, Greater}
-use Rattle.httpedge.specs.Asks.{CallDecision}
+use Rattle.requests.specs.Asks.{CallDecision}
 use Rattle.httpedge.specs.Connections.{Connection, Connections, IsUntaken, gone, has_ended, has_gone, with_standing, written_on}
 use Rattle.httpedge.specs.Runs.{Follows, Happening, IsNoGoing, LeavesOut, Steps, happens, peer_goes}
 use Rattle.httpedge.specs.Steps.{Event, State, by_connection, carried_out, comes, compacts, goes, opens, pumps, refusal, ticks, unless_refused, with_connection}

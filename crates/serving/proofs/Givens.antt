@@ -9,12 +9,13 @@ use Rattle.std.proofs.Math.Seq.{drop-append_seam}
 use Rattle.schema.specs.TypesFile.{ServedShape}
 use Rattle.history.specs.History.{History}
 use Rattle.verbs.specs.Step.{planned}
-use Rattle.httpedge.specs.Asks.{CallDecision}
+use Rattle.requests.specs.Asks.{CallDecision}
 use Rattle.httpedge.specs.Connections.{Connection, Connections, Standing, waiting, watching, ended, gone, each, has_ended, is_new, is_open, left_out, opened, out_of, out_on, with_standing, with_taken, with_written}
-use Rattle.httpedge.specs.Decision.{undecided, refused, accepted}
-use Rattle.httpedge.specs.Refusals.{as_denied, too_many_connections}
+use Rattle.requests.specs.Decision.{undecided, refused, accepted}
+use Rattle.requests.specs.Refusals.{as_denied, too_many_connections}
 use Rattle.httpedge.specs.Runs.{Follows, Happening, happens, starves, takes}
-use Rattle.httpedge.specs.Steps.{Event, State, opens, comes, goes, pumps, ticks, compacts, after_turn, answer_bytes, answer_standing, standing_after, turn_bytes, by_connection, carried_out, connection_after, dead, dead_or_ticked, opening, received_by, refusal, refusal_reply, starved, unless_refused, with_bytes_taken, with_connection, with_turn, writes_at}
+use Rattle.httpedge.specs.Steps.{Event, State, opens, comes, goes, pumps, ticks, compacts, after_turn, answer_standing, standing_after, turn_bytes, by_connection, carried_out, connection_after, dead, dead_or_ticked, opening, received_by, refusal, starved, unless_refused, with_bytes_taken, with_connection, with_turn, writes_at}
+use Rattle.requests.specs.Replies.{answer_bytes, refusal_reply}
 use Rattle.httpedge.specs.Watches.{Turn, Watch, pumped, ticked}
 use Rattle.httpedge.proofs.Connected.{got_each, put_there, tied_same, unknown}
 use Rattle.serving.specs.Turns.{IsGiven}

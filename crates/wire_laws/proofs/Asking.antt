@@ -7,10 +7,10 @@ use Rattle.std.specs.Str.{bytes_eq}
 use Rattle.serde_json.specs.Data.{Data}
 use Rattle.schema.specs.TypesFile.{ServedShape}
 use Rattle.verbs.specs.Admit.{admitted}
-use Rattle.httpedge.specs.Asks.{CallDecision, Asks}
-use Rattle.httpedge.specs.Bodies.{body_in, checked_media, declared_body, max_body, may_have_body, needed_length, needs_body, optional_length, path_of, query_of}
-use Rattle.httpedge.specs.Decision.{Decision, accepted, and_then, decided_by}
-use Rattle.httpedge.specs.Heads.{missing, Request}
+use Rattle.requests.specs.Asks.{CallDecision, Asks}
+use Rattle.requests.specs.Bodies.{body_in, checked_media, declared_body, max_body, may_have_body, needed_length, needs_body, optional_length, path_of, query_of}
+use Rattle.requests.specs.Decision.{Decision, accepted, and_then, decided_by}
+use Rattle.requests.specs.Heads.{missing, Request}
 use Rattle.std.specs.declared.result.Result.TheVariants.{Ok}
 use Rattle.wireclient.specs.Request.{request}
 use Rattle.wire_laws.specs.Printed.{IsPrinted, asked_by, asked_without, is_question, said_of}

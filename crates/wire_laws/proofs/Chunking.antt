@@ -7,7 +7,7 @@ use Rattle.std.proofs.lemmas.List.Elements.{All-cons, All-head, All-nil, All-tai
 use Rattle.wire.specs.Chunks.{Chunk, IsChunk, chunk_of, print_chunk, print_chunks}
 use Rattle.wire.specs.Lengths.{IsSize}
 use Rattle.wire.proofs.Sizes.{size_read}
-use Rattle.httpedge.specs.ReplyBytes.{chunk, chunks, end_bytes, last_chunk}
+use Rattle.requests.specs.ReplyBytes.{chunk, chunks, end_bytes, last_chunk}
 use Rattle.wireclient.specs.Lines.{IsLine, print_lines, with_feed}
 use Rattle.wire_laws.specs.Watched.{joined}
 

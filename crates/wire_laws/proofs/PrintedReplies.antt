@@ -15,7 +15,7 @@ use Rattle.httparse.specs.Spans.{name_and_value}
 use Rattle.wire.specs.Heads.{crlf, max_fields, max_head}
 use Rattle.wire.specs.Lengths.{length_in}
 use Rattle.wire.proofs.Lines.{passes_each}
-use Rattle.httpedge.specs.ReplyBytes.{phrase_of, allow_field, reply}
+use Rattle.requests.specs.ReplyBytes.{phrase_of, allow_field, reply}
 use Rattle.wireclient.specs.Reads.{Items, framed_by_length, framing_of, max_body}
 use Rattle.wireclient.specs.Reply.{by_length, end, head, whole}
 use Rattle.wire_laws.specs.Printed.{IsAllowed}

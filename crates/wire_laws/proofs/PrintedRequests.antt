@@ -17,10 +17,10 @@ use Rattle.wire.specs.Heads.{crlf, head_end, max_head}
 use Rattle.wire.specs.Lengths.{length_in}
 use Rattle.wire.proofs.Lengths.{decimal_read}
 use Rattle.wire.proofs.Lines.{ends_at, passes_each, unended}
-use Rattle.httpedge.specs.Bodies.{body_in, body_of, declared_body, sized, max_body, needs_body, some_json, json_in}
-use Rattle.httpedge.specs.Heads.{Length, length_said, number, Request, validated_head, ReadsHead, ReadsHeadAt}
-use Rattle.httpedge.specs.Decision.{Decision, undecided, accepted, and_then, decided_by}
-use Rattle.httpedge.specs.Refusals.{as_denied, refuse, bad_head, body_too_large, head_too_large}
+use Rattle.requests.specs.Bodies.{body_in, body_of, declared_body, sized, max_body, needs_body, some_json, json_in}
+use Rattle.requests.specs.Heads.{Length, length_said, number, Request, validated_head, ReadsHead, ReadsHeadAt}
+use Rattle.requests.specs.Decision.{Decision, undecided, accepted, and_then, decided_by}
+use Rattle.requests.specs.Refusals.{as_denied, refuse, bad_head, body_too_large, head_too_large}
 use Rattle.wireclient.specs.Request.{body_bytes, body_fields, request}
 use Rattle.wire_laws.specs.Printed.{IsMedia, IsPrinted, IsRequest, IsTooLong, said_of}
 use Rattle.wire_laws.proofs.Fields.{decimal_is_value, field, is_field, trimmed}

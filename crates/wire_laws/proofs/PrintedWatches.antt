@@ -15,7 +15,7 @@ use Rattle.wire.specs.Chunks.{Chunk, IsChunk, print_chunk, print_chunks}
 use Rattle.wire.specs.Heads.{crlf, max_fields, max_head}
 use Rattle.wire.specs.Lengths.{IsSize}
 use Rattle.wire.proofs.Lines.{passes_each}
-use Rattle.httpedge.specs.ReplyBytes.{chunks, phrase_of, watch_head}
+use Rattle.requests.specs.ReplyBytes.{chunks, phrase_of, watch_head}
 use Rattle.wireclient.specs.Lines.{IsLine, print_lines, with_feed}
 use Rattle.wireclient.specs.Reads.{Items, framing_of}
 use Rattle.wireclient.specs.Reply.{by_chunks, end, head, line}

@@ -9,8 +9,8 @@ use Rattle.std.specs.Str.Lossy.{utf8_lossy}
 use Rattle.form_urlencoded.specs.Form.{decode, extend_pairs, raw_pairs}
 use Rattle.form_urlencoded.proofs.FormLemmas.{IsBytePair, round_trip}
 use Rattle.params.specs.Query.{pair_in, pairs_in, text_of}
-use Rattle.httpedge.specs.Bodies.{path_of, query_of}
-use Rattle.httpedge.proofs.RequestTargets.{nothing_after, whole_before}
+use Rattle.requests.specs.Bodies.{path_of, query_of}
+use Rattle.requests.proofs.RequestTargets.{nothing_after, whole_before}
 use Rattle.wire_laws.specs.Printed.{IsTextPair, is_question}
 
 abbrev asked : ℕ → Bool

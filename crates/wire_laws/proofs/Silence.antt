@@ -2,7 +2,7 @@
 use Rattle.std.proofs.Common.{◌≡◌, ℕ, Bool, true, false, cond, List, [], ◌++◌, Option, Some, refl, sym, ap, ◌∙◌, append-nil}
 use Rattle.std.specs.Prelude.{option_map, unwrap_or}
 use Rattle.httpedge.specs.Connections.{Connection, Standing, waiting, watching, ended, gone, ended_on, has_ended, is_open, is_watching, watching_on, with_standing, written_on}
-use Rattle.httpedge.specs.ReplyBytes.{chunks}
+use Rattle.requests.specs.ReplyBytes.{chunks}
 use Rattle.httpedge.specs.Runs.{Follows, Happening}
 use Rattle.httpedge.specs.Steps.{State, after_turn, has_no_next}
 use Rattle.httpedge.specs.Watches.{Turn, Watch}

@@ -6,7 +6,7 @@ use Rattle.std.proofs.lemmas.Bool.{leb-true}
 use Rattle.http.specs.StatusCode.{reason_phrase}
 use Rattle.httparse.specs.Grammar.{AllPass, is_value_byte}
 use Rattle.wire.proofs.Lines.{passes_each}
-use Rattle.httpedge.specs.ReplyBytes.{phrase_of}
+use Rattle.requests.specs.ReplyBytes.{phrase_of}
 use Rattle.wire_laws.proofs.Fields.{and_first, and_rest}
 
 abbrev is_fine : List ℕ → Bool

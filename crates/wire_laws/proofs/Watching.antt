@@ -5,15 +5,16 @@ use Rattle.std.specs.FinMap as fin
 use Rattle.verbs.specs.Calls.{Answer, Call}
 use Rattle.verbs.specs.Step.{planned}
 use Rattle.watchline.specs.Opening.{WatchFrom}
-use Rattle.httpedge.specs.Asks.{Asks}
+use Rattle.requests.specs.Asks.{Asks}
 use Rattle.httpedge.specs.Connections.{Connection, Standing, waiting, watching, with_written}
-use Rattle.httpedge.specs.Decision.{accepted}
-use Rattle.httpedge.specs.ReplyBytes.{watch_head}
+use Rattle.requests.specs.Decision.{accepted}
+use Rattle.requests.specs.ReplyBytes.{watch_head}
 use Rattle.httpedge.specs.Runs.{Steps}
-use Rattle.httpedge.specs.Steps.{State, after_turn, answer_bytes, answer_standing, answered, by_connection, carried_out, comes, pumps, received, standing_after, ticks, turn_bytes, unless_refused, with_connection, with_turn}
+use Rattle.httpedge.specs.Steps.{State, after_turn, answer_standing, answered, by_connection, carried_out, comes, pumps, received, standing_after, ticks, turn_bytes, unless_refused, with_connection, with_turn}
+use Rattle.requests.specs.Replies.{answer_bytes}
 use Rattle.httpedge.specs.Watches.{Turn, Watch, begun_at, pumped, ticked}
 use Rattle.httpedge.proofs.Connected.{got_each, put_there}
-use Rattle.httpedge.proofs.Deciding.{asks_one}
+use Rattle.requests.proofs.Deciding.{asks_one}
 use Rattle.httpedge.proofs.Outcomes.{ComesBy, ComesOn}
 
 pub begins : (s t : State) (id : ℕ) (bytes front : List ℕ) (c : Connection) (call : Call) (from : WatchFrom) → Steps s (comes id bytes) t → fin.get s.connections id ≡ Some c → c.standing ≡ waiting front

@@ -40,12 +40,12 @@ use Rattle.verbs.specs.Reasons.{code_of}
 use Rattle.verbs.specs.Status.{CallRefusal, status_value}
 use Rattle.verbs.specs.Size.{size_validated}
 use Rattle.verbs.specs.Step as step
-use Rattle.httpedge.specs.Asks.{CallDecision, Asks, call_in, call_with}
+use Rattle.requests.specs.Asks.{CallDecision, Asks, call_in, call_with}
 use Rattle.wire.specs.Heads.{head_end, max_head}
-use Rattle.httpedge.specs.Bodies.{body_in, checked_media, declared_body, declared_length, json_in, max_body, may_have_body, needed_length, needs_body, optional_length, path_of, sized, some_json}
-use Rattle.httpedge.specs.Decision.{Decision, undecided, refused, accepted, and_then, decided_by}
-use Rattle.httpedge.specs.Heads.{HeadDecision, Length, ReadsHeadAt, Request, number, malformed, missing, validated_head}
-use Rattle.httpedge.specs.Refusals.{Refusal, as_denied, bad_head, bad_length, body_too_large, head_too_large, no_length, not_json, not_one_host, refuse, too_many_connections, transfer_encoding, wrong_version}
+use Rattle.requests.specs.Bodies.{body_in, checked_media, declared_body, declared_length, json_in, max_body, may_have_body, needed_length, needs_body, optional_length, path_of, sized, some_json}
+use Rattle.requests.specs.Decision.{Decision, undecided, refused, accepted, and_then, decided_by}
+use Rattle.requests.specs.Heads.{HeadDecision, Length, ReadsHeadAt, Request, number, malformed, missing, validated_head}
+use Rattle.requests.specs.Refusals.{Refusal, as_denied, bad_head, bad_length, body_too_large, head_too_large, no_length, not_json, not_one_host, refuse, too_many_connections, transfer_encoding, wrong_version}
 use Rattle.wireclient.specs.Reads as client
 use Rattle.wire_laws.specs.Printed.{IsAllowed}
 use Rattle.wire.proofs.Lines.{passes_each}

@@ -5,10 +5,10 @@ use Rattle.httparse.specs.Grammar.{AllPass, IsToken, is_uri_byte, is_value_byte,
 use Rattle.schema.specs.TypesFile.{ServedShape}
 use Rattle.wire.specs.Heads.{max_head}
 use Rattle.verbs.specs.Admit.{admitted}
-use Rattle.httpedge.specs.Asks.{CallDecision}
-use Rattle.httpedge.specs.Bodies.{json_in, some_json}
-use Rattle.httpedge.specs.Decision.{accepted, and_then, decided_by}
-use Rattle.httpedge.specs.Heads.{Length, missing, number, Request}
+use Rattle.requests.specs.Asks.{CallDecision}
+use Rattle.requests.specs.Bodies.{json_in, some_json}
+use Rattle.requests.specs.Decision.{accepted, and_then, decided_by}
+use Rattle.requests.specs.Heads.{Length, missing, number, Request}
 use Rattle.wireclient.specs.Request.{body_bytes, request}
 
 -- the methods that a reply allows: a field's value (RFC 9112, section 5), for which a head has room

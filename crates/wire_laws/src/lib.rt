@@ -6,15 +6,15 @@
 //! `line_laws` for what a client reads in a page.
 #![tactic(auto)]
 
+mod calls;
 mod replies;
-mod requests;
 mod turn_lines;
 mod watches;
 
-pub use replies::{answers_are_read, lists_are_read, refusals_are_read, replies_are_read};
-pub use requests::{
+pub use calls::{
     bodies_are_read, long_requests_are_refused, queries_are_read, requests_are_read, requests_ask,
 };
+pub use replies::{answers_are_read, lists_are_read, refusals_are_read, replies_are_read};
 pub use turn_lines::{answers_are_written, turns_are_lines};
 pub use watches::{
     ends_are_silent, texts_are_lines, turns_are_read, turns_are_written, watches_are_read,

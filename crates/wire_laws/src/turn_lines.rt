@@ -9,7 +9,7 @@ ghost use Rattle.watchline.specs.Watches.{Cursor, coming, from_history};
 ghost use Rattle.verbs.specs.Calls.{Call};
 ghost use Rattle.verbs.specs.Machine.{AreUnicode, IsMachine};
 ghost use Rattle.verbs.specs.Step.{planned};
-ghost use Rattle.httpedge.specs.Steps.{answer_bytes};
+ghost use Rattle.requests.specs.Replies.{answer_bytes};
 ghost use Rattle.httpedge.specs.Watches.{Watch, pumped, ticked};
 ghost use Rattle.wireclient.specs.Reads.{Items, max_body};
 ghost use Rattle.wireclient.specs.Reply.{end, head, whole};

@@ -1,9 +1,9 @@
 use Rattle.std.proofs.Common.{refl, sym, ap, subst, ◌∙◌}
 use Rattle.verbs.specs.Seen.{call_of, denied_of}
 use Rattle.verbs.specs.Step.{planned}
-use Rattle.httpedge.specs.Steps.{answer_bytes}
-use Rattle.httpedge.specs.Decision.{refused, accepted}
-use Rattle.httpedge.specs.Pendings.{Finds}
+use Rattle.requests.specs.Replies.{answer_bytes}
+use Rattle.requests.specs.Decision.{refused, accepted}
+use Rattle.requests.specs.Pendings.{Finds}
 use Rattle.httpedge.proofs.connection.decided.Goals as goal
 
 pub returns-in_ok-reply-in-Refused-clause-ok : goal.returns-in_ok-reply-in-Refused-clause-ok

@@ -2,7 +2,7 @@ use Rattle.std.proofs.Common.{rules, sym, subst, ◌∙◌}
 use Rattle.httpedge.specs.declared.connection.Connection as conns
 use Rattle.httpedge.specs.Connections.{gone, with_standing}
 use Rattle.httpedge.specs.Held.{Holds, has_ended_in}
-use Rattle.httpedge.proofs.Saying.{some_of}
+use Rattle.httpedge.proofs.Results.{some_of}
 use Rattle.httpedge.proofs.connections.go_at.Goals as goal
 
 pub returns-in-Some : goal.returns-in-Some

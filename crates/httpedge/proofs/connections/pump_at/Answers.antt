@@ -2,7 +2,7 @@ use Rattle.std.proofs.Common.{rules, ◌≡◌, true, sym, subst, ◌∙◌}
 use Rattle.std.proofs.lemmas.Result.{on_ok_weaker}
 use Rattle.httpedge.specs.declared.connection.Connection as conns
 use Rattle.httpedge.specs.Held.{Holds, is_watching_in}
-use Rattle.httpedge.proofs.Saying.{on_err_both, some_of}
+use Rattle.httpedge.proofs.Results.{on_err_both, some_of}
 use Rattle.httpedge.proofs.connections.pump_at.Goals as goal
 
 pub returns-in-Some-clause-ok : goal.returns-in-Some-clause-ok

@@ -3,7 +3,7 @@ use Rattle.std.specs.BTreeMap.{get}
 use Rattle.std.specs.Ordering.{nat_cmp}
 use Rattle.httpedge.specs.declared.connection.Connection as conns
 use Rattle.httpedge.specs.Held.{Holds}
-use Rattle.httpedge.proofs.Saying.{some_of}
+use Rattle.httpedge.proofs.Results.{some_of}
 use Rattle.httpedge.proofs.connections.take_at.Goals as goal
 
 pub returns-in-Some-clause-known : goal.returns-in-Some-clause-known

@@ -1,4 +1,4 @@
-use Rattle.httpedge.specs.Views.{decision_of, head_of}
+use Rattle.requests.specs.Views.{decision_of, head_of}
 use Rattle.httpedge.proofs.Outcomes.{step_with, step_without}
 use Rattle.httpedge.proofs.laws.each_steps.Goals as goal
 

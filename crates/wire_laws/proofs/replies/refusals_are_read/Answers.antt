@@ -1,7 +1,7 @@
 use Rattle.std.proofs.Common.{sym, subst}
 use Rattle.verbs.specs.Calls.{Denied}
 use Rattle.verbs.specs.Reasons.{code_of}
-use Rattle.httpedge.specs.Refusals.{too_many_connections}
+use Rattle.requests.specs.Refusals.{too_many_connections}
 use Rattle.wire_laws.proofs.Written.{IsReadable, asked_readable, code_is, refusal_readable}
 use Rattle.wire_laws.proofs.replies.refusals_are_read.Goals as goal
 

@@ -1,7 +1,7 @@
 use Rattle.std.proofs.Common.{Option, [], ◌∷◌, subst, sym}
 use Rattle.watchline.specs.Opening.{WatchFrom}
 use Rattle.verbs.specs.Step.{planned}
-use Rattle.httpedge.specs.Steps.{answer_bytes}
+use Rattle.requests.specs.Replies.{answer_bytes}
 use Rattle.wireclient.specs.Reads.{Items}
 use Rattle.wireclient.specs.Reply.{end, head, whole}
 use Rattle.wire_laws.proofs.turn_lines.answers_are_written.Goals as goal

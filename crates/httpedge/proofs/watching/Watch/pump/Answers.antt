@@ -1,7 +1,7 @@
 use Rattle.std.proofs.Common.{ℕ, List, ◌++◌, refl, ap, ◌∙◌}
 use Rattle.watchline.specs.Views.{lines_in}
 use Rattle.httpedge.specs.Held.{left, watch_of}
-use Rattle.httpedge.specs.ReplyBytes.{chunks}
+use Rattle.requests.specs.ReplyBytes.{chunks}
 use Rattle.httpedge.proofs.Turning.{pump_turns}
 use Rattle.httpedge.proofs.watching.Watch.pump.Goals as goal
 

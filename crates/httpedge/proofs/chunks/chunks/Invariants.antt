@@ -1,8 +1,0 @@
-use Rattle.std.proofs.Common.{◌≡◌, ◌++◌, drop}
-use Rattle.std.specs.List.{flat_map}
-use Rattle.watchline.specs.Views.{lines_in}
-use Rattle.httpedge.specs.ReplyBytes.{chunk}
-use Rattle.httpedge.proofs.chunks.chunks.Given as goal
-
-abbrev pub invariant-loop-line : goal.invariant-loop-line
-invariant-loop-line l = l.bytes.items ++ flat_map chunk (lines_in (drop l.line-index l.lines)) ≡ flat_map chunk (lines_in l.lines)

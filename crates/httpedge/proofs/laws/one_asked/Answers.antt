@@ -1,5 +1,0 @@
-use Rattle.httpedge.proofs.Deciding.{asks_more, asks_one}
-use Rattle.httpedge.proofs.laws.one_asked.Goals as goal
-
-pub returns : goal.returns
-returns c = record { one = asks_one; stays = asks_more }

@@ -1,0 +1,11 @@
+pub mod BodyCuts
+pub mod Chunking
+pub mod Cuts
+pub mod Deciding
+pub mod Digits
+pub mod Heading
+pub mod Numbers
+pub mod RequestTargets
+pub mod Saying
+pub mod Searching
+pub mod Whole

@@ -1,0 +1,13 @@
+use Rattle.std.proofs.Common.{ℕ, List, None, sym, ap, ◌∙◌}
+use Rattle.std.specs.Prelude.{option_map}
+use Rattle.std.proofs.lemmas.Result.{IfOk-weaker}
+use Rattle.watchline.specs.Views.{watch_from}
+use Rattle.verbs.specs.Seen.{answer_of}
+use Rattle.requests.specs.ReplyBytes.{reply}
+use Rattle.requests.specs.Replies.{answer_bytes}
+use Rattle.requests.proofs.answering.answer_bytes.Goals as goal
+
+pub returns-in-None : goal.returns-in-None
+returns-in-None c =
+    IfOk-weaker c.reply_bytes.result _ _ (λ v e. e ∙ ap (λ (text : List ℕ). reply c.args.answer.now.status None text) c.as_str.ensures.value
+    ∙ ap (λ o. answer_bytes (answer_of c.args.answer.now) (option_map watch_from o)) (sym c.in-None.is)) c.reply_bytes.ensures

@@ -1,0 +1,30 @@
+-- What a connection asks, by all the bytes that came on it.
+use Rattle.std.specs.Prelude.{◌≡◌, ℕ, List, Option}
+use Rattle.serde_json.specs.Data.{Data}
+use Rattle.schema.specs.TypesFile.{ServedShape}
+use Rattle.verbs.specs.Admit.{admitted}
+use Rattle.verbs.specs.Calls.{Call, Target}
+use Rattle.requests.specs.Decision.{Decision, accepted, and_then, decided_by}
+use Rattle.requests.specs.Heads.{Request, HeadDecision, ReadsHead}
+use Rattle.requests.specs.Bodies.{body_in, checked_media, path_of, query_of}
+
+-- undecided while more bytes are needed, refused, or a call
+abbrev pub CallDecision : Type 0
+CallDecision = Decision Call
+
+-- a call of this resource with the query of the request target and this body
+abbrev pub call_with : Request → Target → Decision (Option Data) → CallDecision
+call_with request target body = and_then body (λ value. accepted (record { target = target; query = query_of request.request_target; body = value }))
+
+-- first the route, the method and the media type are checked, then the body
+abbrev pub call_in : List ServedShape → Request → List ℕ → CallDecision
+call_in types request rest =
+    and_then (decided_by (admitted types request.method (path_of request.request_target) (checked_media request))) (λ target. call_with request target (body_in request rest))
+
+-- what a head and the bytes after it ask, by these types
+abbrev pub asked_by : List ServedShape → HeadDecision → CallDecision
+asked_by types head = and_then head (λ r. call_in types r.0 r.1)
+
+-- by these types the bytes ask this
+abbrev pub Asks : List ServedShape → List ℕ → CallDecision → Type 0
+Asks types bytes asked = (head : HeadDecision) × ReadsHead bytes head × (asked ≡ asked_by types head)

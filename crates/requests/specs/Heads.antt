@@ -1,0 +1,104 @@
+-- What the head of a request says (RFC 9112, sections 2.2, 3, 5 and 6), and when a front of a connection's bytes has it.
+use Rattle.std.specs.Prelude.{◌≡◌, ◌⊎◌, ℕ, Bool, ◌==◌, not, nat_lt, if◌then◌else◌, List, [], ◌∷◌, ◌++◌, length, map, take, drop, Option, Some, None, codes, nat_eq}
+use Rattle.std.specs.List.{list_any, starts_with, filter}
+use Rattle.httparse.specs.Grammar.{RequestHead, ReadsRequest}
+use Rattle.httparse.specs.Spans.{name_and_value}
+use Rattle.wire.specs.Heads.{Named, has_name, head_end, is_content_length, is_transfer_encoding, max_fields, max_head}
+use Rattle.wire.specs.Lengths.{length_in}
+use Rattle.requests.specs.Decision.{Decision, undecided, refused, accepted}
+use Rattle.requests.specs.Refusals.{head_too_large, bad_head, wrong_version, not_one_host, refuse}
+
+-- ---- its fields
+
+abbrev pub is_host : Named → Bool
+is_host field = has_name (codes "host") field
+
+-- the first Content-Type
+abbrev pub media_in : List Named → Option (List ℕ)
+media_in [] = None
+media_in (field ∷ fields) = if has_name (codes "content-type") field then Some field.1 else media_in fields
+
+abbrev pub is_transfer_encoded : List Named → Bool
+is_transfer_encoded fields = list_any is_transfer_encoding fields
+
+-- ---- its length
+
+-- what the Content-Length fields say: there is none, they say no one number, or this one
+pub data Length : Type 0 where
+  missing malformed : Length
+  number : ℕ → Length
+
+-- a field that is no length says no number
+abbrev pub length_said : Option ℕ → Length
+length_said None = malformed
+length_said (Some n) = number n
+
+-- several fields have to say one number, where a client takes one field at most; a list in one field, which RFC 9112, section 6.3, lets a server
+-- take, is refused here
+abbrev pub agreed : Length → Length → Length
+agreed missing other = other
+agreed malformed other = malformed
+agreed (number m) missing = number m
+agreed (number m) malformed = malformed
+agreed (number m) (number n) = if m == n then number m else malformed
+
+-- after what earlier fields said
+abbrev pub length_after : Length → List Named → Length
+length_after said [] = said
+length_after said (field ∷ fields) = length_after (if is_content_length field then agreed said (length_said (length_in field.1)) else said) fields
+
+-- ---- the head
+
+-- what the server takes from a head
+pub record Request : Type 0 where
+  pub method : List ℕ
+  pub request_target : List ℕ
+  pub media : Option (List ℕ)
+  pub transfer_encoded : Bool
+  pub length : Length
+
+abbrev pub request_of : List ℕ → List ℕ → List Named → Request
+request_of method request_target fields = record {
+  method = method;
+  request_target = request_target;
+  media = media_in fields;
+  transfer_encoded = is_transfer_encoded fields;
+  length = length_after missing fields;
+}
+
+-- a head of the grammar is validated in this order: the version (RFC 9110, section 15.6.6), one Host (RFC 9112, section 3.2), a target that is a path
+-- (section 3.2.1); rest is what came after it
+abbrev pub validated : List ℕ → List ℕ → ℕ → List Named → List ℕ → Decision (Request × List ℕ)
+validated method request_target minor fields rest =
+    if nat_lt max_fields (length fields) then refuse head_too_large
+    else if not (minor == 1) then refuse wrong_version
+    else if not (length (filter is_host fields) == 1) then refuse not_one_host
+    else if not (starts_with nat_eq request_target (codes "/")) then refuse bad_head
+    else accepted (request_of method request_target fields, rest)
+
+-- the same with more bytes after it
+abbrev pub with_more : List ℕ → Decision (Request × List ℕ) → Decision (Request × List ℕ)
+with_more more undecided = undecided
+with_more more (refused r) = refused r
+with_more more (accepted (request, rest)) = accepted (request, rest ++ more)
+
+abbrev pub validated_head : RequestHead → List ℕ → Decision (Request × List ℕ)
+validated_head h rest = validated h.method h.target h.minor (map name_and_value h.fields) rest
+
+-- what can be said of a head: the request, and the bytes after it
+abbrev pub HeadDecision : Type 0
+HeadDecision = Decision (Request × List ℕ)
+
+-- these bytes are the head of a request, or no head, and this is what they say with the rest
+abbrev pub ReadsWholeHead : List ℕ → List ℕ → Decision (Request × List ℕ) → Type 0
+ReadsWholeHead bytes rest front =
+    ((h : RequestHead) × ReadsRequest bytes h [] × (front ≡ validated_head h rest))
+    ⊎ (((h : RequestHead) → ¬ (ReadsRequest bytes h [])) × (front ≡ refuse bad_head))
+
+abbrev pub ReadsHeadAt : List ℕ → Option ℕ → Decision (Request × List ℕ) → Type 0
+ReadsHeadAt bytes None front = front ≡ (if nat_lt max_head (length bytes) then refuse head_too_large else undecided)
+ReadsHeadAt bytes (Some n) front = ReadsWholeHead (take n bytes) (drop n bytes) front
+
+-- what the bytes that came on a connection say of the request's head
+abbrev pub ReadsHead : List ℕ → Decision (Request × List ℕ) → Type 0
+ReadsHead bytes front = ReadsHeadAt bytes (head_end (take max_head bytes)) front

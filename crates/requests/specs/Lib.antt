@@ -1,0 +1,11 @@
+pub mod Decision
+pub mod Refusals
+pub mod Heads
+pub mod HeadEnds
+pub mod Fronts
+pub mod Bodies
+pub mod ReplyBytes
+pub mod Replies
+pub mod Asks
+pub mod Views
+pub mod Pendings

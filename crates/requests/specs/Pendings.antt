@@ -1,0 +1,44 @@
+-- What the code knows of a request whose head has come.
+use Rattle.std.specs.Prelude.{◌≡◌, ℕ, List, ◌++◌, Option, Some, None, ⊤}
+use Rattle.schema.specs.TypesFile.{ServedShape}
+use Rattle.verbs.specs.Calls.{Target}
+use Rattle.verbs.specs.Seen.{call_of, denied_of, target_of}
+use Rattle.requests.specs.declared.asking.Progress as askings
+use Rattle.requests.specs.declared.asking.Progress.TheVariants as asking
+use Rattle.requests.specs.declared.asking.Pending as pendings
+use Rattle.requests.specs.Asks.{CallDecision, Asks}
+use Rattle.requests.specs.Bodies.{body_of}
+use Rattle.requests.specs.Decision.{undecided, refused, accepted, and_then}
+
+abbrev pub asked_of : askings.Progress → CallDecision
+asked_of (asking.Pending p) = undecided
+asked_of (asking.Refused d) = refused (denied_of d)
+asked_of (asking.Call c) = accepted (call_of c)
+
+-- what a body of this length asks, by its bytes so far
+abbrev pub sized_call : Target → List ℕ → ℕ → List ℕ → CallDecision
+sized_call target query length rest = and_then (body_of length rest) (λ body. accepted (record { target = target; query = query; body = body }))
+
+abbrev pub pending_call : pendings.Pending → List ℕ → CallDecision
+pending_call p = sized_call (target_of p.target) p.query.items p.length
+
+-- a request that waits has these bytes of its body, and asks by all of them what f says
+abbrev pub Carries : (List ℕ → CallDecision) → List ℕ → askings.Progress → Type 0
+Carries f rest (asking.Pending p) = (p.body.items ≡ rest) × ((bytes : List ℕ) → f bytes ≡ pending_call p bytes)
+Carries f rest (asking.Refused d) = ⊤
+Carries f rest (asking.Call c) = ⊤
+
+-- whatever bytes follow these on the connection, they are the body's
+abbrev pub Awaits : List ServedShape → List ℕ → pendings.Pending → Type 0
+Awaits types front p = (more : List ℕ) → Asks types (front ++ more) (pending_call p (p.body.items ++ more))
+
+-- these bytes ask this
+abbrev pub Finds : List ServedShape → List ℕ → askings.Progress → Type 0
+Finds types bytes (asking.Pending p) = Asks types bytes undecided × Awaits types bytes p
+Finds types bytes (asking.Refused d) = Asks types bytes (refused (denied_of d))
+Finds types bytes (asking.Call c) = Asks types bytes (accepted (call_of c))
+
+-- the same; nothing is found while the head hasn't come whole
+abbrev pub FindsAll : List ServedShape → List ℕ → Option askings.Progress → Type 0
+FindsAll types bytes None = Asks types bytes undecided
+FindsAll types bytes (Some a) = Finds types bytes a

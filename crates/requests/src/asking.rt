@@ -1,0 +1,165 @@
+//! What a connection asks, by all the bytes that came on it.
+
+ghost use Rattle.std.specs.Prelude.{◌≡◌, ◌++◌, ℕ, List, IfOk, take};
+ghost use Rattle.schema.specs.TypesFile.{ServedShape};
+ghost use Rattle.verbs.specs.Seen.{target_of, types_of};
+ghost use Rattle.wire.specs.Heads.{head_end, max_head};
+ghost use Rattle.requests.specs.Asks.{call_with, call_in};
+ghost use Rattle.requests.specs.Bodies.{body_in, declared_body};
+ghost use Rattle.requests.specs.Pendings.{Awaits, Carries, Finds, FindsAll, asked_of, pending_call, sized_call};
+ghost use Rattle.requests.specs.Views.{request_in};
+
+use crate::body::{body_of, declared_length};
+use crate::decision::Decision;
+use crate::head::{Head, read_to};
+use crate::request_target::{checked_media, path_of, query_of};
+use std::alloc::{AllocError, Global};
+use verbs::{Api, Call, Denied, Target};
+
+/// A request whose head has come, and of its body this much.
+#[derive(Debug, Drop)]
+pub struct Pending {
+    target: Target,
+    query: Vec<u8>,
+    /// How many bytes the body has.
+    length: usize,
+    body: Vec<u8>,
+}
+
+/// What a request asks once its head has come.
+#[derive(Debug, Drop)]
+pub enum Progress {
+    /// More bytes of its body are needed.
+    Pending(Pending),
+    /// It is refused before a call is made of it.
+    Refused(Denied),
+    /// It asks this call.
+    Call(Call),
+}
+
+/// More bytes of the body.
+fn ask_more(alloc: Global, pending: Pending, bytes: &[u8]) -> Result<Progress, AllocError>
+    ensures asks { IfOk result (λ a. asked_of a ≡ pending_call pending (pending.body.items ++ bytes.now)) }
+    ensures carries { IfOk result (Carries (pending_call pending) (pending.body.items ++ bytes.now)) }
+{
+    let Pending {
+        target,
+        query,
+        length,
+        mut body,
+    } = pending;
+    body.extend_from_slice(bytes)?;
+    match body_of(alloc, length, &body)? {
+        Decision::Undecided => Ok(Progress::Pending(Pending {
+            target,
+            query,
+            length,
+            body,
+        })),
+        Decision::Refused(denied) => Ok(Progress::Refused(denied)),
+        Decision::Accepted(body) => Ok(Progress::Call(Call {
+            target,
+            query,
+            body,
+        })),
+    }
+}
+
+/// What a connection asks once more bytes of its request's body have come; they are the body's, since the head has come whole
+/// (RFC 9112, section 6.3).
+pub fn ask_on(alloc: Global, pending: Pending, bytes: &[u8]) -> Result<Progress, AllocError>
+    ensures { (types : List ServedShape) (front : List ℕ) → Awaits types front pending → IfOk result (Finds types (front ++ bytes.now)) }
+{
+    let asked = ask_more(alloc, pending, bytes)?;
+    Ok(asked)
+}
+
+/// A body of so many bytes, of which these came with the head.
+fn ask_sized(
+    alloc: Global,
+    target: Target,
+    query: Vec<u8>,
+    length: usize,
+    rest: &[u8],
+) -> Result<Progress, AllocError>
+    ensures asks { IfOk result (λ a. asked_of a ≡ sized_call (target_of target) query.items length rest.now) }
+    ensures carries { IfOk result (Carries (sized_call (target_of target) query.items length) rest.now) }
+{
+    match body_of(alloc, length, rest)? {
+        Decision::Undecided => Ok(Progress::Pending(Pending {
+            target,
+            query,
+            length,
+            body: Vec::from_slice(alloc, rest)?,
+        })),
+        Decision::Refused(denied) => Ok(Progress::Refused(denied)),
+        Decision::Accepted(body) => Ok(Progress::Call(Call {
+            target,
+            query,
+            body,
+        })),
+    }
+}
+
+fn ask_declared(
+    alloc: Global,
+    target: Target,
+    head: &Head<'_>,
+    length: Option<usize>,
+) -> Result<Progress, AllocError>
+    ensures asks { IfOk result (λ a. asked_of a ≡ call_with (request_in head.now) (target_of target) (declared_body length head.now.rest.now)) }
+    ensures carries { IfOk result (Carries (λ rest. call_with (request_in head.now) (target_of target) (declared_body length rest)) head.now.rest.now) }
+{
+    let query = Vec::from_slice(alloc, query_of(head.request_target).as_bytes())?;
+    match length {
+        None => Ok(Progress::Call(Call {
+            target,
+            query,
+            body: None,
+        })),
+        Some(length) => ask_sized(alloc, target, query, length, head.rest),
+    }
+}
+
+fn ask_of(alloc: Global, target: Target, head: &Head<'_>) -> Result<Progress, AllocError>
+    ensures asks { IfOk result (λ a. asked_of a ≡ call_with (request_in head.now) (target_of target) (body_in (request_in head.now) head.now.rest.now)) }
+    ensures carries { IfOk result (Carries (λ rest. call_with (request_in head.now) (target_of target) (body_in (request_in head.now) rest)) head.now.rest.now) }
+{
+    match declared_length(head) {
+        Ok(length) => ask_declared(alloc, target, head, length),
+        Err(denied) => Ok(Progress::Refused(denied)),
+    }
+}
+
+fn ask_in(alloc: Global, api: &Api, head: &Head<'_>) -> Result<Progress, AllocError>
+    ensures asks { IfOk result (λ a. asked_of a ≡ call_in (types_of api.now) (request_in head.now) head.now.rest.now) }
+    ensures carries { IfOk result (Carries (call_in (types_of api.now) (request_in head.now)) head.now.rest.now) }
+{
+    match api.admit(
+        head.method,
+        path_of(head.request_target),
+        checked_media(head),
+    ) {
+        Ok(target) => ask_of(alloc, target, head),
+        Err(verbs::Refusal::Denied(denied)) => Ok(Progress::Refused(denied)),
+        Err(verbs::Refusal::Memory) => Err(AllocError),
+    }
+}
+
+/// What the bytes that came on a connection ask of this API, by how many of them the head has (`Front::find_end`); none while it
+/// hasn't come whole.
+pub fn ask(
+    alloc: Global,
+    api: &Api,
+    bytes: &[u8],
+    end: Option<usize>,
+) -> Result<Option<Progress>, AllocError>
+    requires { end ≡ head_end (take max_head bytes.now) }
+    ensures { IfOk result (λ o. FindsAll (types_of api.now) bytes.now o) }
+{
+    match read_to(bytes, end) {
+        Decision::Undecided => Ok(None),
+        Decision::Refused(denied) => Ok(Some(Progress::Refused(denied))),
+        Decision::Accepted(head) => Ok(Some(ask_in(alloc, api, &head)?)),
+    }
+}

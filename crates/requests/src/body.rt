@@ -1,0 +1,134 @@
+//! The body of a request.
+
+ghost use Rattle.std.specs.Prelude.{◌≡◌, ◌≢◌, ◌++◌, ℕ, List, IfOk};
+ghost use Rattle.wire.specs.Lengths.{decimal_value};
+ghost use Rattle.requests.specs.Bodies.{needs_body, may_have_body, json_in, some_json, sized, needed_length, optional_length, declared_length, body_of, declared_body, body_in};
+ghost use Rattle.requests.specs.Decision.{undecided};
+ghost use Rattle.requests.specs.Views.{data_of, decision_of, declared_of, length_of, request_in};
+
+use crate::decision::Decision;
+use crate::head::{Head, Length};
+use crate::refusal::Refusal;
+use std::alloc::{AllocError, Global};
+use verbs::{Body, Denied};
+use wire::decimal_value;
+
+pub(crate) const MAX_BODY: usize = 65_536;
+
+fn needs_body(method: &str) -> bool
+    ensures { result ≡ needs_body method.now }
+{
+    method == "POST" || method == "PUT" || method == "PATCH"
+}
+
+pub(crate) fn may_have_body(method: &str) -> bool
+    ensures { result ≡ may_have_body method.now }
+{
+    method == "DELETE"
+}
+
+fn json_in(alloc: Global, bytes: &[u8]) -> Result<Decision<Option<Body>>, AllocError>
+    ensures { IfOk result (λ f. decision_of data_of f ≡ some_json (json_in bytes.now)) }
+{
+    match Body::read(alloc, bytes) {
+        Ok(body) => Ok(Decision::Accepted(Some(body))),
+        Err(error) if error.is_memory() => Err(AllocError),
+        Err(_) => Ok(Decision::Refused(Refusal::NotJson.denied())),
+    }
+}
+
+fn sized(digits: &[u8]) -> Result<Option<usize>, Denied>
+    ensures { declared_of result ≡ sized (decimal_value digits.now) }
+{
+    match decimal_value(digits, MAX_BODY) {
+        None => Err(Refusal::BodyTooLarge.denied()),
+        Some(length) => Ok(Some(length)),
+    }
+}
+
+fn needed_length(length: Length<'_>) -> Result<Option<usize>, Denied>
+    ensures { declared_of result ≡ needed_length (length_of length.entry) }
+{
+    match length {
+        Length::Missing => Err(Refusal::NoLength.denied()),
+        Length::Malformed => Err(Refusal::BadLength.denied()),
+        Length::Digits(digits) => sized(digits),
+    }
+}
+
+fn optional_length(length: Length<'_>) -> Result<Option<usize>, Denied>
+    ensures { declared_of result ≡ optional_length (length_of length.entry) }
+{
+    match length {
+        Length::Missing => Ok(None),
+        Length::Malformed => Err(Refusal::BadLength.denied()),
+        Length::Digits(digits) => match decimal_value(digits, MAX_BODY) {
+            None => Err(Refusal::BodyTooLarge.denied()),
+            Some(0) => Ok(None),
+            Some(length) => Ok(Some(length)),
+        },
+    }
+}
+
+/// How many bytes of a body a head declares, or that there is none: only POST, PUT, PATCH and DELETE have one,
+/// and only DELETE may go without.
+pub(crate) fn declared_length(head: &Head<'_>) -> Result<Option<usize>, Denied>
+    ensures { declared_of result ≡ declared_length (request_in head.now) }
+{
+    let needs = needs_body(head.method);
+    if !needs && !may_have_body(head.method) {
+        return Ok(None);
+    }
+    if head.is_transfer_encoded {
+        return Err(Refusal::TransferEncoding.denied());
+    }
+    if needs {
+        needed_length(head.length)
+    } else {
+        optional_length(head.length)
+    }
+}
+
+/// A body of so many bytes, of which these came.
+pub(crate) fn body_of(
+    alloc: Global,
+    length: usize,
+    rest: &[u8],
+) -> Result<Decision<Option<Body>>, AllocError>
+    ensures { IfOk result (λ f. decision_of data_of f ≡ body_of length rest.now) }
+{
+    if rest.len() < length {
+        return Ok(Decision::Undecided);
+    }
+    json_in(alloc, &rest[..length])
+}
+
+fn declared_body(
+    alloc: Global,
+    length: Option<usize>,
+    rest: &[u8],
+) -> Result<Decision<Option<Body>>, AllocError>
+    ensures { IfOk result (λ f. decision_of data_of f ≡ declared_body length rest.now) }
+{
+    match length {
+        None => Ok(Decision::Accepted(None)),
+        Some(length) => body_of(alloc, length, rest),
+    }
+}
+
+fn body_in(alloc: Global, head: &Head<'_>) -> Result<Decision<Option<Body>>, AllocError>
+    ensures { IfOk result (λ f. decision_of data_of f ≡ body_in (request_in head.now) head.now.rest.now) }
+{
+    match declared_length(head) {
+        Ok(length) => declared_body(alloc, length, head.rest),
+        Err(denied) => Ok(Decision::Refused(denied)),
+    }
+}
+
+/// The body of a request, by its head and the bytes that came after it, however they were cut.
+pub fn read_body(alloc: Global, head: &Head<'_>) -> Result<Decision<Option<Body>>, AllocError>
+    ensures says { IfOk result (λ f. decision_of data_of f ≡ body_in (request_in head.now) head.now.rest.now) }
+    ensures stays { (more : List ℕ) → IfOk result (λ f. decision_of data_of f ≢ undecided → body_in (request_in head.now) (head.now.rest.now ++ more) ≡ decision_of data_of f) }
+{
+    body_in(alloc, head)
+}

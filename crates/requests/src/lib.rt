@@ -1,0 +1,34 @@
+//! What the bytes of a connection ask, and the bytes that answer them.
+//!
+//! What a connection asks depends on the bytes that came and on nothing else, however they were cut; a reply
+//! is written byte for byte as the definitions say, and so is a watch, a chunk for each line. Connections, and what they do
+//! one after the other, are the crate above (`httpedge`).
+//!
+//! Stands on `wire` for what both ends say alike, on `verbs` for what a call answers, on `watchline` for where a watch
+//! begins, on `httparse` for the grammar of a head (RFC 9112), on `http` for phrases and on `serde_json`.
+#![tactic(auto)]
+
+mod answering;
+mod asking;
+mod body;
+mod decision;
+mod front;
+mod head;
+mod head_end;
+mod laws;
+mod refusal;
+mod reply;
+mod request_target;
+mod watch_chunks;
+
+pub use answering::{Served, refusal_reply, serve};
+pub use asking::{Pending, Progress, ask, ask_on};
+pub use body::read_body;
+pub use decision::Decision;
+pub use front::Front;
+pub use head::{Head, Length, read_head};
+pub use laws::one_asked;
+pub use refusal::Refusal;
+pub use reply::reply_bytes;
+pub use request_target::{checked_media, path_of, query_of};
+pub use watch_chunks::{chunks, push_chunk, push_end};

@@ -1,0 +1,66 @@
+//! The bytes of a reply.
+
+ghost use Rattle.std.specs.Prelude.{◌≡◌, [], IfOk, option_map, unwrap_or, string_bytes};
+ghost use Rattle.http.specs.StatusCode.{reason_phrase};
+ghost use Rattle.requests.specs.ReplyBytes.{phrase_of, allow_field, reply, watch_head};
+
+use http::StatusCode;
+use std::alloc::{AllocError, Global};
+
+fn standard_phrase(status: StatusCode) -> &'static str
+    ensures { result.now ≡ unwrap_or (reason_phrase status) [] }
+{
+    status.canonical_reason().unwrap_or("")
+}
+
+/// The phrase of a status code (RFC 9110, section 15), empty for a number that is none.
+fn phrase_of(code: u16) -> &'static str
+    ensures { result.now ≡ phrase_of code }
+{
+    match StatusCode::from_u16(code) {
+        Ok(status) => standard_phrase(status),
+        Err(_) => "",
+    }
+}
+
+fn allow_field(alloc: Global, allow: Option<&str>) -> Result<String, AllocError>
+    ensures { IfOk result (λ s. string_bytes s ≡ allow_field (option_map (λ m. m.now) allow.entry)) }
+{
+    match allow {
+        None => Ok(String::new(alloc)),
+        Some(methods) => format!(in alloc; "Allow: {methods}\r\n"),
+    }
+}
+
+/// The bytes of a reply (RFC 9112, sections 4 and 6): the status line, `Content-Type`, `Content-Length`,
+/// `Connection: close`, `Allow` where methods are given, an empty line and the body.
+pub fn reply_bytes(
+    alloc: Global,
+    code: u16,
+    allow: Option<&str>,
+    body: &str,
+) -> Result<Vec<u8>, AllocError>
+    ensures { IfOk result (λ v. v.items ≡ reply code (option_map (λ m. m.now) allow.entry) body.now) }
+{
+    let phrase = phrase_of(code);
+    let length = body.len();
+    let allow = allow_field(alloc, allow)?;
+    let head = format!(in alloc;
+        "HTTP/1.1 {code} {phrase}\r\nContent-Type: application/json\r\nContent-Length: {length}\r\nConnection: close\r\n{allow}\r\n"
+    )?;
+    let mut bytes = Vec::from_slice(alloc, head.as_bytes())?;
+    bytes.extend_from_slice(body.as_bytes())?;
+    Ok(bytes)
+}
+
+/// The bytes that a watch begins with: the status line, `Content-Type`, `Transfer-Encoding: chunked`,
+/// `Connection: close` and an empty line.
+pub(crate) fn watch_head(alloc: Global, code: u16) -> Result<Vec<u8>, AllocError>
+    ensures { IfOk result (λ v. v.items ≡ watch_head code) }
+{
+    let phrase = phrase_of(code);
+    let head = format!(in alloc;
+        "HTTP/1.1 {code} {phrase}\r\nContent-Type: application/json\r\nTransfer-Encoding: chunked\r\nConnection: close\r\n\r\n"
+    )?;
+    Vec::from_slice(alloc, head.as_bytes())
+}

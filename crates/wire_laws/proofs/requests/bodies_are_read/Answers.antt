@@ -1,5 +1,0 @@
-use Rattle.wire_laws.proofs.PrintedRequests.{body_back}
-use Rattle.wire_laws.proofs.requests.bodies_are_read.Goals as goal
-
-pub returns : goal.returns
-returns c = body_back

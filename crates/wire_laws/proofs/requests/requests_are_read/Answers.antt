@@ -1,5 +1,0 @@
-use Rattle.wire_laws.proofs.PrintedRequests.{request_says}
-use Rattle.wire_laws.proofs.requests.requests_are_read.Goals as goal
-
-pub returns : goal.returns
-returns c = request_says

@@ -1,5 +1,0 @@
-use Rattle.wire_laws.proofs.Asking.{bodiless_asks, path_asks, request_asks}
-use Rattle.wire_laws.proofs.requests.requests_ask.Goals as goal
-
-pub returns : goal.returns
-returns c = record { with_body = request_asks; without_body = bodiless_asks; without_query = path_asks }
