@@ -1,13 +1,14 @@
 #!/usr/bin/env python3
 """Times the layers by the built program bench, and the hub by the built program ssa_replay, with the peak memory.
 
-Usage: bench/layers.py [--bench PROGRAM] [--replay PROGRAM] [LAYER..]   (default: all layers, and the programs that `rt run` leaves
-                       in crates/bench/out and crates/ssa_replay/out)
+Usage: bench/layers.py [--bench PROGRAM] [--tables PROGRAM] [--replay PROGRAM] [LAYER..]   (default: all layers, and the programs
+                       that `rt run` leaves in crates/bench/out and crates/ssa_replay/out)
 
 Runs each layer of bench at 1,000, 10,000 and 100,000 (the reader at 1,000 and 10,000 lines, objects' texts over objects of 10,
 100 and 1,000 fields) in a process of its own and prints what the program says of the processor time (one core) and the peak
-memory of the process. The layer `hub` are tables of scripts' times (bench/scripts.py): applies, GETs on connections one after
-another, and requests in pieces.
+memory of the process. The layer `tables` is a program of its own that `bench/tables.py build` leaves in the folder it is told;
+without it that layer is left out. The layer `hub` are tables of scripts' times (bench/scripts.py): applies, GETs on connections
+one after another, and requests in pieces.
 """
 import argparse
 import os
@@ -18,17 +19,24 @@ import tempfile
 from scripts import WIDGETS, Script, a_second, head, program_of, request, row, text_of, timed, widget
 
 TOP = os.path.dirname(os.path.dirname(os.path.abspath(__file__)))
+TABLES = "tables"
 SIZES = {"selectors": (1000, 10000, 100000), "indexer": (1000, 10000, 100000), "reader": (1000, 10000),
-         "tables": (1000, 10000, 100000), "objects": (10, 100, 1000), "client": (5000, 100000)}
+         TABLES: (1000, 10000, 100000), "objects": (10, 100, 1000), "client": (5000, 100000)}
 LIMIT = 120
 OBJECT = WIDGETS + "/w1"
 APPLY = OBJECT + "?fieldManager=alice"
 PIECE = 64
 
 
+def words_of(program, layer, size):
+    """What runs a layer at a size: the program of the tables has no other layer, so it takes sizes alone."""
+    return [program, str(size)] if layer == TABLES else [program, str(size), layer]
+
+
 def run(program, layer, size):
     with open(os.devnull) as nothing:
-        child = subprocess.Popen([program, str(size), layer], stdin=nothing, stdout=subprocess.DEVNULL, stderr=subprocess.PIPE, text=True)
+        words = words_of(program, layer, size)
+        child = subprocess.Popen(words, stdin=nothing, stdout=subprocess.DEVNULL, stderr=subprocess.PIPE, text=True)
     try:
         _, told = child.communicate(timeout=LIMIT)
     except subprocess.TimeoutExpired:
@@ -39,7 +47,7 @@ def run(program, layer, size):
 
 
 def peak_of(program, layer, size):
-    child = subprocess.Popen([program, str(size), layer], stdout=subprocess.DEVNULL, stderr=subprocess.DEVNULL)
+    child = subprocess.Popen(words_of(program, layer, size), stdout=subprocess.DEVNULL, stderr=subprocess.DEVNULL)
     _, _, usage = os.wait4(child.pid, 0)
     return usage.ru_maxrss / 1024
 
@@ -125,15 +133,20 @@ def run_hub(program, folder):
 def main():
     words = argparse.ArgumentParser()
     words.add_argument("--bench", default=os.path.join(TOP, "crates/bench/out/bench"))
+    words.add_argument("--tables")
     words.add_argument("--replay", default=program_of(TOP))
     words.add_argument("layers", nargs="*", metavar="LAYER")
     given = words.parse_args()
+    if TABLES in given.layers and not given.tables:
+        words.error("the layer tables wants --tables PROGRAM, which bench/tables.py build makes")
     for layer in given.layers or [*SIZES, "hub"]:
         if layer == "hub":
             with tempfile.TemporaryDirectory() as folder:
                 run_hub(given.replay, folder)
+        elif layer == TABLES and not given.tables:
+            print("== tables: left out, since no --tables PROGRAM is given", flush=True)
         else:
-            run_layer(given.bench, layer)
+            run_layer(given.tables if layer == TABLES else given.bench, layer)
 
 
 if __name__ == "__main__":

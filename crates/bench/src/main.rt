@@ -1,13 +1,13 @@
-//! `bench WORD..` times the layers: a number sets the size, and `selectors`, `indexer`, `reader`, `tables`, `objects` or
-//! `client` runs that layer at it. What was done goes to standard output, the processor times to standard error.
+//! `bench WORD..` times the layers: a number sets the size, and `selectors`, `indexer`, `reader`, `objects` or `client`
+//! runs that layer at it. What was done goes to standard output, the processor times to standard error.
 #![tactic(auto)]
 
+mod counts;
 mod indexing;
 mod mirroring;
-mod objects;
+mod read_backs;
 mod reading;
 mod selecting;
-mod storing;
 mod timing;
 
 use anyhow::bail;
@@ -18,8 +18,7 @@ fn run_layer(rt: &HostRuntime, layer: &str, size: u64) -> anyhow::Result<()> {
         "selectors" => selecting::run(rt, size),
         "indexer" => indexing::run(rt, size),
         "reader" => reading::run(rt, size),
-        "tables" => storing::run(rt, size),
-        "objects" => objects::run(rt, size),
+        "objects" => read_backs::run(rt, size),
         "client" => mirroring::run(rt, size),
         _ => bail!("no such layer: {layer}"),
     }

@@ -1,5 +1,6 @@
 //! A client that lists objects of 1 KB and follows their changes, fed in pieces of 4,096 bytes.
 
+use crate::counts::print_count;
 use crate::indexing::By;
 use crate::timing::{spent, tell_took};
 use decoder::Wanted;
@@ -162,8 +163,8 @@ fn list_and_follow(
     size: u64,
 ) -> anyhow::Result<()> {
     list(rt, informer, spec, size)?;
-    let objects = informer.indexer().len();
-    println!(rt; "client: {objects} of {size} listed")?;
+    let objects = informer.indexer().len() as u64;
+    print_count(rt, "client", objects, size, " listed")?;
     follow(rt, informer, spec, size, 10_000)?;
     let revision = informer.revision().unwrap_or(0);
     println!(rt; "client: followed to revision {revision}")?;

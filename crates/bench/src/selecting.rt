@@ -1,5 +1,6 @@
 //! Selectors matched a second.
 
+use crate::counts::print_count;
 use crate::timing::{spent, tell};
 use selector::Selector;
 use std::alloc::{AllocError, Global};
@@ -56,7 +57,7 @@ fn time_matches(
     selector: &Selector,
     all: &[BTreeMap<String, String>],
 ) -> io::Result<()> {
-    let size = all.len();
+    let size = all.len() as u64;
     let mut count: u64 = 0;
     let start = spent(rt)?;
     for labels in all {
@@ -64,8 +65,8 @@ fn time_matches(
             count = count.saturating_add(1);
         }
     }
-    tell(rt, text, size as u64, start)?;
-    println!(rt; "{text}: {count} of {size}")
+    tell(rt, text, size, start)?;
+    print_count(rt, text, count, size, "")
 }
 
 /// Matches each selector with so many sets of labels.

@@ -1,5 +1,6 @@
 //! An object's text read back, beside its fields read as a body is.
 
+use crate::counts::print_count;
 use crate::timing::{spent, tell};
 use anyhow::bail;
 use ownership::{Identity, Owned, apply};
@@ -84,9 +85,9 @@ fn time_reads(
 
 fn time_both(rt: &HostRuntime, schema: &Schema, fields: &str, object: &str) -> io::Result<()> {
     let bodies = time_reads(rt, schema, "body read", fields, true)?;
-    println!(rt; "objects: {bodies} of {ROUNDS} bodies read")?;
+    print_count(rt, "objects", bodies, ROUNDS, " bodies read")?;
     let texts = time_reads(rt, schema, "object's text read back", object, false)?;
-    println!(rt; "objects: {texts} of {ROUNDS} texts read back")
+    print_count(rt, "objects", texts, ROUNDS, " texts read back")
 }
 
 fn run_type(rt: &HostRuntime, schema: &Schema, size: u64) -> anyhow::Result<()> {
