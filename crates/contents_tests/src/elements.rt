@@ -1,204 +1,155 @@
-//! Texts of elements, key fields, and paths as conflicts show them.
+//! Texts of elements, key fields, paths as conflicts show them, and the order of paths.
+//!
+//! | question | answer |
+//! |---|---|
+//! | `show ELEMENT / ELEMENT ..` | how conflicts show the path |
+//! | `read TEXT` | the text of the element that is read, or why none is |
+//! | `keys NAME ..` | the key fields of these names, the first a number, or why they are none |
+//! | `order A B` | how two paths compare, each `spec` or a number below it, and whether they are equal |
+//! | `last A` | the text of such a path's last element |
 
-use crate::given::{owned_text, push};
-use crate::rows::{Answers, expect_answers, expect_true};
-use fieldpath::{Elem, Keys, KeysFault, Path, Scalar};
+use crate::given::push;
+use crate::rows::{Answers, first_word, play_all, told};
+use fieldpath::{Elem, Keys, Path, Scalar};
 use std::alloc::{AllocError, Global};
-use std::cmp::Ordering;
 use std::test::Fail;
 
-/// How a path is shown, its elements between slashes that stand between blanks.
-#[derive(Drop)]
-struct Paths;
-
-impl Answers for Paths {
-    fn answer(&mut self, alloc: Global, question: &str) -> Result<String, Fail> {
-        let mut path = Path::new(alloc);
-        for element in question.split(" / ") {
-            push(alloc, &mut path, element)?;
-        }
-        Ok(path.shown(alloc)?)
-    }
-}
-
-const PATHS: &str = r#"f:spec / f:replicas => .spec.replicas
-f:tags / v:"a" => .tags[="a"]
-k:{"name":"web"} / f:port => [name="web"].port
-f:a b / k:{"a":1,"b":"x"} => .a b[a=1,b="x"]
-"#;
-
-#[test]
-fn conflict_paths_as_shown(rt: HostRuntime) -> Result<(), Fail> {
-    expect_answers(rt.alloc(), &mut Paths, PATHS)
-}
-
-/// The text of the element that is read, or why none is.
 #[derive(Drop)]
 struct Elements;
 
 impl Answers for Elements {
     fn answer(&mut self, alloc: Global, question: &str) -> Result<String, Fail> {
-        match Elem::read(alloc, question) {
-            Ok(elem) => Ok(elem.text(alloc)?),
-            Err(fault) => Ok(format!(in alloc; "{fault:?}")?),
+        let (call, words) = first_word(question);
+        match call {
+            "show" => shown(alloc, words),
+            "read" => read(alloc, words),
+            "keys" => keys_of(alloc, words),
+            "order" => compared(alloc, words),
+            "last" => last_of(alloc, words),
+            _ => Err("no such call".into()),
         }
     }
 }
 
-const ELEMENTS: &str = r#"f:replicas => f:replicas
-k:{"name":"web"} => k:{"name":"web"}
-v:"a" => v:"a"
-v:10 => v:10
-v:true => v:true
-"#;
-
-#[test]
-fn texts_read_and_printed(rt: HostRuntime) -> Result<(), Fail> {
-    expect_answers(rt.alloc(), &mut Elements, ELEMENTS)
+fn shown(alloc: Global, elements: &str) -> Result<String, Fail> {
+    let mut path = Path::new(alloc);
+    for element in elements.split(" / ") {
+        push(alloc, &mut path, element)?;
+    }
+    Ok(path.shown(alloc)?)
 }
 
-const NO_ELEMENTS: &str = r#" => NoPrefix
-x:a => NoPrefix
-. => NoPrefix
-k: => BadJson
-v:a => BadJson
-v:1e999 => BadJson
-k:[] => NotCanonical
-k:{} => NotCanonical
-v:{} => NotCanonical
-v:null => NotCanonical
-v:1.5 => NotCanonical
-v:9223372036854775808 => NotCanonical
-v: 1 => NotCanonical
-k:{"b":1,"a":2} => NotCanonical
-k:{"a":1,"a":1} => NotCanonical
-"#;
-
-#[test]
-fn texts_of_no_element(rt: HostRuntime) -> Result<(), Fail> {
-    expect_answers(rt.alloc(), &mut Elements, NO_ELEMENTS)
+fn read(alloc: Global, text: &str) -> Result<String, Fail> {
+    match Elem::read(alloc, text) {
+        Ok(elem) => Ok(elem.text(alloc)?),
+        Err(fault) => told(alloc, fault),
+    }
 }
 
-fn two_fields(
+/// Puts a key field, the first with a number.
+fn push_key(
     alloc: Global,
-    first: &str,
-    second: &str,
-) -> Result<Vec<(String, Scalar)>, AllocError> {
-    let mut fields = Vec::new(alloc);
-    fields.push((owned_text(alloc, first)?, Scalar::Int(1)))?;
-    fields.push((owned_text(alloc, second)?, Scalar::Bool(true)))?;
-    Ok(fields)
-}
-
-fn keys(alloc: Global, first: &str, second: &str) -> Result<Result<Keys, KeysFault>, AllocError> {
-    Ok(Keys::new(two_fields(alloc, first, second)?))
-}
-
-fn is_fault_of_none(alloc: Global) -> bool {
-    Keys::new(Vec::new(alloc)).err() == Some(KeysFault::NotAscending)
-}
-
-fn push_name(text: &mut String, name: &str) -> Result<(), AllocError> {
-    text.push_str(" ")?;
-    text.push_str(name)
-}
-
-/// The names of two key fields, each behind a blank, if they are keys.
-fn names_of(alloc: Global, first: &str, second: &str) -> Result<String, AllocError> {
-    let mut text = String::from_str(alloc, "names:")?;
-    if let Ok(keys) = keys(alloc, first, second)? {
-        for (name, _) in keys.fields() {
-            push_name(&mut text, name.as_str())?;
-        }
-    }
-    Ok(text)
-}
-
-/// The names that are kept of two.
-#[derive(Drop)]
-struct KeyNames;
-
-impl Answers for KeyNames {
-    fn answer(&mut self, alloc: Global, question: &str) -> Result<String, Fail> {
-        let (first, second) = question.split_once(' ').ok_or("no second name")?;
-        Ok(names_of(alloc, first, second)?)
-    }
-}
-
-const KEY_NAMES: &str = "a b => names: a b
-b a => names:
-a a => names:
-";
-
-#[test]
-fn keys_ascend(rt: HostRuntime) -> Result<(), Fail> {
-    expect_answers(rt.alloc(), &mut KeyNames, KEY_NAMES)?;
-    expect_true(is_fault_of_none(rt.alloc()), "no names are no keys")
-}
-
-/// The path and one element more.
-fn longer(alloc: Global, path: &Path, elem: &Elem) -> Result<Path, Fail> {
-    let mut longer = path.try_copy(alloc)?;
-    push(alloc, &mut longer, elem.text(alloc)?.as_str())?;
-    Ok(longer)
-}
-
-fn spec(alloc: Global) -> Result<Path, Fail> {
-    let field = Elem::Field(owned_text(alloc, "spec")?);
-    longer(alloc, &Path::new(alloc), &field)
-}
-
-fn number_in_spec(alloc: Global, number: i64) -> Result<Path, Fail> {
-    let value = Elem::Value(Scalar::Int(number));
-    longer(alloc, &spec(alloc)?, &value)
-}
-
-/// The path of `spec`, or of a number below it.
-fn spec_path(alloc: Global, number: &str) -> Result<Path, Fail> {
-    match number.parse::<i64>() {
-        Ok(number) => number_in_spec(alloc, number),
-        Err(_) => spec(alloc),
-    }
-}
-
-/// How two such paths compare, and whether they are equal.
-#[derive(Drop)]
-struct Orders;
-
-impl Answers for Orders {
-    fn answer(&mut self, alloc: Global, question: &str) -> Result<String, Fail> {
-        let (one, other) = question.split_once(' ').ok_or("no other path")?;
-        let one = spec_path(alloc, one)?;
-        let other = spec_path(alloc, other)?;
-        told_order(alloc, one.cmp(&other), one == other)
-    }
-}
-
-fn told_order(alloc: Global, order: Ordering, is_equal: bool) -> Result<String, Fail> {
-    let order = match order {
-        Ordering::Less => "less",
-        Ordering::Equal => "equal",
-        Ordering::Greater => "greater",
+    fields: &mut Vec<(String, Scalar)>,
+    name: &str,
+) -> Result<(), AllocError> {
+    let value = match fields.is_empty() {
+        true => Scalar::Int(1),
+        false => Scalar::Bool(true),
     };
-    Ok(format!(in alloc; "{order} {is_equal}")?)
+    fields.push((String::from_str(alloc, name)?, value))?;
+    Ok(())
 }
 
-const ORDERS: &str = "spec 10 => less false
-10 9 => less false
-10 spec => greater false
-10 10 => equal true
-";
-
-fn is_last(alloc: Global, number: &str, last: &str) -> Result<bool, Fail> {
-    let path = spec_path(alloc, number)?;
-    let text = path.texts().last().map_or("", |text| text.as_str());
-    Ok(text == last)
+fn keys_of(alloc: Global, names: &str) -> Result<String, Fail> {
+    let mut fields = Vec::new(alloc);
+    for name in names.split_whitespace() {
+        push_key(alloc, &mut fields, name)?;
+    }
+    match Keys::new(fields) {
+        Ok(keys) => {
+            let fields = keys.fields();
+            Ok(format!(in alloc; "{fields:?}")?)
+        }
+        Err(fault) => told(alloc, fault),
+    }
 }
+
+fn push_elem(alloc: Global, path: &mut Path, elem: &Elem) -> Result<(), Fail> {
+    push(alloc, path, elem.text(alloc)?.as_str())
+}
+
+/// A copy of the path of `spec`, or of a number below it.
+fn spec_path(alloc: Global, word: &str) -> Result<Path, Fail> {
+    let mut path = Path::new(alloc);
+    push_elem(
+        alloc,
+        &mut path,
+        &Elem::Field(String::from_str(alloc, "spec")?),
+    )?;
+    if let Ok(number) = word.parse::<i64>() {
+        push_elem(alloc, &mut path, &Elem::Value(Scalar::Int(number)))?;
+    }
+    Ok(path.try_copy(alloc)?)
+}
+
+fn compared(alloc: Global, words: &str) -> Result<String, Fail> {
+    let (one, other) = first_word(words);
+    let one = spec_path(alloc, one)?;
+    let other = spec_path(alloc, other)?;
+    told(alloc, (one.cmp(&other), one == other))
+}
+
+fn last_of(alloc: Global, word: &str) -> Result<String, Fail> {
+    let path = spec_path(alloc, word)?;
+    let last = path.texts().last().ok_or("no element")?;
+    Ok(String::from_str(alloc, last.as_str())?)
+}
+
+const EXAMPLES: &str = r#"conflict_paths_as_shown
+show f:spec / f:replicas => .spec.replicas
+show f:tags / v:"a" => .tags[="a"]
+show k:{"name":"web"} / f:port => [name="web"].port
+show f:a b / k:{"a":1,"b":"x"} => .a b[a=1,b="x"]
+
+texts_read_and_printed
+read f:replicas => f:replicas
+read k:{"name":"web"} => k:{"name":"web"}
+read v:"a" => v:"a"
+read v:10 => v:10
+read v:true => v:true
+
+texts_of_no_element
+read  => NoPrefix
+read x:a => NoPrefix
+read . => NoPrefix
+read k: => BadJson
+read v:a => BadJson
+read v:1e999 => BadJson
+read k:[] => NotCanonical
+read k:{} => NotCanonical
+read v:{} => NotCanonical
+read v:null => NotCanonical
+read v:1.5 => NotCanonical
+read v:9223372036854775808 => NotCanonical
+read v: 1 => NotCanonical
+read k:{"b":1,"a":2} => NotCanonical
+read k:{"a":1,"a":1} => NotCanonical
+
+keys_ascend
+keys a b => [("a", Int(1)), ("b", Bool(true))]
+keys b a => NotAscending
+keys a a => NotAscending
+keys => NotAscending
+
+a_front_comes_before_what_extends_it
+order spec 10 => (Less, false)
+order 10 9 => (Less, false)
+order 10 spec => (Greater, false)
+order 10 10 => (Equal, true)
+last spec => f:spec
+last 10 => v:10"#;
 
 #[test]
-fn a_front_comes_before_what_extends_it(rt: HostRuntime) -> Result<(), Fail> {
-    let alloc = rt.alloc();
-    expect_answers(alloc, &mut Orders, ORDERS)?;
-    expect_true(is_last(alloc, "spec", "f:spec")?, "the last of spec")?;
-    expect_true(is_last(alloc, "10", "v:10")?, "the last of a number")
+fn examples(rt: HostRuntime) -> Result<(), Fail> {
+    play_all(rt.alloc(), &mut Elements, EXAMPLES)
 }

@@ -37,10 +37,6 @@ pub fn first_schema(types: &Types) -> Result<&Schema, Fail> {
     Ok(&types.get(0).ok_or("no type")?.schema)
 }
 
-pub fn owned_text(alloc: Global, text: &str) -> Result<String, AllocError> {
-    String::from_str(alloc, text)
-}
-
 /// The path whose elements stand between blanks; the empty text is the empty path.
 pub fn path(alloc: Global, elements: &str) -> Result<Path, Fail> {
     let mut path = Path::new(alloc);
@@ -65,14 +61,21 @@ pub fn push_paths(alloc: Global, text: &mut String, set: &FieldSet) -> Result<()
     Ok(())
 }
 
+/// The paths as conflicts show them, behind a word.
+pub fn shown_paths(alloc: Global, set: &FieldSet) -> Result<String, Fail> {
+    let mut text = String::from_str(alloc, "paths")?;
+    push_paths(alloc, &mut text, set)?;
+    Ok(text)
+}
+
 pub fn tree(alloc: Global, schema: &Schema, text: &str) -> Result<Tree, Fail> {
     Ok(Tree::read(schema, alloc, &Value::from_str(alloc, text)?)?)
 }
 
-/// What is printed of a content; nothing is the empty text.
+/// What is printed of a content, if anything is.
 pub fn printed(alloc: Global, schema: &Schema, tree: &Tree) -> Result<String, Fail> {
     match tree.to_value(alloc, schema)? {
         Some(value) => Ok(value.to_string(alloc)?),
-        None => Ok(String::new(alloc)),
+        None => Ok(String::from_str(alloc, "nothing")?),
     }
 }

@@ -1,10 +1,9 @@
-//! Schemas made by hand, whose map list names its key fields in any order.
+//! Schemas made by hand, whose map list names its key fields in any order: the names of the key fields, `-` for none, and a
+//! question as `contents` says.
 
-use crate::given::{path, printed, tree};
-use crate::rows::{Answers, expect_answers};
-use fieldset::{FieldSet, FieldsV1Fault};
+use crate::contents::answer_under;
+use crate::rows::{Answers, first_word, play_all};
 use schema::{ListKind, Schema};
-use serde_json::Value;
 use std::alloc::{AllocError, Global};
 use std::test::Fail;
 
@@ -45,53 +44,23 @@ fn schema(alloc: Global, names: &str) -> Result<Schema, Fail> {
     Ok(Schema::Struct(fields, false))
 }
 
-/// What is written of the set that a FieldsV1 value is read as.
-fn written(alloc: Global, schema: &Schema, text: &str) -> Result<String, Fail> {
-    match FieldSet::from_fields_v1(alloc, schema, &Value::from_str(alloc, text)?) {
-        Ok(set) => Ok(set.to_fields_v1(alloc, schema)?.to_string(alloc)?),
-        Err(fault) => told(alloc, fault),
-    }
-}
-
-fn told(alloc: Global, fault: FieldsV1Fault) -> Result<String, Fail> {
-    Ok(format!(in alloc; "{fault:?}")?)
-}
-
-fn placed(alloc: Global, schema: &Schema, elements: &str) -> Result<String, Fail> {
-    let place = schema.place(&path(alloc, elements)?);
-    Ok(format!(in alloc; "{place:?}")?)
-}
-
-fn is_lawful(alloc: Global, schema: &Schema) -> Result<String, AllocError> {
-    let is_lawful = schema.lawful();
-    format!(in alloc; "{is_lawful}")
-}
-
-/// The names of the key fields, a call and what it is asked.
 #[derive(Drop)]
 struct Ports;
 
 impl Answers for Ports {
     fn answer(&mut self, alloc: Global, question: &str) -> Result<String, Fail> {
-        let (names, question) = question.split_once(' ').ok_or("no call")?;
-        let (call, text) = question.split_once(' ').ok_or("no text")?;
-        let schema = schema(alloc, names)?;
-        match call {
-            "is" => Ok(is_lawful(alloc, &schema)?),
-            "place" => placed(alloc, &schema, text),
-            "read" => printed(alloc, &schema, &tree(alloc, &schema, text)?),
-            "fields" => written(alloc, &schema, text),
-            _ => Err("no such call".into()),
-        }
+        let (names, question) = first_word(question);
+        answer_under(alloc, &schema(alloc, names)?, question)
     }
 }
 
-const PORTS: &str = r#"port,protocol is lawful => true
-protocol,port is lawful => true
-protocol,note,port is lawful => true
-protocol,port,protocol is lawful => false
-protocol,nope is lawful => false
-- is lawful => false
+const EXAMPLES: &str = r#"key_names_in_any_order
+port,protocol lawful => true
+protocol,port lawful => true
+protocol,note,port lawful => true
+protocol,port,protocol lawful => false
+protocol,nope lawful => false
+- lawful => false
 protocol,port place f:ports k:{"port":80,"protocol":"tcp"} => Some(MapItem)
 protocol,port place f:ports k:{"port":80,"protocol":"tcp"} f:note => Some(Leaf)
 protocol,port place f:ports k:{"port":80,"protocol":"tcp"} f:port => None
@@ -102,13 +71,12 @@ protocol,port place f:ports k:{"note":"x","port":80} => None
 protocol,port place f:ports k:{"port":"80","protocol":"tcp"} => None
 port,protocol place f:ports k:{"port":80,"protocol":"tcp"} => Some(MapItem)
 protocol,port,protocol place f:ports k:{"port":80,"protocol":"tcp"} => None
-protocol,port read {"ports":[{"protocol":"udp","port":80,"note":"x"},{"port":80,"protocol":"tcp"}]} => {"ports":[{"port":80,"protocol":"tcp"},{"note":"x","port":80,"protocol":"udp"}]}
+protocol,port print {"ports":[{"protocol":"udp","port":80,"note":"x"},{"port":80,"protocol":"tcp"}]} => {"ports":[{"port":80,"protocol":"tcp"},{"note":"x","port":80,"protocol":"udp"}]}
 protocol,port fields {"f:ports":{"k:{\"port\":80,\"protocol\":\"tcp\"}":{".":{},"f:note":{},"f:port":{},"f:protocol":{}}}} => {"f:ports":{"k:{\"port\":80,\"protocol\":\"tcp\"}":{".":{},"f:note":{},"f:port":{},"f:protocol":{}}}}
 protocol,port fields {"f:ports":{"k:{\"port\":80,\"protocol\":\"tcp\"}":{".":{},"f:port":{}}}} => NotCanonical
-protocol,port fields {"f:ports":{"k:{\"protocol\":\"tcp\"}":{".":{},"f:protocol":{}}}} => OffSchema
-"#;
+protocol,port fields {"f:ports":{"k:{\"protocol\":\"tcp\"}":{".":{},"f:protocol":{}}}} => OffSchema"#;
 
 #[test]
-fn key_names_in_any_order(rt: HostRuntime) -> Result<(), Fail> {
-    expect_answers(rt.alloc(), &mut Ports, PORTS)
+fn examples(rt: HostRuntime) -> Result<(), Fail> {
+    play_all(rt.alloc(), &mut Ports, EXAMPLES)
 }

@@ -1,8 +1,11 @@
 //! Tests of the contents of objects and of their owners, by public calls alone.
 //!
-//! Each call stands in a helper with no clause, so that a test carries few facts.
+//! Each call stands in a helper with no clause, so that a test carries few facts. An example is a name and its rows of text
+//! (`rows`), and one test plays the examples of a file: rows cost the prover nothing, and each function some seconds.
 #![tactic(auto)]
 
+#[cfg(test)]
+mod contents;
 #[cfg(test)]
 mod elements;
 #[cfg(test)]
@@ -12,7 +15,7 @@ mod given;
 #[cfg(test)]
 mod key_names;
 #[cfg(test)]
-mod objects;
+mod object_texts;
 #[cfg(test)]
 mod owners;
 #[cfg(test)]

@@ -1,7 +1,19 @@
 //! Sets of paths and the maps that they are kept in: each public call with ample memory.
+//!
+//! Paths stand between commas, their elements between blanks; in a map each has a value behind `=`.
+//!
+//! | question | answer |
+//! |---|---|
+//! | `union SET and SET`, `minus ..`, `common ..`, `clear-of ..` | the paths of what is made of two sets |
+//! | `find PATH in SET` | whether the set has the path, has one at or below it, and has none |
+//! | `fields SET` | its FieldsV1 value under the widgets' schema |
+//! | `over MAP and MAP`, `under ..`, `changed-over ..`, `changed-under ..`, `without ..`, `changed ..`, `copy ..` | the paths of what is made of two maps |
+//! | `holds PATH=VALUE in MAP` | whether the value stands at the path |
+//! | `simplest` | whether a new set is empty, a leaf has the empty path, and a branch of nothing has none |
 
-use crate::given::{WIDGET_TYPES, first_schema, path, push_paths, types_of};
-use crate::rows::{Answers, expect_answers, expect_true};
+use crate::contents::written;
+use crate::given::{WIDGET_TYPES, first_schema, path, shown_paths, types_of};
+use crate::rows::{Answers, first_word, play_all, told};
 use fieldpath::Path;
 use fieldset::FieldSet;
 use pathmap::{Held, PathMap, put_over, put_under};
@@ -9,7 +21,23 @@ use std::alloc::{AllocError, Global};
 use std::collections::BTreeMap;
 use std::test::Fail;
 
-/// The set of the paths between commas.
+#[derive(Drop)]
+struct Sets;
+
+impl Answers for Sets {
+    fn answer(&mut self, alloc: Global, question: &str) -> Result<String, Fail> {
+        let (call, words) = first_word(question);
+        match call {
+            "union" | "minus" | "common" | "clear-of" => of_two_sets(alloc, call, words),
+            "find" => found(alloc, words),
+            "fields" => fields_v1(alloc, words),
+            "holds" => is_held(alloc, words),
+            "simplest" => simplest(alloc),
+            _ => of_two_maps(alloc, call, words),
+        }
+    }
+}
+
 fn set(alloc: Global, paths: &str) -> Result<FieldSet, Fail> {
     let mut set = FieldSet::new(alloc);
     for elements in paths.split(',') {
@@ -18,118 +46,50 @@ fn set(alloc: Global, paths: &str) -> Result<FieldSet, Fail> {
     Ok(set)
 }
 
-/// Its paths as conflicts show them, each behind a blank.
-fn shown(alloc: Global, set: &FieldSet) -> Result<String, AllocError> {
-    let mut text = String::from_str(alloc, "paths")?;
-    push_paths(alloc, &mut text, set)?;
-    Ok(text)
-}
-
-/// One of the set operations, by name.
-fn made(alloc: Global, one: &FieldSet, name: &str, other: &FieldSet) -> Result<FieldSet, Fail> {
-    match name {
-        "union" => Ok(one.union(alloc, other)?),
-        "minus" => Ok(one.minus(alloc, other)?),
-        "common" => Ok(one.common(alloc, other)?),
-        "clear of" => Ok(one.clear_of(alloc, other)?),
-        _ => Err("no such operation".into()),
+fn made(
+    alloc: Global,
+    one: &FieldSet,
+    call: &str,
+    other: &FieldSet,
+) -> Result<FieldSet, AllocError> {
+    match call {
+        "union" => one.union(alloc, other),
+        "minus" => one.minus(alloc, other),
+        "common" => one.common(alloc, other),
+        _ => one.clear_of(alloc, other),
     }
 }
 
-/// What an operation makes of what alice and carol own of one port.
-fn of_ports(alloc: Global, name: &str) -> Result<String, Fail> {
-    let web = r#"k:{"name":"web"}"#;
-    let alice = format!(in alloc; "f:a,f:ports {web},f:ports {web} f:port")?;
-    let carol = format!(in alloc; "f:a,f:ports {web} f:note")?;
-    let alice = set(alloc, alice.as_str())?;
-    let carol = set(alloc, carol.as_str())?;
-    Ok(shown(alloc, &made(alloc, &alice, name, &carol)?)?)
+fn of_two_sets(alloc: Global, call: &str, words: &str) -> Result<String, Fail> {
+    let (one, other) = words.split_once(" and ").ok_or("no other set")?;
+    let one = set(alloc, one)?;
+    let other = set(alloc, other)?;
+    shown_paths(alloc, &made(alloc, &one, call, &other)?)
 }
 
-/// What an operation makes, by its name.
-#[derive(Drop)]
-struct Operations;
-
-impl Answers for Operations {
-    fn answer(&mut self, alloc: Global, question: &str) -> Result<String, Fail> {
-        of_ports(alloc, question)
-    }
+/// A copy of the set of the marks at these paths.
+fn marked(alloc: Global, paths: &str) -> Result<FieldSet, Fail> {
+    let set = set(alloc, paths)?;
+    Ok(FieldSet::of(set.map().marks(alloc)?).try_copy(alloc)?)
 }
 
-const OPERATIONS: &str =
-    r#"union => paths .a .ports[name="web"] .ports[name="web"].note .ports[name="web"].port
-minus => paths .ports[name="web"] .ports[name="web"].port
-common => paths .a
-clear of => paths .ports[name="web"].port
-"#;
-
-#[test]
-fn set_operations(rt: HostRuntime) -> Result<(), Fail> {
-    expect_answers(rt.alloc(), &mut Operations, OPERATIONS)
-}
-
-/// Whether the set of these paths has a path, has one at or below it, and has none.
-fn looked(alloc: Global, paths: &str, elements: &str) -> Result<(bool, bool, bool), Fail> {
-    let set = FieldSet::of(set(alloc, paths)?.map().marks(alloc)?).try_copy(alloc)?;
+fn found(alloc: Global, words: &str) -> Result<String, Fail> {
+    let (elements, paths) = words.split_once(" in ").ok_or("no set")?;
+    let set = marked(alloc, paths)?;
     let path = path(alloc, elements)?;
-    Ok((
-        set.contains(&path),
-        set.has_at_or_below(&path),
-        set.is_empty(),
-    ))
-}
-
-/// What is found of a path in the set of some paths, `PATH in PATHS`.
-#[derive(Drop)]
-struct Finds;
-
-impl Answers for Finds {
-    fn answer(&mut self, alloc: Global, question: &str) -> Result<String, Fail> {
-        let (elements, paths) = question.split_once(" in ").ok_or("no set")?;
-        let (has, has_below, is_empty) = looked(alloc, paths, elements)?;
-        Ok(format!(in alloc; "{has} {has_below} {is_empty}")?)
-    }
-}
-
-const FINDS: &str = "f:a f:b in f:a f:b => true true false
-f:a in f:a f:b => false true false
-f:a f:b in f:a => false false false
-";
-
-fn is_new_empty(alloc: Global) -> bool {
-    FieldSet::new(alloc).is_empty()
-}
-
-#[test]
-fn paths_are_found(rt: HostRuntime) -> Result<(), Fail> {
-    expect_answers(rt.alloc(), &mut Finds, FINDS)?;
-    expect_true(is_new_empty(rt.alloc()), "a new set is empty")
-}
-
-/// The text of the paths between commas, as FieldsV1.
-#[derive(Drop)]
-struct Printed;
-
-impl Answers for Printed {
-    fn answer(&mut self, alloc: Global, question: &str) -> Result<String, Fail> {
-        fields_v1(alloc, question)
-    }
+    told(
+        alloc,
+        (
+            set.contains(&path),
+            set.has_at_or_below(&path),
+            set.is_empty(),
+        ),
+    )
 }
 
 fn fields_v1(alloc: Global, paths: &str) -> Result<String, Fail> {
     let types = types_of(alloc, WIDGET_TYPES)?;
-    let value = set(alloc, paths)?.to_fields_v1(alloc, first_schema(&types)?)?;
-    Ok(value.to_string(alloc)?)
-}
-
-const FIELDS_V1: &str =
-    r#"f:spec f:image,f:spec f:tags v:"a" => {"f:spec":{"f:image":{},"f:tags":{"v:\"a\"":{}}}}
-f:spec f:ports k:{"name":"web"},f:spec f:ports k:{"name":"web"} f:port => {"f:spec":{"f:ports":{"k:{\"name\":\"web\"}":{".":{},"f:name":{},"f:port":{}}}}}
-"#;
-
-#[test]
-fn fields_v1_of_paths(rt: HostRuntime) -> Result<(), Fail> {
-    expect_answers(rt.alloc(), &mut Printed, FIELDS_V1)
+    written(alloc, first_schema(&types)?, &set(alloc, paths)?)
 }
 
 /// A number, or else a text.
@@ -140,100 +100,92 @@ fn value_of(alloc: Global, text: &str) -> Result<Held, AllocError> {
     }
 }
 
-fn put(alloc: Global, map: &mut PathMap, elements: &str, value: &str) -> Result<(), Fail> {
+fn put(alloc: Global, map: &mut PathMap, value: &str) -> Result<(), Fail> {
+    let (elements, value) = value.split_once('=').ok_or("no value")?;
     let path = path(alloc, elements)?;
     Ok(map.insert(alloc, &path, value_of(alloc, value)?)?)
 }
 
-/// The map that has these values, each behind its path and `=`.
 fn map(alloc: Global, values: &str) -> Result<PathMap, Fail> {
     let mut map = PathMap::empty(alloc);
     for value in values.split(',') {
-        let (elements, value) = value.split_once('=').unwrap_or((value, ""));
-        put(alloc, &mut map, elements, value)?;
+        put(alloc, &mut map, value)?;
     }
     Ok(map)
 }
 
-/// A map made of two, by name.
 fn joined(
     alloc: Global,
     one: &PathMap,
-    name: &str,
+    call: &str,
     other: &PathMap,
 ) -> Result<PathMap, AllocError> {
-    match name {
-        "over" => put_over(other, alloc, one.try_copy(alloc)?),
-        "under" => put_under(other, alloc, one.try_copy(alloc)?),
-        "changed over" => put_over(other, alloc, one.try_copy(alloc)?)?.changed(alloc, other),
-        "changed under" => put_under(other, alloc, one.try_copy(alloc)?)?.changed(alloc, other),
-        "without" => Ok(one.try_copy(alloc)?.without(other)),
-        "changed" => one.try_copy(alloc)?.changed(alloc, other),
-        _ => one.try_copy(alloc),
+    let copy = one.try_copy(alloc)?;
+    match call {
+        "over" => put_over(other, alloc, copy),
+        "under" => put_under(other, alloc, copy),
+        "changed-over" => put_over(other, alloc, copy)?.changed(alloc, other),
+        "changed-under" => put_under(other, alloc, copy)?.changed(alloc, other),
+        "without" => Ok(copy.without(other)),
+        "changed" => copy.changed(alloc, other),
+        _ => Ok(copy),
     }
 }
 
-/// Whether the number stands at a path.
-fn is_number_at(alloc: Global, map: &PathMap, elements: &str, number: i64) -> Result<bool, Fail> {
-    let path = path(alloc, elements)?;
-    match map.get(&path) {
-        Some(held) => Ok(held.try_copy()?.same(&Held::Whole(number))),
-        None => Ok(false),
-    }
+fn of_two_maps(alloc: Global, call: &str, words: &str) -> Result<String, Fail> {
+    let (one, other) = words.split_once(" and ").ok_or("no other map")?;
+    let one = map(alloc, one)?;
+    let other = map(alloc, other)?;
+    shown_paths(alloc, &FieldSet::of(joined(alloc, &one, call, &other)?))
 }
 
-fn paths_in(alloc: Global, name: &str) -> Result<String, Fail> {
-    let one = map(alloc, "f:a=x,f:b=1,f:c f:d=2")?;
-    let other = map(alloc, "f:a=y,f:b=1,f:c=3")?;
-    let made = joined(alloc, &one, name, &other)?;
-    Ok(shown(alloc, &FieldSet::of(made))?)
+/// Whether a copy of what stands at the path is the value.
+fn is_held(alloc: Global, words: &str) -> Result<String, Fail> {
+    let (value, values) = words.split_once(" in ").ok_or("no map")?;
+    let (elements, value) = value.split_once('=').ok_or("no value")?;
+    let map = map(alloc, values)?;
+    let held = map.get(&path(alloc, elements)?).ok_or("nothing is held")?;
+    told(alloc, held.try_copy()?.same(&value_of(alloc, value)?))
 }
 
-/// Whether 1 stands at the first path of two, and at the second.
-fn numbers_found(alloc: Global) -> Result<(bool, bool), Fail> {
-    let map = map(alloc, "f:a=1,f:b=x")?;
-    Ok((
-        is_number_at(alloc, &map, "f:a", 1)?,
-        is_number_at(alloc, &map, "f:b", 1)?,
-    ))
-}
-
-/// Whether a leaf has the empty path, and a branch of nothing none.
-fn leaf_and_branch(alloc: Global) -> (bool, bool) {
+fn simplest(alloc: Global) -> Result<String, Fail> {
     let leaf = PathMap::leaf(alloc, Held::Whole(1));
     let branch = PathMap::branch(BTreeMap::new(alloc));
-    (leaf.get(&Path::new(alloc)).is_some(), branch.is_bare())
+    let has_empty_path = leaf.get(&Path::new(alloc)).is_some();
+    let is_empty = FieldSet::new(alloc).is_empty();
+    told(alloc, (is_empty, has_empty_path, branch.is_bare()))
 }
 
-/// The paths of a map made of two, by name.
-#[derive(Drop)]
-struct Maps;
+const EXAMPLES: &str = r#"set_operations
+union f:a,f:ports k:{"name":"web"},f:ports k:{"name":"web"} f:port and f:a,f:ports k:{"name":"web"} f:note => paths .a .ports[name="web"] .ports[name="web"].note .ports[name="web"].port
+minus f:a,f:ports k:{"name":"web"},f:ports k:{"name":"web"} f:port and f:a,f:ports k:{"name":"web"} f:note => paths .ports[name="web"] .ports[name="web"].port
+common f:a,f:ports k:{"name":"web"},f:ports k:{"name":"web"} f:port and f:a,f:ports k:{"name":"web"} f:note => paths .a
+clear-of f:a,f:ports k:{"name":"web"},f:ports k:{"name":"web"} f:port and f:a,f:ports k:{"name":"web"} f:note => paths .ports[name="web"].port
 
-impl Answers for Maps {
-    fn answer(&mut self, alloc: Global, question: &str) -> Result<String, Fail> {
-        paths_in(alloc, question)
-    }
-}
+paths_are_found
+find f:a f:b in f:a f:b => (true, true, false)
+find f:a in f:a f:b => (false, true, false)
+find f:a f:b in f:a => (false, false, false)
 
-const MAPS: &str = "over => paths .a .b .c .c.d
-under => paths .a .b .c .c.d
-changed over => paths .c.d
-changed under => paths .a .c.d
-without => paths
-changed => paths .a .c.d
-copy => paths .a .b .c.d
-";
+fields_v1_of_paths
+fields f:spec f:image,f:spec f:tags v:"a" => {"f:spec":{"f:image":{},"f:tags":{"v:\"a\"":{}}}}
+fields f:spec f:ports k:{"name":"web"},f:spec f:ports k:{"name":"web"} f:port => {"f:spec":{"f:ports":{"k:{\"name\":\"web\"}":{".":{},"f:name":{},"f:port":{}}}}}
+
+maps_of_paths
+over f:a=x,f:b=1,f:c f:d=2 and f:a=y,f:b=1,f:c=3 => paths .a .b .c .c.d
+under f:a=x,f:b=1,f:c f:d=2 and f:a=y,f:b=1,f:c=3 => paths .a .b .c .c.d
+changed-over f:a=x,f:b=1,f:c f:d=2 and f:a=y,f:b=1,f:c=3 => paths .c.d
+changed-under f:a=x,f:b=1,f:c f:d=2 and f:a=y,f:b=1,f:c=3 => paths .a .c.d
+without f:a=x,f:b=1,f:c f:d=2 and f:a=y,f:b=1,f:c=3 => paths
+changed f:a=x,f:b=1,f:c f:d=2 and f:a=y,f:b=1,f:c=3 => paths .a .c.d
+copy f:a=x,f:b=1,f:c f:d=2 and f:a=y,f:b=1,f:c=3 => paths .a .b .c.d
+holds f:a=1 in f:a=1,f:b=x => true
+holds f:b=1 in f:a=1,f:b=x => false
+
+simplest_sets_and_maps
+simplest => (true, true, true)"#;
 
 #[test]
-fn maps_of_paths(rt: HostRuntime) -> Result<(), Fail> {
-    let alloc = rt.alloc();
-    expect_answers(alloc, &mut Maps, MAPS)?;
-    expect_true(
-        numbers_found(alloc)? == (true, false),
-        "the numbers of a map",
-    )?;
-    expect_true(
-        leaf_and_branch(alloc) == (true, true),
-        "a leaf and a branch",
-    )
+fn examples(rt: HostRuntime) -> Result<(), Fail> {
+    play_all(rt.alloc(), &mut Sets, EXAMPLES)
 }

@@ -1,82 +1,117 @@
 //! A types file of two types, and each refusal.
+//!
+//! | question | answer |
+//! |---|---|
+//! | `file TEXT` | `read`, or why the types file is refused |
+//! | `schema TEXT`, `property TEXT` | the same of a file of one type with this schema, or with this property in it |
+//! | `depth N` | the same where the schema is so deep: a struct with lists of lists of texts |
+//! | `find GROUP VERSION PLURAL` | where the widgets' file has the type |
+//! | `kind N`, `shown N` | the kind of its type and whether the schema is lawful; how the schema is shown |
+//! | `made TEXT` | how the schema of a file of one type is shown, and whether it is lawful |
 
-use crate::given::{WIDGET_TYPES, first_schema, path, types_of};
-use crate::rows::{Answers, expect_answers, expect_true};
+use crate::contents::play_under;
+use crate::given::{WIDGET_TYPES, first_schema, types_of};
+use crate::rows::{Answers, first_word, play_all, told};
 use schema::{Types, TypesFault};
 use serde_json::Value;
-use std::alloc::{AllocError, Global};
+use std::alloc::Global;
 use std::test::Fail;
 
-const METADATA: &str =
-    r#"("metadata", Struct([("annotations", MapOf(Text, false)), ("labels", MapOf(Text, false))], false))"#;
+#[derive(Drop)]
+struct TypesFile {
+    types: Types,
+}
+
+impl Answers for TypesFile {
+    fn answer(&mut self, alloc: Global, question: &str) -> Result<String, Fail> {
+        let (call, words) = first_word(question);
+        match call {
+            "file" => verdict(alloc, words),
+            "schema" => verdict_on_schema(alloc, words),
+            "property" => verdict_on_property(alloc, words),
+            "depth" => verdict_on_property(alloc, nested(alloc, words)?.as_str()),
+            "find" => found(alloc, &self.types, words),
+            "kind" => kind_of(alloc, &self.types, words),
+            "shown" => shown(alloc, &self.types, words),
+            "made" => made(alloc, words),
+            _ => Err("no such call".into()),
+        }
+    }
+}
 
 fn read(alloc: Global, text: &str) -> Result<Result<Types, TypesFault>, Fail> {
     let value = Value::from_str(alloc, text)?;
     Ok(Types::read(alloc, &value))
 }
 
-/// A types file of one type with this schema.
-fn file_of(alloc: Global, schema: &str) -> Result<String, Fail> {
-    let mut file = String::from_str(
-        alloc,
-        r#"{"types":[{"group":"demo.example","kind":"Widget","plural":"widgets","version":"v1","schema":"#,
-    )?;
-    file.push_str(schema)?;
-    file.push_str("}]}")?;
-    Ok(file)
-}
-
-/// Why a types file is refused.
-#[derive(Drop)]
-struct Verdicts;
-
-impl Answers for Verdicts {
-    fn answer(&mut self, alloc: Global, question: &str) -> Result<String, Fail> {
-        let (of, text) = question.split_once(' ').ok_or("no text")?;
-        match of {
-            "file" => fault_of(alloc, text),
-            "schema" => fault_of_schema(alloc, text),
-            "property" => fault_of_property(alloc, text),
-            "depth" => fault_of_depth(alloc, text.parse::<usize>().ok().ok_or("no depth")?),
-            _ => Err("no such part".into()),
-        }
-    }
-}
-
-fn fault_of(alloc: Global, text: &str) -> Result<String, Fail> {
+fn verdict(alloc: Global, text: &str) -> Result<String, Fail> {
     match read(alloc, text)? {
         Ok(_) => Ok(String::from_str(alloc, "read")?),
-        Err(fault) => Ok(format!(in alloc; "{fault:?}")?),
+        Err(fault) => told(alloc, fault),
     }
 }
 
-fn fault_of_schema(alloc: Global, schema: &str) -> Result<String, Fail> {
-    let file = file_of(alloc, schema)?;
-    fault_of(alloc, file.as_str())
+const FRONT: &str =
+    r#"{"types":[{"group":"demo.example","kind":"Widget","plural":"widgets","version":"v1","schema":"#;
+
+/// A types file of one type with this schema.
+fn file_of(alloc: Global, schema: &str) -> Result<String, Fail> {
+    Ok(format!(in alloc; "{FRONT}{schema}}}]}}")?)
 }
 
-fn fault_of_property(alloc: Global, property: &str) -> Result<String, Fail> {
-    let mut schema = String::from_str(alloc, r#"{"type":"object","properties":{"a":"#)?;
-    schema.push_str(property)?;
-    schema.push_str("}}")?;
-    fault_of_schema(alloc, schema.as_str())
+fn verdict_on_schema(alloc: Global, schema: &str) -> Result<String, Fail> {
+    verdict(alloc, file_of(alloc, schema)?.as_str())
 }
 
-fn fault_of_depth(alloc: Global, depth: usize) -> Result<String, Fail> {
-    let schema = nested(alloc, depth)?;
-    fault_of_schema(alloc, schema.as_str())
+fn verdict_on_property(alloc: Global, property: &str) -> Result<String, Fail> {
+    let schema = format!(in alloc; r#"{{"type":"object","properties":{{"a":{property}}}}}"#)?;
+    verdict_on_schema(alloc, schema.as_str())
 }
 
-/// A schema of this depth, at least 2: a struct, and lists of lists of texts in it.
-fn nested(alloc: Global, depth: usize) -> Result<String, Fail> {
+/// A property of a schema of this depth, at least 2: lists of lists of texts.
+fn nested(alloc: Global, depth: &str) -> Result<String, Fail> {
+    let depth = depth.parse::<usize>().ok().ok_or("no depth")?;
     let mut inner = String::from_str(alloc, r#"{"type":"string"}"#)?;
     for _ in 2..depth {
         inner = format!(in alloc; r#"{{"type":"array","items":{inner}}}"#)?;
     }
-    Ok(format!(in alloc; r#"{{"type":"object","properties":{{"a":{inner}}}}}"#)?)
+    Ok(inner)
 }
 
-const REFUSED: &str = r#"property {"type":"string","enum":[]} => UnknownKeyword
+fn found(alloc: Global, types: &Types, words: &str) -> Result<String, Fail> {
+    let (group, words) = first_word(words);
+    let (version, plural) = first_word(words);
+    told(alloc, types.find(group, version, plural))
+}
+
+fn told_with_law(alloc: Global, text: &str, is_lawful: bool) -> Result<String, Fail> {
+    Ok(format!(in alloc; "{text} {is_lawful}")?)
+}
+
+fn kind_of(alloc: Global, types: &Types, place: &str) -> Result<String, Fail> {
+    match types.get(place.parse::<u32>().ok().ok_or("no place")?) {
+        Some(served) => told_with_law(alloc, served.kind.as_str(), served.schema.lawful()),
+        None => Ok(String::from_str(alloc, "none")?),
+    }
+}
+
+fn shown(alloc: Global, types: &Types, place: &str) -> Result<String, Fail> {
+    let place = place.parse::<u32>().ok().ok_or("no place")?;
+    let schema = &types.get(place).ok_or("no type")?.schema;
+    Ok(format!(in alloc; "{schema:?}")?)
+}
+
+fn made(alloc: Global, schema: &str) -> Result<String, Fail> {
+    let types = types_of(alloc, file_of(alloc, schema)?.as_str())?;
+    told_with_law(
+        alloc,
+        shown(alloc, &types, "0")?.as_str(),
+        first_schema(&types)?.lawful(),
+    )
+}
+
+const EXAMPLES: &str = r#"refusals
+property {"type":"string","enum":[]} => UnknownKeyword
 property {"type":"number"} => UnknownType
 property {"type":["string"]} => UnknownType
 property {} => UnknownType
@@ -93,14 +128,9 @@ schema {"type":"object"} => Misfit
 schema [] => Misfit
 schema {"type":"object","x-kubernetes-map-type":"atomic","properties":{}} => Misfit
 schema {"type":"object","properties":{"b":{"type":"number"},"a":{"type":"string","enum":[]}}} => UnknownKeyword
-"#;
 
-#[test]
-fn refusals(rt: HostRuntime) -> Result<(), Fail> {
-    expect_answers(rt.alloc(), &mut Verdicts, REFUSED)
-}
-
-const REFUSED_FILES: &str = r#"depth 17 => TooDeep
+refusals_of_files
+depth 17 => TooDeep
 depth 16 => read
 file {"types":[{"group":"demo.example","kind":"Widget","plural":"widgets","version":"v1","schema":{"type":"object","properties":{}}},{"group":"demo.example","kind":"Widget","plural":"widgets","version":"v1","schema":{"type":"object","properties":{}}}]} => SameNames
 file [] => NotTheForm
@@ -112,83 +142,23 @@ file {"types":[{"group":"demo.example","kind":"Widget","plural":"namespaces","ve
 file {"types":[{"group":"demo.Example","kind":"Widget","plural":"widgets","version":"v1","schema":5}]} => NotTheForm
 file {"types":[{"group":"demo.example","kind":"Widget","plural":"widgets","version":"v1","schema":5,"scope":1}]} => NotTheForm
 file {"types":[]} => read
-"#;
 
-#[test]
-fn refusals_of_files(rt: HostRuntime) -> Result<(), Fail> {
-    expect_answers(rt.alloc(), &mut Verdicts, REFUSED_FILES)
-}
-
-/// What the types of a types file are asked: where one is, what the kind of one is and whether its schema is lawful, and
-/// the place of a path in the first.
-#[derive(Drop)]
-struct Served {
-    types: Types,
-}
-
-impl Answers for Served {
-    fn answer(&mut self, alloc: Global, question: &str) -> Result<String, Fail> {
-        let (call, words) = question.split_once(' ').ok_or("no words")?;
-        match call {
-            "find" => found(alloc, &self.types, words),
-            "kind" => kind_of(
-                alloc,
-                &self.types,
-                words.parse::<u32>().ok().ok_or("no place")?,
-            ),
-            "place" => place_in(alloc, &self.types, words),
-            _ => Err("no such call".into()),
-        }
-    }
-}
-
-/// Where the type of a group, a version and a plural is.
-fn found(alloc: Global, types: &Types, words: &str) -> Result<String, Fail> {
-    let (group, words) = words.split_once(' ').ok_or("no version")?;
-    let (version, plural) = words.split_once(' ').ok_or("no plural")?;
-    let place = types.find(group, version, plural);
-    Ok(format!(in alloc; "{place:?}")?)
-}
-
-/// The kind of a type, and whether its schema is lawful.
-fn kind_of(alloc: Global, types: &Types, place: u32) -> Result<String, Fail> {
-    match types.get(place) {
-        Some(served) => told_kind(alloc, served.kind.as_str(), served.schema.lawful()),
-        None => Ok(String::from_str(alloc, "none")?),
-    }
-}
-
-fn told_kind(alloc: Global, kind: &str, is_lawful: bool) -> Result<String, Fail> {
-    Ok(format!(in alloc; "{kind} {is_lawful}")?)
-}
-
-/// The place that the first type's schema gives the path whose elements stand between blanks.
-fn place_in(alloc: Global, types: &Types, elements: &str) -> Result<String, Fail> {
-    let place = first_schema(types)?.place(&path(alloc, elements)?);
-    Ok(format!(in alloc; "{place:?}")?)
-}
-
-/// The test fails where rows that the types of a types file answer are answered otherwise.
-fn expect_served(alloc: Global, types: &str, rows: &str) -> Result<(), Fail> {
-    let mut served = Served {
-        types: types_of(alloc, types)?,
-    };
-    expect_answers(alloc, &mut served, rows)
-}
-
-const TYPES: &str = "find demo.example v1 widgets => Some(0)
+widget_types
+find demo.example v1 widgets => Some(0)
 find summary.example v1 labelsummaries => Some(1)
 find demo.example v2 widgets => None
 kind 2 => none
 kind 0 => Widget true
-";
 
-#[test]
-fn widget_types(rt: HostRuntime) -> Result<(), Fail> {
-    expect_served(rt.alloc(), WIDGET_TYPES, TYPES)
-}
+widget_schemas
+shown 0 => Struct([("metadata", Struct([("annotations", MapOf(Text, false)), ("labels", MapOf(Text, false))], false)), ("spec", Struct([("args", List(Text, Atomic)), ("config", MapOf(Text, false)), ("image", Text), ("ports", List(Struct([("name", Text), ("note", Text), ("port", Whole)], false), Keyed(["name"]))), ("replicas", Whole), ("tags", List(Text, Set))], false))], false)
+shown 1 => Struct([("metadata", Struct([("annotations", MapOf(Text, false)), ("labels", MapOf(Text, false))], false)), ("spec", Struct([("counts", MapOf(Whole, false)), ("label", Text), ("total", Whole)], false))], false)
 
-const PLACES: &str = r#"place f:spec => None
+read_past_and_sorted
+made {"type":"object","title":5,"properties":{"apiVersion":{"enum":[]},"kind":5,"metadata":{"type":"number"},"zone":{"type":"boolean","description":"where","format":"x"},"ports":{"type":"array","x-kubernetes-list-type":"map","x-kubernetes-list-map-keys":["protocol","port"],"items":{"type":"object","x-kubernetes-map-type":"granular","properties":{"port":{"type":"integer"},"protocol":{"type":"string"}}}},"at":{"type":"object","x-kubernetes-map-type":"atomic"},"by":{"type":"object","x-kubernetes-map-type":"atomic","additionalProperties":{"type":"object"}}}} => Struct([("at", Struct([], true)), ("by", MapOf(Struct([], false), true)), ("metadata", Struct([("annotations", MapOf(Text, false)), ("labels", MapOf(Text, false))], false)), ("ports", List(Struct([("port", Whole), ("protocol", Text)], false), Keyed(["port", "protocol"]))), ("zone", Truth)], false) true"#;
+
+const PLACES: &str = r#"widget_places
+place f:spec => None
 place f:spec f:image => Some(Leaf)
 place f:spec f:args => Some(Leaf)
 place f:spec f:config f:any => Some(Leaf)
@@ -197,88 +167,17 @@ place f:spec f:tags v:1 => None
 place f:spec f:ports k:{"name":"web"} => Some(MapItem)
 place f:spec f:ports k:{"name":"web"} f:port => Some(Leaf)
 place f:spec f:ports k:{"name":"web"} f:name => None
-place f:spec f:ports k:{"port":80} => None
-"#;
+place f:spec f:ports k:{"port":80} => None"#;
 
 #[test]
-fn widget_places(rt: HostRuntime) -> Result<(), Fail> {
-    expect_served(rt.alloc(), WIDGET_TYPES, PLACES)
-}
-
-/// How the schema of a type is shown.
-fn shown(alloc: Global, types: &Types, place: u32) -> Result<String, Fail> {
-    let schema = &types.get(place).ok_or("no type")?.schema;
-    Ok(format!(in alloc; "{schema:?}")?)
-}
-
-/// How a schema is shown that has these fields in `spec` alone.
-fn with_spec(alloc: Global, fields: &str) -> Result<String, AllocError> {
-    format!(in alloc; "Struct([{METADATA}, (\"spec\", Struct([{fields}], false))], false)")
-}
-
-/// Whether the schema of a type is shown with these fields in `spec` alone.
-fn is_shown(alloc: Global, types: &Types, place: u32, fields: &str) -> Result<bool, Fail> {
-    let text = shown(alloc, types, place)?;
-    Ok(text.as_str() == with_spec(alloc, fields)?.as_str())
+fn examples(rt: HostRuntime) -> Result<(), Fail> {
+    let mut file = TypesFile {
+        types: types_of(rt.alloc(), WIDGET_TYPES)?,
+    };
+    play_all(rt.alloc(), &mut file, EXAMPLES)
 }
 
 #[test]
-fn widget_schemas(rt: HostRuntime) -> Result<(), Fail> {
-    let types = types_of(rt.alloc(), WIDGET_TYPES)?;
-    for (place, fields) in [
-        (
-            0,
-            r#"("args", List(Text, Atomic)), ("config", MapOf(Text, false)), ("image", Text), ("ports", List(Struct([("name", Text), ("note", Text), ("port", Whole)], false), Keyed(["name"]))), ("replicas", Whole), ("tags", List(Text, Set))"#,
-        ),
-        (
-            1,
-            r#"("counts", MapOf(Whole, false)), ("label", Text), ("total", Whole)"#,
-        ),
-    ] {
-        expect_true(is_shown(rt.alloc(), &types, place, fields)?, fields)?;
-    }
-    Ok(())
-}
-
-/// How a schema is shown that has these fields before and behind `metadata`.
-fn around_metadata(alloc: Global, before: &str, behind: &str) -> Result<String, AllocError> {
-    format!(in alloc; "Struct([{before}, {METADATA}, {behind}], false)")
-}
-
-/// A schema with words that are read past, and fields that are not in order.
-const UNSORTED: &str =
-    r#"{"type":"object","title":5,"properties":{"apiVersion":{"enum":[]},"kind":5,"metadata":{"type":"number"},
-            "zone":{"type":"boolean","description":"where","format":"x"},
-            "ports":{"type":"array","x-kubernetes-list-type":"map","x-kubernetes-list-map-keys":["protocol","port"],
-             "items":{"type":"object","x-kubernetes-map-type":"granular","properties":{"port":{"type":"integer"},"protocol":{"type":"string"}}}},
-            "at":{"type":"object","x-kubernetes-map-type":"atomic"},
-            "by":{"type":"object","x-kubernetes-map-type":"atomic","additionalProperties":{"type":"object"}}}}"#;
-
-/// How the schema of a file of one type is shown, and whether it is lawful.
-fn shown_of(alloc: Global, schema: &str) -> Result<String, Fail> {
-    let file = file_of(alloc, schema)?;
-    let types = types_of(alloc, file.as_str())?;
-    told_kind(
-        alloc,
-        shown(alloc, &types, 0)?.as_str(),
-        first_schema(&types)?.lawful(),
-    )
-}
-
-/// Whether a schema is shown with these fields before and behind `metadata`, and is lawful.
-fn is_shown_around(alloc: Global, schema: &str, before: &str, behind: &str) -> Result<bool, Fail> {
-    let wanted = around_metadata(alloc, before, behind)?;
-    let wanted = told_kind(alloc, wanted.as_str(), true)?;
-    Ok(shown_of(alloc, schema)?.as_str() == wanted.as_str())
-}
-
-#[test]
-fn read_past_and_sorted(rt: HostRuntime) -> Result<(), Fail> {
-    let is_shown = is_shown_around(
-        rt.alloc(),
-        UNSORTED,
-        r#"("at", Struct([], true)), ("by", MapOf(Struct([], false), true))"#,
-        r#"("ports", List(Struct([("port", Whole), ("protocol", Text)], false), Keyed(["port", "protocol"]))), ("zone", Truth)"#,
-    )?;
-    expect_true(is_shown, "how a schema is shown")
+fn places(rt: HostRuntime) -> Result<(), Fail> {
+    play_under(rt.alloc(), WIDGET_TYPES, PLACES)
 }

@@ -1,7 +1,21 @@
 //! Puts, changes and removals under two indexes, and each refusal.
+//!
+//! Each example begins without objects.
+//!
+//! | question | answer |
+//! |---|---|
+//! | `put NAME REVISION TEXT` | the revision of the object that it replaced, or 0 |
+//! | `anew NAME REVISION TEXT` | a put between marks: whether it is done, or else leaves all as it was |
+//! | `remove NAME` | the revision of the object that it removed, or 0 |
+//! | `revision NAME` | the revision of the object, or 0 |
+//! | `replace` | now just two objects are kept, of texts `y` and `z` |
+//! | `replaced NAME` | a replace between marks, by two objects of text `x`: whether it is done whole, or leaves all as it was |
+//! | `under INDEX KEY` | how many objects stand under the key |
+//! | `keys INDEX` | how many keys the index has |
+//! | `twice` | whether two indexes with one name are refused |
 
 use crate::marking::mark;
-use crate::rows::{Answers, done, expect_answers, expect_true, first_word, number, told};
+use crate::rows::{Answers, done, first_word, number, play, told};
 use indexer::{IndexBy, Indexer, NewError, Object, ObjectKey};
 use std::alloc::{AllocError, Global};
 use std::collections::BTreeMap;
@@ -98,6 +112,8 @@ impl Answers for Indexer<By> {
             "put" | "anew" => answer_of_put(alloc, self, call, one, other),
             "under" => told(alloc, count(self, one, other)),
             "keys" => told(alloc, self.keys(one)?.len()),
+            "replace" => replace(alloc, self),
+            "twice" => has_one_name_twice(alloc, two_of_one_name(alloc)?),
             _ => answer_of_object(alloc, self, call, &key(alloc, one)?),
         }
     }
@@ -128,57 +144,9 @@ fn answer_of_object(
     match call {
         "remove" => told(alloc, remove(indexer, key)),
         "revision" => told(alloc, revision(indexer, key)),
-        "replace" => replace(alloc, indexer),
         "replaced" => told(alloc, is_replaced_or_as_before(alloc, indexer, key)?),
         _ => Err("no such call".into()),
     }
-}
-
-/// The test fails where rows that an empty indexer answers are answered otherwise.
-fn expect_played(alloc: Global, rows: &str) -> Result<(), Fail> {
-    expect_answers(alloc, &mut empty(alloc)?, rows)
-}
-
-const CHANGE: &str = "put a 2 x => 0
-revision a => 2
-under namespace default => Some(1)
-under text x => Some(1)
-under text y => None
-put b 3 x => 0
-revision b => 3
-under namespace default => Some(2)
-under text x => Some(2)
-under text y => None
-put a 4 y => 2
-revision a => 4
-under namespace default => Some(2)
-under text x => Some(1)
-under text y => Some(1)
-under none y => None
-";
-
-#[test]
-fn an_index_follows_a_change(rt: HostRuntime) -> Result<(), Fail> {
-    expect_played(rt.alloc(), CHANGE)
-}
-
-const REMOVALS: &str = "put a 4 y => 0
-put b 3 x => 0
-remove b => 3
-remove b => 0
-under text x => None
-replace => done
-revision a => 0
-under namespace default => Some(2)
-under text x => None
-under text y => Some(1)
-keys text => 2
-keys none => 0
-";
-
-#[test]
-fn an_index_follows_removals(rt: HostRuntime) -> Result<(), Fail> {
-    expect_played(rt.alloc(), REMOVALS)
 }
 
 /// Two boxed indexes by text.
@@ -190,19 +158,12 @@ fn two_of_one_name(alloc: Global) -> Result<Vec<Box<dyn IndexBy>>, AllocError> {
 }
 
 /// Whether an indexer of these indexes is refused since two have one name.
-fn has_one_name_twice(alloc: Global, indexes: Vec<Box<dyn IndexBy>>) -> Result<bool, AllocError> {
+fn has_one_name_twice(alloc: Global, indexes: Vec<Box<dyn IndexBy>>) -> Result<String, Fail> {
     match Indexer::new(alloc, indexes) {
-        Ok(_) => Ok(false),
-        Err(NewError::SameName) => Ok(true),
-        Err(NewError::Memory) => Err(AllocError),
+        Ok(_) => told(alloc, false),
+        Err(NewError::SameName) => told(alloc, true),
+        Err(NewError::Memory) => Err("no memory".into()),
     }
-}
-
-#[test]
-fn two_indexes_with_one_name(rt: HostRuntime) -> Result<(), Fail> {
-    let alloc = rt.alloc();
-    let is_refused = has_one_name_twice(alloc, two_of_one_name(alloc)?)?;
-    expect_true(is_refused, "two indexes with one name")
 }
 
 /// The revision under a key, and how many objects have the namespace and stand under each key of the other index.
@@ -243,30 +204,6 @@ fn put_anew(alloc: Global, indexer: &mut Indexer<By>, object: Object) -> Result<
     Ok(is_as_before)
 }
 
-const PUT_ANEW: &str = "anew a 2 x => true
-revision a => 2
-under namespace default => Some(1)
-under text x => Some(1)
-under text y => None
-anew a 4 y => true
-revision a => 4
-under namespace default => Some(1)
-under text x => None
-under text y => Some(1)
-anew b 5 x => true
-revision b => 5
-under namespace default => Some(2)
-under text x => Some(1)
-under text y => Some(1)
-";
-
-/// Whichever allocation of a put is refused, the objects and both indexes are as they were, and the put is done when
-/// it is called again.
-#[test]
-fn a_refused_put_changes_nothing(rt: HostRuntime) -> Result<(), Fail> {
-    expect_played(rt.alloc(), PUT_ANEW)
-}
-
 /// A replace between marks, by two objects of text `x`; whether memory was refused.
 fn is_replace_refused(alloc: Global, indexer: &mut Indexer<By>) -> Result<bool, AllocError> {
     let objects = two_objects(alloc, "x", "x")?;
@@ -289,12 +226,84 @@ fn is_replaced_or_as_before(
     Ok(seen(indexer, key) == wanted)
 }
 
-const REPLACED: &str = "put a 4 y => 0
-replaced a => true
-";
+/// Plays examples with blank lines between them, each on an indexer without objects.
+fn play_each(alloc: Global, examples: &str) -> Result<(), Fail> {
+    for example in examples.split("\n\n") {
+        play(alloc, &mut empty(alloc)?, example)?;
+    }
+    Ok(())
+}
+
+const EXAMPLES: &str = r#"an_index_follows_a_change
+put a 2 x => 0
+revision a => 2
+under namespace default => Some(1)
+under text x => Some(1)
+under text y => None
+put b 3 x => 0
+revision b => 3
+under namespace default => Some(2)
+under text x => Some(2)
+under text y => None
+put a 4 y => 2
+revision a => 4
+under namespace default => Some(2)
+under text x => Some(1)
+under text y => Some(1)
+under none y => None
+
+an_index_follows_removals
+put a 4 y => 0
+put b 3 x => 0
+remove b => 3
+remove b => 0
+under text x => None
+replace => done
+revision a => 0
+under namespace default => Some(2)
+under text x => None
+under text y => Some(1)
+keys text => 2
+keys none => 0
+
+two_indexes_with_one_name
+twice => true"#;
+
+#[test]
+fn examples(rt: HostRuntime) -> Result<(), Fail> {
+    play_each(rt.alloc(), EXAMPLES)
+}
+
+const PUT_ANEW: &str = r#"a_refused_put_changes_nothing
+anew a 2 x => true
+revision a => 2
+under namespace default => Some(1)
+under text x => Some(1)
+under text y => None
+anew a 4 y => true
+revision a => 4
+under namespace default => Some(1)
+under text x => None
+under text y => Some(1)
+anew b 5 x => true
+revision b => 5
+under namespace default => Some(2)
+under text x => Some(1)
+under text y => Some(1)"#;
+
+/// Whichever allocation of a put is refused, the objects and both indexes are as they were, and the put is done when
+/// it is called again.
+#[test]
+fn a_refused_put_changes_nothing(rt: HostRuntime) -> Result<(), Fail> {
+    play_each(rt.alloc(), PUT_ANEW)
+}
+
+const REPLACED: &str = r#"a_refused_replace_changes_nothing
+put a 4 y => 0
+replaced a => true"#;
 
 /// Whichever allocation of a replace is refused, the objects and both indexes are as they were.
 #[test]
 fn a_refused_replace_changes_nothing(rt: HostRuntime) -> Result<(), Fail> {
-    expect_played(rt.alloc(), REPLACED)
+    play_each(rt.alloc(), REPLACED)
 }

@@ -1,148 +1,123 @@
 //! Names of the Kubernetes documentation, versions, and texts that are none.
+//!
+//! | question | answer |
+//! |---|---|
+//! | `object TEXT` | whether it is a namespace's name, and whether it is an object's |
+//! | `label TEXT` | whether it is a label's key, and whether it is a label's value |
+//! | `letters N` | whether so many letters are a namespace's name, a label's value and an object's name |
+//! | `key MORE` | whether a name of 63 bytes behind a prefix of 252 bytes and these is a label's key |
+//! | `version TEXT` | the version that it says |
+//! | `decimal MAX TEXT` | the decimal that it says, at most this one |
 
-use crate::rows::{Answers, expect_answers, expect_true, repeated, told};
+use crate::rows::{Answers, first_word, number, play_all, repeated, told};
 use names::{
     decimal_up_to, is_dns_label, is_dns_subdomain, is_label_key, is_label_value, version_of,
 };
-use std::alloc::{AllocError, Global};
+use std::alloc::Global;
 use std::test::Fail;
 
-/// Whether a text is a namespace's name, and whether it is an object's.
 #[derive(Drop)]
-struct ObjectNames;
+struct Names;
 
-impl Answers for ObjectNames {
+impl Answers for Names {
     fn answer(&mut self, alloc: Global, question: &str) -> Result<String, Fail> {
-        told(alloc, (is_dns_label(question), is_dns_subdomain(question)))
+        let (call, text) = first_word(question);
+        match call {
+            "object" => told(alloc, (is_dns_label(text), is_dns_subdomain(text))),
+            "label" => told(alloc, (is_label_key(text), is_label_value(text))),
+            "letters" => kinds_of_letters(alloc, text),
+            "key" => is_key_behind(alloc, text),
+            "version" => told(alloc, version_of(text)),
+            "decimal" => decimal_in(alloc, text),
+            _ => Err("no such call".into()),
+        }
     }
 }
 
-/// Whether a text is a label's key, and whether it is a label's value.
-#[derive(Drop)]
-struct Labels;
-
-impl Answers for Labels {
-    fn answer(&mut self, alloc: Global, question: &str) -> Result<String, Fail> {
-        told(alloc, (is_label_key(question), is_label_value(question)))
-    }
-}
-
-/// The version that a text says.
-#[derive(Drop)]
-struct Versions;
-
-impl Answers for Versions {
-    fn answer(&mut self, alloc: Global, question: &str) -> Result<String, Fail> {
-        told(alloc, version_of(question))
-    }
-}
-
-const OBJECT_NAMES: &str = "default => (true, true)
-kube-node-lease => (true, true)
-0 => (true, true)
-demo.example => (false, true)
-a.b-c.0 => (false, true)
- => (false, false)
--a => (false, false)
-a- => (false, false)
-Web => (false, false)
-a_b => (false, false)
-a..b => (false, false)
-.a => (false, false)
-a. => (false, false)
-a-.b => (false, false)
-é => (false, false)
-";
-
-#[test]
-fn names_of_namespaces_and_objects(rt: HostRuntime) -> Result<(), Fail> {
-    expect_answers(rt.alloc(), &mut ObjectNames, OBJECT_NAMES)
-}
-
-const LABELS: &str = "app.kubernetes.io/name => (true, false)
-kubectl.kubernetes.io/last-applied-configuration => (true, false)
-environment => (true, true)
-MyName => (true, true)
-my.name => (true, true)
-123-abc_X => (true, true)
- => (false, true)
--a => (false, false)
-a. => (false, false)
-/name => (false, false)
-prefix/ => (false, false)
-A.b/c => (false, false)
-a/b/c => (false, false)
-a b => (false, false)
-";
-
-#[test]
-fn keys_and_values_of_labels(rt: HostRuntime) -> Result<(), Fail> {
-    expect_answers(rt.alloc(), &mut Labels, LABELS)
-}
-
-/// The text of these three with a slash between the last two.
-fn with_slash(alloc: Global, front: &str, more: &str, name: &str) -> Result<String, AllocError> {
-    format!(in alloc; "{front}{more}/{name}")
-}
-
-/// Whether a text is a namespace's name, a label's value and an object's name.
-fn kinds(text: &str) -> (bool, bool, bool) {
-    (
-        is_dns_label(text),
-        is_label_value(text),
-        is_dns_subdomain(text),
+fn kinds_of_letters(alloc: Global, letters: &str) -> Result<String, Fail> {
+    let text = repeated(alloc, "a", number(letters)?)?;
+    let text = text.as_str();
+    told(
+        alloc,
+        (
+            is_dns_label(text),
+            is_label_value(text),
+            is_dns_subdomain(text),
+        ),
     )
 }
 
-fn kinds_of_letters(alloc: Global, letters: usize) -> Result<(bool, bool, bool), AllocError> {
-    Ok(kinds(repeated(alloc, "a", letters)?.as_str()))
-}
-
-/// Whether a name of 63 bytes behind a prefix of 252 bytes and some more is a label's key.
-fn is_key_behind(alloc: Global, more: &str) -> Result<bool, AllocError> {
-    let name = repeated(alloc, "a", 63)?;
+fn is_key_behind(alloc: Global, more: &str) -> Result<String, Fail> {
     let prefix = repeated(alloc, "b.", 126)?;
-    let key = with_slash(alloc, prefix.as_str(), more, name.as_str())?;
-    Ok(is_label_key(key.as_str()))
+    let name = repeated(alloc, "a", 63)?;
+    let key = format!(in alloc; "{prefix}{more}/{name}")?;
+    told(alloc, is_label_key(key.as_str()))
 }
+
+fn decimal_in(alloc: Global, words: &str) -> Result<String, Fail> {
+    let (max, text) = first_word(words);
+    told(alloc, decimal_up_to(number(max)?, text))
+}
+
+const EXAMPLES: &str = r#"names_of_namespaces_and_objects
+object default => (true, true)
+object kube-node-lease => (true, true)
+object 0 => (true, true)
+object demo.example => (false, true)
+object a.b-c.0 => (false, true)
+object  => (false, false)
+object -a => (false, false)
+object a- => (false, false)
+object Web => (false, false)
+object a_b => (false, false)
+object a..b => (false, false)
+object .a => (false, false)
+object a. => (false, false)
+object a-.b => (false, false)
+object é => (false, false)
+
+keys_and_values_of_labels
+label app.kubernetes.io/name => (true, false)
+label kubectl.kubernetes.io/last-applied-configuration => (true, false)
+label environment => (true, true)
+label MyName => (true, true)
+label my.name => (true, true)
+label 123-abc_X => (true, true)
+label  => (false, true)
+label -a => (false, false)
+label a. => (false, false)
+label /name => (false, false)
+label prefix/ => (false, false)
+label A.b/c => (false, false)
+label a/b/c => (false, false)
+label a b => (false, false)
+
+at_most_63_and_253_bytes
+letters 63 => (true, true, true)
+letters 64 => (false, false, true)
+key b => true
+key bb => false
+
+versions_and_other_decimals
+version 0 => Some(0)
+version 7 => Some(7)
+version 10 => Some(10)
+version 9223372036854775807 => Some(9223372036854775807)
+version 9223372036854775808 => None
+version 18446744073709551616 => None
+version 99999999999999999999999999999999999999999999 => None
+version  => None
+version 00 => None
+version 07 => None
+version +7 => None
+version -7 => None
+version 7  => None
+version 7.0 => None
+version ٧ => None
+decimal 2147483647 2147483647 => Some(2147483647)
+decimal 2147483647 2147483648 => None"#;
 
 #[test]
-fn at_most_63_and_253_bytes(rt: HostRuntime) -> Result<(), Fail> {
-    let alloc = rt.alloc();
-    let kinds = (kinds_of_letters(alloc, 63)?, kinds_of_letters(alloc, 64)?);
-    expect_true(
-        kinds == ((true, true, true), (false, false, true)),
-        "63 bytes of a name",
-    )?;
-    let are_keys = (is_key_behind(alloc, "b")?, is_key_behind(alloc, "bb")?);
-    expect_true(are_keys == (true, false), "253 bytes of a prefix")
-}
-
-const VERSIONS: &str = "0 => Some(0)
-7 => Some(7)
-10 => Some(10)
-9223372036854775807 => Some(9223372036854775807)
-9223372036854775808 => None
-18446744073709551616 => None
-99999999999999999999999999999999999999999999 => None
- => None
-00 => None
-07 => None
-+7 => None
--7 => None
-7  => None
-7.0 => None
-٧ => None
-";
-
-/// The decimals that two texts say, at most this one.
-fn decimals(max: u64, one: &str, other: &str) -> (Option<u64>, Option<u64>) {
-    (decimal_up_to(max, one), decimal_up_to(max, other))
-}
-
-#[test]
-fn versions_and_other_decimals(rt: HostRuntime) -> Result<(), Fail> {
-    expect_answers(rt.alloc(), &mut Versions, VERSIONS)?;
-    let decimals = decimals(2147483647, "2147483647", "2147483648");
-    expect_true(decimals == (Some(2147483647), None), "a highest decimal")
+fn examples(rt: HostRuntime) -> Result<(), Fail> {
+    play_all(rt.alloc(), &mut Names, EXAMPLES)
 }

@@ -1,19 +1,32 @@
 //! Every parameter, what goes together, and which fault comes first.
+//!
+//! | question | answer |
+//! |---|---|
+//! | `CALL ?QUERY` | the watch, the version and the manager that are read of it, as far as there are such, or the parameter at fault |
+//! | `tiers ?QUERY` | whether a list's selector takes objects of the tiers `web` and `db` |
+//! | `token ?QUERY` | the text of a list's token, and its revision, namespace and name |
+//! | `values ?QUERY` | the limit of a list, its version and how that is matched |
+//! | `fault ?QUERY` | how a list's fault is printed |
 
-use crate::rows::{Answers, expect_answers, expect_text, expect_true, told};
-use params::{Asked, Parameter, Params, ParamsFault, Token, Watch};
+use crate::rows::{Answers, play_all, told};
+use params::{Asked, Params, ParamsFault, Token, Watch};
 use std::alloc::{AllocError, Global};
 use std::collections::BTreeMap;
 use std::test::Fail;
 
-/// What is read of a call and its query, `CALL ?QUERY`, or the parameter at fault.
 #[derive(Drop)]
 struct Readings;
 
 impl Answers for Readings {
     fn answer(&mut self, alloc: Global, question: &str) -> Result<String, Fail> {
         let (call, query) = question.split_once(" ?").ok_or("no query")?;
-        answer_to(alloc, call, query)
+        match call {
+            "tiers" => selected(alloc, query),
+            "token" => token_of(alloc, query),
+            "values" => values(alloc, query),
+            "fault" => fault_of(alloc, query),
+            _ => answer_to(alloc, call, query),
+        }
     }
 }
 
@@ -78,49 +91,83 @@ fn push_manager(text: &mut String, is_forced: bool, manager: &str) -> Result<(),
     Ok(())
 }
 
-/// The text and so many letters.
-fn longer(alloc: Global, text: &str, letters: usize) -> Result<String, AllocError> {
-    let mut longer = String::from_str(alloc, text)?;
-    for _ in 0..letters {
-        longer.push('m')?;
+fn read(alloc: Global, query: &str) -> Result<Params, ParamsFault> {
+    try_read(alloc, Asked::List, query)
+}
+
+fn fault_of(alloc: Global, query: &str) -> Result<String, Fail> {
+    match read(alloc, query) {
+        Ok(_) => Err("no fault".into()),
+        Err(fault) => Ok(format!(in alloc; "{fault}")?),
     }
-    Ok(longer)
 }
 
-/// What a call by a manager of so many letters is answered.
-fn answer_to_letters(alloc: Global, call: &str, letters: usize) -> Result<String, Fail> {
-    let query = longer(alloc, "fieldManager=", letters)?;
-    answer_to(alloc, call, query.as_str())
+fn tier(alloc: Global, value: &str) -> Result<BTreeMap<String, String>, AllocError> {
+    let mut labels = BTreeMap::new(alloc);
+    labels.insert(
+        String::from_str(alloc, "tier")?,
+        String::from_str(alloc, value)?,
+    )?;
+    Ok(labels)
 }
 
-/// Whether a manager of 128 letters is read, and one of 129 is at fault.
-fn has_at_most_128_letters(alloc: Global, call: &str) -> Result<bool, Fail> {
-    let read = longer(alloc, "read by ", 128)?;
-    let longest = answer_to_letters(alloc, call, 128)?;
-    let too_long = answer_to_letters(alloc, call, 129)?;
-    Ok(longest.as_str() == read.as_str() && too_long.as_str() == "bad FieldManager")
+/// Whether the list's selector takes an object with this `tier`.
+fn selects(alloc: Global, params: &Params, value: &str) -> Result<bool, AllocError> {
+    Ok(params.selector.matches(&tier(alloc, value)?))
 }
 
-const MANAGERS: &str = "Apply ?fieldManager=alice => read by alice
+fn selected(alloc: Global, query: &str) -> Result<String, Fail> {
+    let params = read(alloc, query)?;
+    let web = selects(alloc, &params, "web")?;
+    let db = selects(alloc, &params, "db")?;
+    told(alloc, (web, db))
+}
+
+fn token_of(alloc: Global, query: &str) -> Result<String, Fail> {
+    match &read(alloc, query)?.token {
+        Some(token) => token_told(alloc, token),
+        None => Ok(String::from_str(alloc, "none")?),
+    }
+}
+
+/// The text of a token, and its parts.
+fn token_told(alloc: Global, token: &Token) -> Result<String, Fail> {
+    let mut told = token.text(alloc)?;
+    push_parts(alloc, &mut told, token)?;
+    Ok(told)
+}
+
+fn push_parts(alloc: Global, text: &mut String, token: &Token) -> Result<(), AllocError> {
+    let revision = token.revision;
+    let namespace = &token.namespace;
+    let name = &token.name;
+    text.push_str(format!(in alloc; " {revision} {namespace} {name}")?.as_str())
+}
+
+fn values(alloc: Global, query: &str) -> Result<String, Fail> {
+    let params = read(alloc, query)?;
+    told(alloc, (params.limit, params.version, params.version_match))
+}
+
+const EXAMPLES: &str = r#"managers_of_writes
+Apply ?fieldManager=alice => read by alice
 Apply ?fieldManager=label-summary&force=true => read forced by label-summary
 Apply ?force=0&fieldManager=a+b%2Fc&fieldValidation=Strict&dryRun= => read by a b/c
 Apply ?fieldManager=alice&fieldManager=bob&force=1&limit=x => read forced by alice
 Post ? => read by unknown
 Put ?fieldManager=&fieldManager=bob&force=x => read by unknown
 Put ?fieldManager=bob => read by bob
-";
 
-#[test]
-fn managers_of_writes(rt: HostRuntime) -> Result<(), Fail> {
-    let alloc = rt.alloc();
-    expect_answers(alloc, &mut Readings, MANAGERS)?;
-    for call in ["Apply", "Post", "Put"] {
-        expect_true(has_at_most_128_letters(alloc, call)?, call)?;
-    }
-    Ok(())
-}
+managers_have_128_bytes
+Apply ?fieldManager=mmmmmmmmmmmmmmmmmmmmmmmmmmmmmmmmmmmmmmmmmmmmmmmmmmmmmmmmmmmmmmmmmmmmmmmmmmmmmmmmmmmmmmmmmmmmmmmmmmmmmmmmmmmmmmmmmmmmmmmmmmmmmmmm => read by mmmmmmmmmmmmmmmmmmmmmmmmmmmmmmmmmmmmmmmmmmmmmmmmmmmmmmmmmmmmmmmmmmmmmmmmmmmmmmmmmmmmmmmmmmmmmmmmmmmmmmmmmmmmmmmmmmmmmmmmmmmmmmmm
+Apply ?fieldManager=mmmmmmmmmmmmmmmmmmmmmmmmmmmmmmmmmmmmmmmmmmmmmmmmmmmmmmmmmmmmmmmmmmmmmmmmmmmmmmmmmmmmmmmmmmmmmmmmmmmmmmmmmmmmmmmmmmmmmmmmmmmmmmmmm => bad FieldManager
+Post ?fieldManager=mmmmmmmmmmmmmmmmmmmmmmmmmmmmmmmmmmmmmmmmmmmmmmmmmmmmmmmmmmmmmmmmmmmmmmmmmmmmmmmmmmmmmmmmmmmmmmmmmmmmmmmmmmmmmmmmmmmmmmmmmmmmmmmm => read by mmmmmmmmmmmmmmmmmmmmmmmmmmmmmmmmmmmmmmmmmmmmmmmmmmmmmmmmmmmmmmmmmmmmmmmmmmmmmmmmmmmmmmmmmmmmmmmmmmmmmmmmmmmmmmmmmmmmmmmmmmmmmmmm
+Post ?fieldManager=mmmmmmmmmmmmmmmmmmmmmmmmmmmmmmmmmmmmmmmmmmmmmmmmmmmmmmmmmmmmmmmmmmmmmmmmmmmmmmmmmmmmmmmmmmmmmmmmmmmmmmmmmmmmmmmmmmmmmmmmmmmmmmmmm => bad FieldManager
+Put ?fieldManager=mmmmmmmmmmmmmmmmmmmmmmmmmmmmmmmmmmmmmmmmmmmmmmmmmmmmmmmmmmmmmmmmmmmmmmmmmmmmmmmmmmmmmmmmmmmmmmmmmmmmmmmmmmmmmmmmmmmmmmmmmmmmmmmm => read by mmmmmmmmmmmmmmmmmmmmmmmmmmmmmmmmmmmmmmmmmmmmmmmmmmmmmmmmmmmmmmmmmmmmmmmmmmmmmmmmmmmmmmmmmmmmmmmmmmmmmmmmmmmmmmmmmmmmmmmmmmmmmmmm
+Put ?fieldManager=mmmmmmmmmmmmmmmmmmmmmmmmmmmmmmmmmmmmmmmmmmmmmmmmmmmmmmmmmmmmmmmmmmmmmmmmmmmmmmmmmmmmmmmmmmmmmmmmmmmmmmmmmmmmmmmmmmmmmmmmmmmmmmmmm => bad FieldManager
 
-const WRITES: &str = "Apply ? => bad FieldManager
+faults_of_writes
+Apply ? => bad FieldManager
 Apply ?fieldManager= => bad FieldManager
 Apply ?fieldManager=%7F => bad FieldManager
 Apply ?fieldManager=a%09b => bad FieldManager
@@ -142,14 +189,9 @@ Get ?resourceVersion=x => bad ResourceVersion
 Get ?resourceVersion=01 => bad ResourceVersion
 Get ?watch=x&resourceVersionMatch=x&labelSelector=(&dryRun=All&resourceVersion=7 => read at 7
 Get ?resourceVersion=7&resourceVersion=8 => read at 7
-";
 
-#[test]
-fn faults_of_writes(rt: HostRuntime) -> Result<(), Fail> {
-    expect_answers(rt.alloc(), &mut Readings, WRITES)
-}
-
-const LISTS: &str = "List ? => read
+faults_of_lists
+List ? => read
 List ?limit=9223372036854775807 => read
 List ?limit=9223372036854775808 => bad Limit
 List ?limit=02 => bad Limit
@@ -169,10 +211,9 @@ List ?continue=4.default. => bad Continue
 List ?continue=04.default.w1 => bad Continue
 List ?continue=9.default.w1 => read
 List ?allowWatchBookmarks=x&timeoutSeconds=x&fieldManager=%00&force=x => read
-";
 
-/// The order of single parameters, and what goes together after them.
-const TOGETHER: &str = "List ?sendInitialEvents=x&limit=x&continue=x => bad Continue
+faults_of_lists_in_order: single parameters, and what goes together after them
+List ?sendInitialEvents=x&limit=x&continue=x => bad Continue
 List ?limit=x&labelSelector=(&fieldSelector=x => bad FieldSelector
 List ?limit=x&labelSelector=( => bad LabelSelector
 List ?resourceVersion=x&limit=x => bad Limit
@@ -189,102 +230,18 @@ List ?continue=4.default.w1&resourceVersionMatch=Exact => bad ResourceVersionMat
 List ?watch=yes&continue=x => bad Watch
 List ?watch=&watch=x => read
 List ?watch=false&continue=x => bad Continue
-";
 
-#[test]
-fn faults_of_lists(rt: HostRuntime) -> Result<(), Fail> {
-    expect_answers(rt.alloc(), &mut Readings, LISTS)?;
-    expect_answers(rt.alloc(), &mut Readings, TOGETHER)
-}
+selectors_of_lists
+tiers ?labelSelector=tier%3Dweb&limit=1 => (true, false)
+tiers ?labelSelector=tier!%3Dweb => (false, true)
 
-fn read(alloc: Global, query: &str) -> Result<Params, ParamsFault> {
-    try_read(alloc, Asked::List, query)
-}
+values_of_lists
+values ?labelSelector=tier%3Dweb&limit=1&resourceVersion=3&resourceVersionMatch=NotOlderThan&watch=0 => (1, Some(3), Some(NotOlderThan))
+token ?labelSelector=tier%3Dweb&limit=1&resourceVersion=3&resourceVersionMatch=NotOlderThan&watch=0 => none
+token ?limit=2&continue=4.default.w1.old => 4.default.w1.old 4 default w1.old
 
-fn tier(alloc: Global, value: &str) -> Result<BTreeMap<String, String>, AllocError> {
-    let mut labels = BTreeMap::new(alloc);
-    labels.insert(
-        String::from_str(alloc, "tier")?,
-        String::from_str(alloc, value)?,
-    )?;
-    Ok(labels)
-}
-
-/// Whether the list's selector takes an object with this `tier`.
-fn selects(alloc: Global, params: &Params, value: &str) -> Result<bool, AllocError> {
-    Ok(params.selector.matches(&tier(alloc, value)?))
-}
-
-/// Whether a list's selector takes objects of the tiers `web` and `db`.
-#[derive(Drop)]
-struct Tiers;
-
-impl Answers for Tiers {
-    fn answer(&mut self, alloc: Global, question: &str) -> Result<String, Fail> {
-        let params = read(alloc, question)?;
-        told(alloc, selects_tiers(alloc, &params)?)
-    }
-}
-
-fn selects_tiers(alloc: Global, params: &Params) -> Result<(bool, bool), AllocError> {
-    Ok((
-        selects(alloc, params, "web")?,
-        selects(alloc, params, "db")?,
-    ))
-}
-
-const TIERS: &str = "labelSelector=tier%3Dweb&limit=1 => (true, false)
-labelSelector=tier!%3Dweb => (false, true)
-";
-
-#[test]
-fn selectors_of_lists(rt: HostRuntime) -> Result<(), Fail> {
-    expect_answers(rt.alloc(), &mut Tiers, TIERS)
-}
-
-/// The token of a list's query, and its revision, namespace and name.
-fn token_of(alloc: Global, query: &str) -> Result<String, Fail> {
-    let params = read(alloc, query)?;
-    match &params.token {
-        Some(token) => token_told(alloc, token),
-        None => Ok(String::new(alloc)),
-    }
-}
-
-/// The text of a token, and its parts.
-fn token_told(alloc: Global, token: &Token) -> Result<String, Fail> {
-    let mut told = token.text(alloc)?;
-    push_parts(alloc, &mut told, token)?;
-    Ok(told)
-}
-
-fn push_parts(alloc: Global, text: &mut String, token: &Token) -> Result<(), AllocError> {
-    let revision = token.revision;
-    let namespace = &token.namespace;
-    let name = &token.name;
-    text.push_str(format!(in alloc; " {revision} {namespace} {name}")?.as_str())
-}
-
-/// The limit of a list's query, its version and how that is matched.
-fn values(alloc: Global, query: &str) -> Result<String, Fail> {
-    let params = read(alloc, query)?;
-    told(alloc, (params.limit, params.version, params.version_match))
-}
-
-#[test]
-fn values_of_lists(rt: HostRuntime) -> Result<(), Fail> {
-    let alloc = rt.alloc();
-    let query =
-        "labelSelector=tier%3Dweb&limit=1&resourceVersion=3&resourceVersionMatch=NotOlderThan&watch=0";
-    expect_text(values(alloc, query)?, "(1, Some(3), Some(NotOlderThan))")?;
-    expect_text(token_of(alloc, query)?, "")?;
-    expect_text(
-        token_of(alloc, "limit=2&continue=4.default.w1.old")?,
-        "4.default.w1.old 4 default w1.old",
-    )
-}
-
-const WATCHES: &str = "List ?watch=true => read a watch false 0
+watches
+List ?watch=true => read a watch false 0
 List ?watch=1&limit=x&continue=x&resourceVersion=4 => read a watch false 0 at 4
 List ?watch=true&resourceVersion=4&allowWatchBookmarks=true&timeoutSeconds=2147483647 => read a watch true 2147483647 at 4
 List ?watch=true&resourceVersionMatch=Exact&resourceVersion=4 => bad ResourceVersionMatch
@@ -295,20 +252,9 @@ List ?watch=true&labelSelector=(&resourceVersion=x => bad LabelSelector
 List ?watch=true&resourceVersionMatch=x&resourceVersion=x => bad ResourceVersion
 List ?watch=true&sendInitialEvents=x&resourceVersionMatch=x => bad ResourceVersionMatch
 List ?watch=true&sendInitialEvents=x&timeoutSeconds=x => bad SendInitialEvents
-";
-
-/// How a fault is printed.
-fn printed(alloc: Global, parameter: Parameter) -> Result<String, AllocError> {
-    let fault = ParamsFault::Bad(parameter);
-    format!(in alloc; "{fault}")
-}
+fault ?resourceVersionMatch=Exact => bad parameter: resourceVersionMatch"#;
 
 #[test]
-fn watches(rt: HostRuntime) -> Result<(), Fail> {
-    let alloc = rt.alloc();
-    expect_answers(alloc, &mut Readings, WATCHES)?;
-    expect_text(
-        printed(alloc, Parameter::ResourceVersionMatch)?,
-        "bad parameter: resourceVersionMatch",
-    )
+fn examples(rt: HostRuntime) -> Result<(), Fail> {
+    play_all(rt.alloc(), &mut Readings, EXAMPLES)
 }

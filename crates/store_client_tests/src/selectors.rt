@@ -1,10 +1,33 @@
 //! Examples of the documentation "Labels and Selectors", and texts that are no selector.
+//!
+//! | question | answer |
+//! |---|---|
+//! | `select {TEXT}` | whether the selector takes a frontend in production, and whether it takes an object with one label without a value |
+//! | `fault {TEXT}` | the fault of the selector |
+//! | `filled {TEXT}` | the same with a prefix of 253 bytes in place of each `P`, and a name of 63 in place of each `N` |
 
-use crate::rows::{Answers, expect_answers, repeated, told};
-use selector::{Fault, ReadError, Selector};
+use crate::rows::{Answers, first_word, play_all, repeated, told};
+use selector::{ReadError, Selector};
 use std::alloc::{AllocError, Global};
 use std::collections::BTreeMap;
 use std::test::Fail;
+
+#[derive(Drop)]
+struct Selectors;
+
+impl Answers for Selectors {
+    fn answer(&mut self, alloc: Global, question: &str) -> Result<String, Fail> {
+        let (call, text) = first_word(question);
+        let text = text.strip_prefix("{").ok_or("no brace")?;
+        let text = text.strip_suffix("}").ok_or("no brace")?;
+        match call {
+            "select" => selected(alloc, text),
+            "fault" => fault(alloc, text),
+            "filled" => fault(alloc, filled(alloc, text)?.as_str()),
+            _ => Err("no such call".into()),
+        }
+    }
+}
 
 fn put_label(
     alloc: Global,
@@ -18,122 +41,31 @@ fn put_label(
     Ok(())
 }
 
-/// The labels of a frontend in production.
-fn front(alloc: Global) -> Result<BTreeMap<String, String>, AllocError> {
+/// The labels `KEY=VALUE` between commas.
+fn labels(alloc: Global, words: &str) -> Result<BTreeMap<String, String>, Fail> {
     let mut labels = BTreeMap::new(alloc);
-    put_label(alloc, &mut labels, "environment", "production")?;
-    put_label(alloc, &mut labels, "tier", "frontend")?;
-    Ok(labels)
-}
-
-/// One label without a value.
-fn other(alloc: Global) -> Result<BTreeMap<String, String>, AllocError> {
-    let mut labels = BTreeMap::new(alloc);
-    put_label(alloc, &mut labels, "partition", "")?;
-    Ok(labels)
-}
-
-fn selects_both(
-    selector: &Selector,
-    front: &BTreeMap<String, String>,
-    other: &BTreeMap<String, String>,
-) -> (bool, bool) {
-    (selector.matches(front), selector.matches(other))
-}
-
-/// Whether the selector in braces takes the frontend, and whether it takes the other.
-#[derive(Drop)]
-struct Selections;
-
-impl Answers for Selections {
-    fn answer(&mut self, alloc: Global, question: &str) -> Result<String, Fail> {
-        selected(alloc, inside(question)?)
+    for word in words.split(',') {
+        let (key, value) = word.split_once('=').ok_or("no value")?;
+        put_label(alloc, &mut labels, key, value)?;
     }
-}
-
-/// The fault of the selector in braces.
-#[derive(Drop)]
-struct Faults;
-
-impl Answers for Faults {
-    fn answer(&mut self, alloc: Global, question: &str) -> Result<String, Fail> {
-        fault(alloc, inside(question)?)
-    }
-}
-
-fn inside(question: &str) -> Result<&str, Fail> {
-    let text = question.strip_prefix("{").ok_or("no brace")?;
-    Ok(text.strip_suffix("}").ok_or("no brace")?)
+    Ok(labels)
 }
 
 fn selected(alloc: Global, text: &str) -> Result<String, Fail> {
     let selector = Selector::read(alloc, text)?;
-    told(
-        alloc,
-        selects_both(&selector, &front(alloc)?, &other(alloc)?),
-    )
+    let front = labels(alloc, "environment=production,tier=frontend")?;
+    let other = labels(alloc, "partition=")?;
+    told(alloc, (selector.matches(&front), selector.matches(&other)))
 }
 
 fn fault(alloc: Global, text: &str) -> Result<String, Fail> {
     match Selector::read(alloc, text) {
         Ok(_) => Ok(String::from_str(alloc, "none")?),
-        Err(ReadError::Fault(fault)) => Ok(format!(in alloc; "{fault:?}")?),
+        Err(ReadError::Fault(fault)) => told(alloc, fault),
         Err(ReadError::Memory) => Err("no memory".into()),
     }
 }
 
-const SELECTED: &str = "{} => (true, true)
-{environment = production} => (true, false)
-{environment==production,tier!=frontend} => (false, false)
-{tier != frontend} => (false, true)
-{tier!=backend} => (true, true)
-{environment in (production, qa)} => (true, false)
-{environment in( qa,dev )} => (false, false)
-{tier notin (frontend, backend)} => (false, true)
-{partition} => (false, true)
-{!partition} => (true, false)
-{ ! partition , tier } => (true, false)
-{partition in ()} => (false, true)
-{partition=} => (false, true)
-{partition,environment notin (qa)} => (false, true)
-";
-
-#[test]
-fn selects_by_every_kind_of_part(rt: HostRuntime) -> Result<(), Fail> {
-    expect_answers(rt.alloc(), &mut Selections, SELECTED)
-}
-
-const FAULTS: &str = "{tier in (web, db),!old} => none
-{a,,b} => EmptyPart
-{-a=b} => BadKey
-{a=-b} => BadValue
-{a in (b} => Bracket
-{a,,b)} => Bracket
-{a in ((b))} => Bracket
-{a in (b)(c)} => Bracket
-{a=(b)} => Bracket
-{in (a)} => Bracket
-{-a in (-b)} => BadKey
-{a in (b,-c)} => BadValue
-{  } => EmptyPart
-{a,} => EmptyPart
-{=a} => BadKey
-{a===b} => BadValue
-{a=!b} => BadValue
-{app.kubernetes.io/name=web} => none
-{/name} => BadKey
-{a/b/c} => BadKey
-{a..b/c} => BadKey
-{A.b/c} => BadKey
-{ключ} => BadKey
-";
-
-#[test]
-fn the_first_fault_is_the_answer(rt: HostRuntime) -> Result<(), Fail> {
-    expect_answers(rt.alloc(), &mut Faults, FAULTS)
-}
-
-/// The text with a prefix of 253 bytes in place of each `P`, and a name of 63 in place of each `N`.
 fn filled(alloc: Global, pattern: &str) -> Result<String, AllocError> {
     let prefix = repeated(alloc, "b.", 126)?;
     let name = repeated(alloc, "a", 63)?;
@@ -160,24 +92,54 @@ fn push_filled(
     }
 }
 
-/// The fault of the selector in braces, filled.
-#[derive(Drop)]
-struct FaultsOfFilled;
+const EXAMPLES: &str = r#"selects_by_every_kind_of_part
+select {} => (true, true)
+select {environment = production} => (true, false)
+select {environment==production,tier!=frontend} => (false, false)
+select {tier != frontend} => (false, true)
+select {tier!=backend} => (true, true)
+select {environment in (production, qa)} => (true, false)
+select {environment in( qa,dev )} => (false, false)
+select {tier notin (frontend, backend)} => (false, true)
+select {partition} => (false, true)
+select {!partition} => (true, false)
+select { ! partition , tier } => (true, false)
+select {partition in ()} => (false, true)
+select {partition=} => (false, true)
+select {partition,environment notin (qa)} => (false, true)
 
-impl Answers for FaultsOfFilled {
-    fn answer(&mut self, alloc: Global, question: &str) -> Result<String, Fail> {
-        let text = filled(alloc, inside(question)?)?;
-        fault(alloc, text.as_str())
-    }
-}
+the_first_fault_is_the_answer
+fault {tier in (web, db),!old} => none
+fault {a,,b} => EmptyPart
+fault {-a=b} => BadKey
+fault {a=-b} => BadValue
+fault {a in (b} => Bracket
+fault {a,,b)} => Bracket
+fault {a in ((b))} => Bracket
+fault {a in (b)(c)} => Bracket
+fault {a=(b)} => Bracket
+fault {in (a)} => Bracket
+fault {-a in (-b)} => BadKey
+fault {a in (b,-c)} => BadValue
+fault {  } => EmptyPart
+fault {a,} => EmptyPart
+fault {=a} => BadKey
+fault {a===b} => BadValue
+fault {a=!b} => BadValue
+fault {app.kubernetes.io/name=web} => none
+fault {/name} => BadKey
+fault {a/b/c} => BadKey
+fault {a..b/c} => BadKey
+fault {A.b/c} => BadKey
+fault {ключ} => BadKey
 
-const FILLED: &str = "{P/N=N} => none
-{bP/N} => BadKey
-{aN} => BadKey
-{a=aN} => BadValue
-";
+names_have_63_bytes_and_prefixes_253
+filled {P/N=N} => none
+filled {bP/N} => BadKey
+filled {aN} => BadKey
+filled {a=aN} => BadValue"#;
 
 #[test]
-fn names_have_63_bytes_and_prefixes_253(rt: HostRuntime) -> Result<(), Fail> {
-    expect_answers(rt.alloc(), &mut FaultsOfFilled, FILLED)
+fn examples(rt: HostRuntime) -> Result<(), Fail> {
+    play_all(rt.alloc(), &mut Selectors, EXAMPLES)
 }

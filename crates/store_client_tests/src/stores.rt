@@ -1,12 +1,23 @@
 //! A store over a table: that the calls succeed where memory is ample, and what refused memory leaves.
+//!
+//! Each example is played on a store of its own; its first line is `NAME at REVISION`, where the store begins.
+//!
+//! | question | answer |
+//! |---|---|
+//! | `write KEY BODY`, `erase KEY`, `compact REVISION` | a change is made |
+//! | `write-anew KEY BODY`, `compact-anew REVISION` | a change between marks: whether it is done, or else leaves all as it was |
+//! | `get KEY`, `before KEY REVISION` | what stands under the key, or stood before the revision |
+//! | `list REVISION`, `changes REVISION` | how many objects stand at it; how many changes came in `default` after it |
+//! | `numbers`, `seen` | the current and the compacted revision; all that there is to be seen |
 
 use crate::marking::mark;
-use crate::rows::{Answers, done, expect_answers, first_word, number, told};
-use crate::tables::{LAST_REVISION, key, push_changes, push_page, table_at};
+use crate::rows::{Answers, done, first_word, number, play, told};
+use crate::tables::{first_of, key, push_changes, push_page, table_at};
 use history::Key;
 use revstore::{ChangesFault, CompactFault, ListFault, Store, WriteFault};
 use revtable::{Entry, Fault, Object};
 use std::alloc::{AllocError, Global};
+use std::mem;
 use std::test::Fail;
 
 fn write(store: &mut Store, key: &Key, body: &str) -> Result<u64, WriteFault> {
@@ -98,51 +109,6 @@ fn answer_at(alloc: Global, store: &mut Store, call: &str, revision: u64) -> Res
     }
 }
 
-/// The test fails where rows that a store which begins at this revision answers are answered otherwise.
-fn expect_played(alloc: Global, revision: u64, rows: &str) -> Result<(), Fail> {
-    expect_answers(alloc, &mut Store::new(table_at(alloc, revision)?), rows)
-}
-
-const FRESH: &str = "numbers => (1, 1)
-list 1 => Ok(0)
-list 2 => Err(TooLarge)
-list 0 => Err(Expired)
-compact 0 => Err(Expired)
-compact 2 => Err(TooLarge)
-compact 1 => Ok(())
-";
-
-#[test]
-fn a_fresh_store(rt: HostRuntime) -> Result<(), Fail> {
-    expect_played(rt.alloc(), 1, FRESH)
-}
-
-const DELETED: &str = "write w1 a => Ok(2)
-write w1 b => Ok(3)
-erase w1 => done
-get w1 => None
-changes 1 => Ok(3)
-before w1 4 => Some(Object { revision: 3, body: \"b\" })
-compact 4 => Ok(())
-numbers => (4, 4)
-changes 3 => Err(Expired)
-changes 4 => Ok(0)
-";
-
-#[test]
-fn a_deleted_object_until_it_is_compacted(rt: HostRuntime) -> Result<(), Fail> {
-    expect_played(rt.alloc(), 1, DELETED)
-}
-
-const USED_UP: &str = "write w1 a => Err(Exhausted)
-get w1 => None
-";
-
-#[test]
-fn revisions_are_used_up(rt: HostRuntime) -> Result<(), Fail> {
-    expect_played(rt.alloc(), LAST_REVISION, USED_UP)
-}
-
 /// All that there is to be seen: the numbers, what stood at the first and at the last of the two, and the changes
 /// between them.
 fn seen_of_store(store: &mut Store, alloc: Global) -> Result<String, Fail> {
@@ -178,20 +144,6 @@ fn write_anew(store: &mut Store, alloc: Global, key: &Key, body: &str) -> Result
     Ok(before.as_str() == after.as_str())
 }
 
-const WRITTEN_ANEW: &str = "write b b2 => Ok(2)
-write a a3 => Ok(3)
-write other/a o4 => Ok(4)
-erase b => done
-write a a6 => Ok(6)
-write-anew b b7 => true
-seen => 1 to 7;; default/a a6 6 default/b b7 7 other/a o4 4; default/b b2 2 default/a a3 3 other/a o4 4 default/b gone 5 default/a a6 6 default/b b7 7
-";
-
-#[test]
-fn a_write_that_is_refused_memory(rt: HostRuntime) -> Result<(), Fail> {
-    expect_played(rt.alloc(), 1, WRITTEN_ANEW)
-}
-
 fn is_compaction_refused(
     store: &mut Store,
     alloc: Global,
@@ -214,16 +166,76 @@ fn compact_anew(store: &mut Store, alloc: Global, revision: u64) -> Result<bool,
     Ok(before.as_str() == after.as_str())
 }
 
-const COMPACTED_ANEW: &str = "write b b2 => Ok(2)
+/// Plays an example on a store that begins at this revision. The store is not dropped, and no other function holds one.
+fn play_on_store(alloc: Global, revision: u64, example: &str) -> Result<(), Fail> {
+    let mut store = Store::new(table_at(alloc, revision)?);
+    let played = play(alloc, &mut store, example);
+    mem::forget(store);
+    played
+}
+
+/// Plays examples with blank lines between them, each on a store of its own.
+fn play_each(alloc: Global, examples: &str) -> Result<(), Fail> {
+    for example in examples.split("\n\n") {
+        play_on_store(alloc, first_of(example)?, example)?;
+    }
+    Ok(())
+}
+
+const EXAMPLES: &str = r#"a_fresh_store at 1
+numbers => (1, 1)
+list 1 => Ok(0)
+list 2 => Err(TooLarge)
+list 0 => Err(Expired)
+compact 0 => Err(Expired)
+compact 2 => Err(TooLarge)
+compact 1 => Ok(())
+
+a_deleted_object_until_it_is_compacted at 1
+write w1 a => Ok(2)
+write w1 b => Ok(3)
+erase w1 => done
+get w1 => None
+changes 1 => Ok(3)
+before w1 4 => Some(Object { revision: 3, body: "b" })
+compact 4 => Ok(())
+numbers => (4, 4)
+changes 3 => Err(Expired)
+changes 4 => Ok(0)
+
+revisions_are_used_up at 9223372036854775807
+write w1 a => Err(Exhausted)
+get w1 => None"#;
+
+#[test]
+fn examples(rt: HostRuntime) -> Result<(), Fail> {
+    play_each(rt.alloc(), EXAMPLES)
+}
+
+const WRITTEN_ANEW: &str = r#"a_write_that_is_refused_memory at 1
+write b b2 => Ok(2)
+write a a3 => Ok(3)
+write other/a o4 => Ok(4)
+erase b => done
+write a a6 => Ok(6)
+write-anew b b7 => true
+seen => 1 to 7;; default/a a6 6 default/b b7 7 other/a o4 4; default/b b2 2 default/a a3 3 other/a o4 4 default/b gone 5 default/a a6 6 default/b b7 7"#;
+
+#[test]
+fn a_write_that_is_refused_memory(rt: HostRuntime) -> Result<(), Fail> {
+    play_each(rt.alloc(), WRITTEN_ANEW)
+}
+
+const COMPACTED_ANEW: &str = r#"a_compaction_that_is_refused_memory at 1
+write b b2 => Ok(2)
 write a a3 => Ok(3)
 write other/a o4 => Ok(4)
 erase b => done
 write a a6 => Ok(6)
 compact-anew 5 => true
-seen => 5 to 6; default/a a3 3 other/a o4 4; default/a a6 6 other/a o4 4; default/a a6 6
-";
+seen => 5 to 6; default/a a3 3 other/a o4 4; default/a a6 6 other/a o4 4; default/a a6 6"#;
 
 #[test]
 fn a_compaction_that_is_refused_memory(rt: HostRuntime) -> Result<(), Fail> {
-    expect_played(rt.alloc(), 1, COMPACTED_ANEW)
+    play_each(rt.alloc(), COMPACTED_ANEW)
 }

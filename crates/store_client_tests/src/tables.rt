@@ -1,10 +1,22 @@
 //! Histories of objects in a table: that the calls succeed where memory is ample, and what refused memory leaves.
+//!
+//! Each example is played on a table of its own; its first line is `NAME at REVISION`, where the table begins.
+//!
+//! | question | answer |
+//! |---|---|
+//! | `add KEY BODY`, `remove KEY`, `prune REVISION` | a change is made |
+//! | `add-anew KEY BODY`, `prune-anew REVISION` | a change between marks: whether it is done, or else leaves all as it was |
+//! | `stood KEY REVISION` | what stood under the key |
+//! | `page NAMESPACE REVISION MAX`, `page-after KEY REVISION MAX` | a page, of a namespace or of all (`-`), or of all after a key |
+//! | `changes NAMESPACE FROM TO MAX` | the changes of a namespace or of all |
+//! | `marks`, `rows`, `seen` | the current and the compacted revision; how many rows there are; all that there is to be seen |
 
 use crate::marking::mark;
-use crate::rows::{Answers, done, expect_answers, first_word, number, told};
+use crate::rows::{Answers, done, first_word, number, play, told};
 use history::Key;
 use revtable::{Change, Entry, Fault, Marks, Object, Table};
 use std::alloc::{AllocError, Global};
+use std::mem;
 use std::test::Fail;
 
 pub const LAST_REVISION: u64 = i64::MAX as u64;
@@ -174,78 +186,6 @@ fn told_changes(alloc: Global, changes: &[Change]) -> Result<String, Fail> {
     Ok(text)
 }
 
-/// The test fails where rows that a table which begins at this revision answers are answered otherwise.
-fn expect_played(alloc: Global, revision: u64, rows: &str) -> Result<(), Fail> {
-    expect_answers(alloc, &mut table_at(alloc, revision)?, rows)
-}
-
-/// One key has five writes, another is made and deleted: a prune leaves what still stands or came later.
-const PRUNED: &str = "add w1 a => done
-add w1 b => done
-add w1 c => done
-add w1 d => done
-add w1 e => done
-add w2 f => done
-remove w2 => done
-marks => (8, 1)
-rows => 6
-prune 5 => done
-rows => 3
-prune 8 => done
-rows => 1
-marks => (8, 8)
-";
-
-#[test]
-fn rows_after_a_prune(rt: HostRuntime) -> Result<(), Fail> {
-    expect_played(rt.alloc(), 1, PRUNED)
-}
-
-const HIGHEST: &str = "add w1 a => done
-marks => (9223372036854775807, 9223372036854775806)
-stood w1 18446744073709551615 => Some(Object { revision: 9223372036854775807, body: \"a\" })
-page - 18446744073709551615 18446744073709551615 => ; default/w1 a 9223372036854775807
-prune 18446744073709551615 => done
-rows => 1
-";
-
-#[test]
-fn the_highest_revision(rt: HostRuntime) -> Result<(), Fail> {
-    expect_played(rt.alloc(), LAST_REVISION - 1, HIGHEST)
-}
-
-/// Pages of all and of one namespace, whole and after a key, of ten and of one.
-const PAGES: &str = "add b b2 => done
-add a a3 => done
-add other/a o4 => done
-remove b => done
-add a a6 => done
-page - 4 10 => ; default/a a3 3 default/b b2 2 other/a o4 4
-page default 6 10 => ; default/a a6 6
-page-after default/a 4 10 => ; default/b b2 2 other/a o4 4
-page-after default/a 4 1 => ; default/b b2 2
-";
-
-#[test]
-fn pages_are_in_the_order_of_keys(rt: HostRuntime) -> Result<(), Fail> {
-    expect_played(rt.alloc(), 1, PAGES)
-}
-
-/// The changes of `default` after revision 2 up to 6, and the first two of all after 1.
-const CHANGES: &str = "add b b2 => done
-add a a3 => done
-add other/a o4 => done
-remove b => done
-add a a6 => done
-changes default 2 6 10 => ; default/a a3 3 default/b gone 5 default/a a6 6
-changes - 1 6 2 => ; default/b b2 2 default/a a3 3
-";
-
-#[test]
-fn changes_are_in_the_order_of_revisions(rt: HostRuntime) -> Result<(), Fail> {
-    expect_played(rt.alloc(), 1, CHANGES)
-}
-
 fn push_line(
     text: &mut String,
     alloc: Global,
@@ -323,20 +263,6 @@ fn put_anew(table: &mut Table, alloc: Global, key: &Key, body: &str) -> Result<b
     Ok(before.as_str() == after.as_str())
 }
 
-const PUT_ANEW: &str = "add b b2 => done
-add a a3 => done
-add other/a o4 => done
-remove b => done
-add a a6 => done
-add-anew b b7 => true
-seen => 1 to 7 in 5;; default/a a6 6 default/b b7 7 other/a o4 4; default/b b2 2 default/a a3 3 other/a o4 4 default/b gone 5 default/a a6 6 default/b b7 7
-";
-
-#[test]
-fn a_put_that_is_refused_memory(rt: HostRuntime) -> Result<(), Fail> {
-    expect_played(rt.alloc(), 1, PUT_ANEW)
-}
-
 fn is_prune_refused(table: &mut Table, alloc: Global, revision: u64) -> Result<bool, AllocError> {
     mark(alloc)?;
     let is_refused = prune(table, revision).is_err();
@@ -355,16 +281,105 @@ fn prune_anew(table: &mut Table, alloc: Global, revision: u64) -> Result<bool, F
     Ok(before.as_str() == after.as_str())
 }
 
-const PRUNED_ANEW: &str = "add b b2 => done
+/// The revision at which an example's table or store begins.
+pub fn first_of(example: &str) -> Result<u64, Fail> {
+    let (_, words) = example.split_once(" at ").ok_or("no first revision")?;
+    let (words, _) = words.split_once('\n').ok_or("no rows")?;
+    let (first, _) = words.split_once(':').unwrap_or((words, ""));
+    number(first)
+}
+
+/// Plays an example on a table that begins at this revision. The table is not dropped, and no other function holds one: one
+/// that drops a table takes a minute to prove.
+fn play_on_table(alloc: Global, revision: u64, example: &str) -> Result<(), Fail> {
+    let mut table = table_at(alloc, revision)?;
+    let played = play(alloc, &mut table, example);
+    mem::forget(table);
+    played
+}
+
+/// Plays examples with blank lines between them, each on a table of its own.
+fn play_each(alloc: Global, examples: &str) -> Result<(), Fail> {
+    for example in examples.split("\n\n") {
+        play_on_table(alloc, first_of(example)?, example)?;
+    }
+    Ok(())
+}
+
+const EXAMPLES: &str =
+    r#"rows_after_a_prune at 1: one key has five writes, another is made and deleted: a prune leaves what still stands or came later
+add w1 a => done
+add w1 b => done
+add w1 c => done
+add w1 d => done
+add w1 e => done
+add w2 f => done
+remove w2 => done
+marks => (8, 1)
+rows => 6
+prune 5 => done
+rows => 3
+prune 8 => done
+rows => 1
+marks => (8, 8)
+
+the_highest_revision at 9223372036854775806
+add w1 a => done
+marks => (9223372036854775807, 9223372036854775806)
+stood w1 18446744073709551615 => Some(Object { revision: 9223372036854775807, body: "a" })
+page - 18446744073709551615 18446744073709551615 => ; default/w1 a 9223372036854775807
+prune 18446744073709551615 => done
+rows => 1
+
+pages_are_in_the_order_of_keys at 1: of all and of one namespace, whole and after a key, of ten and of one
+add b b2 => done
+add a a3 => done
+add other/a o4 => done
+remove b => done
+add a a6 => done
+page - 4 10 => ; default/a a3 3 default/b b2 2 other/a o4 4
+page default 6 10 => ; default/a a6 6
+page-after default/a 4 10 => ; default/b b2 2 other/a o4 4
+page-after default/a 4 1 => ; default/b b2 2
+
+changes_are_in_the_order_of_revisions at 1: those of `default` after 2 up to 6, and the first two of all after 1
+add b b2 => done
+add a a3 => done
+add other/a o4 => done
+remove b => done
+add a a6 => done
+changes default 2 6 10 => ; default/a a3 3 default/b gone 5 default/a a6 6
+changes - 1 6 2 => ; default/b b2 2 default/a a3 3"#;
+
+#[test]
+fn examples(rt: HostRuntime) -> Result<(), Fail> {
+    play_each(rt.alloc(), EXAMPLES)
+}
+
+const PUT_ANEW: &str = r#"a_put_that_is_refused_memory at 1
+add b b2 => done
+add a a3 => done
+add other/a o4 => done
+remove b => done
+add a a6 => done
+add-anew b b7 => true
+seen => 1 to 7 in 5;; default/a a6 6 default/b b7 7 other/a o4 4; default/b b2 2 default/a a3 3 other/a o4 4 default/b gone 5 default/a a6 6 default/b b7 7"#;
+
+#[test]
+fn a_put_that_is_refused_memory(rt: HostRuntime) -> Result<(), Fail> {
+    play_each(rt.alloc(), PUT_ANEW)
+}
+
+const PRUNED_ANEW: &str = r#"a_prune_that_is_refused_memory at 1
+add b b2 => done
 add a a3 => done
 add other/a o4 => done
 remove b => done
 add a a6 => done
 prune-anew 5 => true
-seen => 5 to 6 in 3; default/a a3 3 other/a o4 4; default/a a6 6 other/a o4 4; default/a a6 6
-";
+seen => 5 to 6 in 3; default/a a3 3 other/a o4 4; default/a a6 6 other/a o4 4; default/a a6 6"#;
 
 #[test]
 fn a_prune_that_is_refused_memory(rt: HostRuntime) -> Result<(), Fail> {
-    expect_played(rt.alloc(), 1, PRUNED_ANEW)
+    play_each(rt.alloc(), PRUNED_ANEW)
 }
