@@ -9,16 +9,17 @@
 //! | `fields SET` | its FieldsV1 value under the widgets' schema |
 //! | `over MAP and MAP`, `under ..`, `changed-over ..`, `changed-under ..`, `without ..`, `changed ..`, `copy ..` | the paths of what is made of two maps |
 //! | `holds PATH=VALUE in MAP` | whether the value stands at the path |
-//! | `simplest` | whether a new set is empty, a leaf has the empty path, and a branch of nothing has none |
+//! | `children ELEMENT=VALUE,..` | of each value that is put below an element, whether it was put; then the children, in order |
+//! | `below ELEMENT in MAP` | what stands at the element itself |
+//! | `simplest` | whether a new set and a new map are empty, a leaf has the empty path, and a marked map has a mark there |
 
 use crate::contents::written;
 use crate::given::{WIDGET_TYPES, first_schema, path, shown_paths, types_of};
 use crate::rows::{Answers, first_word, play_all, told};
-use fieldpath::Path;
+use fieldpath::{ElemText, Path};
 use fieldset::FieldSet;
 use pathmap::{Held, PathMap, put_over, put_under};
 use std::alloc::{AllocError, Global};
-use std::collections::BTreeMap;
 use std::test::Fail;
 
 #[derive(Drop)]
@@ -32,6 +33,8 @@ impl Answers for Sets {
             "find" => found(alloc, words),
             "fields" => fields_v1(alloc, words),
             "holds" => is_held(alloc, words),
+            "children" => children(alloc, words),
+            "below" => below(alloc, words),
             "simplest" => simplest(alloc),
             _ => of_two_maps(alloc, call, words),
         }
@@ -148,12 +151,43 @@ fn is_held(alloc: Global, words: &str) -> Result<String, Fail> {
     told(alloc, held.try_copy()?.same(&value_of(alloc, value)?))
 }
 
+fn element(alloc: Global, text: &str) -> Result<ElemText, Fail> {
+    Ok(ElemText::read(alloc, text).ok().ok_or("no element")?)
+}
+
+fn children(alloc: Global, values: &str) -> Result<String, Fail> {
+    let mut map = PathMap::empty(alloc);
+    let mut shown = String::new(alloc);
+    for value in values.split(',') {
+        let (name, value) = value.split_once('=').ok_or("no value")?;
+        let leaf = PathMap::leaf(alloc, value_of(alloc, value)?);
+        let is_put = map.insert_child(element(alloc, name)?, leaf)?;
+        shown.push_str(if is_put { "put " } else { "taken " })?;
+    }
+    shown.push_str("children")?;
+    for (name, _) in map.children() {
+        shown.push(' ')?;
+        shown.push_str(name.as_str())?;
+    }
+    Ok(shown)
+}
+
+fn below(alloc: Global, words: &str) -> Result<String, Fail> {
+    let (name, values) = words.split_once(" in ").ok_or("no map")?;
+    let map = map(alloc, values)?;
+    let child = map.child(&element(alloc, name)?).ok_or("no child")?;
+    let held = child.held().ok_or("nothing is held")?;
+    told(alloc, held)
+}
+
 fn simplest(alloc: Global) -> Result<String, Fail> {
     let leaf = PathMap::leaf(alloc, Held::Whole(1));
-    let branch = PathMap::branch(BTreeMap::new(alloc));
     let has_empty_path = leaf.get(&Path::new(alloc)).is_some();
+    let mut map = PathMap::empty(alloc);
+    let is_bare = map.is_bare();
+    map.mark();
     let is_empty = FieldSet::new(alloc).is_empty();
-    told(alloc, (is_empty, has_empty_path, branch.is_bare()))
+    told(alloc, (is_empty, is_bare, has_empty_path, map.held()))
 }
 
 const EXAMPLES: &str = r#"set_operations
@@ -181,9 +215,11 @@ changed f:a=x,f:b=1,f:c f:d=2 and f:a=y,f:b=1,f:c=3 => paths .a .c.d
 copy f:a=x,f:b=1,f:c f:d=2 and f:a=y,f:b=1,f:c=3 => paths .a .b .c.d
 holds f:a=1 in f:a=1,f:b=x => true
 holds f:b=1 in f:a=1,f:b=x => false
+children f:b=1,f:a=2,f:b=3,f:c=4 => put put taken put children f:a f:b f:c
+below f:b in f:a=1,f:b=2,f:b f:c=3 => Whole(2)
 
 simplest_sets_and_maps
-simplest => (true, true, true)"#;
+simplest => (true, true, true, Some(Mark))"#;
 
 #[test]
 fn examples(rt: HostRuntime) -> Result<(), Fail> {

@@ -1,14 +1,12 @@
 -- Texts that are put together of pieces.
-use Rattle.std.proofs.Common.{◌≡◌, ℕ, Bool, true, false, cond, List, [], ◌∷◌, ◌++◌, String, Global, string_bytes, sym, ap, ap₂, ◌∙◌, append_assoc, append-nil}
+use Rattle.std.proofs.Common.{◌≡◌, ℕ, Bool, true, false, List, [], ◌∷◌, ◌++◌, sym, ap, ap₂, ◌∙◌, append_assoc, append-nil}
 use Rattle.json.specs.Print.{print, print_from, quoted, token_text}
 use Rattle.json.specs.Token.{Token}
 use Rattle.json.specs.Written.{Written}
-use Rattle.serde_json.specs.Data.{Members, member, object}
+use Rattle.serde_json.specs.Data.{Members, object}
 use Rattle.serde_json.specs.Written.{comma_if, compact_text, members_text}
 use Rattle.pathmap.specs.Contents.{Content}
-use Rattle.pathmap.specs.declared.pathmap.PathMap.{PathMap}
-use Rattle.pathmap.proofs.Insides.{is_full, marks_in}
-use Rattle.fieldset.proofs.Walks.{each_child}
+use Rattle.fieldset.proofs.Walks.{each_child, marks_in, Named}
 
 -- a writer of one token after what was there
 pub one_token : (w v : Written) (t : Token) (start out : List ℕ) → w.before ≡ start → w.tokens ≡ [] → v.before ≡ w.before → v.tokens ≡ w.tokens ++ t ∷ [] → out ≡ v.before ++ print v.tokens → out ≡ start ++ token_text t
@@ -28,18 +26,11 @@ opened ms old one new bracket members = members ∙ ap (λ x. x ++ members_text 
 
 -- ---- children, one after another
 
-abbrev pub Children : Type 0
-Children = List (String Global × PathMap)
-
-module _ (inner : List ℕ → Content → Members) (it left : Children) (e : String Global × PathMap) (steps : it ≡ e ∷ left) (later : Bool) (out whole : List ℕ) (before : out ++ members_text later (each_child inner it) ≡ whole) where
-  pub child_bare : is_full e.1 ≡ false → out ++ members_text later (each_child inner left) ≡ whole
-  child_bare bare = sym (ap (λ l. out ++ members_text later (each_child inner l)) steps ∙ ap (λ b. out ++ members_text later (cond b (member (string_bytes e.0) (object (inner (string_bytes e.0) (marks_in e.1))) (each_child inner left)) (each_child inner left))) bare) ∙ before
-
-  pub child_pushed : (one two three : List ℕ) → is_full e.1 ≡ true → one ≡ out ++ comma_if later → two ≡ one ++ (quoted (string_bytes e.0) ++ 58 ∷ [])
-      → three ≡ two ++ compact_text (object (inner (string_bytes e.0) (marks_in e.1))) → three ++ members_text true (each_child inner left) ≡ whole
-  child_pushed one two three some comma name value =
-      let k = string_bytes e.0 in
-      let d = object (inner k (marks_in e.1)) in
-      ap (λ x. x ++ members_text true (each_child inner left)) (value ∙ ap (λ a. a ++ compact_text d) (name ∙ ap (λ a. a ++ (quoted k ++ 58 ∷ [])) comma))
-      ∙ regroup out (comma_if later) (quoted k) (compact_text d) (members_text true (each_child inner left))
-      ∙ sym (ap (λ l. out ++ members_text later (each_child inner l)) steps ∙ ap (λ b. out ++ members_text later (cond b (member k d (each_child inner left)) (each_child inner left))) some) ∙ before
+pub child_pushed : (inner : List ℕ → Content → Members) (it left : Named) (e : List ℕ × Content) → it ≡ e ∷ left → (later : Bool) (out whole : List ℕ) → out ++ members_text later (each_child inner it) ≡ whole
+    → (one two three : List ℕ) → one ≡ out ++ comma_if later → two ≡ one ++ (quoted e.0 ++ 58 ∷ []) → three ≡ two ++ compact_text (object (inner e.0 (marks_in e.1)))
+    → three ++ members_text true (each_child inner left) ≡ whole
+child_pushed inner it left e steps later out whole before one two three comma name value =
+    let d = object (inner e.0 (marks_in e.1)) in
+    ap (λ x. x ++ members_text true (each_child inner left)) (value ∙ ap (λ a. a ++ compact_text d) (name ∙ ap (λ a. a ++ (quoted e.0 ++ 58 ∷ [])) comma))
+    ∙ regroup out (comma_if later) (quoted e.0) (compact_text d) (members_text true (each_child inner left))
+    ∙ sym (ap (λ l. out ++ members_text later (each_child inner l)) steps) ∙ before

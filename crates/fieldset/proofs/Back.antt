@@ -16,7 +16,9 @@ use Rattle.fieldpath.specs.Elements.{name_text, read_element}
 use Rattle.pathmap.specs.Contents.{Standing, Content, dom, marked, nothing, over, under}
 use Rattle.pathmap.specs.Insides.{heads, inside}
 use Rattle.pathmap.proofs.Contents.{either, either-None, get-nothing, get-over, get-under, get-under-top, nothing-over, same}
-use Rattle.pathmap.proofs.Heads.{has_path, heads-inside, nothing_path, one_path, rising, some_path}
+use Rattle.pathmap.specs.Levels.{has_path}
+use Rattle.pathmap.proofs.Heads.{heads-inside, one_path, rising, some_path}
+use Rattle.pathmap.proofs.Levels.{nothing_path}
 use Rattle.pathmap.proofs.Insides.{get-inside}
 use Rattle.pathmap.proofs.Order.{get-marked}
 use Rattle.pathmap.proofs.Sets.{contains-dom}

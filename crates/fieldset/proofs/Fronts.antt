@@ -12,7 +12,8 @@ use Rattle.fieldpath.specs.Elements as element
 use Rattle.fieldpath.specs.Scalars.{ascend}
 use Rattle.pathmap.specs.Contents.{Content}
 use Rattle.pathmap.specs.Insides.{heads, inside}
-use Rattle.pathmap.proofs.Heads.{has_path, heads-inside, some_path}
+use Rattle.pathmap.specs.Levels.{has_path}
+use Rattle.pathmap.proofs.Heads.{heads-inside, some_path}
 use Rattle.pathmap.proofs.Insides.{get-inside}
 use Rattle.schema.specs.Lawful.{are_well_formed, has_keys, is_some_name, is_some_scalar, is_well_formed, item_is_lawful, names_of}
 use Rattle.schema.specs.Place.{fits, fit_keys}

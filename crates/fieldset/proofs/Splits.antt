@@ -13,7 +13,7 @@ use Rattle.pathmap.specs.Insides.{heads, inside}
 use Rattle.pathmap.proofs.Contents.{either, either-None, get-here-below, get-nothing, get-over, get-under, get-under-top, path_cmp_antisymmetric, same}
 use Rattle.pathmap.proofs.Heads.{heads-inside, no_path}
 use Rattle.pathmap.proofs.Insides.{get-inside}
-use Rattle.pathmap.proofs.Merging.{get-here-top}
+use Rattle.pathmap.proofs.Levels.{get-here-top}
 use Rattle.fieldset.specs.Reading.{top}
 
 abbrev pub mark_when : Bool → Option Standing

@@ -1,31 +1,32 @@
 -- The reader's loop over the members of an object, as far as it has come.
-use Rattle.std.proofs.Common.{◌≡◌, ℕ, Bool, true, false, List, [], ◌∷◌, length, None, Ok, Err, is_eq, nat_cmp, string_cmp, Less, String, Global, string_bytes, refl, sym, ap, ap₂, subst, ◌∙◌, arith, IsTrue}
+use Rattle.std.proofs.Common.{◌≡◌, ◌&&◌, ℕ, Bool, true, false, cond, is_eq, List, [], ◌∷◌, length, None, Ok, Err, nat_cmp, string_cmp, Less, String, Global, string_bytes, refl, sym, ap, ap₂, subst, ◌∙◌, arith, IsTrue, true≢false}
 use Rattle.std.specs.declared.result.Result.{Result}
-use Rattle.std.specs.Ordering.{ordering_reverse}
 use Rattle.std.specs.Cmp.Lexicographic.{slice_cmp}
+use Rattle.std.specs.FinMap as fin
 use Rattle.std.specs.List.{AllByRecursion}
 use Rattle.std.specs.List.Sorted.{IsStrictlySortedBy}
 use Rattle.std.specs.Map.{keys_of}
+use Rattle.std.specs.Ordering.{ordering_reverse}
 use Rattle.std.proofs.lemmas.Cmp.{nat_list_cmp_total}
 use Rattle.std.proofs.lemmas.Map.Keys.{sorted_head, sorted_tail}
-use Rattle.serde_json.specs.Data.{Members}
+use Rattle.serde_json.specs.Data.{Members, object}
 use Rattle.serde_json.specs.View.{members_view, view}
 use Rattle.serde_json.specs.declared.value.Value.{Value}
-use Rattle.pathmap.specs.Contents.{Content, nothing, gather, over}
-use Rattle.pathmap.specs.Maps.{at_name, contents_in}
-use Rattle.pathmap.specs.declared.pathmap.PathMap.{PathMap}
-use Rattle.pathmap.proofs.Contents.{nothing-over, over-nothing, over-over}
+use Rattle.pathmap.specs.Contents.{Content, nothing, over, under}
+use Rattle.pathmap.specs.Insides.{inside}
+use Rattle.pathmap.specs.Levels.{has_path}
+use Rattle.pathmap.proofs.Contents.{either, either-None, get-over, get-under, nothing-over, over-nothing, over-over, same}
+use Rattle.pathmap.proofs.Heads.{inside-nothing}
+use Rattle.pathmap.proofs.Insides.{get-inside}
+use Rattle.pathmap.proofs.Levels.{nothing_path}
 use Rattle.schema.specs.Steps.{Spot}
 use Rattle.fieldset.specs.declared.fault.FieldsV1Fault.{FieldsV1Fault}
 use Rattle.fieldset.specs.declared.fault.FieldsV1Fault.TheVariants as fault
-use Rattle.fieldset.specs.Reading.{Reading, Refusal, and_then, is_empty, joined, read_at, read_member, read_members}
+use Rattle.fieldset.specs.Reading.{Reading, Refusal, and_then, are_due, is_empty, is_marked, joined, not_canonical, read_at, read_member, read_members, top}
 use Rattle.fieldset.specs.Seen.{Fails, Gives}
 
 abbrev pub Entry : Type 0
 Entry = String Global × Value
-
-abbrev pub Entries : Type 0
-Entries = List (String Global × PathMap)
 
 pub joined-nothing : (a : Reading) → joined (Ok nothing) a ≡ a
 joined-nothing (Ok c) = ap Ok (nothing-over c)
@@ -58,72 +59,90 @@ passed_on view e f r read is same h = subst (λ s. Gives view s read) (sym is) (
 
 -- ---- the loop
 
--- no member that is left has anything under its name
-abbrev pub AreNew : Entries → List Entry → Type 0
-AreNew ns it = AllByRecursion (λ e. at_name (string_bytes e.0) ns ≡ None) it
+-- nothing stands at the names that are left
+abbrev pub AllFree : Content → List Entry → Type 0
+AllFree c it = AllByRecursion (λ e. inside (string_bytes e.0) c ≡ nothing) it
 
-new_to_none : (ns : Entries) (it : List Entry) → ns ≡ [] → AreNew ns it
-new_to_none ns [] none = tt
-new_to_none ns (e ∷ it) none = (ap (at_name (string_bytes e.0)) none, new_to_none ns it none)
+free_nothing : (it : List Entry) → AllFree nothing it
+free_nothing [] = tt
+free_nothing (e ∷ it) = (inside-nothing (string_bytes e.0), free_nothing it)
 
-still_new : (k : String Global) (ns ms : Entries) (left : List Entry) → AllByRecursion (λ y. string_cmp k y ≡ Less) (keys_of left)
-    → ((g : List ℕ) → is_eq (slice_cmp nat_cmp g (string_bytes k)) ≡ false → at_name g ms ≡ at_name g ns) → AreNew ns left → AreNew ms left
-still_new k ns ms [] above others new = tt
-still_new k ns ms (e ∷ left) above others new =
-    let apart = ap is_eq (nat_list_cmp_total.antisymm (string_bytes e.0) (string_bytes k) ∙ ap ordering_reverse above.0) in
-    (others (string_bytes e.0) apart ∙ new.0, still_new k ns ms left above.1 others new.1)
+-- what is put below an element changes nothing at an element after it
+inside_other : (f g : List ℕ) (c m : Content) → slice_cmp nat_cmp f g ≡ Less → inside g (over c (under f m)) ≡ inside g c
+inside_other f g c m less = same (inside g (over c (under f m))) (inside g c) (λ q.
+    get-inside g (over c (under f m)) q ∙ get-over c (under f m) (g ∷ q)
+    ∙ ap (either (fin.get c (g ∷ q))) (get-under f m g q ∙ ap (λ o. cond (is_eq o) (fin.get m q) None) (nat_list_cmp_total.antisymm g f ∙ ap ordering_reverse less))
+    ∙ either-None (fin.get c (g ∷ q)) ∙ sym (get-inside g c q))
+
+free_put : (k : String Global) (c m : Content) (left : List Entry) → AllByRecursion (λ y. string_cmp k y ≡ Less) (keys_of left) → AllFree c left → AllFree (over c (under (string_bytes k) m)) left
+free_put k c m [] above free = tt
+free_put k c m (e ∷ left) above free = (inside_other (string_bytes k) (string_bytes e.0) c m above.0 ∙ free.0, free_put k c m left above.1 free.1)
+
+-- where nothing stood, what a map holds was put
+was_put : (b : Bool) (k : List ℕ) (c d m : Content) → inside k c ≡ nothing → (b ≡ true → d ≡ over c (under k m)) → (b ≡ false → has_path (inside k c) ≡ true) → d ≡ over c (under k m)
+was_put true k c d m free put taken = put refl
+was_put false k c d m free put taken = absurd (true≢false (sym (taken refl) ∙ ap has_path free ∙ nothing_path))
 
 -- what is there, joined with what the members that are left say, is what all say
-abbrev pub IsSoFar : Spot → Members → Reading → Entries → List Entry → Type 0
-IsSoFar spot beside whole ns it = (joined (Ok (gather (contents_in ns))) (read_members spot beside (members_view it)) ≡ whole) × IsStrictlySortedBy string_cmp (keys_of it) × AreNew ns it
+abbrev pub IsSoFar : Spot → Members → Reading → Content → List Entry → Type 0
+IsSoFar spot beside whole c it = (joined (Ok c) (read_members spot beside (members_view it)) ≡ whole) × IsStrictlySortedBy string_cmp (keys_of it) × AllFree c it
 
 module _ (spot : Spot) (beside : Members) where
-  pub begin : (ns : Entries) (it all : List Entry) → ns ≡ [] → it ≡ all → IsStrictlySortedBy string_cmp (keys_of all) → IsSoFar spot beside (read_members spot beside (members_view all)) ns it
-  begin ns it all none is sorted = (
-    ap₂ (λ l m. joined (Ok (gather (contents_in l))) (read_members spot beside (members_view m))) none is ∙ joined-nothing (read_members spot beside (members_view all)),
+  pub begin : (c : Content) (it all : List Entry) → c ≡ nothing → it ≡ all → IsStrictlySortedBy string_cmp (keys_of all) → IsSoFar spot beside (read_members spot beside (members_view all)) c it
+  begin c it all none is sorted = (
+    ap₂ (λ d m. joined (Ok d) (read_members spot beside (members_view m))) none is ∙ joined-nothing (read_members spot beside (members_view all)),
     subst (λ es. IsStrictlySortedBy string_cmp (keys_of es)) (sym is) sorted,
-    new_to_none ns it none,
+    subst (λ d. AllFree d it) (sym none) (free_nothing it),
   )
 
-  module _ (whole : Reading) (ns : Entries) (it : List Entry) where
-    pub finish : it ≡ [] → IsSoFar spot beside whole ns it → whole ≡ Ok (gather (contents_in ns))
-    finish none so_far = sym so_far.0 ∙ ap (λ es. joined (Ok (gather (contents_in ns))) (read_members spot beside (members_view es))) none ∙ joined-none (gather (contents_in ns))
+  module _ (whole : Reading) (c : Content) (it : List Entry) where
+    pub finish : it ≡ [] → IsSoFar spot beside whole c it → whole ≡ Ok c
+    finish none so_far = sym so_far.0 ∙ ap (λ es. joined (Ok c) (read_members spot beside (members_view es))) none ∙ joined-none c
 
-    module _ (e : Entry) (left : List Entry) (steps : it ≡ e ∷ left) (so_far : IsSoFar spot beside whole ns it) where
+    module _ (e : Entry) (left : List Entry) (steps : it ≡ e ∷ left) (so_far : IsSoFar spot beside whole c it) where
       sorted_it : IsStrictlySortedBy string_cmp (keys_of (e ∷ left))
       sorted_it = subst (λ es. IsStrictlySortedBy string_cmp (keys_of es)) steps so_far.1
 
       left_sorted : IsStrictlySortedBy string_cmp (keys_of left)
       left_sorted = sorted_tail string_cmp e.0 (keys_of left) sorted_it
 
-      pub is_new : at_name (string_bytes e.0) ns ≡ None
-      is_new = (subst (AreNew ns) steps so_far.2).0
+      free : AllFree c (e ∷ left)
+      free = subst (AllFree c) steps so_far.2
 
       abbrev pub one : Reading
       one = read_member spot beside (string_bytes e.0) (view e.1) (λ next. read_at next (view e.1))
 
-      there : joined (Ok (gather (contents_in ns))) (joined one (read_members spot beside (members_view left))) ≡ whole
-      there = sym (ap (λ es. joined (Ok (gather (contents_in ns))) (read_members spot beside (members_view es))) steps) ∙ so_far.0
+      there : joined (Ok c) (joined one (read_members spot beside (members_view left))) ≡ whole
+      there = sym (ap (λ es. joined (Ok c) (read_members spot beside (members_view es))) steps) ∙ so_far.0
 
-      pub nothing_added : one ≡ Ok nothing → IsSoFar spot beside whole ns left
+      pub nothing_added : one ≡ Ok nothing → IsSoFar spot beside whole c left
       nothing_added is = (
-        ap (joined (Ok (gather (contents_in ns)))) (sym (ap (λ r. joined r (read_members spot beside (members_view left))) is ∙ joined-nothing (read_members spot beside (members_view left)))) ∙ there,
+        ap (joined (Ok c)) (sym (ap (λ r. joined r (read_members spot beside (members_view left))) is ∙ joined-nothing (read_members spot beside (members_view left)))) ∙ there,
         left_sorted,
-        (subst (AreNew ns) steps so_far.2).1,
+        free.1,
       )
 
-      pub added : (c : Content) (ms : Entries) → one ≡ Ok c → gather (contents_in ms) ≡ over (gather (contents_in ns)) c
-          → ((g : List ℕ) → is_eq (slice_cmp nat_cmp g (string_bytes e.0)) ≡ false → at_name g ms ≡ at_name g ns) → IsSoFar spot beside whole ms left
-      added c ms is adds others = (
-        ap (λ x. joined (Ok x) (read_members spot beside (members_view left))) adds
-            ∙ joined-joined (Ok (gather (contents_in ns))) (Ok c) (read_members spot beside (members_view left))
-            ∙ ap (λ r. joined (Ok (gather (contents_in ns))) (joined r (read_members spot beside (members_view left)))) (sym is) ∙ there,
-        left_sorted,
-        still_new e.0 ns ms left (sorted_head string_cmp e.0 (keys_of left) sorted_it) others (subst (AreNew ns) steps so_far.2).1,
-      )
+      -- a map put below the name of this member
+      pub added : (k : List ℕ) (m d : Content) (b : Bool) → one ≡ Ok (under k m) → k ≡ string_bytes e.0 → (b ≡ true → d ≡ over c (under k m)) → (b ≡ false → has_path (inside k c) ≡ true) → IsSoFar spot beside whole d left
+      added k m d b is named put taken =
+          let f = string_bytes e.0 in
+          let there_now : d ≡ over c (under k m) = was_put b k c d m (ap (λ g. inside g c) named ∙ free.0) put taken in (
+            ap (λ x. joined (Ok x) (read_members spot beside (members_view left))) there_now
+                ∙ joined-joined (Ok c) (Ok (under k m)) (read_members spot beside (members_view left))
+                ∙ ap (λ r. joined (Ok c) (joined r (read_members spot beside (members_view left)))) (sym is) ∙ there,
+            left_sorted,
+            subst (λ x. AllFree x left) (sym (there_now ∙ ap (λ g. over c (under g m)) named)) (free_put e.0 c m left (sorted_head string_cmp e.0 (keys_of left) sorted_it) free.1),
+          )
 
       pub failed : (f : FieldsV1Fault) → Fails f one → Fails f whole
-      failed f = fails-by f one whole (λ x is. sym there ∙ ap (λ r. joined (Ok (gather (contents_in ns))) (joined r (read_members spot beside (members_view left)))) is)
+      failed f = fails-by f one whole (λ x is. sym there ∙ ap (λ r. joined (Ok c) (joined r (read_members spot beside (members_view left)))) is)
+
+-- ---- an object, with what stands at its own path over its members
+
+pub at_object : (s : Spot) (ms : Members) (c d : Content) → (are_due s && is_empty ms) ≡ false → read_members s ms ms ≡ Ok c → d ≡ over (top (is_marked s ms)) c → read_at s (object ms) ≡ Ok d
+at_object s ms c d is_due is topped =
+    ap (λ b. cond b (let read : Reading = Err not_canonical in read) (joined (Ok (top (is_marked s ms))) (read_members s ms ms))) is_due
+    ∙ ap (joined (Ok (top (is_marked s ms)))) is ∙ ap Ok (sym topped)
 
 -- ---- empty objects
 

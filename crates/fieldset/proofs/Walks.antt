@@ -1,40 +1,136 @@
 -- The members of a map's paths, put one after another.
-use Rattle.std.proofs.Common.{◌≡◌, ℕ, Bool, true, false, cond, is_eq, nat_cmp, string_cmp, List, [], ◌∷◌, Some, String, Global, string_bytes, refl, sym, ap, ap₂, ◌∙◌, true≢false, Less, Greater}
+use Rattle.std.proofs.Common.{◌≡◌, ◌≤◌, ◌<◌, ◌||◌, String, Global, subst, arith, drop, length, Bor, ℕ, zero, suc, Bool, true, false, cond, nat_cmp, List, [], ◌∷◌, map, Some, is_some, refl, sym, ap, ap₂, ◌∙◌, true≢false, Less, Greater}
 use Rattle.std.specs.Prelude.{Option, None, option_and_then}
-use Rattle.fieldpath.specs.Elements.{field_name}
-use Rattle.std.specs.Cmp.{tied_itself}
+use Rattle.std.specs.Option.{option_map}
 use Rattle.std.specs.Cmp.Lexicographic.{slice_cmp}
-use Rattle.std.specs.List.{AllByRecursion}
-use Rattle.std.specs.List.Sorted.{IsStrictlySortedBy}
-use Rattle.std.specs.Map.{keys_of}
-use Rattle.std.specs.BTreeMap.{IsOrdered}
+use Rattle.std.specs.FinMap as fin
+use Rattle.std.specs.Cmp.{Equal-is}
+use Rattle.std.specs.FinMap.{find}
+use Rattle.std.specs.Ordering.{eq_by_cmp}
+use Rattle.std.specs.List.{AllByRecursion, list_any}
 use Rattle.std.specs.Ordering.{match_ordering, ordering_reverse}
 use Rattle.std.specs.Str.{bytes_eq}
 use Rattle.std.proofs.lemmas.Cmp.{nat_list_cmp_total}
 use Rattle.std.proofs.lemmas.Map.Keys.{sorted_head, sorted_tail}
 use Rattle.serde_json.specs.Data.{Data, object, Members, no_members, member, put}
-use Rattle.pathmap.specs.Beside.{has_at_or_below}
-use Rattle.pathmap.specs.Contents.{Content, nothing, dom}
+use Rattle.fieldpath.specs.Elements.{field_name}
+use Rattle.fieldpath.specs.Paths.{PathTexts, path_cmp}
+use Rattle.pathmap.specs.Contents.{Standing, Content, dom, mark, marked}
 use Rattle.pathmap.specs.Insides.{heads, inside}
-use Rattle.pathmap.specs.Maps.{at_name, content}
-use Rattle.pathmap.specs.declared.pathmap.PathMap.{PathMap, out-PathMap}
-use Rattle.pathmap.proofs.Insides.{heads-marks, inside-marks, is_full, marks_in, names_in}
-use Rattle.pathmap.proofs.Sets.{has_none, nothing-has}
+use Rattle.pathmap.specs.Levels.{has_path, height, is_more, longest, standing}
+use Rattle.pathmap.specs.Maps.{contents_in}
+use Rattle.pathmap.specs.Sizes.{longest_path}
+use Rattle.pathmap.specs.declared.held.Held.{Held}
+use Rattle.pathmap.proofs.Contents.{path_cmp_antisymmetric, same}
+use Rattle.pathmap.proofs.Heads.{heads-inside, itself, one_path, one_rising, rising, some_path, Rises}
+use Rattle.pathmap.proofs.Insides.{get-inside}
+use Rattle.pathmap.proofs.Order.{get-marked, is_marked}
+use Rattle.pathmap.proofs.Sets.{contains-dom, or_true}
 use Rattle.schema.specs.Shape.{atomic, set, keyed, Shape, text, whole, truth, struct_of, map_of, list_of, Fields, no_fields, field, shape_at}
 use Rattle.fieldset.specs.FieldsV1.{each, members_of, members_of_field}
 use Rattle.schema.specs.Steps.{is_leaf}
 use Rattle.fieldset.specs.Below.{members_some, members_under}
 
--- a map is bare exactly if it has no path
-pub not_full : (n : PathMap) → content n ≡ nothing → is_full n ≡ false
-not_full n bare = ap (λ c. has_at_or_below (dom c) []) bare ∙ nothing-has
+abbrev pub Named : Type 0
+Named = List (List ℕ × Content)
 
-pub full : (n : PathMap) → (content n ≡ nothing → ⊥) → is_full n ≡ true
-full n some = by_answer (is_full n) refl
+pub drop_all : {X : Type 0} (n : ℕ) (xs : List X) → length xs ≤ n → drop n xs ≡ []
+drop_all zero [] h = refl
+drop_all (suc n) [] h = refl
+drop_all zero (x ∷ xs) h = absurd (omega arith)
+drop_all (suc n) (x ∷ xs) h = drop_all n xs (omega arith)
+
+-- a mark at each path of a map
+abbrev pub marks_in : Content → Content
+marks_in c = marked (dom c)
+
+get-marks : (c : Content) (q : PathTexts) → fin.get (marks_in c) q ≡ cond (is_some (fin.get c q)) (Some mark) None
+get-marks c q = get-marked (dom c) q ∙ ap (λ b. cond b (Some mark) None) (contains-dom c q)
+
+some_marks : (c : Content) (q : PathTexts) → is_some (fin.get (marks_in c) q) ≡ is_some (fin.get c q)
+some_marks c q = is_marked (dom c) q ∙ contains-dom c q
+
+pub inside-marks : (c : Content) (g : List ℕ) → inside g (marks_in c) ≡ marks_in (inside g c)
+inside-marks c g = same (inside g (marks_in c)) (marks_in (inside g c)) (λ q.
+    get-inside g (marks_in c) q ∙ get-marks c (g ∷ q) ∙ ap (λ o. cond (is_some o) (Some mark) None) (sym (get-inside g c q)) ∙ sym (get-marks (inside g c) q))
+
+path-marks : (c : Content) → has_path (marks_in c) ≡ has_path c
+path-marks c = by_test (has_path c) refl
   where
-    by_answer : (b : Bool) → is_full n ≡ b → b ≡ true
-    by_answer true h = refl
-    by_answer false h = absurd (some (has_none (content n) h))
+    by_marks : has_path c ≡ false → (b : Bool) → has_path (marks_in c) ≡ b → b ≡ false
+    by_marks none false is = refl
+    by_marks none true is = let found = some_path (marks_in c) is in absurd (true≢false (sym (one_path c found.0 (sym (some_marks c found.0) ∙ found.1)) ∙ none))
+
+    by_test : (b : Bool) → has_path c ≡ b → has_path (marks_in c) ≡ b
+    by_test true is = let found = some_path c is in one_path (marks_in c) found.0 (some_marks c found.0 ∙ found.1)
+    by_test false is = by_marks is (has_path (marks_in c)) refl
+
+pub heads-marks : (c : Content) → heads (marks_in c) ≡ heads c
+heads-marks c = one_rising (heads (marks_in c)) (heads c) (rising (marks_in c)) (rising c) (λ g.
+    heads-inside (marks_in c) g ∙ ap has_path (inside-marks c g) ∙ path-marks (inside g c) ∙ sym (heads-inside c g))
+
+-- whether something stands at the top
+pub held_marks : (c : Content) (o : Option (Bor Held)) → option_map (λ h. standing h.now) o ≡ fin.get c [] → is_some (fin.get (marks_in c) []) ≡ is_some o
+held_marks c o is = some_marks c [] ∙ ap is_some (sym is) ∙ by_held o
+  where
+    by_held : (o : Option (Bor Held)) → is_some (option_map (λ h. standing h.now) o) ≡ is_some o
+    by_held None = refl
+    by_held (Some h) = refl
+
+-- ---- what stands inside the first elements
+
+abbrev pub insides : Content → List (List ℕ) → Named
+insides c = map (λ f. (f, inside f c))
+
+longest_bound : (q : PathTexts) (es : List (PathTexts × Standing)) → is_some (find path_cmp q es) ≡ true → suc (length q) ≤ longest es
+longest_bound q [] h = absurd (true≢false (sym h))
+longest_bound q (e ∷ es) h = by_tie (longest_bound q es) (eq_by_cmp path_cmp q e.0) refl h
+  where
+    by_tie : (is_some (find path_cmp q es) ≡ true → suc (length q) ≤ longest es) → (b : Bool) → eq_by_cmp path_cmp q e.0 ≡ b → is_some (cond b (Some e.1) (find path_cmp q es)) ≡ true → suc (length q) ≤ longest (e ∷ es)
+    by_tie later true tie is = let alike = ap length (path_cmp_antisymmetric q e.0 ((Equal-is (path_cmp q e.0)).0 tie)) in omega (arith, alike)
+    by_tie later false tie is = let le = later is in omega (arith, le)
+
+-- a path of the height
+abbrev IsHighest : Content → PathTexts → Type 0
+IsHighest c q = (is_some (fin.get c q) ≡ true) × (height c ≡ suc (length q))
+
+highest : (c : Content) → has_path c ≡ true → (q : PathTexts) × IsHighest c q
+highest c has = by_list (fin.entries c) (sym (ap is_more (fin.len-entries c)) ∙ has) refl
+  where
+    by_list : (es : List (PathTexts × Standing)) → is_more (length es) ≡ true → fin.entries c ≡ es → (q : PathTexts) × IsHighest c q
+    by_list [] h is = absurd (true≢false (sym h))
+    by_list (e ∷ es) h is = let found = longest_path e es in (found.0, (ap is_some (fin.get-entries c found.0 ∙ ap (find path_cmp found.0) is) ∙ found.1.0, ap longest is ∙ found.1.1))
+
+inside_lower : (c : Content) (g : List ℕ) → has_path (inside g c) ≡ true → height (inside g c) < height c
+inside_lower c g has =
+    let top = highest (inside g c) has in
+    let le = longest_bound (g ∷ top.0) (fin.entries c) (ap is_some (sym (get-inside g c top.0 ∙ fin.get-entries c (g ∷ top.0))) ∙ top.1.0) in
+    let h = top.1.1 in
+    omega (arith, le, h)
+
+heads_lower : (c : Content) (hs : List (List ℕ)) → ((g : List ℕ) → list_any (bytes_eq g) hs ≡ true → list_any (bytes_eq g) (heads c) ≡ true) → AllByRecursion (λ n. height n.1 < height c) (insides c hs)
+heads_lower c [] h = tt
+heads_lower c (g ∷ hs) h = (
+  inside_lower c g (sym (heads-inside c g) ∙ h g (ap (λ b. b || list_any (bytes_eq g) hs) (itself g))),
+  heads_lower c hs (λ k is. h k (ap (λ b. bytes_eq k g || b) is ∙ or_true (bytes_eq k g))),
+)
+
+abbrev AreLower : ℕ → List (String Global × Content) → Type 0
+AreLower n xs = AllByRecursion (λ x. height x.1 < n) xs
+
+lower_named : (n : ℕ) (xs : List (String Global × Content)) → AllByRecursion (λ x. height x.1 < n) (contents_in xs) → AreLower n xs
+lower_named n [] h = tt
+lower_named n (x ∷ xs) h = (h.0, lower_named n xs h.1)
+
+lower_drop : (n i : ℕ) (xs : List (String Global × Content)) → AreLower n xs → AreLower n (drop i xs)
+lower_drop n zero xs h = h
+lower_drop n (suc i) [] h = tt
+lower_drop n (suc i) (x ∷ xs) h = lower_drop n i xs h.1
+
+-- a child is lower than the whole
+pub child_lower : (c : Content) (xs : List (String Global × Content)) → contents_in xs ≡ insides c (heads c) → (i : ℕ) (e : String Global × Content) (left : List (String Global × Content)) → drop i xs ≡ e ∷ left → height e.1 < height c
+child_lower c xs is i e left steps =
+    (subst (AreLower (height c)) steps (lower_drop (height c) i xs (lower_named (height c) xs (subst (λ ns. AllByRecursion (λ n. height n.1 < height c) ns) (sym is) (heads_lower c (heads c) (λ g h. h)))))).0
 
 -- ---- members in order
 
@@ -64,91 +160,50 @@ below_join f no_members ns h k = k
 below_join f (member l d ms) ns h k = (h.0, below_join f ms ns h.1 k)
 
 module _ (inner : List ℕ → Content → Members) where
-  abbrev at : String Global × PathMap → Data
-  at e = object (inner (string_bytes e.0) (marks_in e.1))
-
-  -- the children put in turn, but for those without a path
-  abbrev pub puts : List (String Global × PathMap) → Members → Members
+  -- the children put in turn
+  abbrev pub puts : Named → Members → Members
   puts [] ms = ms
-  puts (e ∷ es) ms = puts es (cond (is_full e.1) (put (string_bytes e.0) (object (inner (string_bytes e.0) (marks_in e.1))) ms) ms)
+  puts (e ∷ es) ms = puts es (put e.0 (object (inner e.0 (marks_in e.1))) ms)
 
-  -- a member for each child that has a path
-  abbrev pub each_child : List (String Global × PathMap) → Members
+  -- a member for each child
+  abbrev pub each_child : Named → Members
   each_child [] = no_members
-  each_child (e ∷ es) = cond (is_full e.1) (member (string_bytes e.0) (object (inner (string_bytes e.0) (marks_in e.1))) (each_child es)) (each_child es)
+  each_child (e ∷ es) = member e.0 (object (inner e.0 (marks_in e.1))) (each_child es)
 
-  pub puts_bare : (it left : List (String Global × PathMap)) (e : String Global × PathMap) → it ≡ e ∷ left → is_full e.1 ≡ false → (ms : Members) → puts left ms ≡ puts it ms
-  puts_bare it left e steps bare ms = sym (ap (λ es. puts es ms) steps ∙ ap (λ b. puts left (cond b (put (string_bytes e.0) (at e) ms) ms)) bare)
-
-  pub puts_full : (it left : List (String Global × PathMap)) (e : String Global × PathMap) → it ≡ e ∷ left → is_full e.1 ≡ true → (ms ns : Members) → ns ≡ put (string_bytes e.0) (object (inner (string_bytes e.0) (marks_in e.1))) ms → puts left ns ≡ puts it ms
-  puts_full it left e steps some ms ns is = ap (puts left) is ∙ sym (ap (λ es. puts es ms) steps ∙ ap (λ b. puts left (cond b (put (string_bytes e.0) (at e) ms) ms)) some)
+  pub puts_next : (it left : Named) (e : List ℕ × Content) → it ≡ e ∷ left → (ms ns : Members) → ns ≡ put e.0 (object (inner e.0 (marks_in e.1))) ms → puts left ns ≡ puts it ms
+  puts_next it left e steps ms ns is = ap (puts left) is ∙ sym (ap (λ es. puts es ms) steps)
 
   -- each child comes after what is there
-  abbrev AllAfter : List (String Global) → Members → Type 0
-  AllAfter ks ms = AllByRecursion (λ k. AllBelow (string_bytes k) ms) ks
+  abbrev AllAfter : List (List ℕ) → Members → Type 0
+  AllAfter ks ms = AllByRecursion (λ k. AllBelow k ms) ks
 
-  after_more : (k : String Global) (d : Data) (ms : Members) (ks : List (String Global)) → AllByRecursion (λ y. string_cmp k y ≡ Less) ks → AllAfter ks ms → AllAfter ks (join ms (member (string_bytes k) d no_members))
+  after_more : (k : List ℕ) (d : Data) (ms : Members) (ks : List (List ℕ)) → AllByRecursion (λ y. slice_cmp nat_cmp k y ≡ Less) ks → AllAfter ks ms → AllAfter ks (join ms (member k d no_members))
   after_more k d ms [] h a = tt
-  after_more k d ms (l ∷ ks) h a = (
-    below_join (string_bytes l) ms (member (string_bytes k) d no_members) a.0 (nat_list_cmp_total.antisymm (string_bytes l) (string_bytes k) ∙ ap ordering_reverse h.0, tt),
-    after_more k d ms ks h.1 a.1,
-  )
+  after_more k d ms (l ∷ ks) h a = (below_join l ms (member k d no_members) a.0 (nat_list_cmp_total.antisymm l k ∙ ap ordering_reverse h.0, tt), after_more k d ms ks h.1 a.1)
 
-  puts_join : (es : List (String Global × PathMap)) (ms : Members) → IsStrictlySortedBy string_cmp (keys_of es) → AllAfter (keys_of es) ms → puts es ms ≡ join ms (each_child es)
-  puts_join [] ms sorted a = sym (join-none ms)
-  puts_join (e ∷ es) ms sorted a = by_full (λ ns h. puts_join es ns (sorted_tail string_cmp e.0 (keys_of es) sorted) h) (is_full e.1)
-    where
-      by_full : ((ns : Members) → AllAfter (keys_of es) ns → puts es ns ≡ join ns (each_child es)) → (b : Bool)
-          → puts es (cond b (put (string_bytes e.0) (at e) ms) ms) ≡ join ms (cond b (member (string_bytes e.0) (at e) (each_child es)) (each_child es))
-      by_full later true =
-          ap (puts es) (put_end (string_bytes e.0) (at e) ms a.0)
-          ∙ later (join ms (member (string_bytes e.0) (at e) no_members)) (after_more e.0 (at e) ms (keys_of es) (sorted_head string_cmp e.0 (keys_of es) sorted) a.1)
-          ∙ join-join ms (member (string_bytes e.0) (at e) no_members) (each_child es)
-      by_full later false = later ms a.1
-
-  after_none : (ks : List (String Global)) → AllAfter ks no_members
+  after_none : (ks : List (List ℕ)) → AllAfter ks no_members
   after_none [] = tt
   after_none (k ∷ ks) = (tt, after_none ks)
 
-  -- each child that is left is the one found at its name
-  abbrev AreFound : List (String Global × PathMap) → List (String Global × PathMap) → Type 0
-  AreFound all es = AllByRecursion (λ e. at_name (string_bytes e.0) all ≡ Some e.1) es
+  puts_join : (c : Content) (hs : List (List ℕ)) (ms : Members) → Rises hs → AllAfter hs ms → puts (insides c hs) ms ≡ join ms (each_child (insides c hs))
+  puts_join c [] ms sorted a = sym (join-none ms)
+  puts_join c (e ∷ hs) ms sorted a =
+      let d = object (inner e (marks_in (inside e c))) in
+      ap (puts (insides c hs)) (put_end e d ms a.0)
+      ∙ puts_join c hs (join ms (member e d no_members)) (sorted_tail (slice_cmp nat_cmp) e hs sorted) (after_more e d ms hs (sorted_head (slice_cmp nat_cmp) e hs sorted) a.1)
+      ∙ join-join ms (member e d no_members) (each_child (insides c hs))
 
-  found_later : (e : String Global × PathMap) (all es : List (String Global × PathMap)) → AllByRecursion (λ y. string_cmp e.0 y ≡ Less) (keys_of es) → AreFound all es → AreFound (e ∷ all) es
-  found_later e all [] h k = tt
-  found_later e all (x ∷ es) h k =
-      let apart = ap is_eq (nat_list_cmp_total.antisymm (string_bytes x.0) (string_bytes e.0) ∙ ap ordering_reverse h.0) in
-      (ap (λ b. cond b (Some e.1) (at_name (string_bytes x.0) all)) apart ∙ k.0, found_later e all es h.1 k.1)
-
-  found_all : (es : List (String Global × PathMap)) → IsStrictlySortedBy string_cmp (keys_of es) → AreFound es es
-  found_all [] sorted = tt
-  found_all (e ∷ es) sorted = (
-    ap (λ o. cond (is_eq o) (Some e.1) (at_name (string_bytes e.0) es)) (tied_itself nat_list_cmp_total (string_bytes e.0)),
-    found_later e es es (sorted_head string_cmp e.0 (keys_of es) sorted) (found_all es (sorted_tail string_cmp e.0 (keys_of es) sorted)),
-  )
-
-  each_found : (n : PathMap) → IsOrdered string_cmp (out-PathMap n).below → (es : List (String Global × PathMap)) → AreFound (out-PathMap n).below.entries es
-      → each_child es ≡ each (λ e. inner e (inside e (marks_in n))) (names_in es)
-  each_found n sorted [] h = refl
-  each_found n sorted (e ∷ es) h =
-      ap₂ (λ c ms. cond (is_full e.1) (member (string_bytes e.0) (object (inner (string_bytes e.0) c)) ms) ms) (sym (inside-marks n e.1 sorted (string_bytes e.0) h.0)) (each_found n sorted es h.1) ∙ by_full (is_full e.1)
-    where
-      by_full : (b : Bool) → cond b (member (string_bytes e.0) (object (inner (string_bytes e.0) (inside (string_bytes e.0) (marks_in n)))) (each (λ e. inner e (inside e (marks_in n))) (names_in es))) (each (λ e. inner e (inside e (marks_in n))) (names_in es))
-          ≡ each (λ e. inner e (inside e (marks_in n))) (cond b (string_bytes e.0 ∷ names_in es) (names_in es))
-      by_full true = refl
-      by_full false = refl
+  each_inside : (c : Content) (hs : List (List ℕ)) → each_child (insides c hs) ≡ each (λ e. inner e (inside e (marks_in c))) hs
+  each_inside c [] = refl
+  each_inside c (e ∷ hs) = ap₂ (λ d ms. member e (object (inner e d)) ms) (sym (inside-marks c e)) (each_inside c hs)
 
   -- these are the members at the first elements
-  pub children_all : (n : PathMap) → IsOrdered string_cmp (out-PathMap n).below → each_child (out-PathMap n).below.entries ≡ each (λ e. inner e (inside e (marks_in n))) (heads (marks_in n))
-  children_all n sorted =
-      let es = (out-PathMap n).below.entries in
-      each_found n sorted es (found_all es sorted) ∙ ap (each (λ e. inner e (inside e (marks_in n)))) (sym (heads-marks n sorted))
+  pub children_all : (c : Content) (es : Named) → es ≡ insides c (heads c) → each_child es ≡ each (λ e. inner e (inside e (marks_in c))) (heads (marks_in c))
+  children_all c es is = ap each_child is ∙ each_inside c (heads c) ∙ ap (each (λ e. inner e (inside e (marks_in c)))) (sym (heads-marks c))
 
   -- and so are all put in turn
-  pub puts_all : (n : PathMap) → IsOrdered string_cmp (out-PathMap n).below → puts (out-PathMap n).below.entries no_members ≡ each (λ e. inner e (inside e (marks_in n))) (heads (marks_in n))
-  puts_all n sorted =
-      let es = (out-PathMap n).below.entries in
-      puts_join es no_members sorted (after_none (keys_of es)) ∙ children_all n sorted
+  pub puts_all : (c : Content) (es : Named) → es ≡ insides c (heads c) → puts es no_members ≡ each (λ e. inner e (inside e (marks_in c))) (heads (marks_in c))
+  puts_all c es is = ap (λ l. puts l no_members) is ∙ puts_join c (heads c) no_members (rising c) (after_none (heads c)) ∙ ap each_child (sym is) ∙ children_all c es is
 
 -- ---- by shape
 

@@ -12,7 +12,8 @@ use Rattle.fieldpath.specs.Paths.{PathTexts}
 use Rattle.pathmap.specs.Contents.{Content, PathSet, dom, gather, marked, over}
 use Rattle.pathmap.specs.Insides.{heads, inside}
 use Rattle.pathmap.proofs.Contents.{nothing-over}
-use Rattle.pathmap.proofs.Heads.{has_path, some_path}
+use Rattle.pathmap.specs.Levels.{has_path}
+use Rattle.pathmap.proofs.Heads.{some_path}
 use Rattle.pathmap.proofs.Insides.{get-inside}
 use Rattle.pathmap.proofs.Order.{dom-marked, get-marked, is_marked}
 use Rattle.schema.specs.Keywords.{has}

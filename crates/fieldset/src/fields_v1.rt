@@ -110,12 +110,9 @@ pub(crate) fn members(
     if schema.is_leaf() {
         return Ok(all);
     }
-    for (name, inner) in map.below.iter() {
-        if inner.is_bare() {
-            continue;
-        }
+    for (name, inner) in map.children() {
         let mut below = members(inner, alloc, schema_below(schema, name))?;
-        put_as_item(&mut below, alloc, schema, inner.held.is_some())?;
+        put_as_item(&mut below, alloc, schema, inner.held().is_some())?;
         let text = String::from_str(alloc, name.as_str())?;
         drop(all.insert(text, Value::Object(below))?);
     }

@@ -1,26 +1,25 @@
 //! Reads FieldsV1 values.
-ghost use Rattle.std.specs.Prelude.{◌≡◌, IfOk, map, string_bytes};
+ghost use Rattle.std.specs.Prelude.{◌≡◌, IfOk, string_bytes};
 ghost use Rattle.std.specs.List.{list_any};
 ghost use Rattle.std.specs.Str.{bytes_eq};
 ghost use Rattle.serde_json.specs.View.{members_view, view};
 ghost use Rattle.fieldpath.specs.Elements.{read_element};
 ghost use Rattle.fieldpath.specs.Elems.{element};
-ghost use Rattle.pathmap.specs.Contents.{dom, gather, nothing};
-ghost use Rattle.pathmap.specs.Maps.{at_top, content, contents_in};
+ghost use Rattle.pathmap.specs.Contents.{dom, nothing};
+ghost use Rattle.pathmap.specs.Maps.{content};
 ghost use Rattle.schema.specs.Keywords.{has};
 ghost use Rattle.schema.specs.KeyNames.{names_in};
 ghost use Rattle.schema.specs.Shape.{shape};
 ghost use Rattle.schema.specs.Spots.{spot};
-ghost use Rattle.fieldset.specs.Reading.{are_due, element_in, has_keys, is_empty, is_key_field, is_marked, may_have_dot, object_in, read_at, read_fields_v1, read_mark, read_member, read_members, top};
+ghost use Rattle.fieldset.specs.Reading.{are_due, element_in, has_keys, is_empty, is_key_field, is_marked, may_have_dot, object_in, read_at, read_fields_v1, read_mark, read_member, read_members};
 ghost use Rattle.fieldset.specs.Seen.{Gives, IsNamed, Reads, member_view};
 
 use crate::fault::FieldsV1Fault;
 use fieldpath::{Elem, ElemFault, ElemText};
-use pathmap::{Held, PathMap};
+use pathmap::PathMap;
 use schema::{Schema, Spot};
 use serde_json::{Map, Value};
 use std::alloc::{AllocError, Global};
-use std::collections::BTreeMap;
 
 /// What stands under an element.
 #[derive(Drop)]
@@ -125,12 +124,6 @@ fn is_marked(here: Spot<'_>, members: &Map<String, Value>) -> bool
     }
 }
 
-fn mark_if(is_marked: bool) -> Option<Held>
-    ensures { at_top result ≡ top is_marked }
-{
-    if is_marked { Some(Held::Mark) } else { None }
-}
-
 /// The value of `.` or of a key field.
 fn read_mark(is_due: bool, value: &Value) -> Result<(), FieldsV1Fault>
     ensures { Gives (λ _. nothing) result (read_mark is_due (view value.now)) }
@@ -191,22 +184,23 @@ fn read_member(
     Ok(Some(Member { element, map }))
 }
 
+/// The map of all members that are in the set, each under its element.
 #[cycle(read)]
 fn read_members(
     members: &Map<String, Value>,
     alloc: Global,
     here: Spot<'_>,
-) -> Result<BTreeMap<ElemText, PathMap>, FieldsV1Fault>
-    ensures { Gives (λ m. gather (contents_in m.entries)) result (read_members (spot here.entry) (members_view members.now.entries) (members_view members.now.entries)) }
+) -> Result<PathMap, FieldsV1Fault>
+    ensures { Gives content result (read_members (spot here.entry) (members_view members.now.entries) (members_view members.now.entries)) }
 {
-    let mut below = BTreeMap::new(alloc);
+    let mut map = PathMap::empty(alloc);
     for (name, value) in members.iter() {
         let Some(member) = read_member(value, alloc, here, members, name.as_str())? else {
             continue;
         };
-        drop(below.insert(member.element, member.map)?);
+        map.insert_child(member.element, member.map)?;
     }
-    Ok(below)
+    Ok(map)
 }
 
 #[cycle(read)]
@@ -219,9 +213,11 @@ fn read_at(value: &Value, alloc: Global, here: Spot<'_>) -> Result<PathMap, Fiel
     if are_due(here) && is_empty(members) {
         return Err(FieldsV1Fault::NotCanonical);
     }
-    let held = mark_if(is_marked(here, members));
-    let below = read_members(members, alloc, here)?;
-    Ok(PathMap { held, below })
+    let mut map = read_members(members, alloc, here)?;
+    if is_marked(here, members) {
+        map.mark();
+    }
+    Ok(map)
 }
 
 /// The map of the set of paths that a FieldsV1 value says.
@@ -233,6 +229,5 @@ pub(crate) fn read_paths(
     ensures { Gives (λ m. dom (content m)) result (read_fields_v1 (shape schema.now) (view value.now)) }
 {
     let members = object_of(value)?;
-    let below = read_members(members, alloc, Spot::Value(schema))?;
-    Ok(PathMap::branch(below))
+    read_members(members, alloc, Spot::Value(schema))
 }

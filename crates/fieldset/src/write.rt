@@ -36,7 +36,7 @@ fn push_by_value(
     ensures { OnOk result (out.new.items ≡ out.old.items ++ compact_text (object (members_under (shape schema.now) (string_bytes name.now) (marked (dom (content map.now)))))) }
 {
     let mut all = members(map, alloc, schema_below(schema, name))?;
-    put_as_item(&mut all, alloc, schema, map.held.is_some())?;
+    put_as_item(&mut all, alloc, schema, map.held().is_some())?;
     push_value(out, alloc, &Value::Object(all))
 }
 
@@ -51,14 +51,14 @@ fn push_object(
 ) -> Result<(), AllocError>
     ensures { OnOk result (out.new.items ≡ out.old.items ++ compact_text (object (members_under (shape schema.now) (string_bytes name.now) (marked (dom (content map.now)))))) }
 {
-    if has_more(schema, map.held.is_some()) {
+    if has_more(schema, map.held().is_some()) {
         return push_by_value(map, alloc, schema, name, out);
     }
     out.push(b'{')?;
     push_members(map, alloc, schema_below(schema, name), out)
 }
 
-/// Appends the members of a map's paths, under the schema that stands there, if any does, and the closing bracket.
+/// Appends the members of a map's paths, under the schema that stands there, if any does, and the closing brace.
 #[cycle(write)]
 pub(crate) fn push_members(
     map: &PathMap,
@@ -75,10 +75,7 @@ pub(crate) fn push_members(
         return Ok(out.push(b'}')?);
     }
     let mut later = false;
-    for (name, inner) in map.below.iter() {
-        if inner.is_bare() {
-            continue;
-        }
+    for (name, inner) in map.children() {
         push_comma(out, later)?;
         push_name(out, alloc, name.as_str())?;
         push_object(inner, alloc, schema, name, out)?;

@@ -11,9 +11,10 @@ use Rattle.pathmap.specs.Contents.{Content, Standing, here, nothing}
 use Rattle.pathmap.specs.Contents as standing
 use Rattle.pathmap.specs.Insides.{heads, inside}
 use Rattle.pathmap.proofs.Contents.{get-nothing}
-use Rattle.pathmap.proofs.Heads.{has_path, heads-inside, nothing_path, one_path}
+use Rattle.pathmap.proofs.Heads.{heads-inside, one_path}
 use Rattle.pathmap.proofs.Insides.{get-inside}
-use Rattle.pathmap.proofs.Merging.{get-here-top}
+use Rattle.pathmap.specs.Levels.{has_path}
+use Rattle.pathmap.proofs.Levels.{get-here-top, nothing_path}
 use Rattle.schema.specs.Shape.{text}
 use Rattle.typed.specs.Placed.{IsPlaced}
 use Rattle.typed.specs.Printing.{each_member, value_at, value_of}

@@ -18,7 +18,7 @@ use Rattle.pathmap.specs.Contents.{Content, here, nothing}
 use Rattle.pathmap.specs.Contents as standing
 use Rattle.pathmap.specs.Insides.{heads, inside}
 use Rattle.pathmap.proofs.Contents.{get-nothing}
-use Rattle.pathmap.proofs.Merging.{get-here-top}
+use Rattle.pathmap.proofs.Levels.{get-here-top}
 use Rattle.schema.specs.Lawful.{are_well_formed, is_well_formed, names_of}
 use Rattle.schema.specs.ObjectShape.{IsObjectShape}
 use Rattle.schema.specs.Shape.{Shape, text, whole, truth, struct_of, map_of, list_of, Fields, no_fields, field, shape_at}

@@ -53,20 +53,20 @@ fn put_version(texts: &mut Texts, alloc: Global, version: u64) -> Result<(), All
 }
 
 impl Owned {
-    /// `metadata`, where the text of `managedFields` is at hand.
+    /// `metadata`, where the text of `managedFields` is at hand. The others are labels and annotations.
     pub(crate) fn metadata_text(
         &self,
         alloc: Global,
         of: Identity<'_>,
         version: u64,
         managed: Vec<u8>,
-        labels: &Map<String, Value>,
+        others: &Map<String, Value>,
     ) -> Result<Vec<u8>, AllocError>
-        ensures { members_have_float (members_view labels.now.entries) ≡ false → IfOk result (λ v. (s : Shape)
+        ensures { members_have_float (members_view others.now.entries) ≡ false → IfOk result (λ v. (s : Shape)
             → managed.items ≡ compact_text (array (entry_items s of.entry.api_version.now (fin.entries self.now.managers)))
-            → v.items ≡ compact_text (object (metadata_with (identity_of of.entry) version (entry_items s of.entry.api_version.now (fin.entries self.now.managers)) (members_view labels.now.entries)))) }
+            → v.items ≡ compact_text (object (metadata_with (identity_of of.entry) version (entry_items s of.entry.api_version.now (fin.entries self.now.managers)) (members_view others.now.entries)))) }
     {
-        let mut texts = texts_of(alloc, labels)?;
+        let mut texts = texts_of(alloc, others)?;
         put_managed(&mut texts, alloc, self.managers.entries(), managed)?;
         put_version(&mut texts, alloc, version)?;
         put_string(&mut texts, alloc, "namespace", of.namespace)?;

@@ -7,7 +7,7 @@ use Rattle.fieldpath.specs.Paths.{PathTexts}
 use Rattle.pathmap.specs.Beside.{has_at_or_below}
 use Rattle.pathmap.specs.Contents.{Content, dom}
 use Rattle.pathmap.specs.Insides.{inside}
-use Rattle.pathmap.specs.Maps.{standing}
+use Rattle.pathmap.specs.Levels.{standing}
 use Rattle.pathmap.specs.declared.held.Held.{Held}
 use Rattle.pathmap.proofs.Contents.{same}
 use Rattle.pathmap.proofs.Insides.{get-inside}

@@ -17,8 +17,10 @@ use Rattle.fieldpath.specs.Paths.{PathTexts, path_cmp}
 use Rattle.pathmap.specs.Beside.{is_front, has_at_or_below}
 use Rattle.pathmap.specs.Contents.{Standing, Content, nothing, dom}
 use Rattle.pathmap.specs.Insides.{tails, inside, heads_of, heads}
+use Rattle.pathmap.specs.Levels.{is_more, has_path}
 use Rattle.pathmap.proofs.Contents.{path_cmp_total, same, get-nothing}
 use Rattle.pathmap.proofs.Insides.{get-inside}
+use Rattle.pathmap.proofs.Levels.{nothing_path}
 use Rattle.pathmap.proofs.Sets.{has_none, passes_some}
 use Rattle.pathmap.proofs.Trees.{ties}
 
@@ -30,22 +32,12 @@ inside-nothing f = same (inside f nothing) nothing (λ q. get-inside f nothing q
 
 -- ---- contents that have a path
 
-abbrev pub is_more : ℕ → Bool
-is_more zero = false
-is_more (suc n) = true
-
-abbrev pub has_path : Content → Bool
-has_path c = is_more (fin.len c)
-
 zero_of : (n : ℕ) → is_more n ≡ false → n ≡ 0
 zero_of zero e = refl
 zero_of (suc n) e = absurd (true≢false e)
 
 pub no_path : (c : Content) → has_path c ≡ false → c ≡ nothing
 no_path c e = fin.empty_of_len c (zero_of (fin.len c) e)
-
-pub nothing_path : has_path nothing ≡ false
-nothing_path = ap is_more (fin.len-empty path_cmp Standing)
 
 abbrev is_cons : Entries → Bool
 is_cons [] = false

@@ -1,42 +1,81 @@
 -- What a map holds at the empty path, and below each element.
-use Rattle.std.proofs.Common.{◌≡◌, ℕ, Bool, true, false, cond, is_eq, nat_cmp, string_cmp, List, [], ◌∷◌, length, Option, Some, None, is_some, String, BTreeMap, Global, string_bytes, refl, sym, ap, ◌∙◌, true≢false, rules, arith}
+use Rattle.std.proofs.Common.{◌≡◌, ◌==◌, eqb-true, String, Global, ℕ, Bool, true, false, cond, is_eq, nat_cmp, List, [], ◌∷◌, map, length, Option, Some, None, is_some, refl, sym, ap, ap₂, ◌∙◌, true≢false, arith, Ordering, Less}
 use Rattle.std.specs.Option.{option_map}
-use Rattle.std.specs.BTreeMap.{IsOrdered}
 use Rattle.std.specs.Cmp.{tied_itself}
 use Rattle.std.specs.Cmp.Lexicographic.{slice_cmp}
 use Rattle.std.specs.FinMap as fin
-use Rattle.std.specs.List.Sorted.{IsStrictlySortedBy}
-use Rattle.std.specs.Map.{keys_of}
+use Rattle.std.specs.List.{AllByRecursion}
+use Rattle.std.specs.Str.{bytes_eq}
 use Rattle.std.proofs.lemmas.Cmp.{nat_list_cmp_total}
-use Rattle.fieldpath.specs.Paths.{PathTexts}
-use Rattle.pathmap.specs.Contents.{Standing, Content, nothing, under, over, gather}
-use Rattle.pathmap.specs.Maps.{content, contents_in, at_top, standing, content_at, at_name}
+use Rattle.std.proofs.lemmas.Map.Keys.{sorted_head, sorted_tail}
+use Rattle.std.proofs.lemmas.Map.Text.{is_eq-slice_cmp}
+use Rattle.std.proofs.lemmas.Slice.Eq.{bytes_eq-Decides}
+use Rattle.fieldpath.specs.Paths.{PathTexts, path_cmp}
+use Rattle.pathmap.specs.Contents.{Standing, Content, nothing, here, under, over, gather}
+use Rattle.pathmap.specs.Levels.{at_top, standing, has_path, is_more, IsRising, AreFull, child_of}
+use Rattle.pathmap.specs.Maps.{content_or_nothing, contents_in, either_top}
 use Rattle.pathmap.specs.declared.held.Held.{Held}
-use Rattle.pathmap.specs.declared.pathmap.PathMap.{PathMap, out-PathMap, the_lemmas}
-use Rattle.pathmap.specs.declared.pathmap.PathMap.TheViews.{roll-PathMap}
-use Rattle.pathmap.proofs.Contents.{same, either, either-None, get-nothing, get-over, get-under, get-under-top, nothing-over}
-use Rattle.pathmap.proofs.Trees.{get-gather, get-gather-top}
-use Rattle.pathmap.proofs.Merging.{content-out, get_in-content, get-at_top-below, get-here-top}
+use Rattle.pathmap.proofs.Contents.{path_cmp_total, same, either, either-None, get-nothing, get-over, get-under, get-under-top, get-here-below, nothing-over}
+
+abbrev Named : Type 0
+Named = List (List ℕ × Content)
+
+abbrev cmp : List ℕ → List ℕ → Ordering
+cmp = slice_cmp nat_cmp
+
+pub get-here-top : (v : Standing) → fin.get (here v) [] ≡ Some v
+unfolding here
+get-here-top v = fin.get-insert path_cmp_total nothing [] v []
+
+pub get-gather-top : (cs : Named) → fin.get (gather cs) [] ≡ None
+get-gather-top [] = get-nothing []
+get-gather-top (c ∷ cs) = get-over (under c.0 c.1) (gather cs) [] ∙ ap₂ either (get-under-top c.0 c.1) (get-gather-top cs)
+
+pub get-at_top-below : (h : Option Held) (g : List ℕ) (q : PathTexts) → fin.get (at_top h) (g ∷ q) ≡ None
+get-at_top-below None g q = get-nothing (g ∷ q)
+get-at_top-below (Some h) g q = get-here-below (standing h) g q
 
 get-at_top-top : (h : Option Held) → fin.get (at_top h) [] ≡ option_map standing h
 get-at_top-top None = get-nothing []
 get-at_top-top (Some h) = get-here-top (standing h)
 
-module _ (h : Option Held) (es : List (String Global × PathMap)) where
-  pub get-level-top : fin.get (over (at_top h) (gather (contents_in es))) [] ≡ option_map standing h
-  get-level-top = get-over (at_top h) (gather (contents_in es)) [] ∙ ap (either (fin.get (at_top h) [])) (get-gather-top es) ∙ either-None (fin.get (at_top h) []) ∙ get-at_top-top h
+-- nothing stands below a name that is before all of them
+pub outside : (f : List ℕ) (cs : Named) → AllByRecursion (λ y. cmp f y ≡ Less) (map (λ c. c.0) cs) → (q : PathTexts) → fin.get (gather cs) (f ∷ q) ≡ None
+outside f [] h q = get-nothing (f ∷ q)
+outside f (c ∷ cs) h q =
+    get-over (under c.0 c.1) (gather cs) (f ∷ q) ∙ ap (λ a. either a (fin.get (gather cs) (f ∷ q))) (get-under c.0 c.1 f q ∙ ap (λ o. cond (is_eq o) (fin.get c.1 q) None) h.0) ∙ outside f cs h.1 q
 
-  pub get-level-gather : (g : List ℕ) (q : PathTexts) → fin.get (over (at_top h) (gather (contents_in es))) (g ∷ q) ≡ fin.get (gather (contents_in es)) (g ∷ q)
-  get-level-gather g q = get-over (at_top h) (gather (contents_in es)) (g ∷ q) ∙ ap (λ a. either a (fin.get (gather (contents_in es)) (g ∷ q))) (get-at_top-below h g q)
+-- below a name there is the content that has it
+pub get-child : (g : List ℕ) (cs : Named) → IsRising cs → (q : PathTexts) → fin.get (gather cs) (g ∷ q) ≡ fin.get (content_or_nothing (child_of g cs)) q
+get-child g [] rising q = get-nothing (g ∷ q) ∙ sym (get-nothing q)
+get-child g (c ∷ cs) rising q = get-over (under c.0 c.1) (gather cs) (g ∷ q) ∙ ap (λ a. either a (fin.get (gather cs) (g ∷ q))) (get-under c.0 c.1 g q)
+    ∙ by_test (get-child g cs (sorted_tail cmp c.0 (map (λ c. c.0) cs) rising) q) (bytes_eq c.0 g) refl
+  where
+    turned : (b : Bool) → bytes_eq c.0 g ≡ b → is_eq (cmp g c.0) ≡ b
+    turned true is = ap (λ k. is_eq (cmp g k)) ((bytes_eq-Decides c.0 g).0 is) ∙ ap is_eq (tied_itself nat_list_cmp_total g)
+    turned false is = by_tie (bytes_eq g c.0) refl
+      where
+        by_tie : (b : Bool) → bytes_eq g c.0 ≡ b → is_eq (cmp g c.0) ≡ false
+        by_tie true t = absurd (true≢false (sym ((bytes_eq-Decides c.0 g).1 (sym ((bytes_eq-Decides g c.0).0 t))) ∙ is))
+        by_tie false t = is_eq-slice_cmp g c.0 ∙ t
 
-  pub get-level-below : IsStrictlySortedBy string_cmp (keys_of es) → (g : List ℕ) (q : PathTexts) → fin.get (over (at_top h) (gather (contents_in es))) (g ∷ q) ≡ fin.get (content_at g es) q
-  get-level-below sorted g q = get-level-gather g q ∙ get-gather es sorted g q ∙ get_in-content (at_name g es) q
+    by_test : fin.get (gather cs) (g ∷ q) ≡ fin.get (content_or_nothing (child_of g cs)) q → (b : Bool) → bytes_eq c.0 g ≡ b
+        → either (cond (is_eq (cmp g c.0)) (fin.get c.1 q) None) (fin.get (gather cs) (g ∷ q)) ≡ fin.get (content_or_nothing (cond b (Some c.1) (child_of g cs))) q
+    by_test later true is =
+        ap (λ b. either (cond b (fin.get c.1 q) None) (fin.get (gather cs) (g ∷ q))) (turned true is)
+        ∙ ap (λ k. either (fin.get c.1 q) (fin.get (gather cs) (k ∷ q))) (sym ((bytes_eq-Decides c.0 g).0 is))
+        ∙ ap (either (fin.get c.1 q)) (outside c.0 cs (sorted_head cmp c.0 (map (λ c. c.0) cs) rising) q) ∙ either-None (fin.get c.1 q)
+    by_test later false is = ap (λ b. either (cond b (fin.get c.1 q) None) (fin.get (gather cs) (g ∷ q))) (turned false is) ∙ later
 
-pub get-map-top : (n : PathMap) → fin.get (content n) [] ≡ option_map standing (out-PathMap n).held
-get-map-top n = ap (λ c. fin.get c []) (content-out n) ∙ get-level-top (out-PathMap n).held (out-PathMap n).below.entries
+module _ (h : Option Held) (cs : Named) where
+  pub get-level-top : fin.get (over (at_top h) (gather cs)) [] ≡ option_map standing h
+  get-level-top = get-over (at_top h) (gather cs) [] ∙ ap (either (fin.get (at_top h) [])) (get-gather-top cs) ∙ either-None (fin.get (at_top h) []) ∙ get-at_top-top h
 
-pub get-map-below : (n : PathMap) → IsOrdered string_cmp (out-PathMap n).below → (g : List ℕ) (q : PathTexts) → fin.get (content n) (g ∷ q) ≡ fin.get (content_at g (out-PathMap n).below.entries) q
-get-map-below n sorted g q = ap (λ c. fin.get c (g ∷ q)) (content-out n) ∙ get-level-below (out-PathMap n).held (out-PathMap n).below.entries sorted g q
+  pub get-level-gather : (g : List ℕ) (q : PathTexts) → fin.get (over (at_top h) (gather cs)) (g ∷ q) ≡ fin.get (gather cs) (g ∷ q)
+  get-level-gather g q = get-over (at_top h) (gather cs) (g ∷ q) ∙ ap (λ a. either a (fin.get (gather cs) (g ∷ q))) (get-at_top-below h g q)
+
+  pub get-level-below : IsRising cs → (g : List ℕ) (q : PathTexts) → fin.get (over (at_top h) (gather cs)) (g ∷ q) ≡ fin.get (content_or_nothing (child_of g cs)) q
+  get-level-below rising g q = get-level-gather g q ∙ get-child g cs rising q
 
 pub no_entries : {A : Type 0} (xs : List A) → length xs ≡ 0 → xs ≡ []
 no_entries [] e = refl
@@ -44,18 +83,9 @@ no_entries (x ∷ xs) e = absurd (omega arith)
 
 -- ---- maps of no path
 
-Some≢None : {A : Type 0} (o : Option A) → is_some o ≡ true → o ≡ None → ⊥
-Some≢None o is none = true≢false (sym is ∙ ap is_some none)
-
 pub held_some : (h : Option Held) → is_some (option_map standing h) ≡ is_some h
 held_some None = refl
 held_some (Some h) = refl
-
-pub top_some : (n : PathMap) → is_some (fin.get (content n) []) ≡ is_some (out-PathMap n).held
-top_some n = ap is_some (get-map-top n) ∙ held_some (out-PathMap n).held
-
-pub held_stays : (n : PathMap) → is_some (out-PathMap n).held ≡ true → content n ≡ nothing → ⊥
-held_stays n is none = Some≢None (fin.get (content n) []) (top_some n ∙ is) (ap (λ c. fin.get c []) none ∙ get-nothing [])
 
 either-right : {A : Type 0} (a b : Option A) → either a b ≡ None → b ≡ None
 either-right None b e = e
@@ -86,29 +116,55 @@ under-nothing f = same (under f nothing) nothing by_path
     by_path [] = get-under-top f nothing ∙ sym (get-nothing [])
     by_path (g ∷ q) = get-under f nothing g q ∙ ap (λ o. cond (is_eq (slice_cmp nat_cmp g f)) o None) (get-nothing q) ∙ none (is_eq (slice_cmp nat_cmp g f)) ∙ sym (get-nothing (g ∷ q))
 
--- a child of no path adds nothing
-pub gather-bare : (e : String Global × PathMap) (es : List (String Global × PathMap)) → content e.1 ≡ nothing → gather (contents_in (e ∷ es)) ≡ gather (contents_in es)
-gather-bare e es bare = ap (λ c. over (under (string_bytes e.0) c) (gather (contents_in es))) bare ∙ ap (λ c. over c (gather (contents_in es))) (under-nothing (string_bytes e.0)) ∙ nothing-over (gather (contents_in es))
+pub nothing_path : has_path nothing ≡ false
+nothing_path = ap is_more (fin.len-empty path_cmp Standing)
 
-pub first_bare : (e : String Global × PathMap) (es : List (String Global × PathMap)) → gather (contents_in (e ∷ es)) ≡ nothing → content e.1 ≡ nothing
-first_bare e es none = under_nothing (string_bytes e.0) (content e.1) (nothing_left (under (string_bytes e.0) (content e.1)) (gather (contents_in es)) none)
+pub bare_level : (h : Option Held) (cs : Named) → is_some h ≡ false → cs ≡ [] → over (at_top h) (gather cs) ≡ nothing
+bare_level None cs top no_child = nothing-over (gather cs) ∙ ap gather no_child
+bare_level (Some h) cs top no_child = absurd (true≢false top)
 
-pub below_bare : (n : PathMap) → content n ≡ nothing → gather (contents_in (out-PathMap n).below.entries) ≡ nothing
-below_bare n none = nothing_right (at_top (out-PathMap n).held) (gather (contents_in (out-PathMap n).below.entries)) (sym (content-out n) ∙ none)
+pub bare_held : (h : Option Held) (cs : Named) → over (at_top h) (gather cs) ≡ nothing → is_some h ≡ false
+bare_held h cs e = sym (held_some h) ∙ ap is_some (sym (get-level-top h cs) ∙ ap (λ c. fin.get c []) e ∙ get-nothing [])
 
-no_top : (h : Option Held) → is_some h ≡ false → at_top h ≡ nothing
-no_top None is = refl
-no_top (Some h) is = absurd (true≢false is)
+pub bare_below : (h : Option Held) (cs : Named) → AreFull cs → over (at_top h) (gather cs) ≡ nothing → cs ≡ []
+bare_below h [] full e = refl
+bare_below h (c ∷ cs) full e =
+    absurd (true≢false (sym full.0 ∙ ap has_path (under_nothing c.0 c.1 (nothing_left (under c.0 c.1) (gather cs) (nothing_right (at_top h) (gather (c ∷ cs)) e))) ∙ nothing_path))
 
-pub content_below : (n : PathMap) → is_some (out-PathMap n).held ≡ false → content n ≡ gather (contents_in (out-PathMap n).below.entries)
-content_below n top =
-    content-out n ∙ ap (λ c. over c (gather (contents_in (out-PathMap n).below.entries))) (no_top (out-PathMap n).held top) ∙ nothing-over (gather (contents_in (out-PathMap n).below.entries))
+-- ---- one level over another
 
-pub bare_level : (n : PathMap) → is_some (out-PathMap n).held ≡ false → gather (contents_in (out-PathMap n).below.entries) ≡ nothing → content n ≡ nothing
-bare_level n top none = content_below n top ∙ none
+over_top : (t m : Option Held) → fin.get (either_top t m) [] ≡ either (fin.get (at_top t) []) (fin.get (at_top m) [])
+over_top None m = sym (ap (λ a. either a (fin.get (at_top m) [])) (get-nothing []))
+over_top (Some t) m = get-here-top (standing t) ∙ sym (ap (λ a. either a (fin.get (at_top m) [])) (get-here-top (standing t)))
 
-pub held_rolled : (h : Option Held) (below : BTreeMap (String Global) PathMap) → (out-PathMap (roll-PathMap record { held = h; below = below })).held ≡ h
-held_rolled h below = search (rules, the_lemmas)
+below_either : (t m : Option Held) (g : List ℕ) (q : PathTexts) → fin.get (either_top t m) (g ∷ q) ≡ None
+below_either None m g q = get-at_top-below m g q
+below_either (Some t) m g q = get-at_top-below (Some t) g q
 
-pub below_rolled : (h : Option Held) (below : BTreeMap (String Global) PathMap) → (out-PathMap (roll-PathMap record { held = h; below = below })).below ≡ below
-below_rolled h below = search (rules, the_lemmas)
+module _ (t m : Option Held) (ts ms : Named) where
+  level_by : (q : PathTexts) → fin.get (over (either_top t m) (over (gather ts) (gather ms))) q ≡ fin.get (over (over (at_top t) (gather ts)) (over (at_top m) (gather ms))) q
+  level_by [] =
+      get-over (either_top t m) (over (gather ts) (gather ms)) []
+      ∙ ap₂ either (over_top t m) (get-over (gather ts) (gather ms) [] ∙ ap₂ either (get-gather-top ts) (get-gather-top ms))
+      ∙ either-None (either (fin.get (at_top t) []) (fin.get (at_top m) []))
+      ∙ sym (get-over (over (at_top t) (gather ts)) (over (at_top m) (gather ms)) []
+      ∙ ap₂ either (get-over (at_top t) (gather ts) [] ∙ ap (either (fin.get (at_top t) [])) (get-gather-top ts) ∙ either-None (fin.get (at_top t) []))
+      (get-over (at_top m) (gather ms) [] ∙ ap (either (fin.get (at_top m) [])) (get-gather-top ms) ∙ either-None (fin.get (at_top m) [])))
+  level_by (g ∷ q) =
+      get-over (either_top t m) (over (gather ts) (gather ms)) (g ∷ q)
+      ∙ ap₂ either (below_either t m g q) (get-over (gather ts) (gather ms) (g ∷ q))
+      ∙ sym (get-over (over (at_top t) (gather ts)) (over (at_top m) (gather ms)) (g ∷ q)
+      ∙ ap₂ either (get-over (at_top t) (gather ts) (g ∷ q) ∙ ap (λ a. either a (fin.get (gather ts) (g ∷ q))) (get-at_top-below t g q))
+      (get-over (at_top m) (gather ms) (g ∷ q) ∙ ap (λ a. either a (fin.get (gather ms) (g ∷ q))) (get-at_top-below m g q)))
+
+  pub level : over (either_top t m) (over (gather ts) (gather ms)) ≡ over (over (at_top t) (gather ts)) (over (at_top m) (gather ms))
+  level = same _ _ level_by
+
+-- ---- no children
+
+pub none_of : {X : Type 0} (xs : List X) → (length xs == 0) ≡ true → xs ≡ []
+none_of xs is = no_entries xs (eqb-true (length xs) 0 is)
+
+pub unnamed : (xs : List (String Global × Content)) → contents_in xs ≡ [] → xs ≡ []
+unnamed [] e = refl
+unnamed (x ∷ xs) e = let long = ap length e in absurd (omega (arith, long))

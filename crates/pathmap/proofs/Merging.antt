@@ -1,106 +1,404 @@
--- One node over another.
+-- Two lists of children, walked side by side, are children again: at each name, what both have there, joined.
+use Rattle.std.proofs.Common.{◌≡◌, ℕ, Bool, true, false, cond, is_eq, is_lt, nat_cmp, List, [], ◌∷◌, ◌++◌, map, Option, Some, None, is_some, refl, sym, ap, ap₂, subst, ◌∙◌, Ordering, Less, Equal, Greater, true≢false}
+use Rattle.std.specs.Cmp.{tied_itself}
 use Rattle.std.specs.Cmp.Lexicographic.{slice_cmp}
 use Rattle.std.specs.FinMap as fin
+use Rattle.std.specs.List.{AllByRecursion}
 use Rattle.std.specs.List.Sorted.{IsStrictlySortedBy}
-use Rattle.std.specs.Map.{keys_of, remove_entry, set_value}
-use Rattle.std.specs.BTreeMap.{is_at}
-use Rattle.std.proofs.lemmas.Map.Keys.{sorted_head}
-use Rattle.std.proofs.Common.{◌≡◌, ℕ, Bool, true, false, cond, is_eq, nat_cmp, string_cmp, ap₂, List, [], ◌∷◌, Option, Some, None, String, Global, string_bytes, sym, ap, ◌∙◌, refl, rules}
+use Rattle.std.specs.Ordering.{ordering_reverse}
+use Rattle.std.specs.Str.{bytes_eq}
+use Rattle.std.proofs.lemmas.Cmp.{nat_list_cmp_total}
+use Rattle.std.proofs.lemmas.Map.Keys.{sorted_head, sorted_tail}
+use Rattle.std.proofs.lemmas.Slice.Eq.{bytes_eq-Decides}
 use Rattle.fieldpath.specs.Paths.{PathTexts}
-use Rattle.pathmap.specs.Contents.{Content, Standing, nothing, here, over, gather}
-use Rattle.pathmap.specs.Maps.{content, contents_in, at_top, standing, at_name, either_top, content_or_nothing, content_at}
-use Rattle.pathmap.specs.declared.held.Held.{Held}
-use Rattle.pathmap.specs.declared.pathmap.PathMap.{PathMap, out-PathMap, the_lemmas}
-use Rattle.pathmap.proofs.Contents.{path_cmp_total, same, either, either-None, get-nothing, get-here-below, get-over}
-use Rattle.pathmap.proofs.Trees.{get_in, past, ties, get-gather, get-gather-top, same_gather}
+use Rattle.pathmap.specs.Contents.{Standing, Content, over, gather}
+use Rattle.pathmap.specs.Levels.{has_path, IsRising, AreFull, AreChildren, child_of}
+use Rattle.pathmap.specs.Maps.{content_or_nothing}
+use Rattle.pathmap.specs.Merged.{first_of, front_of, back_of, join_on, left_of, merged, under_it}
+use Rattle.pathmap.proofs.Contents.{same, either, either-None, get-nothing, get-over}
+use Rattle.pathmap.proofs.Heads.{some_path, one_path}
+use Rattle.pathmap.proofs.Levels.{get-child, get-gather-top}
+use Rattle.pathmap.proofs.Trees.{ties}
 
-pub get_in-content : (m : Option PathMap) (rest : PathTexts) → get_in m rest ≡ fin.get (content_or_nothing m) rest
-get_in-content None rest = sym (get-nothing rest)
-get_in-content (Some n) rest = refl
+abbrev Named : Type 0
+Named = List (List ℕ × Content)
 
-pub gather_over : (es ts ms : List (String Global × PathMap)) → IsStrictlySortedBy string_cmp (keys_of es) → IsStrictlySortedBy string_cmp (keys_of ts) → IsStrictlySortedBy string_cmp (keys_of ms)
-    → ((g : List ℕ) → content_at g es ≡ over (content_at g ts) (content_at g ms)) → gather (contents_in es) ≡ over (gather (contents_in ts)) (gather (contents_in ms))
-gather_over es ts ms h i j by_name =
-    same_gather es (over (gather (contents_in ts)) (gather (contents_in ms))) h
-    (get-over (gather (contents_in ts)) (gather (contents_in ms)) [] ∙ ap₂ either (get-gather-top ts) (get-gather-top ms))
-    (λ g rest. get_in-content (at_name g es) rest ∙ ap (λ c. fin.get c rest) (by_name g)
-    ∙ get-over (content_at g ts) (content_at g ms) rest
-    ∙ sym (get-over (gather (contents_in ts)) (gather (contents_in ms)) (g ∷ rest)
-    ∙ ap₂ either (get-gather ts i g rest ∙ get_in-content (at_name g ts) rest) (get-gather ms j g rest ∙ get_in-content (at_name g ms) rest)))
+abbrev cmp : List ℕ → List ℕ → Ordering
+cmp = slice_cmp nat_cmp
 
--- the names that a removal leaves
-pub removed : (g k : List ℕ) (es : List (String Global × PathMap)) → is_eq (slice_cmp nat_cmp g k) ≡ false → at_name g (remove_entry (is_at (λ x. slice_cmp nat_cmp k (string_bytes x))) es) ≡ at_name g es
-removed g k [] apart = refl
-removed g k (e ∷ es) apart = by_test (removed g k es apart) (is_eq (slice_cmp nat_cmp k (string_bytes e.0))) refl
+abbrev names_of : Named → List (List ℕ)
+names_of = map (λ c. c.0)
+
+-- each name is above this one
+abbrev pub Above : List ℕ → Named → Type 0
+Above f cs = AllByRecursion (λ z. cmp f z ≡ Less) (names_of cs)
+
+rising_more : (c : List ℕ × Content) (cs : Named) → Above c.0 cs → IsRising cs → IsRising (c ∷ cs)
+unfolding IsStrictlySortedBy
+rising_more c cs above rises = (above, rises)
+
+head_of : (c : List ℕ × Content) (cs : Named) → IsRising (c ∷ cs) → Above c.0 cs
+head_of c cs rises = sorted_head cmp c.0 (names_of cs) rises
+
+tail_of : (c : List ℕ × Content) (cs : Named) → IsRising (c ∷ cs) → IsRising cs
+tail_of c cs rises = sorted_tail cmp c.0 (names_of cs) rises
+
+after_all : (y f : List ℕ) (cs : Named) → cmp y f ≡ Less → Above f cs → Above y cs
+after_all y f [] lt h = tt
+after_all y f (c ∷ cs) lt h = (nat_list_cmp_total.trans y f c.0 lt h.0, after_all y f cs lt h.1)
+
+less_is : (o : Ordering) → is_lt o ≡ true → o ≡ Less
+less_is Less e = refl
+less_is Equal e = absurd (true≢false (sym e))
+less_is Greater e = absurd (true≢false (sym e))
+
+lt_of : (o : Ordering) → o ≡ Less → is_lt o ≡ true
+lt_of o e = ap is_lt e
+
+reversed : (f g : List ℕ) (o : Ordering) → cmp g f ≡ o → cmp f g ≡ ordering_reverse o
+reversed f g o e = nat_list_cmp_total.antisymm f g ∙ ap ordering_reverse e
+
+-- names that are apart don't tie
+apart_less : (f g : List ℕ) → cmp f g ≡ Less → (b : Bool) → bytes_eq f g ≡ b → b ≡ false
+apart_less f g lt false is = refl
+apart_less f g lt true is = absurd (true≢false (ap is_eq (sym (tied_itself nat_list_cmp_total f) ∙ ap (cmp f) ((bytes_eq-Decides f g).0 is) ∙ lt)))
+
+apart_greater : (f g : List ℕ) → cmp g f ≡ Less → (b : Bool) → bytes_eq f g ≡ b → b ≡ false
+apart_greater f g lt false is = refl
+apart_greater f g lt true is = absurd (true≢false (ap is_eq (sym (tied_itself nat_list_cmp_total g) ∙ ap (cmp g) (sym ((bytes_eq-Decides f g).0 is)) ∙ lt)))
+
+equal_is : (f g : List ℕ) → cmp f g ≡ Equal → bytes_eq f g ≡ true
+equal_is f g e = (bytes_eq-Decides f g).1 (ties f g (ap is_eq e))
+
+-- ---- what has a name
+
+pub child_above : (g : List ℕ) (cs : Named) → Above g cs → child_of g cs ≡ None
+child_above g [] above = refl
+child_above g (c ∷ cs) above = ap (λ b. cond b (Some c.1) (child_of g cs)) (apart_greater c.0 g above.0 (bytes_eq c.0 g) refl) ∙ child_above g cs above.1
+
+either-cond : {X : Type 0} (b : Bool) (x : X) (r s : Option X) → either (cond b (Some x) r) s ≡ cond b (Some x) (either r s)
+either-cond true x r s = refl
+either-cond false x r s = refl
+
+child-append : (g : List ℕ) (xs ys : Named) → child_of g (xs ++ ys) ≡ either (child_of g xs) (child_of g ys)
+child-append g [] ys = refl
+child-append g (x ∷ xs) ys = ap (cond (bytes_eq x.0 g) (Some x.1)) (child-append g xs ys) ∙ sym (either-cond (bytes_eq x.0 g) x.1 (child_of g xs) (child_of g ys))
+
+front_none : (f g : List ℕ) (ms : Named) → is_lt (cmp g f) ≡ false → child_of g (front_of f ms) ≡ None
+front_none f g [] not_less = refl
+front_none f g (m ∷ ms) not_less = by_test (front_none f g ms not_less) (is_lt (cmp m.0 f)) refl
   where
-    by_test : at_name g (remove_entry (is_at (λ x. slice_cmp nat_cmp k (string_bytes x))) es) ≡ at_name g es → (b : Bool) → is_eq (slice_cmp nat_cmp k (string_bytes e.0)) ≡ b
-        → at_name g (cond b es (e ∷ remove_entry (is_at (λ x. slice_cmp nat_cmp k (string_bytes x))) es)) ≡ cond (is_eq (slice_cmp nat_cmp g (string_bytes e.0))) (Some e.1) (at_name g es)
-    by_test later true tie = sym (ap (λ b. cond b (Some e.1) (at_name g es)) (ap (λ f. is_eq (slice_cmp nat_cmp g f)) (sym (ties k (string_bytes e.0) tie)) ∙ apart))
-    by_test later false other = ap (cond (is_eq (slice_cmp nat_cmp g (string_bytes e.0))) (Some e.1)) later
+    apart : is_lt (cmp m.0 f) ≡ true → (b : Bool) → bytes_eq m.0 g ≡ b → b ≡ false
+    apart lt false is = refl
+    apart lt true is = absurd (true≢false (sym lt ∙ ap (λ k. is_lt (cmp k f)) ((bytes_eq-Decides m.0 g).0 is) ∙ not_less))
 
--- one more child put over what stands under its name, or under it: both are a join that nothing leaves as it is
-module _ (join : Content → Content → Content) (joins_nothing : (c : Content) → join nothing c ≡ c) where
-  pub put_one : (e : String Global × PathMap) (left : List (String Global × PathMap)) → IsStrictlySortedBy string_cmp (keys_of (e ∷ left)) → (es fs : List (String Global × PathMap))
-      → content_at (string_bytes e.0) fs ≡ join (content e.1) (content_at (string_bytes e.0) es) → ((g : List ℕ) → is_eq (slice_cmp nat_cmp g (string_bytes e.0)) ≡ false → at_name g fs ≡ at_name g es)
-      → (g : List ℕ) → join (content_at g left) (content_at g fs) ≡ join (content_at g (e ∷ left)) (content_at g es)
-  put_one e left sorted es fs here others g = by_tie (is_eq (slice_cmp nat_cmp g (string_bytes e.0))) refl
+    by_test : child_of g (front_of f ms) ≡ None → (b : Bool) → is_lt (cmp m.0 f) ≡ b → child_of g (cond b (m ∷ front_of f ms) []) ≡ None
+    by_test later true lt = ap (λ b. cond b (Some m.1) (child_of g (front_of f ms))) (apart lt (bytes_eq m.0 g) refl) ∙ later
+    by_test later false lt = refl
+
+-- a name that isn't below another is above what is below that
+above_front : (g f : List ℕ) (m : List ℕ × Content) (ms : Named) → cmp g f ≡ Less → is_lt (cmp m.0 f) ≡ false → Above m.0 ms → Above g (m ∷ ms)
+above_front g f m ms lt not_less above = by_order (cmp f m.0) refl
+  where
+    by_order : (o : Ordering) → cmp f m.0 ≡ o → Above g (m ∷ ms)
+    by_order Less e = let first = nat_list_cmp_total.trans g f m.0 lt e in (first, after_all g m.0 ms first above)
+    by_order Equal e = let first = subst (λ k. cmp g k ≡ Less) (ties f m.0 (ap is_eq e)) lt in (first, after_all g m.0 ms first above)
+    by_order Greater e = absurd (true≢false (sym (ap is_lt (reversed m.0 f Greater e)) ∙ not_less))
+
+front_same : (f g : List ℕ) (ms : Named) → IsRising ms → cmp g f ≡ Less → child_of g (front_of f ms) ≡ child_of g ms
+front_same f g [] rises lt = refl
+front_same f g (m ∷ ms) rises lt = by_test (front_same f g ms (tail_of m ms rises) lt) (is_lt (cmp m.0 f)) refl
+  where
+    by_test : child_of g (front_of f ms) ≡ child_of g ms → (b : Bool) → is_lt (cmp m.0 f) ≡ b → child_of g (cond b (m ∷ front_of f ms) []) ≡ child_of g (m ∷ ms)
+    by_test later true is = ap (cond (bytes_eq m.0 g) (Some m.1)) later
+    by_test later false is = sym (child_above g (m ∷ ms) (above_front g f m ms lt is (head_of m ms rises)))
+
+back_same : (f g : List ℕ) (ms : Named) → is_lt (cmp g f) ≡ false → child_of g (back_of f ms) ≡ child_of g ms
+back_same f g [] not_less = refl
+back_same f g (m ∷ ms) not_less = by_test (back_same f g ms not_less) (is_lt (cmp m.0 f)) refl
+  where
+    apart : is_lt (cmp m.0 f) ≡ true → (b : Bool) → bytes_eq m.0 g ≡ b → b ≡ false
+    apart lt false is = refl
+    apart lt true is = absurd (true≢false (sym lt ∙ ap (λ k. is_lt (cmp k f)) ((bytes_eq-Decides m.0 g).0 is) ∙ not_less))
+
+    by_test : child_of g (back_of f ms) ≡ child_of g ms → (b : Bool) → is_lt (cmp m.0 f) ≡ b → child_of g (cond b (back_of f ms) (m ∷ ms)) ≡ child_of g (m ∷ ms)
+    by_test later true lt = later ∙ sym (ap (λ b. cond b (Some m.1) (child_of g ms)) (apart lt (bytes_eq m.0 g) refl))
+    by_test later false lt = refl
+
+left_same : (f g : List ℕ) (bs : Named) → bytes_eq f g ≡ false → child_of g (left_of f bs) ≡ child_of g bs
+left_same f g [] other = refl
+left_same f g (b ∷ bs) other = by_test (bytes_eq b.0 f) refl
+  where
+    by_test : (t : Bool) → bytes_eq b.0 f ≡ t → child_of g (cond t bs (b ∷ bs)) ≡ child_of g (b ∷ bs)
+    by_test true is = sym (ap (λ t. cond t (Some b.1) (child_of g bs)) (ap (λ k. bytes_eq k g) ((bytes_eq-Decides b.0 f).0 is) ∙ other))
+    by_test false is = refl
+
+-- what is left behind a name keeps what has a name above it
+pub left_keeps : (f g : List ℕ) (ms : Named) → cmp f g ≡ Less → child_of g (left_of f (back_of f ms)) ≡ child_of g ms
+left_keeps f g ms lt = left_same f g (back_of f ms) (apart_less f g lt (bytes_eq f g) refl) ∙ back_same f g ms (ap is_lt (reversed g f Less lt))
+
+left_above : (f : List ℕ) (ms : Named) → IsRising ms → Above f (left_of f (back_of f ms))
+left_above f [] rises = tt
+left_above f (m ∷ ms) rises = by_test (left_above f ms (tail_of m ms rises)) (is_lt (cmp m.0 f)) refl
+  where
+    by_name : is_lt (cmp m.0 f) ≡ false → (b : Bool) → bytes_eq m.0 f ≡ b → Above f (cond b ms (m ∷ ms))
+    by_name not_less true is = subst (λ k. Above k ms) ((bytes_eq-Decides m.0 f).0 is) (head_of m ms rises)
+    by_name not_less false is = by_order (cmp f m.0) refl
+      where
+        by_order : (o : Ordering) → cmp f m.0 ≡ o → Above f (m ∷ ms)
+        by_order Less e = (e, after_all f m.0 ms e (head_of m ms rises))
+        by_order Equal e = absurd (true≢false (sym ((bytes_eq-Decides m.0 f).1 (sym (ties f m.0 (ap is_eq e)))) ∙ is))
+        by_order Greater e = absurd (true≢false (sym (ap is_lt (reversed m.0 f Greater e)) ∙ not_less))
+
+    by_test : Above f (left_of f (back_of f ms)) → (b : Bool) → is_lt (cmp m.0 f) ≡ b → Above f (left_of f (cond b (back_of f ms) (m ∷ ms)))
+    by_test later true lt = later
+    by_test later false lt = by_name lt (bytes_eq m.0 f) refl
+
+back_rises : (f : List ℕ) (ms : Named) → IsRising ms → IsRising (back_of f ms)
+back_rises f [] rises = rises
+back_rises f (m ∷ ms) rises = by_test (back_rises f ms (tail_of m ms rises)) (is_lt (cmp m.0 f))
+  where
+    by_test : IsRising (back_of f ms) → (b : Bool) → IsRising (cond b (back_of f ms) (m ∷ ms))
+    by_test later true = later
+    by_test later false = rises
+
+left_rises : (f : List ℕ) (bs : Named) → IsRising bs → IsRising (left_of f bs)
+left_rises f [] rises = rises
+left_rises f (b ∷ bs) rises = by_test (bytes_eq b.0 f)
+  where
+    by_test : (t : Bool) → IsRising (cond t bs (b ∷ bs))
+    by_test true = tail_of b bs rises
+    by_test false = rises
+
+pub passed_rises : (f : List ℕ) (ms : Named) → IsRising ms → IsRising (left_of f (back_of f ms))
+passed_rises f ms rises = left_rises f (back_of f ms) (back_rises f ms rises)
+
+-- from a name on, what has it is in front
+pub first_back : (f : List ℕ) (ms : Named) → IsRising ms → first_of f (back_of f ms) ≡ child_of f ms
+first_back f [] rises = refl
+first_back f (m ∷ ms) rises = by_test (first_back f ms (tail_of m ms rises)) (is_lt (cmp m.0 f)) refl
+  where
+    by_order : is_lt (cmp m.0 f) ≡ false → bytes_eq m.0 f ≡ false → (o : Ordering) → cmp f m.0 ≡ o → None ≡ child_of f ms
+    by_order not_less is Less e = sym (child_above f ms (after_all f m.0 ms e (head_of m ms rises)))
+    by_order not_less is Equal e = absurd (true≢false (sym ((bytes_eq-Decides m.0 f).1 (sym (ties f m.0 (ap is_eq e)))) ∙ is))
+    by_order not_less is Greater e = absurd (true≢false (sym (ap is_lt (reversed m.0 f Greater e)) ∙ not_less))
+
+    by_name : is_lt (cmp m.0 f) ≡ false → (b : Bool) → bytes_eq m.0 f ≡ b → cond b (Some m.1) None ≡ cond b (Some m.1) (child_of f ms)
+    by_name not_less true is = refl
+    by_name not_less false is = by_order not_less is (cmp f m.0) refl
+
+    by_test : first_of f (back_of f ms) ≡ child_of f ms → (b : Bool) → is_lt (cmp m.0 f) ≡ b → first_of f (cond b (back_of f ms) (m ∷ ms)) ≡ child_of f (m ∷ ms)
+    by_test later true lt = later ∙ sym (ap (λ b. cond b (Some m.1) (child_of f ms)) (apart_less m.0 f (less_is (cmp m.0 f) lt) (bytes_eq m.0 f) refl))
+    by_test later false lt = by_name lt (bytes_eq m.0 f) refl
+
+-- ---- the merged list
+
+above-append : (k : List ℕ) (xs ys : Named) → Above k xs → Above k ys → Above k (xs ++ ys)
+above-append k [] ys a b = b
+above-append k (x ∷ xs) ys a b = (a.0, above-append k xs ys a.1 b)
+
+above-front : (k f : List ℕ) (ms : Named) → Above k ms → Above k (front_of f ms)
+above-front k f [] a = tt
+above-front k f (m ∷ ms) a = by_test (above-front k f ms a.1) (is_lt (cmp m.0 f))
+  where
+    by_test : Above k (front_of f ms) → (b : Bool) → Above k (cond b (m ∷ front_of f ms) [])
+    by_test later true = (a.0, later)
+    by_test later false = tt
+
+above-back : (k f : List ℕ) (ms : Named) → Above k ms → Above k (back_of f ms)
+above-back k f [] a = tt
+above-back k f (m ∷ ms) a = by_test (above-back k f ms a.1) (is_lt (cmp m.0 f))
+  where
+    by_test : Above k (back_of f ms) → (b : Bool) → Above k (cond b (back_of f ms) (m ∷ ms))
+    by_test later true = later
+    by_test later false = a
+
+above-left : (k f : List ℕ) (bs : Named) → Above k bs → Above k (left_of f bs)
+above-left k f [] a = tt
+above-left k f (b ∷ bs) a = by_test (bytes_eq b.0 f)
+  where
+    by_test : (t : Bool) → Above k (cond t bs (b ∷ bs))
+    by_test true = a.1
+    by_test false = a
+
+front_then : (f : List ℕ) (x : Content) (rest ms : Named) → IsRising ms → Above f rest → IsRising rest → IsRising (front_of f ms ++ (f, x) ∷ rest)
+front_then f x rest [] rises above later = rising_more (f, x) rest above later
+front_then f x rest (m ∷ ms) rises above later = by_test (front_then f x rest ms (tail_of m ms rises) above later) (is_lt (cmp m.0 f)) refl
+  where
+    by_test : IsRising (front_of f ms ++ (f, x) ∷ rest) → (b : Bool) → is_lt (cmp m.0 f) ≡ b → IsRising (cond b (m ∷ front_of f ms) [] ++ (f, x) ∷ rest)
+    by_test others true is =
+        let lt = less_is (cmp m.0 f) is in
+        rising_more m (front_of f ms ++ (f, x) ∷ rest) (above-append m.0 (front_of f ms) ((f, x) ∷ rest) (above-front m.0 f ms (head_of m ms rises)) (lt, after_all m.0 f rest lt above)) others
+    by_test others false is = rising_more (f, x) rest above later
+
+full-append : (xs ys : Named) → AreFull xs → AreFull ys → AreFull (xs ++ ys)
+full-append [] ys a b = b
+full-append (x ∷ xs) ys a b = (a.0, full-append xs ys a.1 b)
+
+full-front : (f : List ℕ) (ms : Named) → AreFull ms → AreFull (front_of f ms)
+full-front f [] a = tt
+full-front f (m ∷ ms) a = by_test (full-front f ms a.1) (is_lt (cmp m.0 f))
+  where
+    by_test : AreFull (front_of f ms) → (b : Bool) → AreFull (cond b (m ∷ front_of f ms) [])
+    by_test later true = (a.0, later)
+    by_test later false = tt
+
+full-back : (f : List ℕ) (ms : Named) → AreFull ms → AreFull (back_of f ms)
+full-back f [] a = tt
+full-back f (m ∷ ms) a = by_test (full-back f ms a.1) (is_lt (cmp m.0 f))
+  where
+    by_test : AreFull (back_of f ms) → (b : Bool) → AreFull (cond b (back_of f ms) (m ∷ ms))
+    by_test later true = later
+    by_test later false = a
+
+full-left : (f : List ℕ) (bs : Named) → AreFull bs → AreFull (left_of f bs)
+full-left f [] a = tt
+full-left f (b ∷ bs) a = by_test (bytes_eq b.0 f)
+  where
+    by_test : (t : Bool) → AreFull (cond t bs (b ∷ bs))
+    by_test true = a.1
+    by_test false = a
+
+-- what both have, joined
+abbrev pub joined : (Content → Content → Content) → Option Content → Option Content → Option Content
+joined j None m = m
+joined j (Some c) None = Some c
+joined j (Some c) (Some d) = Some (j c d)
+
+joined-None : (j : Content → Content → Content) (o : Option Content) → joined j o None ≡ o
+joined-None j None = refl
+joined-None j (Some c) = refl
+
+module _ (j : Content → Content → Content) where
+  joins : (f : List ℕ) (c : Content) (ms : Named) → IsRising ms → Some (join_on j f c (back_of f ms)) ≡ joined j (Some c) (child_of f ms)
+  joins f c [] rises = refl
+  joins f c (m ∷ ms) rises = by_test (joins f c ms (tail_of m ms rises)) (is_lt (cmp m.0 f)) refl
     where
-      by_tie : (b : Bool) → is_eq (slice_cmp nat_cmp g (string_bytes e.0)) ≡ b → join (content_at g left) (content_at g fs) ≡ join (content_or_nothing (cond b (Some e.1) (at_name g left))) (content_at g es)
-      by_tie true tie =
-          let is = ties g (string_bytes e.0) tie in
-          ap (λ m. join (content_or_nothing m) (content_at g fs)) (past e.0 g left is (sorted_head string_cmp e.0 (keys_of left) sorted)) ∙ joins_nothing (content_at g fs) ∙ ap (λ k. content_at k fs) is ∙ here
-          ∙ ap (λ k. join (content e.1) (content_at k es)) (sym is)
-      by_tie false apart = ap (λ m. join (content_at g left) (content_or_nothing m)) (others g apart)
+      by_name : is_lt (cmp m.0 f) ≡ false → (b : Bool) → bytes_eq m.0 f ≡ b → Some (cond b (j c m.1) c) ≡ joined j (Some c) (cond b (Some m.1) (child_of f ms))
+      by_name not_less true is = refl
+      by_name not_less false is = by_order (cmp f m.0) refl
+        where
+          by_order : (o : Ordering) → cmp f m.0 ≡ o → Some c ≡ joined j (Some c) (child_of f ms)
+          by_order Less e = ap (joined j (Some c)) (sym (child_above f ms (after_all f m.0 ms e (head_of m ms rises))))
+          by_order Equal e = absurd (true≢false (sym ((bytes_eq-Decides m.0 f).1 (sym (ties f m.0 (ap is_eq e)))) ∙ is))
+          by_order Greater e = absurd (true≢false (sym (ap is_lt (reversed m.0 f Greater e)) ∙ not_less))
 
-  pub put_none : (it ts es ms : List (String Global × PathMap)) → it ≡ [] → ((g : List ℕ) → join (content_at g it) (content_at g es) ≡ join (content_at g ts) (content_at g ms)) → (g : List ℕ) → content_at g es ≡ join (content_at g ts) (content_at g ms)
-  put_none it ts es ms none kept g = sym (joins_nothing (content_at g es)) ∙ ap (λ l. join (content_at g l) (content_at g es)) (sym none) ∙ kept g
+      apart : is_lt (cmp m.0 f) ≡ true → (b : Bool) → bytes_eq m.0 f ≡ b → b ≡ false
+      apart lt b is = apart_less m.0 f (less_is (cmp m.0 f) lt) b is
 
-pub content-out : (n : PathMap) → content n ≡ over (at_top (out-PathMap n).held) (gather (contents_in (out-PathMap n).below.entries))
-content-out n = search (rules, the_lemmas)
+      by_test : Some (join_on j f c (back_of f ms)) ≡ joined j (Some c) (child_of f ms) → (b : Bool) → is_lt (cmp m.0 f) ≡ b
+          → Some (join_on j f c (cond b (back_of f ms) (m ∷ ms))) ≡ joined j (Some c) (cond (bytes_eq m.0 f) (Some m.1) (child_of f ms))
+      by_test later true lt = later ∙ sym (ap (λ b. joined j (Some c) (cond b (Some m.1) (child_of f ms))) (apart lt (bytes_eq m.0 f) refl))
+      by_test later false lt = by_name lt (bytes_eq m.0 f) refl
 
-pub get-at_top-below : (h : Option Held) (g : List ℕ) (rest : PathTexts) → fin.get (at_top h) (g ∷ rest) ≡ None
-get-at_top-below None g rest = get-nothing (g ∷ rest)
-get-at_top-below (Some h) g rest = get-here-below (standing h) g rest
+  pub child-merged : (g : List ℕ) (ts ms : Named) → IsRising ts → IsRising ms → child_of g (merged j ts ms) ≡ joined j (child_of g ts) (child_of g ms)
+  child-merged g [] ms rises rises_ms = refl
+  child-merged g (t ∷ ts) ms rises rises_ms =
+      child-append g (front_of t.0 ms) ((t.0, join_on j t.0 t.1 (back_of t.0 ms)) ∷ merged j ts (left_of t.0 (back_of t.0 ms)))
+      ∙ by_order (child-merged g ts (left_of t.0 (back_of t.0 ms)) (tail_of t ts rises) (left_rises t.0 (back_of t.0 ms) (back_rises t.0 ms rises_ms))) (cmp t.0 g) refl
+    where
+      by_order : child_of g (merged j ts (left_of t.0 (back_of t.0 ms))) ≡ joined j (child_of g ts) (child_of g (left_of t.0 (back_of t.0 ms))) → (o : Ordering) → cmp t.0 g ≡ o
+          → either (child_of g (front_of t.0 ms)) (cond (bytes_eq t.0 g) (Some (join_on j t.0 t.1 (back_of t.0 ms))) (child_of g (merged j ts (left_of t.0 (back_of t.0 ms))))) ≡ joined j (cond (bytes_eq t.0 g) (Some t.1) (child_of g ts)) (child_of g ms)
+      by_order later Less e =
+          let other = apart_less t.0 g e (bytes_eq t.0 g) refl in
+          let not_less = ap is_lt (reversed g t.0 Less e) in
+          ap₂ (λ o b. either o (cond b (Some (join_on j t.0 t.1 (back_of t.0 ms))) (child_of g (merged j ts (left_of t.0 (back_of t.0 ms)))))) (front_none t.0 g ms not_less) other
+          ∙ later ∙ ap (joined j (child_of g ts)) (left_same t.0 g (back_of t.0 ms) other ∙ back_same t.0 g ms not_less)
+          ∙ sym (ap (λ b. joined j (cond b (Some t.1) (child_of g ts)) (child_of g ms)) other)
+      by_order later Equal e =
+          let is = ties t.0 g (ap is_eq e) in
+          let not_less = ap is_lt (reversed g t.0 Equal e) in
+          ap₂ (λ o b. either o (cond b (Some (join_on j t.0 t.1 (back_of t.0 ms))) (child_of g (merged j ts (left_of t.0 (back_of t.0 ms)))))) (front_none t.0 g ms not_less) (equal_is t.0 g e)
+          ∙ joins t.0 t.1 ms rises_ms ∙ ap (λ k. joined j (Some t.1) (child_of k ms)) is
+          ∙ sym (ap (λ b. joined j (cond b (Some t.1) (child_of g ts)) (child_of g ms)) (equal_is t.0 g e))
+      by_order later Greater e =
+          let lt = reversed g t.0 Greater e in
+          let other = apart_greater t.0 g lt (bytes_eq t.0 g) refl in
+          let none = child_above g ts (after_all g t.0 ts lt (head_of t ts rises)) in
+          let none_left = child_above g (left_of t.0 (back_of t.0 ms)) (after_all g t.0 (left_of t.0 (back_of t.0 ms)) lt (left_above t.0 ms rises_ms)) in
+          ap₂ (λ o b. either o (cond b (Some (join_on j t.0 t.1 (back_of t.0 ms))) (child_of g (merged j ts (left_of t.0 (back_of t.0 ms)))))) (front_same t.0 g ms rises_ms lt) other
+          ∙ ap (either (child_of g ms)) (later ∙ ap₂ (joined j) none none_left) ∙ either-None (child_of g ms)
+          ∙ sym (ap (λ b. joined j (cond b (Some t.1) (child_of g ts)) (child_of g ms)) other ∙ ap (λ o. joined j o (child_of g ms)) none)
 
-pub get-here-top : (v : Standing) → fin.get (here v) [] ≡ Some v
-unfolding here
-get-here-top v = fin.get-insert path_cmp_total nothing [] v []
+  above-merged : (k : List ℕ) (ts ms : Named) → Above k ts → Above k ms → Above k (merged j ts ms)
+  above-merged k [] ms a b = b
+  above-merged k (t ∷ ts) ms a b =
+      above-append k (front_of t.0 ms) ((t.0, join_on j t.0 t.1 (back_of t.0 ms)) ∷ merged j ts (left_of t.0 (back_of t.0 ms))) (above-front k t.0 ms b)
+      (a.0, above-merged k ts (left_of t.0 (back_of t.0 ms)) a.1 (above-left k t.0 (back_of t.0 ms) (above-back k t.0 ms b)))
 
-over_top : (t m : Option Held) → fin.get (either_top t m) [] ≡ either (fin.get (at_top t) []) (fin.get (at_top m) [])
-over_top None m = sym (ap (λ a. either a (fin.get (at_top m) [])) (get-nothing []))
-over_top (Some t) m = get-here-top (standing t) ∙ sym (ap (λ a. either a (fin.get (at_top m) [])) (get-here-top (standing t)))
+  merged_rises : (ts ms : Named) → IsRising ts → IsRising ms → IsRising (merged j ts ms)
+  merged_rises [] ms rises rises_ms = rises_ms
+  merged_rises (t ∷ ts) ms rises rises_ms =
+      let left = left_of t.0 (back_of t.0 ms) in
+      front_then t.0 (join_on j t.0 t.1 (back_of t.0 ms)) (merged j ts left) ms rises_ms (above-merged t.0 ts left (head_of t ts rises) (left_above t.0 ms rises_ms))
+      (merged_rises ts left (tail_of t ts rises) (left_rises t.0 (back_of t.0 ms) (back_rises t.0 ms rises_ms)))
 
-below_top : (t m : Option Held) (g : List ℕ) (rest : PathTexts) → fin.get (either_top t m) (g ∷ rest) ≡ None
-below_top None m g rest = get-at_top-below m g rest
-below_top (Some t) m g rest = get-at_top-below (Some t) g rest
+  module _ (keeps : (c d : Content) → has_path c ≡ true → has_path (j c d) ≡ true) where
+    join_full : (f : List ℕ) (c : Content) (bs : Named) → has_path c ≡ true → has_path (join_on j f c bs) ≡ true
+    join_full f c [] has = has
+    join_full f c (b ∷ bs) has = by_test (bytes_eq b.0 f)
+      where
+        by_test : (t : Bool) → has_path (cond t (j c b.1) c) ≡ true
+        by_test true = keeps c b.1 has
+        by_test false = has
 
-module _ (t m : Option Held) (ts ms : List (String Global × PathMap)) where
-  level_by : (q : PathTexts) → fin.get (over (either_top t m) (over (gather (contents_in ts)) (gather (contents_in ms)))) q ≡ fin.get (over (over (at_top t) (gather (contents_in ts))) (over (at_top m) (gather (contents_in ms)))) q
-  level_by [] =
-      get-over (either_top t m) (over (gather (contents_in ts)) (gather (contents_in ms))) []
-      ∙ ap₂ either (over_top t m) (get-over (gather (contents_in ts)) (gather (contents_in ms)) [] ∙ ap₂ either (get-gather-top ts) (get-gather-top ms))
-      ∙ either-None (either (fin.get (at_top t) []) (fin.get (at_top m) []))
-      ∙ sym (get-over (over (at_top t) (gather (contents_in ts))) (over (at_top m) (gather (contents_in ms))) []
-      ∙ ap₂ either (get-over (at_top t) (gather (contents_in ts)) [] ∙ ap (either (fin.get (at_top t) [])) (get-gather-top ts) ∙ either-None (fin.get (at_top t) []))
-      (get-over (at_top m) (gather (contents_in ms)) [] ∙ ap (either (fin.get (at_top m) [])) (get-gather-top ms) ∙ either-None (fin.get (at_top m) [])))
-  level_by (g ∷ rest) =
-      get-over (either_top t m) (over (gather (contents_in ts)) (gather (contents_in ms))) (g ∷ rest)
-      ∙ ap₂ either (below_top t m g rest) (get-over (gather (contents_in ts)) (gather (contents_in ms)) (g ∷ rest))
-      ∙ sym (get-over (over (at_top t) (gather (contents_in ts))) (over (at_top m) (gather (contents_in ms))) (g ∷ rest)
-      ∙ ap₂ either (get-over (at_top t) (gather (contents_in ts)) (g ∷ rest) ∙ ap (λ a. either a (fin.get (gather (contents_in ts)) (g ∷ rest))) (get-at_top-below t g rest))
-      (get-over (at_top m) (gather (contents_in ms)) (g ∷ rest) ∙ ap (λ a. either a (fin.get (gather (contents_in ms)) (g ∷ rest))) (get-at_top-below m g rest)))
+    merged_full : (ts ms : Named) → AreFull ts → AreFull ms → AreFull (merged j ts ms)
+    merged_full [] ms a b = b
+    merged_full (t ∷ ts) ms a b =
+        full-append (front_of t.0 ms) ((t.0, join_on j t.0 t.1 (back_of t.0 ms)) ∷ merged j ts (left_of t.0 (back_of t.0 ms))) (full-front t.0 ms b)
+        (join_full t.0 t.1 (back_of t.0 ms) a.0, merged_full ts (left_of t.0 (back_of t.0 ms)) a.1 (full-left t.0 (back_of t.0 ms) (full-back t.0 ms b)))
 
-  pub level : over (either_top t m) (over (gather (contents_in ts)) (gather (contents_in ms))) ≡ over (over (at_top t) (gather (contents_in ts))) (over (at_top m) (gather (contents_in ms)))
-  level = same _ _ level_by
+    pub merged_children : (ts ms : Named) → AreChildren ts → AreChildren ms → AreChildren (merged j ts ms)
+    merged_children ts ms a b = (merged_rises ts ms a.0 b.0, merged_full ts ms a.1 b.1)
 
--- the names that a write leaves
-pub written : (g k : List ℕ) (es : List (String Global × PathMap)) (w : PathMap) → is_eq (slice_cmp nat_cmp g k) ≡ false → at_name g (set_value (is_at (λ x. slice_cmp nat_cmp k (string_bytes x))) es w) ≡ at_name g es
-written g k [] w apart = refl
-written g k (e ∷ es) w apart = by_test (written g k es w apart) (is_eq (slice_cmp nat_cmp k (string_bytes e.0))) refl
-  where
-    by_test : at_name g (set_value (is_at (λ x. slice_cmp nat_cmp k (string_bytes x))) es w) ≡ at_name g es → (b : Bool) → is_eq (slice_cmp nat_cmp k (string_bytes e.0)) ≡ b
-        → at_name g (cond b ((e.0, w) ∷ es) (e ∷ set_value (is_at (λ x. slice_cmp nat_cmp k (string_bytes x))) es w)) ≡ cond (is_eq (slice_cmp nat_cmp g (string_bytes e.0))) (Some e.1) (at_name g es)
-    by_test later true tie =
-        let other = ap (λ f. is_eq (slice_cmp nat_cmp g f)) (sym (ties k (string_bytes e.0) tie)) ∙ apart in
-        ap (λ b. cond b (Some w) (at_name g es)) other ∙ sym (ap (λ b. cond b (Some e.1) (at_name g es)) other)
-    by_test later false other = ap (cond (is_eq (slice_cmp nat_cmp g (string_bytes e.0))) (Some e.1)) later
+-- ---- the two joins
+
+left_some : (a b : Option Standing) → is_some a ≡ true → is_some (either a b) ≡ true
+left_some None b h = absurd (true≢false (sym h))
+left_some (Some v) b h = refl
+
+right_some : (a b : Option Standing) → is_some b ≡ true → is_some (either a b) ≡ true
+right_some None b h = h
+right_some (Some v) b h = refl
+
+some_left : (c d : Content) → has_path c ≡ true → has_path (over c d) ≡ true
+some_left c d has = let found = some_path c has in one_path (over c d) found.0 (ap is_some (get-over c d found.0) ∙ left_some (fin.get c found.0) (fin.get d found.0) found.1)
+
+some_right : (c d : Content) → has_path c ≡ true → has_path (over d c) ≡ true
+some_right c d has = let found = some_path c has in one_path (over d c) found.0 (ap is_some (get-over d c found.0) ∙ right_some (fin.get d found.0) (fin.get c found.0) found.1)
+
+module _ (q : PathTexts) where
+  get-joined : (a b : Option Content) → fin.get (content_or_nothing (joined over a b)) q ≡ either (fin.get (content_or_nothing a) q) (fin.get (content_or_nothing b) q)
+  get-joined None b = sym (ap (λ o. either o (fin.get (content_or_nothing b) q)) (get-nothing q))
+  get-joined (Some c) None = sym (ap (either (fin.get c q)) (get-nothing q) ∙ either-None (fin.get c q))
+  get-joined (Some c) (Some d) = get-over c d q
+
+  get-joined-under : (a b : Option Content) → fin.get (content_or_nothing (joined under_it a b)) q ≡ either (fin.get (content_or_nothing b) q) (fin.get (content_or_nothing a) q)
+  get-joined-under None b = sym (ap (either (fin.get (content_or_nothing b) q)) (get-nothing q) ∙ either-None (fin.get (content_or_nothing b) q))
+  get-joined-under (Some c) None = sym (ap (λ o. either o (fin.get c q)) (get-nothing q))
+  get-joined-under (Some c) (Some d) = get-over d c q
+
+module _ (ts ms : Named) (a : AreChildren ts) (b : AreChildren ms) where
+  pub over_children : AreChildren (merged over ts ms)
+  over_children = merged_children over some_left ts ms a b
+
+  pub under_children : AreChildren (merged under_it ts ms)
+  under_children = merged_children under_it some_right ts ms a b
+
+  pub gather-merged-over : gather (merged over ts ms) ≡ over (gather ts) (gather ms)
+  gather-merged-over = same (gather (merged over ts ms)) (over (gather ts) (gather ms)) by_path
+    where
+      by_path : (q : PathTexts) → fin.get (gather (merged over ts ms)) q ≡ fin.get (over (gather ts) (gather ms)) q
+      by_path [] = get-gather-top (merged over ts ms) ∙ sym (get-over (gather ts) (gather ms) [] ∙ ap₂ either (get-gather-top ts) (get-gather-top ms))
+      by_path (g ∷ q) =
+          get-child g (merged over ts ms) over_children.0 q ∙ ap (λ o. fin.get (content_or_nothing o) q) (child-merged over g ts ms a.0 b.0) ∙ get-joined q (child_of g ts) (child_of g ms)
+          ∙ sym (get-over (gather ts) (gather ms) (g ∷ q) ∙ ap₂ either (get-child g ts a.0 q) (get-child g ms b.0 q))
+
+  pub gather-merged-under : gather (merged under_it ts ms) ≡ over (gather ms) (gather ts)
+  gather-merged-under = same (gather (merged under_it ts ms)) (over (gather ms) (gather ts)) by_path
+    where
+      by_path : (q : PathTexts) → fin.get (gather (merged under_it ts ms)) q ≡ fin.get (over (gather ms) (gather ts)) q
+      by_path [] = get-gather-top (merged under_it ts ms) ∙ sym (get-over (gather ms) (gather ts) [] ∙ ap₂ either (get-gather-top ms) (get-gather-top ts))
+      by_path (g ∷ q) =
+          get-child g (merged under_it ts ms) under_children.0 q ∙ ap (λ o. fin.get (content_or_nothing o) q) (child-merged under_it g ts ms a.0 b.0) ∙ get-joined-under q (child_of g ts) (child_of g ms)
+          ∙ sym (get-over (gather ms) (gather ts) (g ∷ q) ∙ ap₂ either (get-child g ms b.0 q) (get-child g ts a.0 q))

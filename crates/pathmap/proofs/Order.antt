@@ -1,5 +1,5 @@
 -- The paths of a set, in order.
-use Rattle.std.proofs.Common.{◌≡◌, ℕ, Bool, true, false, cond, ◌&&◌, ◌||◌, is_eq, is_lt, nat_cmp, string_cmp, List, [], ◌∷◌, ◌++◌, map, Option, Some, None, is_some, String, Global, string_bytes, refl, sym, ap, ap₂, subst, ◌∙◌, true≢false, Ordering, Less, Equal, Greater}
+use Rattle.std.proofs.Common.{◌≡◌, ℕ, Bool, true, false, cond, ◌&&◌, ◌||◌, is_eq, is_lt, nat_cmp, List, [], ◌∷◌, ◌++◌, map, Option, Some, None, is_some, refl, sym, ap, ap₂, subst, ◌∙◌, true≢false, Ordering, Less, Equal, Greater}
 use Rattle.std.specs.Prelude.{T}
 use Rattle.std.specs.Cmp.{tied_itself}
 use Rattle.std.specs.Cmp.Lexicographic.{slice_cmp}
@@ -9,19 +9,19 @@ use Rattle.std.specs.FinMap.Entries.{below_all}
 use Rattle.std.specs.FinSet as set
 use Rattle.std.specs.List.{AllByRecursion, list_any}
 use Rattle.std.specs.List.Sorted.{IsStrictlySortedBy}
-use Rattle.std.specs.Map.{keys_of}
+use Rattle.std.specs.Str.{bytes_eq}
+use Rattle.std.proofs.lemmas.Slice.Eq.{bytes_eq-Decides}
 use Rattle.std.specs.Ordering.{eq_by_cmp, ordering_then}
 use Rattle.std.proofs.lemmas.Cmp.{nat_list_cmp_total}
 use Rattle.std.proofs.lemmas.List.Folds.{list_any-append}
 use Rattle.std.proofs.lemmas.Map.Keys.{sorted_head, sorted_tail}
 use Rattle.fieldpath.specs.Paths.{PathTexts, path_cmp}
 use Rattle.pathmap.specs.Contents.{Standing, mark, Content, PathSet, nothing, under, over, gather, dom, marked, in_order}
-use Rattle.pathmap.specs.Maps.{at_top, at_name, content, contents_in}
+use Rattle.pathmap.specs.Levels.{at_top, IsRising, child_of}
+use Rattle.pathmap.specs.Maps.{content_or_nothing}
 use Rattle.pathmap.specs.declared.held.Held.{Held}
-use Rattle.pathmap.specs.declared.pathmap.PathMap.{PathMap}
 use Rattle.pathmap.proofs.Contents.{path_cmp_total, path_cmp_antisymmetric, either, get-nothing, get-over, get-under, get-under-top}
-use Rattle.pathmap.proofs.Trees.{get_in, get-gather, get-gather-top, ties}
-use Rattle.pathmap.proofs.Levels.{get-level-gather, get-level-top, held_some}
+use Rattle.pathmap.proofs.Levels.{get-child, get-gather-top, get-level-gather, get-level-top, held_some}
 use Rattle.pathmap.proofs.Sets.{same_paths, contains-dom}
 
 -- ---- one list in order
@@ -197,56 +197,56 @@ some_either : (a b : Option Standing) → (is_some a || is_some b) ≡ is_some (
 some_either None b = refl
 some_either (Some v) b = refl
 
-later : (k : String Global) (g : List ℕ) (es : List (String Global × PathMap)) → AllByRecursion (λ y. string_cmp k y ≡ Less) (keys_of es) → is_some (at_name g es) ≡ true → slice_cmp nat_cmp (string_bytes k) g ≡ Less
+later : (k g : List ℕ) (es : List (List ℕ × Content)) → AllByRecursion (λ y. slice_cmp nat_cmp k y ≡ Less) (map (λ c. c.0) es) → is_some (child_of g es) ≡ true → slice_cmp nat_cmp k g ≡ Less
 later k g [] h is = absurd (true≢false (sym is))
-later k g (e ∷ es) h is = by_tie (later k g es h.1) (is_eq (slice_cmp nat_cmp g (string_bytes e.0))) refl is
+later k g (e ∷ es) h is = by_tie (later k g es h.1) (bytes_eq e.0 g) refl is
   where
-    by_tie : (is_some (at_name g es) ≡ true → slice_cmp nat_cmp (string_bytes k) g ≡ Less) → (b : Bool) → is_eq (slice_cmp nat_cmp g (string_bytes e.0)) ≡ b → is_some (cond b (Some e.1) (at_name g es)) ≡ true → slice_cmp nat_cmp (string_bytes k) g ≡ Less
-    by_tie rest true t is = ap (slice_cmp nat_cmp (string_bytes k)) (ties g (string_bytes e.0) t) ∙ h.0
+    by_tie : (is_some (child_of g es) ≡ true → slice_cmp nat_cmp k g ≡ Less) → (b : Bool) → bytes_eq e.0 g ≡ b → is_some (cond b (Some e.1) (child_of g es)) ≡ true → slice_cmp nat_cmp k g ≡ Less
+    by_tie rest true t is = ap (slice_cmp nat_cmp k) (sym ((bytes_eq-Decides e.0 g).0 t)) ∙ h.0
     by_tie rest false t is = rest is
 
-module _ (e : String Global × PathMap) (es : List (String Global × PathMap)) (sorted : IsStrictlySortedBy string_cmp (keys_of (e ∷ es))) where
-  after : (p q : PathTexts) → is_some (fin.get (gather (contents_in es)) q) ≡ true → path_cmp (string_bytes e.0 ∷ p) q ≡ Less
+module _ (e : List ℕ × Content) (es : List (List ℕ × Content)) (sorted : IsRising (e ∷ es)) where
+  after : (p q : PathTexts) → is_some (fin.get (gather es) q) ≡ true → path_cmp (e.0 ∷ p) q ≡ Less
   after p [] is = absurd (true≢false (sym is ∙ ap is_some (get-gather-top es)))
   after p (g ∷ r) is =
-      ap (λ o. ordering_then o (path_cmp p r)) (later e.0 g es (sorted_head string_cmp e.0 (keys_of es) sorted)
-      (there (at_name g es) (sym (ap is_some (get-gather es (sorted_tail string_cmp e.0 (keys_of es) sorted) g r)) ∙ is)))
+      ap (λ o. ordering_then o (path_cmp p r)) (later e.0 g es (sorted_head (slice_cmp nat_cmp) e.0 (map (λ c. c.0) es) sorted)
+      (there (child_of g es) (sym (ap is_some (get-child g es (sorted_tail (slice_cmp nat_cmp) e.0 (map (λ c. c.0) es) sorted) r)) ∙ is)))
     where
-      there : (m : Option PathMap) → is_some (get_in m r) ≡ true → is_some m ≡ true
-      there None is = is
+      there : (m : Option Content) → is_some (fin.get (content_or_nothing m) r) ≡ true → is_some m ≡ true
+      there None is = absurd (true≢false (sym is ∙ ap is_some (get-nothing r)))
       there (Some n) is = refl
 
   -- the first child's paths, then those of the others
-  pub in_order-first : in_order (dom (gather (contents_in (e ∷ es)))) ≡ map (λ q. string_bytes e.0 ∷ q) (in_order (dom (content e.1))) ++ in_order (dom (gather (contents_in es)))
+  pub in_order-first : in_order (dom (gather (e ∷ es))) ≡ map (λ q. e.0 ∷ q) (in_order (dom e.1)) ++ in_order (dom (gather es))
   in_order-first =
-      let mine = map (λ q. string_bytes e.0 ∷ q) (in_order (dom (content e.1))) in
-      let rest = in_order (dom (gather (contents_in es))) in
-      same_in_order (in_order (dom (gather (contents_in (e ∷ es))))) (mine ++ rest) (ascend (gather (contents_in (e ∷ es))))
-      (ascend_append mine rest (ascend_under (string_bytes e.0) (in_order (dom (content e.1))) (ascend (content e.1))) (ascend (gather (contents_in es)))
-      (all_map (λ x. AllByRecursion (λ y. path_cmp x y ≡ Less) rest) (string_bytes e.0) (λ p. all_of_members (λ y. path_cmp (string_bytes e.0 ∷ p) y ≡ Less) rest (λ q is. after p q (sym (members (gather (contents_in es)) q) ∙ is))) (in_order (dom (content e.1)))))
+      let mine = map (λ q. e.0 ∷ q) (in_order (dom e.1)) in
+      let rest = in_order (dom (gather es)) in
+      same_in_order (in_order (dom (gather (e ∷ es)))) (mine ++ rest) (ascend (gather (e ∷ es)))
+      (ascend_append mine rest (ascend_under (e.0) (in_order (dom e.1)) (ascend e.1)) (ascend (gather es))
+      (all_map (λ x. AllByRecursion (λ y. path_cmp x y ≡ Less) rest) (e.0) (λ p. all_of_members (λ y. path_cmp (e.0 ∷ p) y ≡ Less) rest (λ q is. after p q (sym (members (gather es) q) ∙ is))) (in_order (dom e.1))))
       (λ q.
-      members (gather (contents_in (e ∷ es))) q ∙ ap is_some (get-over (under (string_bytes e.0) (content e.1)) (gather (contents_in es)) q)
-      ∙ sym (list_any-append (eq_by_cmp path_cmp q) mine rest ∙ ap₂ (λ a b. a || b) (members_under (string_bytes e.0) (content e.1) q) (members (gather (contents_in es)) q)
-      ∙ some_either (fin.get (under (string_bytes e.0) (content e.1)) q) (fin.get (gather (contents_in es)) q)))
+      members (gather (e ∷ es)) q ∙ ap is_some (get-over (under (e.0) e.1) (gather es) q)
+      ∙ sym (list_any-append (eq_by_cmp path_cmp q) mine rest ∙ ap₂ (λ a b. a || b) (members_under (e.0) e.1 q) (members (gather es) q)
+      ∙ some_either (fin.get (under (e.0) e.1) q) (fin.get (gather es) q)))
 
 abbrev pub tops : Option Held → List PathTexts
 tops h = cond (is_some h) ([] ∷ []) []
 
 -- the empty path, then those below
-pub in_order-level : (h : Option Held) (es : List (String Global × PathMap)) → in_order (dom (over (at_top h) (gather (contents_in es)))) ≡ tops h ++ in_order (dom (gather (contents_in es)))
+pub in_order-level : (h : Option Held) (es : List (List ℕ × Content)) → in_order (dom (over (at_top h) (gather es))) ≡ tops h ++ in_order (dom (gather es))
 in_order-level h es =
-    let rest = in_order (dom (gather (contents_in es))) in
-    same_in_order (in_order (dom (over (at_top h) (gather (contents_in es))))) (tops h ++ rest) (ascend (over (at_top h) (gather (contents_in es)))) (rising (is_some h))
-    (λ q. members (over (at_top h) (gather (contents_in es))) q ∙ by_path q ∙ sym (list_any-append (eq_by_cmp path_cmp q) (tops h) rest ∙ ap (λ b. list_any (eq_by_cmp path_cmp q) (tops h) || b) (members (gather (contents_in es)) q)))
+    let rest = in_order (dom (gather es)) in
+    same_in_order (in_order (dom (over (at_top h) (gather es)))) (tops h ++ rest) (ascend (over (at_top h) (gather es))) (rising (is_some h))
+    (λ q. members (over (at_top h) (gather es)) q ∙ by_path q ∙ sym (list_any-append (eq_by_cmp path_cmp q) (tops h) rest ∙ ap (λ b. list_any (eq_by_cmp path_cmp q) (tops h) || b) (members (gather es) q)))
   where
-    first_of_all : (q : PathTexts) → is_some (fin.get (gather (contents_in es)) q) ≡ true → path_cmp [] q ≡ Less
+    first_of_all : (q : PathTexts) → is_some (fin.get (gather es) q) ≡ true → path_cmp [] q ≡ Less
     first_of_all [] is = absurd (true≢false (sym is ∙ ap is_some (get-gather-top es)))
     first_of_all (g ∷ r) is = refl
 
-    rising : (b : Bool) → IsStrictlySortedBy path_cmp (cond b ([] ∷ []) [] ++ in_order (dom (gather (contents_in es))))
+    rising : (b : Bool) → IsStrictlySortedBy path_cmp (cond b ([] ∷ []) [] ++ in_order (dom (gather es)))
     rising true =
-        ascend_first (in_order (dom (gather (contents_in es)))) (all_of_members (λ y. path_cmp [] y ≡ Less) (in_order (dom (gather (contents_in es)))) (λ q is. first_of_all q (sym (members (gather (contents_in es)) q) ∙ is))) (ascend (gather (contents_in es)))
-    rising false = ascend (gather (contents_in es))
+        ascend_first (in_order (dom (gather es))) (all_of_members (λ y. path_cmp [] y ≡ Less) (in_order (dom (gather es))) (λ q is. first_of_all q (sym (members (gather es) q) ∙ is))) (ascend (gather es))
+    rising false = ascend (gather es)
 
     at_empty : (b : Bool) → b ≡ (list_any (eq_by_cmp path_cmp []) (cond b ([] ∷ []) []) || false)
     at_empty true = refl
@@ -256,9 +256,9 @@ in_order-level h es =
     elsewhere true g r = refl
     elsewhere false g r = refl
 
-    by_path : (q : PathTexts) → is_some (fin.get (over (at_top h) (gather (contents_in es))) q) ≡ (list_any (eq_by_cmp path_cmp q) (tops h) || is_some (fin.get (gather (contents_in es)) q))
+    by_path : (q : PathTexts) → is_some (fin.get (over (at_top h) (gather es)) q) ≡ (list_any (eq_by_cmp path_cmp q) (tops h) || is_some (fin.get (gather es) q))
     by_path [] = ap is_some (get-level-top h es) ∙ held_some h ∙ at_empty (is_some h) ∙ ap (λ o. list_any (eq_by_cmp path_cmp []) (tops h) || is_some o) (sym (get-gather-top es))
-    by_path (g ∷ r) = ap is_some (get-level-gather h es g r) ∙ ap (λ b. b || is_some (fin.get (gather (contents_in es)) (g ∷ r))) (sym (elsewhere (is_some h) g r))
+    by_path (g ∷ r) = ap is_some (get-level-gather h es g r) ∙ ap (λ b. b || is_some (fin.get (gather es) (g ∷ r))) (sym (elsewhere (is_some h) g r))
 
 pub in_order-nothing : in_order (dom nothing) ≡ []
 in_order-nothing = same_in_order (in_order (dom nothing)) [] (ascend nothing) ascend_none (λ q. members nothing q ∙ ap is_some (get-nothing q))

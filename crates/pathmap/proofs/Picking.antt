@@ -1,55 +1,58 @@
 -- What a rule picks at the empty path, and below an element.
-use Rattle.std.proofs.Common.{◌≡◌, ℕ, suc, All, arith, Bool, true, false, cond, not, ◌&&◌, ◌||◌, is_eq, nat_cmp, string_cmp, List, [], ◌∷◌, Option, Some, None, is_some, String, Global, string_bytes, refl, sym, subst, ap, ap₂, ◌∙◌, true≢false}
-use Rattle.std.specs.Bool.{⊤}
-use Rattle.std.specs.BTreeMap.{IsOrdered}
-use Rattle.std.specs.Cmp.{tied_itself}
+use Rattle.std.proofs.Common.{◌≡◌, ℕ, Bool, true, false, cond, not, ◌&&◌, nat_cmp, List, [], ◌∷◌, ◌++◌, map, Option, Some, None, is_some, refl, sym, ap, ap₂, subst, ◌∙◌, true≢false}
 use Rattle.std.specs.Cmp.Lexicographic.{slice_cmp}
 use Rattle.std.specs.List.Sorted.{IsStrictlySortedBy}
-use Rattle.std.specs.Map.{keys_of}
-use Rattle.std.proofs.lemmas.Cmp.{nat_list_cmp_total}
-use Rattle.std.proofs.lemmas.Map.Keys.{sorted_head}
-use Rattle.std.specs.Option.{option_map, MatchOption}
+use Rattle.std.specs.Option.{option_map}
 use Rattle.std.specs.FinMap as fin
 use Rattle.std.specs.FinSet as set
+use Rattle.std.specs.Str.{bytes_eq}
+use Rattle.std.proofs.lemmas.List.{append_assoc}
+use Rattle.std.proofs.lemmas.Map.Keys.{sorted_head, sorted_tail}
+use Rattle.std.proofs.lemmas.Slice.Eq.{bytes_eq-Decides}
 use Rattle.fieldpath.specs.Paths.{PathTexts}
-use Rattle.pathmap.specs.Contents.{Standing, Content, nothing, over, gather, dom}
+use Rattle.pathmap.specs.Contents.{Standing, mark, Content, nothing, over, gather, dom, marked}
 use Rattle.pathmap.specs.Beside.{same_value, has_at_or_below}
-use Rattle.pathmap.specs.Maps.{at_top, at_name, content, content_at, content_or_nothing, contents_in, standing}
-use Rattle.pathmap.specs.Picks.{IsGuess, picked, picks, picks_alone, picks_some}
+use Rattle.pathmap.specs.Insides.{inside}
+use Rattle.pathmap.specs.Levels.{at_top, standing, has_path, IsRising, AreFull, AreChildren, child_of}
+use Rattle.pathmap.specs.Maps.{content_or_nothing}
+use Rattle.pathmap.specs.Picks.{kept, picked, picked_in, picks, picks_alone, picks_some}
 use Rattle.pathmap.specs.declared.held.Held.{Held}
-use Rattle.pathmap.specs.declared.pathmap.PathMap.{PathMap, out-PathMap}
 use Rattle.pathmap.specs.declared.pick.Rule.{Rule}
 use Rattle.pathmap.specs.declared.pick.Rule.TheVariants.{Absent, Present, Changed, Clear}
-use Rattle.pathmap.proofs.Contents.{path_cmp_total, get-nothing}
+use Rattle.pathmap.proofs.Contents.{path_cmp_total, same, get-nothing}
+use Rattle.pathmap.proofs.Heads.{no_path}
+use Rattle.pathmap.proofs.Insides.{get-inside}
+use Rattle.pathmap.proofs.Levels.{get-level-top, get-level-below, held_some, nothing_path}
+use Rattle.pathmap.specs.Merged.{back_of, first_of, left_of}
+use Rattle.pathmap.proofs.Merging.{Above, child_above, first_back, left_keeps}
+use Rattle.pathmap.proofs.Order.{get-marked}
 use Rattle.pathmap.proofs.Sets.{same_paths, contains-dom, contains-changed, contains-clear_of, IsBelow, has_below-at, has_none, nothing-has}
-use Rattle.pathmap.proofs.Levels.{get-level-gather, get-level-top, get-map-below, get-map-top, held_some, top_some}
-use Rattle.pathmap.proofs.Trees.{get-gather, get-gather-top, past, ties}
-use Rattle.pathmap.proofs.Merging.{get_in-content}
-
-or_false : (b : Bool) → (b || false) ≡ b
-or_false true = refl
-or_false false = refl
 
 pub twice : (b : Bool) → b ≡ not (not b)
 twice true = refl
 twice false = refl
 
-pub picks-Absent : (n : PathMap) (r : Bool) → is_some (out-PathMap n).held ≡ not r → r ≡ not (is_some (fin.get (content n) []))
-picks-Absent n r is = twice r ∙ ap not (sym (top_some n ∙ is))
+-- what stands at the top of one level
+pub top_is : (h : Option Held) (cs : List (List ℕ × Content)) (d : Content) → over (at_top h) (gather cs) ≡ d → fin.get d [] ≡ option_map standing h
+top_is h cs d view = ap (λ m. fin.get m []) (sym view) ∙ get-level-top h cs
 
-pub picks-Present : (n : PathMap) (r : Bool) → r ≡ is_some (out-PathMap n).held → r ≡ is_some (fin.get (content n) [])
-picks-Present n r is = is ∙ sym (top_some n)
+pub picks-Absent : (h : Option Held) (cs : List (List ℕ × Content)) (d : Content) → over (at_top h) (gather cs) ≡ d → (r : Bool) → is_some h ≡ not r → r ≡ not (is_some (fin.get d []))
+picks-Absent h cs d view r is = twice r ∙ ap not (sym (ap is_some (top_is h cs d view) ∙ held_some h ∙ is))
 
-pub picks-Changed : (mine : Held) (n : PathMap) (theirs : Option Held) → (out-PathMap n).held ≡ theirs → not (same_value (Some (standing mine)) (option_map standing theirs)) ≡ not (same_value (Some (standing mine)) (fin.get (content n) []))
-picks-Changed mine n theirs is = ap (λ o. not (same_value (Some (standing mine)) o)) (sym (get-map-top n ∙ ap (option_map standing) is))
+pub picks-Present : (h : Option Held) (cs : List (List ℕ × Content)) (d : Content) → over (at_top h) (gather cs) ≡ d → (r : Bool) → r ≡ is_some h → r ≡ is_some (fin.get d [])
+picks-Present h cs d view r is = is ∙ sym (ap is_some (top_is h cs d view) ∙ held_some h)
 
-pub picks-Clear : (n : PathMap) (r : Bool) → (r ≡ true → content n ≡ nothing) → (content n ≡ nothing → r ≡ true) → r ≡ not (has_at_or_below (dom (content n)) [])
+pub picks-Changed : (h : Option Held) (cs : List (List ℕ × Content)) (d : Content) → over (at_top h) (gather cs) ≡ d → (mine : Held) (theirs : Option Held) → h ≡ theirs
+    → not (same_value (Some (standing mine)) (option_map standing theirs)) ≡ not (same_value (Some (standing mine)) (fin.get d []))
+picks-Changed h cs d view mine theirs is = ap (λ o. not (same_value (Some (standing mine)) o)) (sym (top_is h cs d view ∙ ap (option_map standing) is))
+
+pub picks-Clear : (n : Content) (r : Bool) → (r ≡ true → n ≡ nothing) → (n ≡ nothing → r ≡ true) → r ≡ not (has_at_or_below (dom n) [])
 picks-Clear n true bare back = ap not (sym (ap (λ c. has_at_or_below (dom c) []) (bare refl) ∙ nothing-has))
-picks-Clear n false bare back = ap not (by_answer (has_at_or_below (dom (content n)) []) refl)
+picks-Clear n false bare back = ap not (by_answer (has_at_or_below (dom n) []) refl)
   where
-    by_answer : (b : Bool) → has_at_or_below (dom (content n)) [] ≡ b → true ≡ b
+    by_answer : (b : Bool) → has_at_or_below (dom n) [] ≡ b → true ≡ b
     by_answer true h = refl
-    by_answer false h = absurd (true≢false (sym (back (has_none (content n) h))))
+    by_answer false h = absurd (true≢false (sym (back (has_none n h))))
 
 pub picks-nothing : (rule : Rule) (v : Standing) → picks rule v nothing ≡ picks_alone rule
 picks-nothing Absent v = ap (λ o. not (is_some o)) (get-nothing [])
@@ -96,80 +99,100 @@ decides-below Clear g o d j theirs q = ap (λ b. is_some o && not b) (has_below-
 
 -- ---- children, one after another
 
-module _ (rule : Rule) (d : Content) where
-  -- what is picked, with what is left, gives what all give
-  abbrev pub Picks : List (String Global × PathMap) → List (String Global × PathMap) → List (String Global × PathMap) → Type 0
-  Picks it es all = (g : List ℕ) (q : PathTexts) → (is_some (fin.get (content_at g es) q) || decides rule (fin.get (content_at g it) q) d (g ∷ q)) ≡ decides rule (fin.get (content_at g all) q) d (g ∷ q)
+abbrev Named : Type 0
+Named = List (List ℕ × Content)
 
-  -- no child that is left has a map under its name
-  abbrev pub AreNew : List (String Global × PathMap) → List (String Global × PathMap) → Type 0
-  AreNew it es = (g : List ℕ) → is_some (at_name g it) ≡ true → at_name g es ≡ None
+get-picked : (rule : Rule) (c d : Content) (q : PathTexts) → fin.get (marked (picked rule c d)) q ≡ cond (decides rule (fin.get c q) d q) (Some mark) None
+get-picked rule c d q = get-marked (picked rule c d) q ∙ ap (λ b. cond b (Some mark) None) (contains-picked rule c d q)
 
-  pub picks_first : (it es all : List (String Global × PathMap)) → it ≡ all → es ≡ [] → Picks it es all
-  picks_first it es all is none g q =
-      ap₂ (λ l m. is_some (fin.get (content_at g l) q) || decides rule (fin.get (content_at g m) q) d (g ∷ q)) none is ∙ ap (λ o. is_some o || decides rule (fin.get (content_at g all) q) d (g ∷ q)) (get-nothing q)
+rising_more : (c : List ℕ × Content) (cs : Named) → Above c.0 cs → IsRising cs → IsRising (c ∷ cs)
+unfolding IsStrictlySortedBy
+rising_more c cs above rises = (above, rises)
 
-  pub all_new : (it es : List (String Global × PathMap)) → es ≡ [] → AreNew it es
-  all_new it es none g h = ap (at_name g) none
+-- one that is kept stands before the others
+pub kept-before : (f : List ℕ) (c : Content) (cs : Named) → kept f c [] ++ cs ≡ kept f c cs
+kept-before f c cs = by_path (has_path c)
+  where
+    by_path : (b : Bool) → cond b ((f, c) ∷ []) [] ++ cs ≡ cond b ((f, c) ∷ cs) cs
+    by_path true = refl
+    by_path false = refl
 
-  module _ (e : String Global × PathMap) (left : List (String Global × PathMap)) (sorted : IsStrictlySortedBy string_cmp (keys_of (e ∷ left))) (es fs : List (String Global × PathMap))
-      (new : AreNew (e ∷ left) es) (others : (g : List ℕ) → is_eq (slice_cmp nat_cmp g (string_bytes e.0)) ≡ false → at_name g fs ≡ at_name g es) where
-    none_left : (g : List ℕ) → is_eq (slice_cmp nat_cmp g (string_bytes e.0)) ≡ true → at_name g left ≡ None
-    none_left g t = past e.0 g left (ties g (string_bytes e.0) t) (sorted_head string_cmp e.0 (keys_of left) sorted)
+module _ (rule : Rule) (ds : Named) where
+  -- what has a name beside
+  abbrev beside : List ℕ → Content
+  beside f = content_or_nothing (child_of f ds)
 
-    pub first_new : at_name (string_bytes e.0) es ≡ None
-    first_new = new (string_bytes e.0) (ap (λ o. is_some (cond (is_eq o) (Some e.1) (at_name (string_bytes e.0) left))) (tied_itself nat_list_cmp_total (string_bytes e.0)))
-
-    pub left_new : AreNew left fs
-    left_new g h = by_tie (is_eq (slice_cmp nat_cmp g (string_bytes e.0))) refl
-      where
-        by_tie : (b : Bool) → is_eq (slice_cmp nat_cmp g (string_bytes e.0)) ≡ b → at_name g fs ≡ None
-        by_tie true t = absurd (true≢false (sym h ∙ ap is_some (none_left g t)))
-        by_tie false t = others g t ∙ new g (ap (λ b. is_some (cond b (Some e.1) (at_name g left))) t ∙ h)
-
-    module _ (made : PathMap) (put : content_at (string_bytes e.0) fs ≡ content made) (j : Content) (theirs : IsBelow (string_bytes e.0) d j) (is : dom (content made) ≡ picked rule (content e.1) j) where
-      picked_here : (g : List ℕ) → g ≡ string_bytes e.0 → (q : PathTexts) → is_some (fin.get (content made) q) ≡ decides rule (fin.get (content e.1) q) d (g ∷ q)
-      picked_here g t q =
-          sym (contains-dom (content made) q) ∙ ap (λ s. set.contains s q) is ∙ contains-picked rule (content e.1) j q ∙ sym (decides-below rule (string_bytes e.0) (fin.get (content e.1) q) d j theirs q)
-          ∙ ap (λ f. decides rule (fin.get (content e.1) q) d (f ∷ q)) (sym t)
-
-      pub picks_more : (all : List (String Global × PathMap)) → Picks (e ∷ left) es all → Picks left fs all
-      picks_more all kept g q = by_tie (is_eq (slice_cmp nat_cmp g (string_bytes e.0))) refl ∙ kept g q
-        where
-          by_tie : (b : Bool) → is_eq (slice_cmp nat_cmp g (string_bytes e.0)) ≡ b → (is_some (fin.get (content_at g fs) q) || decides rule (fin.get (content_at g left) q) d (g ∷ q))
-              ≡ (is_some (fin.get (content_at g es) q) || decides rule (fin.get (content_or_nothing (cond b (Some e.1) (at_name g left))) q) d (g ∷ q))
-          by_tie true t =
-              let here = ties g (string_bytes e.0) t in
-              ap₂ (λ c o. is_some (fin.get c q) || decides rule (fin.get (content_or_nothing o) q) d (g ∷ q)) (ap (λ f. content_at f fs) here ∙ put) (none_left g t)
-              ∙ ap (λ o. is_some (fin.get (content made) q) || decides rule o d (g ∷ q)) (get-nothing q) ∙ ap (λ b. is_some (fin.get (content made) q) || b) (decides-none rule d (g ∷ q)) ∙ or_false (is_some (fin.get (content made) q))
-              ∙ picked_here g here q ∙ sym (ap (λ o. is_some o || decides rule (fin.get (content e.1) q) d (g ∷ q)) (ap (λ o. fin.get (content_or_nothing o) q) (ap (λ f. at_name f es) here ∙ first_new) ∙ get-nothing q))
-          by_tie false t = ap (λ o. is_some (fin.get (content_or_nothing o) q) || decides rule (fin.get (content_at g left) q) d (g ∷ q)) (others g t)
-
-  -- all are picked once none is left
-  pub picks_all : (it es all : List (String Global × PathMap)) → it ≡ [] → IsStrictlySortedBy string_cmp (keys_of es) → IsStrictlySortedBy string_cmp (keys_of all) → Picks it es all
-      → dom (gather (contents_in es)) ≡ picked rule (gather (contents_in all)) d
-  picks_all it es all none sorted sorted_all kept = same_paths (dom (gather (contents_in es))) (picked rule (gather (contents_in all)) d) by_path
+  picked_above : (k : List ℕ) (cs : Named) → Above k cs → Above k (picked_in rule ds cs)
+  picked_above k [] above = tt
+  picked_above k (c ∷ cs) above = by_path (picked_above k cs above.1) (has_path (marked (picked rule c.1 (beside c.0))))
     where
-      by_path : (p : PathTexts) → set.contains (dom (gather (contents_in es))) p ≡ set.contains (picked rule (gather (contents_in all)) d) p
-      by_path [] = contains-dom (gather (contents_in es)) [] ∙ ap is_some (get-gather-top es) ∙ sym (contains-picked rule (gather (contents_in all)) d [] ∙ ap (λ o. decides rule o d []) (get-gather-top all) ∙ decides-none rule d [])
-      by_path (g ∷ q) =
-          contains-dom (gather (contents_in es)) (g ∷ q) ∙ ap is_some (get-gather es sorted g q ∙ get_in-content (at_name g es) q)
-          ∙ sym (ap (λ b. is_some (fin.get (content_at g es) q) || b) (ap (λ l. decides rule (fin.get (content_at g l) q) d (g ∷ q)) none ∙ ap (λ o. decides rule o d (g ∷ q)) (get-nothing q) ∙ decides-none rule d (g ∷ q))
-          ∙ or_false (is_some (fin.get (content_at g es) q)))
-          ∙ kept g q ∙ sym (contains-picked rule (gather (contents_in all)) d (g ∷ q) ∙ ap (λ o. decides rule o d (g ∷ q)) (get-gather all sorted_all g q ∙ get_in-content (at_name g all) q))
+      by_path : Above k (picked_in rule ds cs) → (b : Bool) → Above k (cond b ((c.0, marked (picked rule c.1 (beside c.0))) ∷ picked_in rule ds cs) (picked_in rule ds cs))
+      by_path later true = (above.0, later)
+      by_path later false = later
 
-  -- one level
-  pub picks_level : (h m : Option Held) (es all : List (String Global × PathMap)) → is_some m ≡ picks_some rule (option_map standing h) d → dom (gather (contents_in es)) ≡ picked rule (gather (contents_in all)) d
-      → dom (over (at_top m) (gather (contents_in es))) ≡ picked rule (over (at_top h) (gather (contents_in all))) d
-  picks_level h m es all top below = same_paths (dom (over (at_top m) (gather (contents_in es)))) (picked rule (over (at_top h) (gather (contents_in all))) d) by_path
+  picked_rises : (cs : Named) → IsRising cs → IsRising (picked_in rule ds cs)
+  picked_rises [] rises = rises
+  picked_rises (c ∷ cs) rises =
+      by_path (picked_rises cs (sorted_tail (slice_cmp nat_cmp) c.0 (map (λ c. c.0) cs) rises)) (has_path (marked (picked rule c.1 (beside c.0))))
     where
-      by_path : (p : PathTexts) → set.contains (dom (over (at_top m) (gather (contents_in es)))) p ≡ set.contains (picked rule (over (at_top h) (gather (contents_in all))) d) p
+      by_path : IsRising (picked_in rule ds cs) → (b : Bool) → IsRising (cond b ((c.0, marked (picked rule c.1 (beside c.0))) ∷ picked_in rule ds cs) (picked_in rule ds cs))
+      by_path later true = rising_more (c.0, marked (picked rule c.1 (beside c.0))) (picked_in rule ds cs) (picked_above c.0 cs (sorted_head (slice_cmp nat_cmp) c.0 (map (λ c. c.0) cs) rises)) later
+      by_path later false = later
+
+  picked_full : (cs : Named) → AreFull (picked_in rule ds cs)
+  picked_full [] = tt
+  picked_full (c ∷ cs) = by_path (picked_full cs) (has_path (marked (picked rule c.1 (beside c.0)))) refl
+    where
+      by_path : AreFull (picked_in rule ds cs) → (b : Bool) → has_path (marked (picked rule c.1 (beside c.0))) ≡ b → AreFull (cond b ((c.0, marked (picked rule c.1 (beside c.0))) ∷ picked_in rule ds cs) (picked_in rule ds cs))
+      by_path later true is = (is, later)
+      by_path later false is = later
+
+  pub picked_children : (cs : Named) → IsRising cs → AreChildren (picked_in rule ds cs)
+  picked_children cs rises = (picked_rises cs rises, picked_full cs)
+
+  abbrev mark_at : List ℕ → Option Content → PathTexts → Option Standing
+  mark_at g o q = cond (decides rule (fin.get (content_or_nothing o) q) (beside g) q) (Some mark) None
+
+  mark_none : (g : List ℕ) (q : PathTexts) → mark_at g None q ≡ None
+  mark_none g q = ap (λ b. cond b (Some mark) None) (ap (λ o. decides rule o (beside g) q) (get-nothing q) ∙ decides-none rule (beside g) q)
+
+  child-picked : (g : List ℕ) (q : PathTexts) (cs : Named) → IsRising cs → fin.get (content_or_nothing (child_of g (picked_in rule ds cs))) q ≡ mark_at g (child_of g cs) q
+  child-picked g q [] rises = get-nothing q ∙ sym (mark_none g q)
+  child-picked g q (c ∷ cs) rises = by_path (child-picked g q cs (sorted_tail (slice_cmp nat_cmp) c.0 (map (λ c. c.0) cs) rises)) (has_path (marked (picked rule c.1 (beside c.0)))) refl
+    where
+      one : bytes_eq c.0 g ≡ true → fin.get (marked (picked rule c.1 (beside c.0))) q ≡ mark_at g (Some c.1) q
+      one is = get-picked rule c.1 (beside c.0) q ∙ ap (λ k. cond (decides rule (fin.get c.1 q) (beside k) q) (Some mark) None) ((bytes_eq-Decides c.0 g).0 is)
+
+      absent : bytes_eq c.0 g ≡ true → child_of g cs ≡ None
+      absent is = child_above g cs (subst (λ k. Above k cs) ((bytes_eq-Decides c.0 g).0 is) (sorted_head (slice_cmp nat_cmp) c.0 (map (λ c. c.0) cs) rises))
+
+      kept_one : fin.get (content_or_nothing (child_of g (picked_in rule ds cs))) q ≡ mark_at g (child_of g cs) q → (t : Bool) → bytes_eq c.0 g ≡ t
+          → fin.get (content_or_nothing (cond t (Some (marked (picked rule c.1 (beside c.0)))) (child_of g (picked_in rule ds cs)))) q ≡ mark_at g (cond t (Some c.1) (child_of g cs)) q
+      kept_one later true is = one is
+      kept_one later false is = later
+
+      left_one : (marked (picked rule c.1 (beside c.0))) ≡ nothing → fin.get (content_or_nothing (child_of g (picked_in rule ds cs))) q ≡ mark_at g (child_of g cs) q → (t : Bool) → bytes_eq c.0 g ≡ t
+          → fin.get (content_or_nothing (child_of g (picked_in rule ds cs))) q ≡ mark_at g (cond t (Some c.1) (child_of g cs)) q
+      left_one none later true is = later ∙ ap (λ o. mark_at g o q) (absent is) ∙ mark_none g q ∙ sym (sym (one is) ∙ ap (λ m. fin.get m q) none ∙ get-nothing q)
+      left_one none later false is = later
+
+      by_path : fin.get (content_or_nothing (child_of g (picked_in rule ds cs))) q ≡ mark_at g (child_of g cs) q → (b : Bool) → has_path (marked (picked rule c.1 (beside c.0))) ≡ b
+          → fin.get (content_or_nothing (child_of g (cond b ((c.0, (marked (picked rule c.1 (beside c.0)))) ∷ picked_in rule ds cs) (picked_in rule ds cs)))) q ≡ mark_at g (cond (bytes_eq c.0 g) (Some c.1) (child_of g cs)) q
+      by_path later true is = kept_one later (bytes_eq c.0 g) refl
+      by_path later false is = left_one (no_path (marked (picked rule c.1 (beside c.0))) is) later (bytes_eq c.0 g) refl
+
+  pub picks_level : (d : Content) → ((f : List ℕ) → beside f ≡ inside f d) → (h m : Option Held) (cs : Named) → IsRising cs → option_map standing m ≡ cond (picks_some rule (option_map standing h) d) (Some mark) None
+      → over (at_top m) (gather (picked_in rule ds cs)) ≡ marked (picked rule (over (at_top h) (gather cs)) d)
+  picks_level d insides h m cs rises top = same (over (at_top m) (gather (picked_in rule ds cs))) (marked (picked rule (over (at_top h) (gather cs)) d)) by_path
+    where
+      by_path : (q : PathTexts) → fin.get (over (at_top m) (gather (picked_in rule ds cs))) q ≡ fin.get (marked (picked rule (over (at_top h) (gather cs)) d)) q
       by_path [] =
-          contains-dom (over (at_top m) (gather (contents_in es))) [] ∙ ap is_some (get-level-top m es) ∙ held_some m ∙ top
-          ∙ sym (contains-picked rule (over (at_top h) (gather (contents_in all))) d [] ∙ ap (λ o. decides rule o d []) (get-level-top h all) ∙ decides-top rule (option_map standing h) d)
+          get-level-top m (picked_in rule ds cs) ∙ top
+          ∙ sym (get-picked rule (over (at_top h) (gather cs)) d [] ∙ ap (λ b. cond b (Some mark) None) (ap (λ o. decides rule o d []) (get-level-top h cs) ∙ decides-top rule (option_map standing h) d))
       by_path (g ∷ q) =
-          contains-dom (over (at_top m) (gather (contents_in es))) (g ∷ q) ∙ ap is_some (get-level-gather m es g q) ∙ sym (contains-dom (gather (contents_in es)) (g ∷ q)) ∙ ap (λ s. set.contains s (g ∷ q)) below
-          ∙ contains-picked rule (gather (contents_in all)) d (g ∷ q) ∙ ap (λ o. decides rule o d (g ∷ q)) (sym (get-level-gather h all g q)) ∙ sym (contains-picked rule (over (at_top h) (gather (contents_in all))) d (g ∷ q))
+          get-level-below m (picked_in rule ds cs) (picked_rises cs rises) g q ∙ child-picked g q cs rises
+          ∙ sym (get-picked rule (over (at_top h) (gather cs)) d (g ∷ q) ∙ ap (λ b. cond b (Some mark) None) (ap (λ o. decides rule o d (g ∷ q)) (get-level-below h cs rises g q)
+          ∙ decides-below rule g (fin.get (content_or_nothing (child_of g cs)) q) d (beside g) (λ r. ap (λ j. fin.get j r) (insides g) ∙ get-inside g d r) q))
 
 pub minus_nothing : (c : Content) → set.difference (dom c) (dom nothing) ≡ dom c
 minus_nothing c = same_paths (set.difference (dom c) (dom nothing)) (dom c) (λ p.
@@ -179,25 +202,26 @@ minus_nothing c = same_paths (set.difference (dom c) (dom nothing)) (dom c) (λ 
     and_true true = refl
     and_true false = refl
 
--- ---- guesses
+-- names above one that is passed are picked beside what is left as beside all
+passed_same : (rule : Rule) (f : List ℕ) (ds cs : Named) → Above f cs → picked_in rule (left_of f (back_of f ds)) cs ≡ picked_in rule ds cs
+passed_same rule f ds [] above = refl
+passed_same rule f ds (c ∷ cs) above = ap₂ (λ o l. kept c.0 (marked (picked rule c.1 (content_or_nothing o))) l) (left_keeps f c.0 ds above.0) (passed_same rule f ds cs above.1)
 
-pub nothing_below : (g : List ℕ) → IsBelow g nothing nothing
-nothing_below g q = get-nothing q ∙ sym (get-nothing (g ∷ q))
+-- one child more
+pub picks_more : (rule : Rule) (e : List ℕ × Content) (left cs rest next old new : Named) (o : Option Content) (made : Content) → cs ≡ e ∷ left → IsRising cs → IsRising rest → o ≡ first_of e.0 (back_of e.0 rest)
+    → next ≡ left_of e.0 (back_of e.0 rest) → made ≡ marked (picked rule e.1 (content_or_nothing o)) → new ≡ old ++ kept e.0 made [] → new ++ picked_in rule next left ≡ old ++ picked_in rule rest cs
+picks_more rule e left cs rest next old new o made steps rises rises_rest first others is put =
+    ap₂ (λ l m. l ++ picked_in rule m left) put others ∙ append_assoc old (kept e.0 made []) (picked_in rule (left_of e.0 (back_of e.0 rest)) left)
+    ∙ ap (λ l. old ++ l) (kept-before e.0 made (picked_in rule (left_of e.0 (back_of e.0 rest)) left)
+    ∙ ap₂ (λ m l. kept e.0 m l) (is ∙ ap (λ p. marked (picked rule e.1 (content_or_nothing p))) (first ∙ first_back e.0 rest rises_rest)) (passed_same rule e.0 rest left (sorted_head (slice_cmp nat_cmp) e.0 (map (λ c. c.0) left) (subst IsRising steps rises))))
+    ∙ ap (λ l. old ++ picked_in rule rest l) (sym steps)
 
--- each of these maps stands below its element
-abbrev pub AreGuesses : PathMap → List (String Global × PathMap) → Type 0
-AreGuesses n [] = ⊤
-AreGuesses n (e ∷ es) = IsBelow (string_bytes e.0) (content n) (content e.1) × AreGuesses n es
+pub kept-bare : (f : List ℕ) (c : Content) (cs : List (List ℕ × Content)) → c ≡ nothing → kept f c cs ≡ cs
+kept-bare f c cs none = ap (λ b. cond b ((f, c) ∷ cs) cs) (ap has_path none ∙ nothing_path)
 
-pub guesses_first : (n : PathMap) → IsOrdered string_cmp (out-PathMap n).below → (es : List (String Global × PathMap)) → All (λ e. at_name (string_bytes e.0) (out-PathMap n).below.entries ≡ Some e.1) es → AreGuesses n es
-guesses_first n sorted [] are = tt
-guesses_first n sorted (e ∷ es) are = (
-  (λ q. sym (get-map-below n sorted (string_bytes e.0) q ∙ ap (λ m. fin.get (content_or_nothing m) q) (are 0 e (omega arith)))),
-  guesses_first n sorted es (λ k d lt. are (suc k) d (omega arith)),
-)
-
--- the next guess, and those after it
-pub guess_next : {A : Type 0} (n : PathMap) (old new : List (String Global × PathMap)) (o : Option A) (f : A → String Global × PathMap) → MatchOption o ((old ≡ []) × (new ≡ [])) (λ x. old ≡ f x ∷ new) → AreGuesses n old
-    → IsGuess (content n) (option_map (λ x. (string_bytes (f x).0, content (f x).1)) o) × AreGuesses n new
-guess_next n old new None f steps are = (tt, subst (AreGuesses n) (sym steps.1) tt)
-guess_next n old new (Some x) f steps are = subst (AreGuesses n) steps are
+pub kept-full : (f : List ℕ) (c : Content) (cs : List (List ℕ × Content)) → (c ≡ nothing → ⊥) → kept f c cs ≡ (f, c) ∷ cs
+kept-full f c cs some = by_path (has_path c) refl
+  where
+    by_path : (b : Bool) → has_path c ≡ b → cond b ((f, c) ∷ cs) cs ≡ (f, c) ∷ cs
+    by_path true is = refl
+    by_path false is = absurd (some (no_path c is))

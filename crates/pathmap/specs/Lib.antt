@@ -2,5 +2,11 @@ pub mod Contents
 pub mod Beside
 pub mod Insides
 pub mod Codes
+pub mod Laws
+pub mod Levels
+pub mod Sizes
+pub mod Merged
 pub mod Maps
 pub mod Picks
+pub mod Cuts
+pub mod Puts

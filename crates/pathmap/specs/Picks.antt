@@ -1,10 +1,11 @@
 -- The paths of one content that are picked beside another content.
-use Rattle.std.specs.Prelude.{◌≡◌, ℕ, Bool, true, false, not, List, [], ◌∷◌, ⊤, Option, Some, None, is_some}
+use Rattle.std.specs.Prelude.{ℕ, Bool, true, false, not, List, [], ◌∷◌, if◌then◌else◌, Option, Some, None, is_some}
 use Rattle.std.specs.FinMap as fin
 use Rattle.std.specs.FinSet as set
-use Rattle.fieldpath.specs.Paths.{PathTexts}
-use Rattle.pathmap.specs.Contents.{Standing, Content, PathSet, dom}
+use Rattle.pathmap.specs.Contents.{Standing, Content, PathSet, dom, marked}
 use Rattle.pathmap.specs.Beside.{same_value, changed, has_at_or_below, clear_of}
+use Rattle.pathmap.specs.Levels.{has_path, child_of}
+use Rattle.pathmap.specs.Maps.{content_or_nothing}
 use Rattle.pathmap.specs.declared.pick.Rule.{Rule}
 use Rattle.pathmap.specs.declared.pick.Rule.TheVariants.{Absent, Present, Changed, Clear}
 
@@ -33,7 +34,11 @@ picks_alone Present = false
 picks_alone Changed = true
 picks_alone Clear = true
 
--- what is guessed to stand below an element does, in this content
-abbrev pub IsGuess : Content → Option (List ℕ × Content) → Type 0
-IsGuess c None = ⊤
-IsGuess c (Some e) = (q : PathTexts) → fin.get e.1 q ≡ fin.get c (e.0 ∷ q)
+-- a content under its name, unless it has no path
+abbrev pub kept : List ℕ → Content → List (List ℕ × Content) → List (List ℕ × Content)
+kept f c cs = if has_path c then (f, c) ∷ cs else cs
+
+-- below each name a mark at each path that the rule picks, beside what has that name in ds
+abbrev pub picked_in : Rule → List (List ℕ × Content) → List (List ℕ × Content) → List (List ℕ × Content)
+picked_in rule ds [] = []
+picked_in rule ds (c ∷ cs) = kept c.0 (marked (picked rule c.1 (content_or_nothing (child_of c.0 ds)))) (picked_in rule ds cs)

@@ -1,14 +1,12 @@
 //! Copies of a map.
 
-ghost use Rattle.std.specs.Prelude.{◌≡◌, IfOk};
-ghost use Rattle.pathmap.specs.Contents.{gather};
+ghost use Rattle.std.specs.Prelude.{◌≡◌, ◌++◌, ◌∷◌, [], IfOk, OnOk, string_bytes};
 ghost use Rattle.pathmap.specs.Maps.{at_top, content, contents_in};
 
 use crate::held::Held;
 use crate::pathmap::PathMap;
 use fieldpath::ElemText;
 use std::alloc::{AllocError, Global};
-use std::collections::BTreeMap;
 
 pub(crate) fn copy_held(held: &Option<Held>) -> Result<Option<Held>, AllocError>
     ensures { IfOk result (λ h. at_top h ≡ at_top held.now) }
@@ -19,19 +17,32 @@ pub(crate) fn copy_held(held: &Option<Held>) -> Result<Option<Held>, AllocError>
     }
 }
 
-#[cycle(copies)]
-pub(crate) fn copy_below(
-    below: &BTreeMap<ElemText, PathMap>,
-    alloc: Global,
-) -> Result<BTreeMap<ElemText, PathMap>, AllocError>
-    ensures { IfOk result (λ m. gather (contents_in m.entries) ≡ gather (contents_in below.now.entries)) }
+/// Puts a map behind the others, under a copy of the name.
+pub(crate) fn push_made(
+    all: &mut Vec<(ElemText, PathMap)>,
+    name: &ElemText,
+    made: PathMap,
+) -> Result<(), AllocError>
+    ensures { OnOk result (contents_in all.new.items ≡ contents_in all.old.items ++ (string_bytes name.now, content made) ∷ []) }
 {
-    let mut copies = BTreeMap::new(alloc);
-    for (name, inner) in below.iter() {
+    all.push((name.try_copy()?, made))?;
+    Ok(())
+}
+
+/// Puts copies behind the others.
+#[cycle(copies)]
+pub(crate) fn push_copies(
+    below: &[(ElemText, PathMap)],
+    alloc: Global,
+    all: &mut Vec<(ElemText, PathMap)>,
+) -> Result<(), AllocError>
+    ensures { OnOk result (contents_in all.new.items ≡ contents_in all.old.items ++ contents_in below.now) }
+{
+    for (name, inner) in below {
         let made = copy(inner, alloc)?;
-        drop(copies.insert(name.try_copy()?, made)?);
+        push_made(all, name, made)?;
     }
-    Ok(copies)
+    Ok(())
 }
 
 #[cycle(copies)]
@@ -39,7 +50,8 @@ fn copy(map: &PathMap, alloc: Global) -> Result<PathMap, AllocError>
     ensures { IfOk result (λ n. content n ≡ content map.now) }
 {
     let held = copy_held(&map.held)?;
-    let below = copy_below(&map.below, alloc)?;
+    let mut below = Vec::new(alloc);
+    push_copies(&map.below, alloc, &mut below)?;
     Ok(PathMap { held, below })
 }
 

@@ -1,16 +1,30 @@
 //! What stands at a path, and at or below it.
 
-ghost use Rattle.std.specs.Prelude.{◌≡◌, ◌∷◌, ◌++◌, map, string_bytes, IsTrue, ◌↔◌, true};
+ghost use Rattle.std.specs.Prelude.{◌≡◌, ◌++◌, map, string_bytes, IsTrue, ◌↔◌, true};
 ghost use Rattle.std.specs.Option.{option_map};
 ghost use Rattle.std.specs.FinMap as fin;
 ghost use Rattle.fieldpath.specs.Paths.{PathTexts};
 ghost use Rattle.pathmap.specs.Beside.{has_at_or_below};
 ghost use Rattle.pathmap.specs.Contents.{dom, nothing};
-ghost use Rattle.pathmap.specs.Maps.{content, content_or_nothing, standing};
+ghost use Rattle.pathmap.specs.Insides.{inside};
+ghost use Rattle.pathmap.specs.Levels.{child_of, IsRising};
+ghost use Rattle.pathmap.specs.Maps.{content, content_or_nothing, contents_in, standing};
 
 use crate::held::Held;
 use crate::pathmap::PathMap;
+use crate::place::{place_of, stands_at};
 use fieldpath::{ElemText, Path};
+
+/// The map that has this name.
+pub(crate) fn named<'a>(below: &'a [(ElemText, PathMap)], name: &ElemText) -> Option<&'a PathMap>
+    ensures { IsRising (contents_in below.now) → option_map (λ m. content m.now) result ≡ child_of (string_bytes name.now) (contents_in below.now) }
+{
+    let place = place_of(below, name);
+    if stands_at(below, place, name) {
+        return Some(&below[place].1);
+    }
+    None
+}
 
 impl PathMap {
     /// Whether it has no path.
@@ -20,19 +34,8 @@ impl PathMap {
         if self.held.is_some() {
             return false;
         }
-        for (_, inner) in self.below.iter() {
-            if !inner.is_bare() {
-                return false;
-            }
-        }
-        true
-    }
-
-    /// Whether it has neither a value nor a map below, so that it need not be kept.
-    pub(crate) fn is_hollow(&self) -> bool
-        ensures { result ≡ true → content self.now ≡ nothing }
-    {
-        self.held.is_none() && self.below.is_empty()
+        let below: &[(ElemText, PathMap)] = &self.below;
+        below.len() == 0
     }
 
     /// What stands at a path.
@@ -55,6 +58,13 @@ impl PathMap {
         }
     }
 
+    /// What stands below an element, if anything does.
+    pub fn child(&self, name: &ElemText) -> Option<&PathMap>
+        ensures { content_or_nothing (option_map (λ m. m.now) result) ≡ inside (string_bytes name.now) (content self.now) }
+    {
+        named(&self.below, name)
+    }
+
     /// The map at a path, of its elements' texts.
     fn at(&self, texts: &[ElemText]) -> Option<&PathMap>
         ensures { (q : PathTexts) → fin.get (content_or_nothing (option_map (λ m. m.now) result)) q ≡ fin.get (content self.now) (map string_bytes texts.now ++ q) }
@@ -67,15 +77,5 @@ impl PathMap {
             here = inner;
         }
         Some(here)
-    }
-
-    /// What stands below an element.
-    pub(crate) fn child(&self, name: &ElemText) -> Option<&PathMap>
-        ensures { (q : PathTexts) → fin.get (content_or_nothing (option_map (λ m. m.now) result)) q ≡ fin.get (content self.now) (string_bytes name.now ∷ q) }
-    {
-        if self.below.len() == 0 {
-            return None;
-        }
-        self.below.get(name)
     }
 }

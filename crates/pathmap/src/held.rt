@@ -2,7 +2,7 @@
 
 ghost use Rattle.std.specs.Prelude.{◌≡◌, IfOk};
 ghost use Rattle.pathmap.specs.Beside.{same_standing};
-ghost use Rattle.pathmap.specs.Maps.{standing};
+ghost use Rattle.pathmap.specs.Levels.{standing};
 
 use std::alloc::AllocError;
 

@@ -1,39 +1,37 @@
-//! One more path.
+//! One more path, or all paths of a map below an element.
 
-ghost use Rattle.std.specs.Prelude.{◌≡◌, false, List, ℕ, map, OnOk, OnErr, string_bytes};
-ghost use Rattle.std.specs.String.{string_cmp};
-ghost use Rattle.std.specs.Ordering.{is_eq, nat_cmp};
-ghost use Rattle.std.specs.Cmp.Lexicographic.{slice_cmp};
-ghost use Rattle.std.specs.BTreeMap.{IsOrdered};
+ghost use Rattle.std.specs.Prelude.{◌≡◌, map, true, false, IfOk, OnOk, OnErr, string_bytes};
 ghost use Rattle.std.specs.FinMap as fin;
-ghost use Rattle.pathmap.specs.Maps.{at_name, content, content_at, standing};
+ghost use Rattle.pathmap.specs.Contents.{here, mark, nothing, over, under};
+ghost use Rattle.pathmap.specs.Insides.{inside};
+ghost use Rattle.pathmap.specs.Levels.{child_of, has_path, IsRising};
+ghost use Rattle.pathmap.specs.Maps.{content, content_or_nothing, contents_in, standing};
+ghost use Rattle.pathmap.specs.Puts.{put_in};
 
 use crate::held::Held;
 use crate::pathmap::PathMap;
+use crate::place::{place_of, put_child, stands_at};
 use fieldpath::{ElemText, Path};
 use std::alloc::{AllocError, Global};
-use std::collections::BTreeMap;
 
 #[cycle(insert)]
 fn insert_below(
-    below: &mut BTreeMap<ElemText, PathMap>,
+    below: &mut Vec<(ElemText, PathMap)>,
     alloc: Global,
     name: &ElemText,
     rest: &[ElemText],
     held: Held,
 ) -> Result<(), AllocError>
-    ensures ok { OnOk result (content_at (string_bytes name.now) below.new.entries ≡ fin.insert (content_at (string_bytes name.now) below.old.entries) (map string_bytes rest.now) (standing held)) }
-    ensures err { OnErr result (content_at (string_bytes name.now) below.new.entries ≡ content_at (string_bytes name.now) below.old.entries) }
-    ensures others { (g : List ℕ) → is_eq (slice_cmp nat_cmp g (string_bytes name.now)) ≡ false → at_name g below.new.entries ≡ at_name g below.old.entries }
-    ensures ordered { IsOrdered string_cmp below.new }
-    ensures was_ordered { IsOrdered string_cmp below.old }
+    ensures ok { OnOk result (IsRising (contents_in below.old.items) → contents_in below.new.items ≡ put_in (string_bytes name.now) (fin.insert (content_or_nothing (child_of (string_bytes name.now) (contents_in below.old.items))) (map string_bytes rest.now) (standing held)) (contents_in below.old.items)) }
+    ensures err { OnErr result (contents_in below.new.items ≡ contents_in below.old.items) }
 {
-    if let Some(child) = below.get_mut(name) {
-        return insert_at(child, alloc, rest, held);
+    let place = place_of(below, name);
+    if stands_at(below, place, name) {
+        return insert_at(&mut below[place].1, alloc, rest, held);
     }
     let mut made = PathMap::empty(alloc);
     insert_at(&mut made, alloc, rest, held)?;
-    drop(below.insert(name.try_copy()?, made)?);
+    below.insert(place, (name.try_copy()?, made))?;
     Ok(())
 }
 
@@ -61,5 +59,37 @@ impl PathMap {
         ensures err { OnErr result (content self.new ≡ content self.old) }
     {
         insert_at(self, alloc, path.texts(), held)
+    }
+
+    /// Whether something stands below an element.
+    fn has_child(&self, name: &ElemText) -> bool
+        ensures { result ≡ has_path (inside (string_bytes name.now) (content self.now)) }
+    {
+        match self.child(name) {
+            Some(map) => !map.is_bare(),
+            None => false,
+        }
+    }
+
+    /// Puts what a map holds below an element, unless something stands there already, and says whether it was put.
+    /// A refused allocation changes no content.
+    pub fn insert_child(&mut self, name: ElemText, map: PathMap) -> Result<bool, AllocError>
+        ensures free { IfOk result (λ added. added ≡ true → inside (string_bytes name) (content self.old) ≡ nothing) }
+        ensures put { IfOk result (λ added. added ≡ true → content self.new ≡ over (content self.old) (under (string_bytes name) (content map))) }
+        ensures taken { IfOk result (λ added. added ≡ false → has_path (inside (string_bytes name) (content self.old)) ≡ true) }
+        ensures stays { IfOk result (λ added. added ≡ false → content self.new ≡ content self.old) }
+        ensures err { OnErr result (content self.new ≡ content self.old) }
+    {
+        if map.is_bare() {
+            return Ok(!self.has_child(&name));
+        }
+        put_child(&mut self.below, name, map)
+    }
+
+    /// Puts a mark at the empty path.
+    pub fn mark(&mut self)
+        ensures { content self.new ≡ over (here mark) (content self.old) }
+    {
+        self.held = Some(Held::Mark);
     }
 }

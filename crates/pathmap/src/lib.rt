@@ -12,7 +12,9 @@ mod over;
 mod pathmap;
 mod paths;
 mod pick;
+mod place;
 mod under;
+mod walk;
 mod without;
 
 pub use held::Held;

@@ -1,19 +1,16 @@
 //! One map put over another.
 
-ghost use Rattle.std.specs.Prelude.{◌≡◌, true, false, List, ℕ, IfOk, OnOk, string_bytes};
-ghost use Rattle.std.specs.String.{string_cmp};
-ghost use Rattle.std.specs.Ordering.{is_eq, nat_cmp};
-ghost use Rattle.std.specs.Cmp.Lexicographic.{slice_cmp};
-ghost use Rattle.std.specs.BTreeMap.{IsOrdered};
-ghost use Rattle.pathmap.specs.Contents.{gather, here, over};
-ghost use Rattle.pathmap.specs.Maps.{at_name, at_top, content, content_at, contents_in, either_top, standing};
+ghost use Rattle.std.specs.Prelude.{◌≡◌, true, ◌++◌, ◌∷◌, [], IfOk, OnOk, string_bytes};
+ghost use Rattle.pathmap.specs.Contents.{here, over};
+ghost use Rattle.pathmap.specs.Maps.{at_top, content, contents_in, either_top, standing};
+ghost use Rattle.pathmap.specs.Merged.{join_on, left_of, merged, under_it};
 
-use crate::copying::copy_below;
+use crate::copying::push_copies;
 use crate::held::Held;
 use crate::pathmap::PathMap;
+use crate::walk::pass;
 use fieldpath::ElemText;
 use std::alloc::{AllocError, Global};
-use std::collections::BTreeMap;
 
 /// Whether this stands there already.
 fn stands(mine: &Option<Held>, theirs: &Held) -> bool
@@ -25,93 +22,73 @@ fn stands(mine: &Option<Held>, theirs: &Held) -> bool
     }
 }
 
-fn put_held(theirs: &Option<Held>, mine: &mut Option<Held>) -> Result<(), AllocError>
-    ensures { OnOk result (at_top mine.new ≡ either_top theirs.now mine.old) }
+fn put_held(mine: Option<Held>, theirs: &Option<Held>) -> Result<Option<Held>, AllocError>
+    ensures { IfOk result (λ h. at_top h ≡ either_top theirs.now mine) }
 {
     let Some(held) = theirs else {
-        return Ok(());
+        return Ok(mine);
     };
-    if !stands(mine, held) {
-        *mine = Some(held.try_copy()?);
+    if stands(&mine, held) {
+        return Ok(mine);
     }
-    Ok(())
+    Ok(Some(held.try_copy()?))
 }
 
-/// Stands a copy of `theirs` under a name.
-pub(crate) fn put_new(
-    theirs: &PathMap,
+/// Puts the one at the front over a map, if that has its name, and gives the others.
+#[cycle(put)]
+fn put_one<'a>(
+    mine: PathMap,
+    name: ElemText,
     alloc: Global,
-    below: &mut BTreeMap<ElemText, PathMap>,
-    name: &ElemText,
-) -> Result<(), AllocError>
-    ensures here { OnOk result (content_at (string_bytes name.now) below.new.entries ≡ content theirs.now) }
-    ensures others { (g : List ℕ) → is_eq (slice_cmp nat_cmp g (string_bytes name.now)) ≡ false → at_name g below.new.entries ≡ at_name g below.old.entries }
-    ensures ordered { IsOrdered string_cmp below.old → IsOrdered string_cmp below.new }
+    rest: &'a [(ElemText, PathMap)],
+    all: &mut Vec<(ElemText, PathMap)>,
+) -> Result<&'a [(ElemText, PathMap)], AllocError>
+    ensures put { OnOk result (contents_in all.new.items ≡ contents_in all.old.items ++ (string_bytes name, join_on under_it (string_bytes name) (content mine) (contents_in rest.now)) ∷ []) }
+    ensures left { IfOk result (λ r. contents_in r.now ≡ left_of (string_bytes name) (contents_in rest.now)) }
 {
-    let made = theirs.try_copy(alloc)?;
-    drop(below.insert(name.try_copy()?, made)?);
-    Ok(())
+    if let Some((first, left)) = rest.split_first() {
+        if first.0.as_str() == name.as_str() {
+            let made = put(mine, alloc, &first.1)?;
+            all.push((name, made))?;
+            return Ok(left);
+        }
+    }
+    all.push((name, mine))?;
+    Ok(rest)
 }
 
-/// Stands copies of all children where none stood.
-pub(crate) fn put_first(
-    theirs: &BTreeMap<ElemText, PathMap>,
+/// Both in order, walked side by side.
+#[cycle(put)]
+fn put_below(
+    mine: Vec<(ElemText, PathMap)>,
     alloc: Global,
-    below: &mut BTreeMap<ElemText, PathMap>,
-) -> Result<(), AllocError>
-    ensures { OnOk result (gather (contents_in below.new.entries) ≡ gather (contents_in theirs.now.entries)) }
+    theirs: &[(ElemText, PathMap)],
+) -> Result<Vec<(ElemText, PathMap)>, AllocError>
+    ensures { IfOk result (λ v. contents_in v.items ≡ merged under_it (contents_in mine.items) (contents_in theirs.now)) }
 {
-    *below = copy_below(theirs, alloc)?;
-    Ok(())
+    let mut all = Vec::new(alloc);
+    let mut rest = theirs;
+    for (name, inner) in mine {
+        rest = pass(rest, alloc, &name, &mut all)?;
+        rest = put_one(inner, name, alloc, rest, &mut all)?;
+    }
+    push_copies(rest, alloc, &mut all)?;
+    Ok(all)
 }
 
 #[cycle(put)]
-fn put_at(
-    theirs: &PathMap,
-    alloc: Global,
-    below: &mut BTreeMap<ElemText, PathMap>,
-    name: &ElemText,
-) -> Result<(), AllocError>
-    ensures here { OnOk result (content_at (string_bytes name.now) below.new.entries ≡ over (content theirs.now) (content_at (string_bytes name.now) below.old.entries)) }
-    ensures others { (g : List ℕ) → is_eq (slice_cmp nat_cmp g (string_bytes name.now)) ≡ false → at_name g below.new.entries ≡ at_name g below.old.entries }
-    ensures ordered { IsOrdered string_cmp below.new }
+fn put(mine: PathMap, alloc: Global, theirs: &PathMap) -> Result<PathMap, AllocError>
+    ensures { IfOk result (λ n. content n ≡ over (content theirs.now) (content mine)) }
 {
-    if let Some(child) = below.get_mut(name) {
-        return put_into(theirs, alloc, child);
-    }
-    put_new(theirs, alloc, below, name)
-}
-
-#[cycle(put)]
-fn put_all(
-    theirs: &BTreeMap<ElemText, PathMap>,
-    alloc: Global,
-    below: &mut BTreeMap<ElemText, PathMap>,
-) -> Result<(), AllocError>
-    ensures { OnOk result (gather (contents_in below.new.entries) ≡ over (gather (contents_in theirs.now.entries)) (gather (contents_in below.old.entries))) }
-{
-    if below.len() == 0 {
-        return put_first(theirs, alloc, below);
-    }
-    for (name, inner) in theirs.iter() {
-        put_at(inner, alloc, below, name)?;
-    }
-    Ok(())
-}
-
-#[cycle(put)]
-fn put_into(theirs: &PathMap, alloc: Global, mine: &mut PathMap) -> Result<(), AllocError>
-    ensures { OnOk result (content mine.new ≡ over (content theirs.now) (content mine.old)) }
-{
-    put_held(&theirs.held, &mut mine.held)?;
-    put_all(&theirs.below, alloc, &mut mine.below)
+    let PathMap { held, below } = mine;
+    let held = put_held(held, &theirs.held)?;
+    let below = put_below(below, alloc, &theirs.below)?;
+    Ok(PathMap { held, below })
 }
 
 /// What `mine` holds, overridden by what `theirs` holds.
 pub fn put_over(theirs: &PathMap, alloc: Global, mine: PathMap) -> Result<PathMap, AllocError>
     ensures { IfOk result (λ n. content n ≡ over (content theirs.now) (content mine)) }
 {
-    let mut map = mine;
-    put_into(theirs, alloc, &mut map)?;
-    Ok(map)
+    put(mine, alloc, theirs)
 }

@@ -1,21 +1,47 @@
 //! The map itself, as a trie over the texts of elements. Each call on it stands in a module of its own.
 
-ghost use Rattle.std.specs.Prelude.{◌≡◌};
-ghost use Rattle.pathmap.specs.Contents.{gather, here, nothing};
-ghost use Rattle.pathmap.specs.Maps.{content, contents_in, standing};
+ghost use Rattle.std.specs.Prelude.{◌≡◌, map, []};
+ghost use Rattle.std.specs.Option.{option_map};
+ghost use Rattle.std.specs.FinMap as fin;
+ghost use Rattle.pathmap.specs.Contents.{gather, here, nothing, over};
+ghost use Rattle.pathmap.specs.Insides.{heads, inside};
+ghost use Rattle.pathmap.specs.Levels.{AreChildren};
+ghost use Rattle.pathmap.specs.Maps.{at_top, content, contents_in, standing};
 
 use crate::held::Held;
 use fieldpath::ElemText;
 use std::alloc::Global;
-use std::collections::BTreeMap;
+use std::marker::Model;
 
 /// A finite map from paths to what stands there, as a trie over the texts of elements.
 #[derive(Debug, Drop)]
 pub struct PathMap {
     /// What stands at the empty path.
-    pub held: Option<Held>,
-    /// What stands below, by the text of the first element.
-    pub below: BTreeMap<ElemText, PathMap>,
+    pub(crate) held: Option<Held>,
+    /// What stands below, by the text of the first element: the texts ascend, and each map has a path.
+    pub(crate) below: Vec<(ElemText, PathMap)>,
+}
+
+impl Model for PathMap {
+    ghost use Rattle.pathmap.specs.Contents.{Content, over, gather};
+    ghost use Rattle.pathmap.specs.Codes.{coded_content};
+
+    ghost Value = { Content };
+
+    ghost coded = { coded_content };
+
+    ghost use Rattle.pathmap.specs.Levels.{at_top, named, AreChildren, height};
+
+    ghost view = { λ a. over (at_top a.held) (gather (named a.below.items)) };
+
+    ghost invariant = { λ a. AreChildren (named a.below.items) };
+
+    ghost size = { height };
+
+    ghost use Rattle.std.specs.Prelude.{◌+◌};
+    ghost use Rattle.pathmap.specs.Sizes.{lower, no_more};
+
+    ghost size_decreases = { λ a h. lower (at_top a.held) a.below.items h.1 _ (λ m. no_more (height m.1 + 1)) };
 }
 
 impl PathMap {
@@ -25,7 +51,7 @@ impl PathMap {
     {
         PathMap {
             held: None,
-            below: BTreeMap::new(alloc),
+            below: Vec::new(alloc),
         }
     }
 
@@ -35,14 +61,21 @@ impl PathMap {
     {
         PathMap {
             held: Some(held),
-            below: BTreeMap::new(alloc),
+            below: Vec::new(alloc),
         }
     }
 
-    /// Maps under their elements, with nothing at the empty path.
-    pub fn branch(below: BTreeMap<ElemText, PathMap>) -> PathMap
-        ensures { content result ≡ gather (contents_in below.entries) }
+    /// What stands at the empty path.
+    pub fn held(&self) -> Option<&Held>
+        ensures { option_map (λ h. standing h.now) result ≡ fin.get (content self.now) [] }
     {
-        PathMap { held: None, below }
+        self.held.as_ref()
+    }
+
+    /// What stands below each first element, in order.
+    pub fn children(&self) -> &[(ElemText, PathMap)]
+        ensures { contents_in result.now ≡ map (λ f. (f, inside f (content self.now))) (heads (content self.now)) }
+    {
+        &self.below
     }
 }

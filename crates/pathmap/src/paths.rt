@@ -2,13 +2,13 @@
 
 ghost use Rattle.std.specs.Prelude.{◌≡◌, [], ◌∷◌, ◌++◌, map, is_some, if◌then◌else◌, IfOk, OnOk};
 ghost use Rattle.pathmap.specs.Contents.{dom, gather, in_order};
+ghost use Rattle.pathmap.specs.Levels.{IsRising};
 ghost use Rattle.pathmap.specs.Maps.{content, contents_in};
 
 use crate::held::Held;
 use crate::pathmap::PathMap;
 use fieldpath::{ElemText, Path};
 use std::alloc::{AllocError, Global};
-use std::collections::BTreeMap;
 
 fn list_held(
     held: &Option<Held>,
@@ -26,14 +26,14 @@ fn list_held(
 
 #[cycle(list)]
 fn list_below(
-    below: &BTreeMap<ElemText, PathMap>,
+    below: &[(ElemText, PathMap)],
     alloc: Global,
     front: &Path,
     all: &mut Vec<Path>,
 ) -> Result<(), AllocError>
-    ensures { OnOk result (all.new.items ≡ all.old.items ++ map (λ q. front.now ++ q) (in_order (dom (gather (contents_in below.now.entries))))) }
+    ensures { OnOk result (IsRising (contents_in below.now) → all.new.items ≡ all.old.items ++ map (λ q. front.now ++ q) (in_order (dom (gather (contents_in below.now))))) }
 {
-    for (name, inner) in below.iter() {
+    for (name, inner) in below {
         let mut path = front.try_copy(alloc)?;
         path.push(alloc, name)?;
         list(inner, alloc, &path, all)?;

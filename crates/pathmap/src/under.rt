@@ -1,77 +1,81 @@
 //! One map put under another: it gives what the other lacks.
 
-ghost use Rattle.std.specs.Prelude.{◌≡◌, false, List, ℕ, IfOk, OnOk, string_bytes};
-ghost use Rattle.std.specs.String.{string_cmp};
-ghost use Rattle.std.specs.Ordering.{is_eq, nat_cmp};
-ghost use Rattle.std.specs.Cmp.Lexicographic.{slice_cmp};
-ghost use Rattle.std.specs.BTreeMap.{IsOrdered};
-ghost use Rattle.pathmap.specs.Contents.{gather, over};
-ghost use Rattle.pathmap.specs.Maps.{at_name, at_top, content, content_at, contents_in, either_top};
+ghost use Rattle.std.specs.Prelude.{◌≡◌, ◌++◌, ◌∷◌, [], IfOk, OnOk, string_bytes};
+ghost use Rattle.pathmap.specs.Contents.{over};
+ghost use Rattle.pathmap.specs.Maps.{at_top, content, contents_in, either_top};
+ghost use Rattle.pathmap.specs.Merged.{join_on, left_of, merged};
 
-use crate::copying::copy_held;
+use crate::copying::{copy_held, push_copies};
 use crate::held::Held;
-use crate::over::{put_first, put_new};
 use crate::pathmap::PathMap;
+use crate::walk::pass;
 use fieldpath::ElemText;
 use std::alloc::{AllocError, Global};
-use std::collections::BTreeMap;
 
-fn fill_held(theirs: &Option<Held>, mine: &mut Option<Held>) -> Result<(), AllocError>
-    ensures { OnOk result (at_top mine.new ≡ either_top mine.old theirs.now) }
+fn fill_held(mine: Option<Held>, theirs: &Option<Held>) -> Result<Option<Held>, AllocError>
+    ensures { IfOk result (λ h. at_top h ≡ either_top mine theirs.now) }
 {
-    if mine.is_none() {
-        *mine = copy_held(theirs)?;
+    match mine {
+        Some(held) => Ok(Some(held)),
+        None => copy_held(theirs),
     }
-    Ok(())
 }
 
+/// Fills a map from the one at the front, if that has its name, and gives the others.
 #[cycle(fill)]
-fn fill_at(
-    theirs: &PathMap,
+fn fill_one<'a>(
+    mine: PathMap,
+    name: ElemText,
     alloc: Global,
-    below: &mut BTreeMap<ElemText, PathMap>,
-    name: &ElemText,
-) -> Result<(), AllocError>
-    ensures here { OnOk result (content_at (string_bytes name.now) below.new.entries ≡ over (content_at (string_bytes name.now) below.old.entries) (content theirs.now)) }
-    ensures others { (g : List ℕ) → is_eq (slice_cmp nat_cmp g (string_bytes name.now)) ≡ false → at_name g below.new.entries ≡ at_name g below.old.entries }
-    ensures ordered { IsOrdered string_cmp below.new }
+    rest: &'a [(ElemText, PathMap)],
+    all: &mut Vec<(ElemText, PathMap)>,
+) -> Result<&'a [(ElemText, PathMap)], AllocError>
+    ensures put { OnOk result (contents_in all.new.items ≡ contents_in all.old.items ++ (string_bytes name, join_on over (string_bytes name) (content mine) (contents_in rest.now)) ∷ []) }
+    ensures left { IfOk result (λ r. contents_in r.now ≡ left_of (string_bytes name) (contents_in rest.now)) }
 {
-    if let Some(child) = below.get_mut(name) {
-        return fill(theirs, alloc, child);
+    if let Some((first, left)) = rest.split_first() {
+        if first.0.as_str() == name.as_str() {
+            let made = fill(mine, alloc, &first.1)?;
+            all.push((name, made))?;
+            return Ok(left);
+        }
     }
-    put_new(theirs, alloc, below, name)
+    all.push((name, mine))?;
+    Ok(rest)
 }
 
+/// Both in order, walked side by side.
 #[cycle(fill)]
-fn fill_all(
-    theirs: &BTreeMap<ElemText, PathMap>,
+fn fill_below(
+    mine: Vec<(ElemText, PathMap)>,
     alloc: Global,
-    below: &mut BTreeMap<ElemText, PathMap>,
-) -> Result<(), AllocError>
-    ensures { OnOk result (gather (contents_in below.new.entries) ≡ over (gather (contents_in below.old.entries)) (gather (contents_in theirs.now.entries))) }
+    theirs: &[(ElemText, PathMap)],
+) -> Result<Vec<(ElemText, PathMap)>, AllocError>
+    ensures { IfOk result (λ v. contents_in v.items ≡ merged over (contents_in mine.items) (contents_in theirs.now)) }
 {
-    if below.len() == 0 {
-        return put_first(theirs, alloc, below);
+    let mut all = Vec::new(alloc);
+    let mut rest = theirs;
+    for (name, inner) in mine {
+        rest = pass(rest, alloc, &name, &mut all)?;
+        rest = fill_one(inner, name, alloc, rest, &mut all)?;
     }
-    for (name, inner) in theirs.iter() {
-        fill_at(inner, alloc, below, name)?;
-    }
-    Ok(())
+    push_copies(rest, alloc, &mut all)?;
+    Ok(all)
 }
 
 #[cycle(fill)]
-fn fill(theirs: &PathMap, alloc: Global, mine: &mut PathMap) -> Result<(), AllocError>
-    ensures { OnOk result (content mine.new ≡ over (content mine.old) (content theirs.now)) }
+fn fill(mine: PathMap, alloc: Global, theirs: &PathMap) -> Result<PathMap, AllocError>
+    ensures { IfOk result (λ n. content n ≡ over (content mine) (content theirs.now)) }
 {
-    fill_held(&theirs.held, &mut mine.held)?;
-    fill_all(&theirs.below, alloc, &mut mine.below)
+    let PathMap { held, below } = mine;
+    let held = fill_held(held, &theirs.held)?;
+    let below = fill_below(below, alloc, &theirs.below)?;
+    Ok(PathMap { held, below })
 }
 
 /// What `theirs` holds, overridden by what `mine` holds: nothing that both have is copied.
 pub fn put_under(theirs: &PathMap, alloc: Global, mine: PathMap) -> Result<PathMap, AllocError>
     ensures { IfOk result (λ n. content n ≡ over (content mine) (content theirs.now)) }
 {
-    let mut map = mine;
-    fill(theirs, alloc, &mut map)?;
-    Ok(map)
+    fill(mine, alloc, theirs)
 }

@@ -1,55 +1,45 @@
 //! A map without the paths of a set.
 
-ghost use Rattle.std.specs.Prelude.{◌≡◌, true, false, List, ℕ, string_bytes};
-ghost use Rattle.std.specs.String.{string_cmp};
-ghost use Rattle.std.specs.Ordering.{is_eq, nat_cmp};
-ghost use Rattle.std.specs.Cmp.Lexicographic.{slice_cmp};
-ghost use Rattle.std.specs.BTreeMap.{IsOrdered};
-ghost use Rattle.pathmap.specs.Contents.{dom, gather, nothing};
+ghost use Rattle.std.specs.Prelude.{◌≡◌, string_bytes};
 ghost use Rattle.pathmap.specs.Beside.{without};
-ghost use Rattle.pathmap.specs.Maps.{at_name, content, content_at, contents_in};
+ghost use Rattle.pathmap.specs.Contents.{dom};
+ghost use Rattle.pathmap.specs.Cuts.{cut_at, cut_each, full_in};
+ghost use Rattle.pathmap.specs.Levels.{has_path, IsRising};
+ghost use Rattle.pathmap.specs.Maps.{content, contents_in};
 
 use crate::pathmap::PathMap;
+use crate::place::{place_of, stands_at};
 use fieldpath::ElemText;
-use std::collections::BTreeMap;
 
-/// Whether what is left below the element is hollow.
-#[cycle(cut)]
-fn cut_at(set: &PathMap, below: &mut BTreeMap<ElemText, PathMap>, name: &ElemText) -> bool
-    ensures here { content_at (string_bytes name.now) below.new.entries ≡ without (content_at (string_bytes name.now) below.old.entries) (dom (content set.now)) }
-    ensures others { (g : List ℕ) → is_eq (slice_cmp nat_cmp g (string_bytes name.now)) ≡ false → at_name g below.new.entries ≡ at_name g below.old.entries }
-    ensures ordered { IsOrdered string_cmp below.old → IsOrdered string_cmp below.new }
-    ensures hollow { result ≡ true → content_at (string_bytes name.now) below.new.entries ≡ nothing }
+fn is_full(child: &(ElemText, PathMap)) -> bool
+    ensures { result ≡ has_path (content child.now.1) }
 {
-    match below.get_mut(name) {
-        Some(child) => {
-            cut(set, child);
-            child.is_hollow()
-        }
-        None => false,
+    !child.1.is_bare()
+}
+
+/// Leaves those that have a path.
+fn keep_full(below: &mut Vec<(ElemText, PathMap)>)
+    ensures { contents_in below.new.items ≡ full_in (contents_in below.old.items) }
+{
+    below.retain(|child| is_full(child));
+}
+
+#[cycle(cut)]
+fn cut_child(set: &PathMap, name: &ElemText, below: &mut Vec<(ElemText, PathMap)>)
+    ensures { IsRising (contents_in below.old.items) → contents_in below.new.items ≡ cut_at (string_bytes name.now) (content set.now) (contents_in below.old.items) }
+{
+    let place = place_of(below, name);
+    if stands_at(below, place, name) {
+        cut(set, &mut below[place].1);
     }
 }
 
 #[cycle(cut)]
-fn cut_child(set: &PathMap, below: &mut BTreeMap<ElemText, PathMap>, name: &ElemText)
-    ensures here { content_at (string_bytes name.now) below.new.entries ≡ without (content_at (string_bytes name.now) below.old.entries) (dom (content set.now)) }
-    ensures others { (g : List ℕ) → is_eq (slice_cmp nat_cmp g (string_bytes name.now)) ≡ false → at_name g below.new.entries ≡ at_name g below.old.entries }
-    ensures ordered { IsOrdered string_cmp below.old → IsOrdered string_cmp below.new }
+fn cut_below(set: &[(ElemText, PathMap)], below: &mut Vec<(ElemText, PathMap)>)
+    ensures { IsRising (contents_in below.old.items) → contents_in below.new.items ≡ cut_each (contents_in set.now) (contents_in below.old.items) }
 {
-    if cut_at(set, below, name) {
-        drop(below.remove(name));
-    }
-}
-
-#[cycle(cut)]
-fn cut_below(set: &BTreeMap<ElemText, PathMap>, below: &mut BTreeMap<ElemText, PathMap>)
-    ensures { gather (contents_in below.new.entries) ≡ without (gather (contents_in below.old.entries)) (dom (gather (contents_in set.now.entries))) }
-{
-    if below.len() == 0 {
-        return;
-    }
-    for (name, inner) in set.iter() {
-        cut_child(inner, below, name);
+    for (name, inner) in set {
+        cut_child(inner, name, below);
     }
 }
 
@@ -62,6 +52,7 @@ fn cut(set: &PathMap, map: &mut PathMap)
         map.below.clear();
     } else {
         cut_below(&set.below, &mut map.below);
+        keep_full(&mut map.below);
     }
 }
 

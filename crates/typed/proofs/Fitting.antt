@@ -15,7 +15,7 @@ use Rattle.pathmap.specs.Contents.{Standing, Content, nothing, here}
 use Rattle.pathmap.specs.Contents as standing
 use Rattle.pathmap.specs.Insides.{inside}
 use Rattle.pathmap.proofs.Contents.{same, get-nothing, get-here-below}
-use Rattle.pathmap.proofs.Merging.{get-here-top}
+use Rattle.pathmap.proofs.Levels.{get-here-top}
 use Rattle.schema.specs.Lawful.{names_of, is_well_formed, are_well_formed, item_is_lawful}
 use Rattle.schema.specs.Shape.{atomic, set, keyed, Shape, text, whole, truth, struct_of, map_of, list_of, Fields, no_fields, field}
 use Rattle.typed.specs.Fitting.{IsWholeValue, AtEnd, MarkOrBelow, FitsAt, FitsItem, FitsField, Stands, FitsAll, IsClosed, IsContent, ContentsArePlaced}

@@ -1,72 +1,51 @@
 -- What stands inside an element, and the first elements, of the content that a map holds.
-use Rattle.std.proofs.Common.{◌≡◌, ℕ, Bool, true, false, cond, ◌||◌, is_eq, nat_cmp, string_cmp, Less, List, [], ◌∷◌, Some, is_some, String, Global, string_bytes, refl, sym, ap, ◌∙◌, true≢false}
-use Rattle.std.specs.BTreeMap.{IsOrdered}
-use Rattle.std.specs.Cmp.{tied_itself}
-use Rattle.std.specs.Cmp.Lexicographic.{slice_cmp}
-use Rattle.std.specs.List.{AllByRecursion, list_any}
-use Rattle.std.specs.List.Sorted.{IsStrictlySortedBy}
-use Rattle.std.specs.Map.{keys_of}
+use Rattle.std.proofs.Common.{◌≡◌, ℕ, Bool, true, false, cond, ◌||◌, List, [], ◌∷◌, map, Some, String, Global, string_bytes, refl, sym, ap, ◌∙◌, subst, true≢false}
+use Rattle.std.specs.List.{list_any}
 use Rattle.std.specs.Str.{bytes_eq}
-use Rattle.std.proofs.lemmas.Cmp.{nat_list_cmp_total}
-use Rattle.std.proofs.lemmas.Map.Keys.{sorted_head, sorted_tail}
-use Rattle.std.proofs.lemmas.Map.Text.{is_eq-slice_cmp}
-use Rattle.pathmap.specs.Contents.{Content}
+use Rattle.std.proofs.lemmas.Slice.Eq.{bytes_eq-Decides}
+use Rattle.pathmap.specs.Contents.{Content, nothing}
 use Rattle.pathmap.specs.Insides.{inside, heads}
-use Rattle.pathmap.specs.Maps.{content, content_at, content_or_nothing, at_name}
-use Rattle.pathmap.specs.declared.pathmap.PathMap.{PathMap, out-PathMap}
-use Rattle.pathmap.proofs.Contents.{same}
-use Rattle.pathmap.proofs.Heads.{Rises, has_path, heads-inside, nothing_path, one_rising, rising}
-use Rattle.pathmap.proofs.Insides.{get-inside}
-use Rattle.pathmap.proofs.Levels.{get-map-below}
-use Rattle.pathmap.proofs.Trees.{past, ties}
+use Rattle.pathmap.specs.Levels.{child_of, has_path}
+use Rattle.pathmap.specs.Maps.{content, content_or_nothing, contents_in}
+use Rattle.pathmap.specs.declared.pathmap.PathMap.{PathMap}
+use Rattle.pathmap.proofs.Heads.{heads-inside, no_path}
 
 abbrev pub Children : Type 0
 Children = List (String Global × PathMap)
 
-pub inside-map : (n : PathMap) → IsOrdered string_cmp (out-PathMap n).below → (g : List ℕ) → inside g (content n) ≡ content_at g (out-PathMap n).below.entries
-inside-map n sorted g = same (inside g (content n)) (content_at g (out-PathMap n).below.entries) (λ q. get-inside g (content n) q ∙ get-map-below n sorted g q)
+-- the children that a content has
+abbrev pub children_of : Content → List (List ℕ × Content)
+children_of c = map (λ f. (f, inside f c)) (heads c)
+
+turned : (f g : List ℕ) (t : Bool) → bytes_eq f g ≡ t → bytes_eq g f ≡ t
+turned f g true is = (bytes_eq-Decides g f).1 (sym ((bytes_eq-Decides f g).0 is))
+turned f g false is = by_test (bytes_eq g f) refl
+  where
+    by_test : (t : Bool) → bytes_eq g f ≡ t → bytes_eq g f ≡ false
+    by_test true h = absurd (true≢false (sym ((bytes_eq-Decides f g).1 (sym ((bytes_eq-Decides g f).0 h))) ∙ is))
+    by_test false h = h
+
+found_in : (c : Content) (g : List ℕ) (hs : List (List ℕ)) → content_or_nothing (child_of g (map {B = List ℕ × Content} (λ f. (f, inside f c)) hs)) ≡ cond (list_any (bytes_eq g) hs) (inside g c) nothing
+found_in c g [] = refl
+found_in c g (h ∷ hs) = by_test (found_in c g hs) (bytes_eq h g) refl
+  where
+    by_test : content_or_nothing (child_of g (map {B = List ℕ × Content} (λ f. (f, inside f c)) hs)) ≡ cond (list_any (bytes_eq g) hs) (inside g c) nothing → (b : Bool) → bytes_eq h g ≡ b
+        → content_or_nothing (cond b (Some (inside h c)) (child_of g (map {B = List ℕ × Content} (λ f. (f, inside f c)) hs))) ≡ cond (bytes_eq g h || list_any (bytes_eq g) hs) (inside g c) nothing
+    by_test later true is = ap (λ f. inside f c) ((bytes_eq-Decides h g).0 is) ∙ sym (ap (λ b. cond (b || list_any (bytes_eq g) hs) (inside g c) nothing) (turned h g true is))
+    by_test later false is = later ∙ sym (ap (λ b. cond (b || list_any (bytes_eq g) hs) (inside g c) nothing) (turned h g false is))
+
+-- the child of a name is what stands inside it
+pub inside-child : (c : Content) (g : List ℕ) → content_or_nothing (child_of g (children_of c)) ≡ inside g c
+inside-child c g = found_in c g (heads c) ∙ by_test (list_any (bytes_eq g) (heads c)) (heads-inside c g)
+  where
+    by_test : (b : Bool) → b ≡ has_path (inside g c) → cond b (inside g c) nothing ≡ inside g c
+    by_test true is = refl
+    by_test false is = sym (no_path (inside g c) (sym is))
 
 -- ---- the first elements
 
--- the names of the children that have a path
-abbrev pub living : Children → List (List ℕ)
-living [] = []
-living (e ∷ es) = cond (has_path (content e.1)) (string_bytes e.0 ∷ living es) (living es)
-
-living_above : (k : String Global) (es : Children) → AllByRecursion (λ y. string_cmp k y ≡ Less) (keys_of es) → AllByRecursion (λ h. slice_cmp nat_cmp (string_bytes k) h ≡ Less) (living es)
-living_above k [] all = tt
-living_above k (e ∷ es) all = by_test (has_path (content e.1)) (living_above k es all.1)
-  where
-    by_test : (b : Bool) → AllByRecursion (λ h. slice_cmp nat_cmp (string_bytes k) h ≡ Less) (living es) → AllByRecursion (λ h. slice_cmp nat_cmp (string_bytes k) h ≡ Less) (cond b (string_bytes e.0 ∷ living es) (living es))
-    by_test true rest = (all.0, rest)
-    by_test false rest = rest
-
-living_rise : (es : Children) → IsStrictlySortedBy string_cmp (keys_of es) → Rises (living es)
-unfolding IsStrictlySortedBy
-living_rise [] h = tt
-living_rise (e ∷ es) h = by_test (has_path (content e.1)) (living_rise es h.1)
-  where
-    by_test : (b : Bool) → Rises (living es) → Rises (cond b (string_bytes e.0 ∷ living es) (living es))
-    by_test true rest = (living_above e.0 es h.0, rest)
-    by_test false rest = rest
-
-living_has : (es : Children) → IsStrictlySortedBy string_cmp (keys_of es) → (g : List ℕ) → list_any (bytes_eq g) (living es) ≡ has_path (content_at g es)
-living_has [] h g = sym nothing_path
-living_has (e ∷ es) h g = by_test (has_path (content e.1)) refl (is_eq (slice_cmp nat_cmp g (string_bytes e.0))) refl (living_has es (sorted_tail string_cmp e.0 (keys_of es) h) g)
-  where
-    none_later : is_eq (slice_cmp nat_cmp g (string_bytes e.0)) ≡ true → has_path (content_at g es) ≡ false
-    none_later t = ap (λ o. has_path (content_or_nothing o)) (past e.0 g es (ties g (string_bytes e.0) t) (sorted_head string_cmp e.0 (keys_of es) h)) ∙ nothing_path
-
-    by_test : (b : Bool) → has_path (content e.1) ≡ b → (t : Bool) → is_eq (slice_cmp nat_cmp g (string_bytes e.0)) ≡ t → list_any (bytes_eq g) (living es) ≡ has_path (content_at g es)
-        → list_any (bytes_eq g) (cond b (string_bytes e.0 ∷ living es) (living es)) ≡ has_path (content_or_nothing (cond t (Some e.1) (at_name g es)))
-    by_test true b true t later = ap (λ u. u || list_any (bytes_eq g) (living es)) (sym (is_eq-slice_cmp g (string_bytes e.0)) ∙ t) ∙ sym b
-    by_test true b false t later = ap (λ u. u || list_any (bytes_eq g) (living es)) (sym (is_eq-slice_cmp g (string_bytes e.0)) ∙ t) ∙ later
-    by_test false b true t later = later ∙ none_later t ∙ sym b
-    by_test false b false t later = later
-
-pub heads-map : (n : PathMap) → IsOrdered string_cmp (out-PathMap n).below → heads (content n) ≡ living (out-PathMap n).below.entries
-heads-map n sorted = one_rising (heads (content n)) (living (out-PathMap n).below.entries) (rising (content n)) (living_rise (out-PathMap n).below.entries sorted)
-    (λ g. heads-inside (content n) g ∙ ap has_path (inside-map n sorted g) ∙ sym (living_has (out-PathMap n).below.entries sorted g))
+abbrev pub child_names : Children → List (List ℕ)
+child_names = map (λ e. string_bytes e.0)
 
 -- ---- each child is what stands inside its name
 
@@ -74,20 +53,30 @@ abbrev pub AreInside : Content → Children → Type 0
 AreInside c [] = Unit {0}
 AreInside c (e ∷ es) = (inside (string_bytes e.0) c ≡ content e.1) × AreInside c es
 
-are_found : (c : Content) (es : Children) → IsStrictlySortedBy string_cmp (keys_of es) → ((g : List ℕ) → is_some (at_name g es) ≡ true → inside g c ≡ content_at g es) → AreInside c es
-are_found c [] sorted at = tt
-are_found c (e ∷ es) sorted at = (
-  at (string_bytes e.0) (ap is_some here) ∙ ap content_or_nothing here,
-  are_found c es (sorted_tail string_cmp e.0 (keys_of es) sorted) (λ g h. by_test g h (is_eq (slice_cmp nat_cmp g (string_bytes e.0))) refl),
-)
-  where
-    here : at_name (string_bytes e.0) (e ∷ es) ≡ Some e.1
-    here = ap (λ o. cond (is_eq o) (Some e.1) (at_name (string_bytes e.0) es)) (tied_itself nat_list_cmp_total (string_bytes e.0))
+-- the same of names and contents
+abbrev InsideAll : Content → List (List ℕ × Content) → Type 0
+InsideAll c [] = Unit {0}
+InsideAll c (x ∷ xs) = (inside x.0 c ≡ x.1) × InsideAll c xs
 
-    by_test : (g : List ℕ) → is_some (at_name g es) ≡ true → (t : Bool) → is_eq (slice_cmp nat_cmp g (string_bytes e.0)) ≡ t → inside g c ≡ content_at g es
-    by_test g h true t = absurd (true≢false (sym h ∙ ap is_some (past e.0 g es (ties g (string_bytes e.0) t) (sorted_head string_cmp e.0 (keys_of es) sorted))))
-    by_test g h false t =
-        let later : at_name g (e ∷ es) ≡ at_name g es = ap (λ b. cond b (Some e.1) (at_name g es)) t in at g (ap is_some later ∙ h) ∙ ap content_or_nothing later
+names-contents : (es : Children) → child_names es ≡ map (λ x. x.0) (contents_in es)
+names-contents [] = refl
+names-contents (e ∷ es) = ap (λ l. string_bytes e.0 ∷ l) (names-contents es)
 
-pub children-inside : (n : PathMap) → IsOrdered string_cmp (out-PathMap n).below → AreInside (content n) (out-PathMap n).below.entries
-children-inside n sorted = are_found (content n) (out-PathMap n).below.entries sorted (λ g h. inside-map n sorted g)
+names-heads : (c : Content) (hs : List (List ℕ)) → map (λ x. x.0) (map {B = List ℕ × Content} (λ f. (f, inside f c)) hs) ≡ hs
+names-heads c [] = refl
+names-heads c (h ∷ hs) = ap (λ l. h ∷ l) (names-heads c hs)
+
+inside_heads : (c : Content) (hs : List (List ℕ)) → InsideAll c (map (λ f. (f, inside f c)) hs)
+inside_heads c [] = tt
+inside_heads c (h ∷ hs) = (refl, inside_heads c hs)
+
+inside_named : (c : Content) (es : Children) → InsideAll c (contents_in es) → AreInside c es
+inside_named c [] all = tt
+inside_named c (e ∷ es) all = (all.0, inside_named c es all.1)
+
+module _ (c : Content) (es : Children) (are : contents_in es ≡ children_of c) where
+  pub heads-names : heads c ≡ child_names es
+  heads-names = sym (names-heads c (heads c)) ∙ sym (ap (map (λ x. x.0)) are) ∙ sym (names-contents es)
+
+  pub children-inside : AreInside c es
+  children-inside = inside_named c es (subst (InsideAll c) (sym are) (inside_heads c (heads c)))

@@ -1,18 +1,19 @@
 -- Answers joined, one after another.
-use Rattle.std.proofs.Common.{◌≡◌, ℕ, List, [], ◌∷◌, Bool, true, false, cond, Option, None, Ok, Err, refl, sym, ap, ◌∙◌, is_eq, nat_cmp}
-use Rattle.std.specs.Cmp.Lexicographic.{slice_cmp}
-use Rattle.std.specs.FinMap as fin
+use Rattle.std.proofs.Common.{◌≡◌, ℕ, List, true, false, cond, Ok, Err, refl, sym, ap, ◌∙◌}
 use Rattle.std.specs.List.{list_any}
 use Rattle.std.specs.Str.{bytes_eq}
 use Rattle.fieldpath.specs.Elements.{name_text}
-use Rattle.fieldpath.specs.Paths.{PathTexts}
-use Rattle.pathmap.specs.Contents.{Standing, Content, nothing, under, over}
-use Rattle.pathmap.proofs.Contents.{same, nothing-over, over-nothing, over-over, get-nothing, get-under, get-under-top}
+use Rattle.pathmap.specs.Contents.{Content, nothing, under, over}
+use Rattle.pathmap.specs.Insides.{inside}
+use Rattle.pathmap.proofs.Contents.{nothing-over, over-nothing, over-over}
+use Rattle.pathmap.proofs.Levels.{under-nothing}
 use Rattle.typed.specs.declared.fault.ReadFault.{ReadFault}
 use Rattle.typed.specs.declared.fault.ReadFault.TheVariants as faults
 use Rattle.typed.specs.Faults.{Read, Tells, fault_in}
 use Rattle.typed.specs.Reading.{at_field, joined}
 use Rattle.typed.specs.Steps.{unless_key}
+use Rattle.typed.proofs.Adding.{inside_others}
+use Rattle.typed.proofs.Floats.{err_not_ok, ok_is}
 
 pub joined-nothing : (a : Read Content) → joined (Ok nothing) a ≡ a
 joined-nothing (Ok c) = ap Ok (nothing-over c)
@@ -39,17 +40,6 @@ tells-before faults.Memory one rest h = tt
 tells-before (faults.Shape cause path) (Ok x) rest h = absurd cc
 tells-before (faults.Shape cause path) (Err e) rest h = h
 
-cond-None : (b : Bool) (a : Option Standing) → a ≡ None → cond b a None ≡ None
-cond-None true a e = e
-cond-None false a e = refl
-
-pub under-nothing : (f : List ℕ) → under f nothing ≡ nothing
-under-nothing f = same _ _ by_path
-  where
-    by_path : (q : PathTexts) → fin.get (under f nothing) q ≡ fin.get nothing q
-    by_path [] = get-under-top f nothing ∙ sym (get-nothing [])
-    by_path (g ∷ rest) = get-under f nothing g rest ∙ cond-None (is_eq (slice_cmp nat_cmp g f)) (fin.get nothing rest) (get-nothing rest) ∙ sym (get-nothing (g ∷ rest))
-
 -- what is read of a key field adds nothing
 pub key_joins : (g : Content) (names : List (List ℕ)) (k : List ℕ) (answer : Read Content) (c : Content) → answer ≡ Ok c → list_any (bytes_eq k) names ≡ true → Ok g ≡ joined (Ok g) (at_field k (unless_key names k answer))
 key_joins g names k answer c read key =
@@ -59,3 +49,8 @@ pub other_joins : (g : Content) (names : List (List ℕ)) (k : List ℕ) (answer
     → Ok (over g (under (name_text k) c)) ≡ joined (Ok g) (at_field k (unless_key names k answer))
 other_joins g names k answer c read other =
     sym (ap (λ a. joined (Ok g) (at_field k (unless_key names k a))) read ∙ ap (λ b. joined (Ok g) (at_field k (cond b (Ok nothing) (Ok c)))) other)
+
+-- what was joined to a content changes nothing below another element
+pub joined_keeps : (k : List ℕ) (c d : Content) (r : Read Content) → Ok d ≡ joined (Ok c) (at_field k r) → (g : List ℕ) → bytes_eq g (name_text k) ≡ false → inside g d ≡ inside g c
+joined_keeps k c d (Err e) is g apart = absurd (err_not_ok _ d (sym is))
+joined_keeps k c d (Ok m) is g apart = ap (inside g) (ok_is d (over c (under (name_text k) m)) is) ∙ inside_others c (name_text k) m g apart

@@ -3,23 +3,22 @@ use Rattle.std.specs.List.Sorted.{IsStrictlySortedBy}
 use Rattle.std.specs.Map.{keys_of}
 use Rattle.std.specs.Option.{unwrap_or}
 use Rattle.std.specs.Str.{bytes_eq}
-use Rattle.std.proofs.Common.{◌≡◌, ℕ, Bool, true, false, cond, ◌||◌, is_eq, is_some, nat_cmp, string_cmp, List, [], ◌∷◌, Some, None, Ok, string_bytes, refl, sym, ap, ap₂, subst, ◌∙◌, true≢false}
-use Rattle.std.specs.Cmp.Lexicographic.{slice_cmp}
+use Rattle.std.proofs.Common.{◌≡◌, ℕ, Bool, true, false, cond, ◌||◌, is_some, string_cmp, List, [], ◌∷◌, Some, None, Ok, string_bytes, refl, sym, ap, ap₂, subst, ◌∙◌, true≢false}
 use Rattle.serde_json.specs.Data.{Data, null, boolean, number, string, array, object, Members, no_members, member, put}
 use Rattle.serde_json.specs.Find.{as_object}
 use Rattle.serde_json.specs.View.{view, members_view}
 use Rattle.fieldpath.specs.Elements.{name_text}
-use Rattle.pathmap.specs.Contents.{Content, nothing, gather}
-use Rattle.pathmap.specs.Maps.{at_name, contents_in}
+use Rattle.pathmap.specs.Contents.{Content, nothing}
+use Rattle.pathmap.proofs.Levels.{under-nothing}
 use Rattle.schema.specs.Shape.{Fields, struct_of}
 use Rattle.typed.specs.declared.fault.Cause.TheVariants.{NotAnObject}
 use Rattle.typed.specs.declared.fault.ReadFault.{ReadFault}
 use Rattle.typed.specs.Faults.{Read, Tells, fault_in, and_then, below, some_or}
 use Rattle.typed.specs.Reading.{is_null, at_field, joined, one_member, members_at, content_of, content_of_field}
-use Rattle.typed.specs.Steps.{Entries}
+use Rattle.typed.specs.Steps.{IsFree}
 use Rattle.typed.specs.Without.{Omitted, but, kept, members_kept, value_kept}
 use Rattle.typed.proofs.Faults.{tells-and_then, tells-within}
-use Rattle.typed.proofs.Joins.{joined-nothing, under-nothing}
+use Rattle.typed.proofs.Joins.{joined-nothing}
 use Rattle.typed.proofs.Members.{AreMembersSoFar, members_begin, member_skipped, member_added, member_failed, member_new}
 use Rattle.typed.proofs.Plains.{AreBefore, Entry, before_all, before_left, before_left_too, first_below, left_sorted, members_after, members_after-after, members_after-none, put_last}
 
@@ -63,8 +62,8 @@ module _ (out : List ℕ → Bool) (keep : List ℕ → Data → Data) (inner : 
   abbrev pub reads : List ℕ → Data → Read Content
   reads k d = cond (out k) (Ok nothing) (inner k (keep k d))
 
-  abbrev pub AreReadSoFar : Members → Entries → List Entry → Type 0
-  AreReadSoFar all ns it = AreMembersSoFar reads (members_at inner (members_kept out keep all)) ns it
+  abbrev pub AreReadSoFar : Members → Content → List Entry → Type 0
+  AreReadSoFar all c it = AreMembersSoFar reads (members_at inner (members_kept out keep all)) c it
 
 nothing_read : (b : Bool) (k : List ℕ) → cond {A = Read Content} b (Ok nothing) (at_field k (Ok nothing)) ≡ Ok nothing
 nothing_read true k = refl
@@ -85,32 +84,31 @@ module _ (out : List ℕ → Bool) (keep : List ℕ → Data → Data) (inner : 
   reads_are nulls no_members = refl
   reads_are nulls (member k d ms) = one_read inner (out k) k d (keep k d) (members_at (reads out keep inner) ms) (members_kept out keep ms) (nulls k d) (reads_are nulls ms)
 
-  pub reading_begins : KeepsNull keep → (ns : Entries) (it all : List Entry) → ns ≡ [] → it ≡ all → IsStrictlySortedBy string_cmp (keys_of all) → AreReadSoFar out keep inner (members_view all) ns it
-  reading_begins nulls ns it all none is sorted =
-      subst (λ whole. AreMembersSoFar (reads out keep inner) whole ns it) (reads_are nulls (members_view all)) (members_begin (reads out keep inner) ns it all none is sorted)
+  pub reading_begins : KeepsNull keep → (c : Content) (it all : List Entry) → c ≡ nothing → it ≡ all → IsStrictlySortedBy string_cmp (keys_of all) → AreReadSoFar out keep inner (members_view all) c it
+  reading_begins nulls c it all none is sorted =
+      subst (λ whole. AreMembersSoFar (reads out keep inner) whole c it) (reads_are nulls (members_view all)) (members_begin (reads out keep inner) c it all none is sorted)
 
-  module _ (all : Members) (ns : Entries) (it : List Entry) (e : Entry) (left : List Entry) (steps : it ≡ e ∷ left) (so_far : AreReadSoFar out keep inner all ns it) (k : List ℕ) (named : k ≡ string_bytes e.0) where
-    pub reading_passes : (out k || is_null (view e.1)) ≡ true → AreReadSoFar out keep inner all ns left
+  module _ (all : Members) (c : Content) (it : List Entry) (e : Entry) (left : List Entry) (steps : it ≡ e ∷ left) (so_far : AreReadSoFar out keep inner all c it) (k : List ℕ) (named : k ≡ string_bytes e.0) where
+    pub reading_passes : (out k || is_null (view e.1)) ≡ true → AreReadSoFar out keep inner all c left
     reading_passes absent =
-        member_skipped (reads out keep inner) (members_at inner (members_kept out keep all)) ns it e left steps so_far
+        member_skipped (reads out keep inner) (members_at inner (members_kept out keep all)) c it e left steps so_far
         (ap (λ f. one_member (reads out keep inner) f (view e.1)) (sym named) ∙ nothing_absent (out k) (is_null (view e.1)) k (inner k (keep k (view e.1))) absent)
 
-    pub reading_new : at_name (name_text k) ns ≡ None
-    reading_new = member_new (reads out keep inner) (members_at inner (members_kept out keep all)) ns it e left steps so_far k named
+    pub reading_new : IsFree (name_text k) c
+    reading_new = member_new (reads out keep inner) (members_at inner (members_kept out keep all)) c it e left steps so_far k named
 
     module _ (there : (out k || is_null (view e.1)) ≡ false) where
       reads_here : reads out keep inner k (view e.1) ≡ inner k (keep k (view e.1))
       reads_here = ap (λ b. cond b (Ok nothing) (inner k (keep k (view e.1)))) (first_false (out k) (is_null (view e.1)) there)
 
-      pub reading_adds : (ms : Entries) → Ok (gather (contents_in ms)) ≡ joined (Ok (gather (contents_in ns))) (at_field k (inner k (keep k (view e.1))))
-          → ((g : List ℕ) → is_eq (slice_cmp nat_cmp g (name_text k)) ≡ false → at_name g ms ≡ at_name g ns) → AreReadSoFar out keep inner all ms left
-      reading_adds ms adds others =
-          member_added (reads out keep inner) (members_at inner (members_kept out keep all)) ns it e left steps so_far k named (second_false (out k) (is_null (view e.1)) there) ms
-          (adds ∙ ap (λ r. joined (Ok (gather (contents_in ns))) (at_field k r)) (sym reads_here)) others
+      pub reading_adds : (new : Content) → Ok new ≡ joined (Ok c) (at_field k (inner k (keep k (view e.1)))) → AreReadSoFar out keep inner all new left
+      reading_adds new adds =
+          member_added (reads out keep inner) (members_at inner (members_kept out keep all)) c it e left steps so_far k named (second_false (out k) (is_null (view e.1)) there) new
+          (adds ∙ ap (λ r. joined (Ok c) (at_field k r)) (sym reads_here))
 
       pub reading_fails : (f : ReadFault) → Tells f (fault_in (at_field k (inner k (keep k (view e.1))))) → Tells f (fault_in (members_at inner (members_kept out keep all)))
       reading_fails f h =
-          member_failed (reads out keep inner) (members_at inner (members_kept out keep all)) ns it e left steps so_far k named (second_false (out k) (is_null (view e.1)) there) f
+          member_failed (reads out keep inner) (members_at inner (members_kept out keep all)) c it e left steps so_far k named (second_false (out k) (is_null (view e.1)) there) f
           (subst (λ r. Tells f (fault_in (at_field k r))) (sym reads_here) h)
 
 -- ---- objects

@@ -2,6 +2,7 @@ pub mod Faults
 pub mod Shapes
 pub mod Plains
 pub mod Insides
+pub mod Adding
 pub mod Prints
 pub mod Joins
 pub mod Floats

@@ -1,38 +1,23 @@
 -- Items of sets and map lists, one after another.
-use Rattle.std.specs.Cmp.Lexicographic.{slice_cmp}
 use Rattle.std.specs.List.{list_any}
 use Rattle.std.specs.Str.{bytes_eq}
-use Rattle.std.specs.BTreeMap.{insert_entry}
-use Rattle.std.proofs.lemmas.Map.Text.{is_eq-slice_cmp}
-use Rattle.std.proofs.Common.{nat_cmp, string_cmp, is_eq, ◌≡◌, ℕ, ◌+◌, ◌<◌, Bool, true, false, ◌||◌, cond, List, [], ◌∷◌, length, drop, get_or, drop-cons, add-one, Option, Some, None, is_some, Ok, Err, String, Global, string_bytes, refl, sym, ap, ap₂, subst, ◌∙◌}
+use Rattle.std.proofs.Common.{◌≡◌, ℕ, ◌+◌, ◌<◌, Bool, true, false, cond, List, [], ◌∷◌, length, drop, get_or, drop-cons, add-one, Some, Ok, Err, sym, ap, subst, ◌∙◌}
 use Rattle.serde_json.specs.Data.{Data, Members, object}
 use Rattle.serde_json.specs.View.{view, items_view}
 use Rattle.serde_json.specs.declared.value.Value.{Value}
 use Rattle.fieldpath.specs.Elements.{list_item_text}
-use Rattle.pathmap.specs.Contents.{Content, over, gather}
-use Rattle.pathmap.specs.Maps.{at_name, contents_in}
-use Rattle.pathmap.specs.declared.pathmap.PathMap.{PathMap}
-use Rattle.pathmap.proofs.Trees.{at_name-insert_entry}
+use Rattle.pathmap.specs.Contents.{Content, nothing, over}
+use Rattle.pathmap.specs.Insides.{inside}
+use Rattle.pathmap.specs.Levels.{has_path}
+use Rattle.pathmap.proofs.Heads.{inside-nothing}
+use Rattle.pathmap.proofs.Levels.{nothing_path}
 use Rattle.typed.specs.declared.fault.Cause.TheVariants.{DuplicateItem, KeyFieldMissing}
 use Rattle.typed.specs.declared.fault.ReadFault.{ReadFault}
 use Rattle.typed.specs.Faults.{Read, Tells, fault_in, below, and_then, shown_place}
 use Rattle.typed.specs.Reading.{joined, marked, one_item, items_at, have_keys, keys_in, keyed_item, named_item, object_item}
 use Rattle.typed.proofs.Floats.{ok_is, err_not_ok}
-use Rattle.typed.specs.Steps.{Entries, AreSeen}
+use Rattle.typed.specs.Steps.{AreSeen}
 use Rattle.typed.proofs.Joins.{joined-nothing, joined-none, joined-joined, tells-after}
-
-pub is_none : {X : Type 0} (o : Option X) → is_some o ≡ false → o ≡ None
-is_none None h = refl
-is_none (Some x) h = absurd cc
-
-seen_or : (b : Bool) (v : PathMap) (o : Option PathMap) → is_some (cond b (Some v) o) ≡ (b || is_some o)
-seen_or true v o = refl
-seen_or false v o = refl
-
-pub seen_more : (seen : List (List ℕ)) (old new : Entries) (k : String Global) (v : PathMap) → new ≡ insert_entry string_cmp old k v → AreSeen seen old → AreSeen (string_bytes k ∷ seen) new
-seen_more seen old new k v is before g =
-    ap (λ es. is_some (at_name g es)) is ∙ ap is_some (at_name-insert_entry g old k v) ∙ seen_or (is_eq (slice_cmp nat_cmp g (string_bytes k))) v (at_name g old)
-    ∙ ap₂ (λ a b. a || b) (is_eq-slice_cmp g (string_bytes k)) (before g)
 
 pub repeated : (seen : List (List ℕ)) (i : ℕ) (e : List ℕ × Content) (read : Read (List ℕ × Content)) (rest : List (List ℕ) → Read Content) → read ≡ Ok e → list_any (bytes_eq e.0) seen ≡ true
     → fault_in (one_item seen (below (shown_place i) (λ x. x) read) rest) ≡ Some (DuplicateItem, [])
@@ -40,43 +25,42 @@ repeated seen i e read rest is again = rw (is) (ap (λ b. fault_in (cond b (Err 
 
 -- ---- a loop over items, as far as it has come
 
-abbrev pub AreItemsSoFar : (Data → Read (List ℕ × Content)) → Read Content → Entries → ℕ → List Value → Type 0
-AreItemsSoFar inner whole es i left = (seen : List (List ℕ)) × (joined (Ok (gather (contents_in es))) (items_at inner i seen (items_view left)) ≡ whole) × AreSeen seen es
+abbrev pub AreItemsSoFar : (Data → Read (List ℕ × Content)) → Read Content → Content → ℕ → List Value → Type 0
+AreItemsSoFar inner whole c i left = (seen : List (List ℕ)) × (joined (Ok c) (items_at inner i seen (items_view left)) ≡ whole) × AreSeen seen c
 
-pub items_begin : (inner : Data → Read (List ℕ × Content)) (es : Entries) (all : List Value) → es ≡ [] → AreItemsSoFar inner (items_at inner 0 [] (items_view all)) es 0 all
-items_begin inner es all none = (
+pub items_begin : (inner : Data → Read (List ℕ × Content)) (c : Content) (all : List Value) → c ≡ nothing → AreItemsSoFar inner (items_at inner 0 [] (items_view all)) c 0 all
+items_begin inner c all none = (
   [],
-  ap (λ l. joined (Ok (gather (contents_in l))) (items_at inner 0 [] (items_view all))) none ∙ joined-nothing (items_at inner 0 [] (items_view all)),
-  λ g. ap (λ l. is_some (at_name g l)) none,
+  ap (λ x. joined (Ok x) (items_at inner 0 [] (items_view all))) none ∙ joined-nothing (items_at inner 0 [] (items_view all)),
+  λ g. ap has_path (ap (inside g) none ∙ inside-nothing g) ∙ nothing_path,
 )
 
-pub items_end : (inner : Data → Read (List ℕ × Content)) (whole : Read Content) (es : Entries) (i : ℕ) (left : List Value) → left ≡ [] → AreItemsSoFar inner whole es i left → whole ≡ Ok (gather (contents_in es))
-items_end inner whole es i left none so_far =
-    sym so_far.1 ∙ ap (λ l. joined (Ok (gather (contents_in es))) (items_at inner i so_far.0 (items_view l))) none ∙ joined-none (gather (contents_in es))
+pub items_end : (inner : Data → Read (List ℕ × Content)) (whole : Read Content) (c : Content) (i : ℕ) (left : List Value) → left ≡ [] → AreItemsSoFar inner whole c i left → whole ≡ Ok c
+items_end inner whole c i left none so_far = sym so_far.1 ∙ ap (λ l. joined (Ok c) (items_at inner i so_far.0 (items_view l))) none ∙ joined-none c
 
-module _ (inner : Data → Read (List ℕ × Content)) (whole : Read Content) (es : Entries) (all : List Value) (i : ℕ) (v : Value) (lt : i < length all) (is : v ≡ get_or all i v) (so_far : AreItemsSoFar inner whole es i (drop i all)) where
-  there : joined (Ok (gather (contents_in es))) (one_item so_far.0 (below (shown_place i) (λ e. e) (inner (view v))) (λ more. items_at inner (i + 1) more (items_view (drop (i + 1) all)))) ≡ whole
+module _ (inner : Data → Read (List ℕ × Content)) (whole : Read Content) (c : Content) (all : List Value) (i : ℕ) (v : Value) (lt : i < length all) (is : v ≡ get_or all i v) (so_far : AreItemsSoFar inner whole c i (drop i all)) where
+  there : joined (Ok c) (one_item so_far.0 (below (shown_place i) (λ e. e) (inner (view v))) (λ more. items_at inner (i + 1) more (items_view (drop (i + 1) all)))) ≡ whole
   there =
-      ap (λ w. joined (Ok (gather (contents_in es))) (one_item so_far.0 (below (shown_place i) (λ e. e) (inner (view w))) (λ more. items_at inner (i + 1) more (items_view (drop (i + 1) all))))) is
-      ∙ rw add-one (sym (ap (λ l. joined (Ok (gather (contents_in es))) (items_at inner i so_far.0 (items_view l))) (drop-cons all i v lt)) ∙ so_far.1)
+      ap (λ w. joined (Ok c) (one_item so_far.0 (below (shown_place i) (λ e. e) (inner (view w))) (λ more. items_at inner (i + 1) more (items_view (drop (i + 1) all))))) is
+      ∙ rw add-one (sym (ap (λ l. joined (Ok c) (items_at inner i so_far.0 (items_view l))) (drop-cons all i v lt)) ∙ so_far.1)
 
-  pub item_added : (new : Entries)
-      → (e : List ℕ × Content) × (inner (view v) ≡ Ok e) × (list_any (bytes_eq e.0) so_far.0 ≡ false) × (gather (contents_in new) ≡ over (gather (contents_in es)) (marked e.0 e.1)) × AreSeen (e.0 ∷ so_far.0) new
+  pub item_added : (new : Content)
+      → (e : List ℕ × Content) × (inner (view v) ≡ Ok e) × (list_any (bytes_eq e.0) so_far.0 ≡ false) × (new ≡ over c (marked e.0 e.1)) × AreSeen (e.0 ∷ so_far.0) new
       → AreItemsSoFar inner whole new (i + 1) (drop (i + 1) all)
   item_added new added =
       let e = added.0 in
       let rest = λ (more : List (List ℕ)). items_at inner (i + 1) more (items_view (drop (i + 1) all)) in (
         e.0 ∷ so_far.0,
-        ap (λ c. joined (Ok c) (rest (e.0 ∷ so_far.0))) added.3
-            ∙ joined-joined (Ok (gather (contents_in es))) (Ok (marked e.0 e.1)) (rest (e.0 ∷ so_far.0))
-            ∙ ap (λ b. joined (Ok (gather (contents_in es))) (cond b (Err (DuplicateItem, [])) (joined (Ok (marked e.0 e.1)) (rest (e.0 ∷ so_far.0))))) (sym added.2)
-            ∙ ap (λ r. joined (Ok (gather (contents_in es))) (one_item so_far.0 (below (shown_place i) (λ e. e) r) rest)) (sym added.1)
+        ap (λ x. joined (Ok x) (rest (e.0 ∷ so_far.0))) added.3
+            ∙ joined-joined (Ok c) (Ok (marked e.0 e.1)) (rest (e.0 ∷ so_far.0))
+            ∙ ap (λ b. joined (Ok c) (cond b (Err (DuplicateItem, [])) (joined (Ok (marked e.0 e.1)) (rest (e.0 ∷ so_far.0))))) (sym added.2)
+            ∙ ap (λ r. joined (Ok c) (one_item so_far.0 (below (shown_place i) (λ e. e) r) rest)) (sym added.1)
             ∙ there,
         added.4,
       )
 
   pub item_failed : (f : ReadFault) → ((rest : List (List ℕ) → Read Content) → Tells f (fault_in (one_item so_far.0 (below (shown_place i) (λ e. e) (inner (view v))) rest))) → Tells f (fault_in whole)
-  item_failed f h = subst (λ r. Tells f (fault_in r)) there (tells-after f (gather (contents_in es)) _ (h (λ more. items_at inner (i + 1) more (items_view (drop (i + 1) all)))))
+  item_failed f h = subst (λ r. Tells f (fault_in r)) there (tells-after f c _ (h (λ more. items_at inner (i + 1) more (items_view (drop (i + 1) all)))))
 
 -- ---- an item of a map list, once its key fields are there
 

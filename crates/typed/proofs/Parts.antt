@@ -9,7 +9,7 @@ use Rattle.fieldpath.specs.Paths.{PathTexts}
 use Rattle.pathmap.specs.Contents.{Standing, mark, Content, nothing, here, under, over}
 use Rattle.pathmap.specs.Insides.{inside, heads}
 use Rattle.pathmap.proofs.Contents.{same, either, get-nothing, get-over, get-under, get-under-top, get-here-below}
-use Rattle.pathmap.proofs.Merging.{get-here-top}
+use Rattle.pathmap.proofs.Levels.{get-here-top}
 use Rattle.pathmap.proofs.Trees.{ties}
 use Rattle.pathmap.proofs.Heads.{heads-inside, no_path}
 use Rattle.pathmap.proofs.Insides.{get-inside}

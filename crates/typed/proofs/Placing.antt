@@ -24,8 +24,8 @@ use Rattle.fieldpath.proofs.Spelled.{compact-read}
 use Rattle.pathmap.specs.Contents.{Content, nothing, here, under, over}
 use Rattle.pathmap.specs.Contents as standing
 use Rattle.pathmap.specs.Insides.{inside}
-use Rattle.pathmap.proofs.Contents.{same, either, get-nothing, get-over, get-under, get-under-top, get-here-below, nothing-over, over-nothing}
-use Rattle.pathmap.proofs.Merging.{get-here-top}
+use Rattle.pathmap.proofs.Contents.{same, either, get-nothing, get-over, get-under-top, get-here-below, nothing-over, over-nothing}
+use Rattle.pathmap.proofs.Levels.{get-here-top}
 use Rattle.pathmap.proofs.Trees.{ties}
 use Rattle.schema.specs.Lawful.{names_of, item_is_lawful, has_keys, is_scalar, is_some_scalar, is_some_name, is_well_formed, are_well_formed}
 use Rattle.schema.specs.Place.{fits, fits_some, fit_keys}
@@ -34,6 +34,7 @@ use Rattle.typed.specs.declared.fault.Cause.TheVariants.{NotAnObject, WrongType,
 use Rattle.typed.specs.Faults.{Read, below, and_then, some_or, shown_name, shown_place}
 use Rattle.typed.specs.Placed.{IsWithin, IsAtomic, is_field, IsSetItem, HasKeys, IsItem, IsPlaced, ArePlaced, ReadingsArePlaced}
 use Rattle.typed.specs.Reading.{is_null, is_there, text_in, whole_in, truth_in, have_keys, put_some, keys_in, plain_of, leaf, at_field, joined, one_member, members_at, marked, one_item, items_at, named_item, set_item, keyed_item, beside_keys, content_of, content_of_item, content_of_field}
+use Rattle.typed.proofs.Adding.{inside-over, inside-under}
 use Rattle.typed.proofs.ElementTexts.{scalar_same}
 use Rattle.typed.proofs.Floats.{ok_is, err_not_ok, below_ok, and_then_ok, named_is, plain_clean, content_item_clean, keys_clean}
 use Rattle.pathmap.proofs.Heads.{inside-nothing, itself}
@@ -44,15 +45,6 @@ use Rattle.typed.proofs.Putting.{same_ok, StandsBelow, one_stands, split}
 use Rattle.typed.proofs.RoundTrip.{AllFound, all_found, one_so, other_so}
 
 -- ---- what stands inside an element
-
-inside-over : (e : List ℕ) (a b : Content) → inside e (over a b) ≡ over (inside e a) (inside e b)
-inside-over e a b =
-    same (inside e (over a b)) (over (inside e a) (inside e b)) (λ q. get-inside e (over a b) q ∙ get-over a b (e ∷ q) ∙ sym (get-over (inside e a) (inside e b) q ∙ ap₂ either (get-inside e a q) (get-inside e b q)))
-
-inside-under : (e f : List ℕ) (x : Content) (b : Bool) → bytes_eq e f ≡ b → inside e (under f x) ≡ cond b x nothing
-inside-under e f x true is = same (inside e (under f x)) x (λ q. get-inside e (under f x) q ∙ get-under f x e q ∙ ap (λ t. cond t (fin.get x q) None) (is_eq-slice_cmp e f ∙ is))
-inside-under e f x false is =
-    same (inside e (under f x)) nothing (λ q. get-inside e (under f x) q ∙ get-under f x e q ∙ ap (λ t. cond t (fin.get x q) None) (is_eq-slice_cmp e f ∙ is) ∙ sym (get-nothing q))
 
 inside-marked : (g : List ℕ) (c : Content) → inside g (over (here standing.mark) c) ≡ inside g c
 inside-marked g c =

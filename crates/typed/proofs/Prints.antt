@@ -1,22 +1,21 @@
 -- What is printed, one child or field after another.
-use Rattle.std.proofs.Common.{◌≡◌, ℕ, ◌+◌, ◌<◌, get_or, Bool, true, false, cond, List, [], ◌∷◌, ◌++◌, length, drop, Option, Some, None, option_map, String, Global, Vec, string_bytes, string_cmp, refl, sym, ap, ap₂, ◌∙◌, true≢false, subst, rules}
+use Rattle.std.proofs.Common.{◌≡◌, ℕ, ◌+◌, ◌<◌, get_or, Bool, true, false, cond, List, [], ◌∷◌, ◌++◌, length, drop, Option, Some, None, option_map, String, Global, Vec, string_bytes, refl, sym, ap, ◌∙◌, true≢false, subst, rules}
 use Rattle.std.specs.Prelude.{◌==◌, option_and_then, option_to_list}
-use Rattle.std.specs.BTreeMap.{IsOrdered}
 use Rattle.serde_json.specs.Data.{Data, array, object, Items, no_items, item, Members, no_members}
 use Rattle.serde_json.specs.View.{view, items_view, members_view}
 use Rattle.serde_json.specs.declared.value.Value.{Value}
 use Rattle.pathmap.specs.Contents.{Content, nothing}
 use Rattle.pathmap.specs.Insides.{inside, heads}
-use Rattle.pathmap.specs.Maps.{content}
-use Rattle.pathmap.specs.declared.pathmap.PathMap.{PathMap, out-PathMap}
+use Rattle.pathmap.specs.Maps.{content, contents_in}
+use Rattle.pathmap.specs.declared.pathmap.PathMap.{PathMap}
 use Rattle.pathmap.proofs.Contents.{get-nothing}
 use Rattle.schema.specs.Shape.{atomic, set, keyed, Shape, text, whole, truth, struct_of, map_of, list_of, Fields, no_fields, field, shape, fields_in}
 use Rattle.schema.specs.declared.schema.Schema.{Schema, Struct, the_lemmas}
 use Rattle.std.proofs.lemmas.List.{drop_more}
 use Rattle.fieldpath.specs.Elements.{field_name, name_text}
 use Rattle.typed.specs.Printing.{value_at, value_of, object_or_none, array_or_none, with_member, with_named, with_item, each_member, each_item, scalar_in, keys_in, print, print_item, print_fields}
-use Rattle.pathmap.proofs.Heads.{has_path, no_path, nothing_path, inside-nothing, heads-nothing}
-use Rattle.typed.proofs.Insides.{Children, living, heads-map, AreInside, children-inside}
+use Rattle.pathmap.proofs.Heads.{inside-nothing, heads-nothing}
+use Rattle.typed.proofs.Insides.{AreInside, Children, child_names, children_of, heads-names}
 
 value_at-nothing : value_at nothing ≡ None
 value_at-nothing = ap (option_and_then value_of) (get-nothing [])
@@ -46,27 +45,15 @@ mutual
 
 -- ---- children, one after another
 
-with_named-None : (k : Option (List ℕ)) (ms : Members) → with_named k None ms ≡ ms
-with_named-None None ms = refl
-with_named-None (Some k) ms = refl
-
--- a child that is printed, or bare
+-- a child that is printed
 pub members_more : (inner : List ℕ → Option Data) (it left : Children) (e : String Global × PathMap) (o : Option Data) (ms new : Members) → it ≡ e ∷ left
-    → o ≡ inner (string_bytes e.0) → (content e.1 ≡ nothing → o ≡ None) → new ≡ with_named (field_name (string_bytes e.0)) o ms
-    → each_member inner (living left) new ≡ each_member inner (living it) ms
-members_more inner it left e o ms new steps is bare put =
-    ap (each_member inner (living left)) put ∙ by_test (has_path (content e.1)) refl ∙ ap (λ l. each_member inner (living l) ms) (sym steps)
-  where
-    by_test : (b : Bool) → has_path (content e.1) ≡ b → each_member inner (living left) (with_named (field_name (string_bytes e.0)) o ms) ≡ each_member inner (cond b (string_bytes e.0 ∷ living left) (living left)) ms
-    by_test true b = ap (λ d. each_member inner (living left) (with_named (field_name (string_bytes e.0)) d ms)) is
-    by_test false b = ap (each_member inner (living left)) (ap (λ d. with_named (field_name (string_bytes e.0)) d ms) (bare (no_path (content e.1) b)) ∙ with_named-None (field_name (string_bytes e.0)) ms)
+    → o ≡ inner (string_bytes e.0) → new ≡ with_named (field_name (string_bytes e.0)) o ms → each_member inner (child_names left) new ≡ each_member inner (child_names it) ms
+members_more inner it left e o ms new steps is put =
+    ap (each_member inner (child_names left)) (put ∙ ap (λ d. with_named (field_name (string_bytes e.0)) d ms) is) ∙ ap (λ l. each_member inner (child_names l) ms) (sym steps)
 
-pub members_first : (inner : List ℕ → Option Data) (n : PathMap) (ms : Members) (it : Children) → IsOrdered string_cmp (out-PathMap n).below → it ≡ (out-PathMap n).below.entries
-    → each_member inner (living it) ms ≡ each_member inner (heads (content n)) ms
-members_first inner n ms it sorted is = ap (λ l. each_member inner (living l) ms) is ∙ ap (λ hs. each_member inner hs ms) (sym (heads-map n sorted))
-
-pub children_first : (n : PathMap) (it : Children) → IsOrdered string_cmp (out-PathMap n).below → it ≡ (out-PathMap n).below.entries → AreInside (content n) it
-children_first n it sorted is = subst (AreInside (content n)) (sym is) (children-inside n sorted)
+-- the child at a place, and those after it
+pub at_place : (all : Children) (i : ℕ) (e : String Global × PathMap) → i < length all → e ≡ get_or all i e → drop i all ≡ e ∷ drop (i + 1) all
+at_place all i e lt is = drop_more all i e lt ∙ ap (λ x. x ∷ drop (i + 1) all) (sym is)
 
 module _ (c : Content) (it left : Children) (e : String Global × PathMap) (steps : it ≡ e ∷ left) (inside_all : AreInside c it) where
   pub one_inside : inside (string_bytes e.0) c ≡ content e.1
@@ -97,34 +84,24 @@ then-none (item d xs) = ap (item d) (then-none xs)
 
 -- the items so far and those of the children that are left are all
 abbrev pub AllItems : (List ℕ → Option Data) → Content → List Value → Children → Type 0
-AllItems inner c xs it = then_items (items_view xs) (each_item inner (living it)) ≡ each_item inner (heads c)
+AllItems inner c xs it = then_items (items_view xs) (each_item inner (child_names it)) ≡ each_item inner (heads c)
 
 module _ (inner : List ℕ → Option Data) where
-  pub items_first : (n : PathMap) (xs : List Value) (it : Children) → IsOrdered string_cmp (out-PathMap n).below → xs ≡ [] → it ≡ (out-PathMap n).below.entries → AllItems inner (content n) xs it
-  items_first n xs it sorted none is = ap₂ (λ l m. then_items (items_view l) (each_item inner (living m))) none is ∙ ap (each_item inner) (sym (heads-map n sorted))
+  pub items_first : (c : Content) (xs : List Value) (it : Children) → xs ≡ [] → contents_in it ≡ children_of c → AllItems inner c xs it
+  items_first c xs it none are = ap (λ l. then_items (items_view l) (each_item inner (child_names it))) none ∙ ap (each_item inner) (sym (heads-names c it are))
 
   pub items_last : (c : Content) (xs : List Value) (it : Children) → it ≡ [] → AllItems inner c xs it → items_view xs ≡ each_item inner (heads c)
-  items_last c xs it none all = sym (then-none (items_view xs)) ∙ sym (ap (λ l. then_items (items_view xs) (each_item inner (living l))) none) ∙ all
+  items_last c xs it none all = sym (then-none (items_view xs)) ∙ sym (ap (λ l. then_items (items_view xs) (each_item inner (child_names l))) none) ∙ all
 
-  module _ (c : Content) (it left : Children) (e : String Global × PathMap) (xs : List Value) (steps : it ≡ e ∷ left) (before : AllItems inner c xs it) where
-    -- a child in which nothing stands
-    pub items_bare : content e.1 ≡ nothing → AllItems inner c xs left
-    items_bare bare =
-        ap (λ b. then_items (items_view xs) (each_item inner (cond b (string_bytes e.0 ∷ living left) (living left)))) (sym (ap has_path bare ∙ nothing_path))
-        ∙ ap (λ l. then_items (items_view xs) (each_item inner (living l))) (sym steps) ∙ before
-
-    -- an item that is printed
-    pub items_more : (o : Option Value) (new : List Value) → option_map view o ≡ inner (string_bytes e.0) → (content e.1 ≡ nothing → ⊥) → new ≡ xs ++ option_to_list o → AllItems inner c new left
-    items_more o new is lives put =
-        ap (λ l. then_items (items_view l) (each_item inner (living left))) put
-        ∙ ap (λ ds. then_items ds (each_item inner (living left))) (items-append xs (option_to_list o))
-        ∙ then-then (items_view xs) (items_view (option_to_list o)) (each_item inner (living left))
-        ∙ ap (then_items (items_view xs)) (items-one o (each_item inner (living left)) ∙ ap (λ d. with_item d (each_item inner (living left))) is ∙ by_test (has_path (content e.1)) refl ∙ ap (λ l. each_item inner (living l)) (sym steps))
-        ∙ before
-      where
-        by_test : (b : Bool) → has_path (content e.1) ≡ b → with_item (inner (string_bytes e.0)) (each_item inner (living left)) ≡ each_item inner (cond b (string_bytes e.0 ∷ living left) (living left))
-        by_test true b = refl
-        by_test false b = absurd (lives (no_path (content e.1) b))
+  -- an item that is printed
+  pub items_more : (c : Content) (it left : Children) (e : String Global × PathMap) (xs : List Value) → it ≡ e ∷ left → AllItems inner c xs it
+      → (o : Option Value) (new : List Value) → option_map view o ≡ inner (string_bytes e.0) → new ≡ xs ++ option_to_list o → AllItems inner c new left
+  items_more c it left e xs steps before o new is put =
+      ap (λ l. then_items (items_view l) (each_item inner (child_names left))) put
+      ∙ ap (λ ds. then_items ds (each_item inner (child_names left))) (items-append xs (option_to_list o))
+      ∙ then-then (items_view xs) (items_view (option_to_list o)) (each_item inner (child_names left))
+      ∙ ap (then_items (items_view xs)) (items-one o (each_item inner (child_names left)) ∙ ap (λ d. with_item d (each_item inner (child_names left))) is ∙ ap (λ l. each_item inner (child_names l)) (sym steps))
+      ∙ before
 
 -- ---- fields, one after another
 

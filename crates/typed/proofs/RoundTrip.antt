@@ -18,7 +18,7 @@ use Rattle.pathmap.specs.Contents.{Content, nothing, here, under, over}
 use Rattle.pathmap.specs.Contents as standing
 use Rattle.pathmap.specs.Insides.{inside, heads}
 use Rattle.pathmap.proofs.Contents.{same, get-nothing, over-nothing}
-use Rattle.pathmap.proofs.Merging.{get-here-top}
+use Rattle.pathmap.proofs.Levels.{get-here-top}
 use Rattle.fieldpath.specs.Scalars.{ascend}
 use Rattle.schema.specs.Lawful.{names_of, item_is_lawful, has_keys, is_some_name, is_well_formed, are_well_formed}
 use Rattle.schema.specs.Shape.{atomic, set, keyed, Shape, text, whole, truth, struct_of, map_of, list_of, Fields, no_fields, field}
@@ -29,7 +29,9 @@ use Rattle.typed.specs.Printing.{value_at, value_of, object_or_none, array_or_no
 use Rattle.typed.specs.Printing as printing
 use Rattle.typed.specs.Reading.{is_null, plain_of, leaf, joined, members_at, marked, one_item, items_at, named_item, set_item, keyed_item, beside_keys, keys_in, content_of, content_of_item, content_of_field}
 use Rattle.typed.proofs.ElementTexts.{value_element, key_element, scalar_same, scalar_reads}
-use Rattle.pathmap.proofs.Heads.{heads-inside, has_path, nothing_path, itself, rising}
+use Rattle.pathmap.specs.Levels.{has_path}
+use Rattle.pathmap.proofs.Levels.{nothing_path}
+use Rattle.pathmap.proofs.Heads.{heads-inside, itself, rising}
 use Rattle.pathmap.proofs.Insides.{get-inside}
 use Rattle.typed.proofs.KeyFields.{AreRising, ascend_rising, AreKeys, keys_text, keys_fit, keys_there, keys_same, keys_found, keys_absent, keys_read, fields_keep}
 use Rattle.typed.proofs.Parts.{with_parts, parts, IsAll, with_parts-all, parts-all, marked_parts-all, heads-all}

@@ -1,6 +1,5 @@
 -- Members that are put in the order of their names stand one after another.
-use Rattle.std.proofs.Common.{◌≡◌, ℕ, Bool, true, false, cond, drop, nat_cmp, string_cmp, List, [], ◌∷◌, Option, Some, None, Less, string_bytes, refl, sym, ap, ap₂, ◌∙◌, subst, true≢false}
-use Rattle.std.specs.BTreeMap.{IsOrdered}
+use Rattle.std.proofs.Common.{◌≡◌, ℕ, Bool, true, false, cond, drop, nat_cmp, List, [], ◌∷◌, Option, Some, None, Less, string_bytes, refl, sym, ap, ap₂, ◌∙◌, subst, true≢false}
 use Rattle.std.specs.Cmp.Lexicographic.{slice_cmp}
 use Rattle.std.specs.List.{AllByRecursion}
 use Rattle.std.specs.Ordering.{match_ordering}
@@ -11,9 +10,7 @@ use Rattle.fieldpath.specs.Elements.{field_name, has_prefix, name_text}
 use Rattle.fieldpath.specs.Scalars.{ascend}
 use Rattle.pathmap.specs.Contents.{Content}
 use Rattle.pathmap.specs.Insides.{inside, heads}
-use Rattle.pathmap.specs.Maps.{content}
-use Rattle.pathmap.specs.declared.pathmap.PathMap.{PathMap, out-PathMap}
-use Rattle.pathmap.proofs.Heads.{has_path, no_path}
+use Rattle.pathmap.specs.Maps.{contents_in}
 use Rattle.schema.proofs.Members.{put_turned}
 use Rattle.schema.specs.Lawful.{names_of, is_well_formed, are_well_formed}
 use Rattle.schema.specs.Shape.{Shape, Fields, no_fields, field, map_of, struct_of}
@@ -21,9 +18,8 @@ use Rattle.typed.specs.Placed.{ArePlaced, ReadsBack}
 use Rattle.typed.specs.Printing.{each_member, object_or_none, print, print_fields, with_member, with_named}
 use Rattle.typed.specs.Rows.{AllFit, EachFits, Fits, HasNoFloat, IsThere, row_of_children, row_of_fields, text_or_none, then_member, then_named}
 use Rattle.typed.proofs.Floats.{content_clean}
-use Rattle.typed.proofs.Insides.{AreInside, Children, children-inside, heads-map, living}
+use Rattle.typed.proofs.Insides.{AreInside, Children, child_names, children-inside, children_of, heads-names}
 use Rattle.typed.proofs.KeyFields.{AreRising, ascend_rising}
-use Rattle.typed.proofs.Prints.{print-nothing}
 use Rattle.typed.proofs.Putting.{below_differs}
 use Rattle.typed.proofs.RoundTrip.{heads_rise, prefix_name, round}
 
@@ -119,23 +115,14 @@ module _ (inner : List ℕ → Option Data) where
 
 -- ---- children
 
-children_each : (s : Shape) (c : Content) (it : Children) → AreInside c it → row_each (λ e. print s (inside e c)) (living it) ≡ row_of_children s it
+children_each : (s : Shape) (c : Content) (it : Children) → AreInside c it → row_each (λ e. print s (inside e c)) (child_names it) ≡ row_of_children s it
 children_each s c [] inside_all = refl
-children_each s c (e ∷ es) inside_all = by_test (has_path (content e.1)) refl (children_each s c es inside_all.1)
-  where
-    bare : (n : Option (List ℕ)) (o : Option Data) (ms : Members) → o ≡ None → ms ≡ then_named n o ms
-    bare None o ms none = refl
-    bare (Some k) o ms none = sym (ap (λ x. then_member k x ms) none)
+children_each s c (e ∷ es) inside_all = ap₂ (λ d ms. then_named (field_name (string_bytes e.0)) (print s d) ms) inside_all.0 (children_each s c es inside_all.1)
 
-    by_test : (b : Bool) → has_path (content e.1) ≡ b → row_each (λ e. print s (inside e c)) (living es) ≡ row_of_children s es
-        → row_each (λ e. print s (inside e c)) (cond b (string_bytes e.0 ∷ living es) (living es)) ≡ then_named (field_name (string_bytes e.0)) (print s (content e.1)) (row_of_children s es)
-    by_test true has later = ap₂ (λ d ms. then_named (field_name (string_bytes e.0)) (print s d) ms) inside_all.0 later
-    by_test false has later = later ∙ bare (field_name (string_bytes e.0)) (print s (content e.1)) (row_of_children s es) (ap (print s) (no_path (content e.1) has) ∙ print-nothing s)
-
-pub children_row : (s : Shape) (n : PathMap) → IsOrdered string_cmp (out-PathMap n).below → each_member (λ e. print s (inside e (content n))) (heads (content n)) no_members ≡ row_of_children s (out-PathMap n).below.entries
-children_row s n sorted =
-    let inner = λ (e : List ℕ). print s (inside e (content n)) in
-    each_row inner (heads (content n)) (heads_rise (content n)) ∙ ap (row_each inner) (heads-map n sorted) ∙ children_each s (content n) (out-PathMap n).below.entries (children-inside n sorted)
+pub children_row : (s : Shape) (c : Content) (it : Children) → contents_in it ≡ children_of c → each_member (λ e. print s (inside e c)) (heads c) no_members ≡ row_of_children s it
+children_row s c it are =
+    let inner = λ (e : List ℕ). print s (inside e c) in
+    each_row inner (heads c) (heads_rise c) ∙ ap (row_each inner) (heads-names c it are) ∙ children_each s c it (children-inside c it are)
 
 -- ---- what fits
 

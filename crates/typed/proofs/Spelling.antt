@@ -29,7 +29,7 @@ use Rattle.typed.proofs.Floats.{content_clean}
 use Rattle.pathmap.proofs.Insides.{get-inside}
 use Rattle.typed.proofs.Places.{none_there}
 use Rattle.typed.proofs.RoundTrip.{leaf_is, round}
-use Rattle.pathmap.proofs.Merging.{get-here-top}
+use Rattle.pathmap.proofs.Levels.{get-here-top}
 
 -- ---- whole numbers within 64 bits
 

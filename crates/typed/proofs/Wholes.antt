@@ -1,6 +1,6 @@
 -- Texts that are put together of pieces.
-use Rattle.std.proofs.Common.{◌≡◌, ℕ, ◌+◌, ◌<◌, ◌≤◌, Bool, true, false, get_or, drop, length, nat_cmp, string_cmp, List, [], ◌∷◌, ◌++◌, Option, Some, None, Ordering, Less, Equal, Greater, String, Vec, Global, string_bytes, refl, sym, ap, ap₂, ◌∙◌, subst, true≢false, append_assoc, append-nil}
-use Rattle.std.specs.BTreeMap.{IsOrdered, insert_entry}
+use Rattle.std.proofs.Common.{◌≡◌, ℕ, ◌+◌, ◌<◌, ◌≤◌, Bool, true, false, get_or, drop, length, nat_cmp, string_cmp, List, [], ◌∷◌, ◌++◌, Option, Some, None, Ordering, Less, Equal, Greater, String, Vec, Global, string_bytes, refl, sym, ap, ap₂, ◌∙◌, subst, true≢false, append_assoc}
+use Rattle.std.specs.BTreeMap.{insert_entry}
 use Rattle.std.specs.Cmp.Lexicographic.{slice_cmp}
 use Rattle.std.specs.Ordering.{match_ordering}
 use Rattle.std.specs.Result.{OnOk}
@@ -13,15 +13,15 @@ use Rattle.serde_json.specs.Written.{comma_if, compact_text, members_text}
 use Rattle.fieldpath.specs.Elements.{field_name, name_text}
 use Rattle.pathmap.specs.Contents.{Content, nothing}
 use Rattle.pathmap.specs.Insides.{heads, inside}
-use Rattle.pathmap.specs.Maps.{content}
-use Rattle.pathmap.specs.declared.pathmap.PathMap.{PathMap, out-PathMap}
+use Rattle.pathmap.specs.Maps.{content, contents_in}
+use Rattle.pathmap.specs.declared.pathmap.PathMap.{PathMap}
 use Rattle.schema.specs.Shape.{Fields, Shape, fields_in, map_of, shape, struct_of}
 use Rattle.schema.specs.declared.schema.Schema.{Schema}
 use Rattle.fieldset.proofs.Appended.{regroup}
 use Rattle.typed.specs.Printing.{each_member, object_or_none, print as printed, print_fields, value_at, with_member}
 use Rattle.typed.specs.Rows.{AllFit, Fits, IsThere, row_of_children, row_of_fields, text_or_none, then_member, then_named}
 use Rattle.typed.specs.Texts.{Texts, joined, object_of, put_text, texts_in, texts_of}
-use Rattle.typed.proofs.Insides.{Children}
+use Rattle.typed.proofs.Insides.{Children, children_of}
 use Rattle.typed.proofs.Prints.{fields_more, print-nothing}
 use Rattle.typed.proofs.Rows.{children_row, opened, struct_row, there}
 
@@ -83,11 +83,11 @@ module _ (s : Shape) (it left : Children) (e : String Global × PathMap) (steps 
   pub child_skipped : field_name (string_bytes e.0) ≡ None → out ++ members_text later (row_of_children s left) ≡ whole
   child_skipped named = next None named
 
-pub children_wrote : (s : Shape) (n : PathMap) (it : Children) (later : Bool) (start out new : List ℕ) → IsOrdered string_cmp (out-PathMap n).below → it ≡ []
-    → out ++ members_text later (row_of_children s it) ≡ start ++ members_text false (row_of_children s (out-PathMap n).below.entries) → new ≡ out ++ 125 ∷ []
-    → new ≡ start ++ members_text false (each_member (λ e. printed s (inside e (content n))) (heads (content n)) no_members)
-children_wrote s n it later start out new sorted none before closed =
-    closed ∙ sym (ap (λ l. out ++ members_text later (row_of_children s l)) none) ∙ before ∙ ap (λ ms. start ++ members_text false ms) (sym (children_row s n sorted))
+pub children_wrote : (s : Shape) (c : Content) (all it : Children) (later : Bool) (start out new : List ℕ) → contents_in all ≡ children_of c → it ≡ []
+    → out ++ members_text later (row_of_children s it) ≡ start ++ members_text false (row_of_children s all) → new ≡ out ++ 125 ∷ []
+    → new ≡ start ++ members_text false (each_member (λ e. printed s (inside e c)) (heads c) no_members)
+children_wrote s c all it later start out new are none before closed =
+    closed ∙ sym (ap (λ l. out ++ members_text later (row_of_children s l)) none) ∙ before ∙ ap (λ ms. start ++ members_text false ms) (sym (children_row s c all are))
 
 -- ---- brackets
 

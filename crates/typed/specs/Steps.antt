@@ -1,21 +1,18 @@
 -- For private clauses: one member or one item more.
-use Rattle.std.specs.Prelude.{◌≡◌, ℕ, Bool, true, false, List, [], ◌∷◌, ◌++◌, String, ⊤, is_some, if◌then◌else◌, string_bytes}
-use Rattle.std.specs.declared.alloc.Global.{Global}
+use Rattle.std.specs.Prelude.{◌≡◌, ℕ, Bool, true, false, List, [], ◌∷◌, ◌++◌, ⊤, if◌then◌else◌, string_bytes}
 use Rattle.std.specs.declared.result.Result.{Result}
 use Rattle.std.specs.declared.result.Result.TheVariants.{Ok, Err}
 use Rattle.std.specs.List.{list_any}
 use Rattle.std.specs.Str.{bytes_eq}
 use Rattle.serde_json.specs.Data.{Data, array, object, no_items, Members, no_members, put}
-use Rattle.pathmap.specs.Contents.{Content, gather, nothing, over}
-use Rattle.pathmap.specs.Maps.{at_name, contents_in}
-use Rattle.pathmap.specs.declared.pathmap.PathMap.{PathMap}
+use Rattle.pathmap.specs.Contents.{Content, nothing, over}
+use Rattle.pathmap.specs.Insides.{inside}
+use Rattle.pathmap.specs.Levels.{has_path}
+use Rattle.pathmap.specs.Maps.{content}
 use Rattle.typed.specs.declared.fault.ReadFault.{ReadFault}
 use Rattle.typed.specs.declared.items.Item.{Item}
 use Rattle.typed.specs.Faults.{Read, Tells, fault_in, below, shown_name, shown_place}
 use Rattle.typed.specs.Reading.{joined, marked, one_item}
-
-abbrev pub Entries : Type 0
-Entries = List (String Global × PathMap)
 
 -- the new members have what was read at k, or it is a fault
 abbrev pub PutsMember : List ℕ → Members → Members → Result ⊤ ReadFault → Read Data → Type 0
@@ -28,9 +25,13 @@ PushesItem i old new (Ok x) read = (d : Data) × (read ≡ Ok d) × (new ≡ old
 PushesItem i old new (Err e) read = Tells e (fault_in (below (shown_place i) (λ d. d) read))
 
 -- what was read was joined to what stood below, or it is a fault
-abbrev pub Joins : Entries → Entries → Result ⊤ ReadFault → Read Content → Type 0
-Joins old new (Ok x) read = Ok (gather (contents_in new)) ≡ joined (Ok (gather (contents_in old))) read
+abbrev pub Joins : Content → Content → Result ⊤ ReadFault → Read Content → Type 0
+Joins old new (Ok x) read = Ok new ≡ joined (Ok old) read
 Joins old new (Err e) read = Tells e (fault_in read)
+
+-- nothing stands below this element
+abbrev pub IsFree : List ℕ → Content → Type 0
+IsFree f c = inside f c ≡ nothing
 
 -- a key field stands in the item's element alone
 abbrev pub unless_key : List (List ℕ) → List ℕ → Read Content → Read Content
@@ -38,16 +39,16 @@ unless_key names k read = if list_any (bytes_eq k) names then below [] (λ c. no
 
 -- an item's element and content
 abbrev pub item_view : Item → List ℕ × Content
-item_view x = (string_bytes x.element, gather (contents_in x.below.entries))
+item_view x = (string_bytes x.element, content x.below)
 
--- the elements so far are those below which something stands
-abbrev pub AreSeen : List (List ℕ) → Entries → Type 0
-AreSeen seen es = (g : List ℕ) → is_some (at_name g es) ≡ list_any (bytes_eq g) seen
+-- something stands below the elements so far, and below no other
+abbrev pub AreSeen : List (List ℕ) → Content → Type 0
+AreSeen seen c = (g : List ℕ) → has_path (inside g c) ≡ list_any (bytes_eq g) seen
 
 -- an item whose element is new was added under it, or it is a fault
-abbrev pub AddsItem : List (List ℕ) → ℕ → Entries → Entries → Result ⊤ ReadFault → Read (List ℕ × Content) → Type 0
+abbrev pub AddsItem : List (List ℕ) → ℕ → Content → Content → Result ⊤ ReadFault → Read (List ℕ × Content) → Type 0
 AddsItem seen i old new (Ok x) read =
-    (e : List ℕ × Content) × (read ≡ Ok e) × (list_any (bytes_eq e.0) seen ≡ false) × (gather (contents_in new) ≡ over (gather (contents_in old)) (marked e.0 e.1)) × AreSeen (e.0 ∷ seen) new
+    (e : List ℕ × Content) × (read ≡ Ok e) × (list_any (bytes_eq e.0) seen ≡ false) × (new ≡ over old (marked e.0 e.1)) × AreSeen (e.0 ∷ seen) new
 AddsItem seen i old new (Err f) read = (rest : List (List ℕ) → Read Content) → Tells f (fault_in (one_item seen (below (shown_place i) (λ e. e) read) rest))
 
 -- what counts as absent where an atomic value is due

@@ -20,7 +20,7 @@ abbrev pub put_text : List ℕ → List ℕ → Texts → Texts
 put_text k t [] = (k, t) ∷ []
 put_text k t (m ∷ ms) = match_ordering (slice_cmp nat_cmp k m.0) ((k, t) ∷ m ∷ ms) ((m.0, t) ∷ ms) (m ∷ put_text k t ms)
 
--- the members, one after another, with the closing bracket
+-- the members, one after another, with the closing brace
 abbrev pub joined : Bool → Texts → List ℕ
 joined later [] = 125 ∷ []
 joined later (m ∷ ms) = comma_if later ++ (quoted m.0 ++ 58 ∷ (m.1 ++ joined true ms))

@@ -1,13 +1,11 @@
 //! The items of sets and of map lists: which element each is.
 
-ghost use Rattle.std.specs.Prelude.{◌≡◌, ℕ, List, [], None, Err, Ok, IfOk, OnOk, false, if◌then◌else◌, option_map, string_bytes};
+ghost use Rattle.std.specs.Prelude.{◌≡◌, ℕ, List, [], Err, Ok, IfOk, OnOk, if◌then◌else◌, option_map, string_bytes};
 ghost use Rattle.fieldpath.specs.Elements.{list_item_text, name_text, set_item_text};
-ghost use Rattle.pathmap.specs.Contents.{Content, gather, nothing};
+ghost use Rattle.pathmap.specs.Contents.{Content, nothing};
 ghost use Rattle.std.specs.List.{list_any};
-ghost use Rattle.std.specs.Ordering.{is_eq, nat_cmp};
-ghost use Rattle.std.specs.Cmp.Lexicographic.{slice_cmp};
 ghost use Rattle.std.specs.Str.{bytes_eq};
-ghost use Rattle.pathmap.specs.Maps.{at_name, content, contents_in};
+ghost use Rattle.pathmap.specs.Maps.{content};
 ghost use Rattle.serde_json.specs.Data.{object};
 ghost use Rattle.serde_json.specs.Find.{as_array, as_object, get_member};
 ghost use Rattle.serde_json.specs.View.{items_view, members_view, view};
@@ -15,20 +13,19 @@ ghost use Rattle.schema.specs.KeyNames.{names_in};
 ghost use Rattle.typed.specs.declared.fault.Cause.TheVariants.{KeyFieldMissing, NotAnObject, WrongType};
 ghost use Rattle.typed.specs.Faults.{Gives, Read, and_then, some_or};
 ghost use Rattle.typed.specs.Reading.{at_field, have_keys, is_there, keys_in, named_item, object_item, put_some};
-ghost use Rattle.typed.specs.Steps.{AddsItem, AreSeen, Joins, item_view, unless_key};
+ghost use Rattle.typed.specs.Steps.{AddsItem, AreSeen, IsFree, Joins, item_view, unless_key};
 
 use crate::fault::{Cause, ReadFault, wrong};
 use fieldpath::ElemText;
-use pathmap::{Held, PathMap};
+use pathmap::PathMap;
 use serde_json::{Map, Value};
 use std::alloc::{AllocError, Global};
-use std::collections::BTreeMap;
 
 /// An item of a set or of a map list: its element's text, and what stands below it.
 #[derive(Drop)]
 pub(crate) struct Item {
     pub(crate) element: ElemText,
-    pub(crate) below: BTreeMap<ElemText, PathMap>,
+    pub(crate) below: PathMap,
 }
 
 /// The members of an object.
@@ -112,7 +109,7 @@ pub(crate) fn set_item(alloc: Global, scalar: &Value) -> Result<Item, ReadFault>
     match ElemText::of_set_item(alloc, scalar)? {
         Some(element) => Ok(Item {
             element,
-            below: BTreeMap::new(alloc),
+            below: PathMap::empty(alloc),
         }),
         None => Err(wrong(alloc, Cause::WrongType)),
     }
@@ -155,10 +152,10 @@ pub(crate) fn list_item(
     names: &[String],
     alloc: Global,
     members: &Map<String, Value>,
-    below: BTreeMap<ElemText, PathMap>,
+    below: PathMap,
 ) -> Result<Item, ReadFault>
     ensures { Gives item_view result
-        (named_item (list_item_text (object (keys_in (names_in names.now) (members_view members.now.entries)))) (gather (contents_in below.entries))) }
+        (named_item (list_item_text (object (keys_in (names_in names.now) (members_view members.now.entries)))) (content below)) }
 {
     let keys = Value::Object(key_members(names, alloc, members)?);
     match ElemText::of_list_item(alloc, &keys)? {
@@ -170,23 +167,20 @@ pub(crate) fn list_item(
 /// Takes what was read of an item; an earlier one with its element is a fault of the list.
 pub(crate) fn add_item(
     alloc: Global,
-    below: &mut BTreeMap<ElemText, PathMap>,
+    map: &mut PathMap,
     place: usize,
     read: Result<Item, ReadFault>,
 ) -> Result<(), ReadFault>
-    ensures { (answer : Read (List ℕ × Content)) (seen : List (List ℕ)) → AreSeen seen below.old.entries → Gives item_view read answer
-        → AddsItem seen place below.old.entries below.new.entries result answer }
+    ensures { (answer : Read (List ℕ × Content)) (seen : List (List ℕ)) → AreSeen seen (content map.old) → Gives item_view read answer
+        → AddsItem seen place (content map.old) (content map.new) result answer }
 {
     match read {
         Ok(item) => {
-            if below.contains_key(&item.element) {
+            let mut below = item.below;
+            below.mark();
+            if !map.insert_child(item.element, below)? {
                 return Err(wrong(alloc, Cause::DuplicateItem));
             }
-            let map = PathMap {
-                held: Some(Held::Mark),
-                below: item.below,
-            };
-            drop(below.insert(item.element, map)?);
             Ok(())
         }
         Err(fault) => Err(fault.in_item(alloc, place)),
@@ -208,21 +202,20 @@ fn is_key(names: &[String], name: &str) -> bool
 /// Takes what was read of a member. Of a key field only a fault counts, since its value stands in the item's element.
 pub(crate) fn add_member(
     alloc: Global,
-    below: &mut BTreeMap<ElemText, PathMap>,
+    map: &mut PathMap,
     names: &[String],
     name: &str,
     read: Result<PathMap, ReadFault>,
 ) -> Result<(), ReadFault>
-    ensures joins { (answer : Read Content) → at_name (name_text name.now) below.old.entries ≡ None → Gives content read answer
-        → Joins below.old.entries below.new.entries result (at_field name.now (unless_key (names_in names.now) name.now answer)) }
-    ensures others { OnOk result ((g : List ℕ) → is_eq (slice_cmp nat_cmp g (name_text name.now)) ≡ false → at_name g below.new.entries ≡ at_name g below.old.entries) }
+    ensures { (answer : Read Content) → IsFree (name_text name.now) (content map.old) → Gives content read answer
+        → Joins (content map.old) (content map.new) result (at_field name.now (unless_key (names_in names.now) name.now answer)) }
 {
     match read {
-        Ok(map) => {
+        Ok(below) => {
             if is_key(names, name) {
                 return Ok(());
             }
-            drop(below.insert(ElemText::of_field(alloc, name)?, map)?);
+            map.insert_child(ElemText::of_field(alloc, name)?, below)?;
             Ok(())
         }
         Err(fault) => Err(fault.in_field(alloc, name)),

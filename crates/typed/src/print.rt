@@ -5,7 +5,7 @@ ghost use Rattle.serde_json.specs.Data.{object};
 ghost use Rattle.serde_json.specs.View.{view, items_view, members_view};
 ghost use Rattle.fieldpath.specs.Elements.{field_name, name_text};
 ghost use Rattle.pathmap.specs.Insides.{inside, heads};
-ghost use Rattle.pathmap.specs.Maps.{content, content_or_nothing};
+ghost use Rattle.pathmap.specs.Maps.{content, content_or_nothing, contents_in};
 ghost use Rattle.schema.specs.Shape.{fields_in, kind_of, list_of, map_of, shape, shape_at, struct_of};
 ghost use Rattle.typed.specs.Printing.{each_item, each_member, keys_in, print, print_fields, print_item, scalar_in, with_named};
 
@@ -40,11 +40,12 @@ pub(crate) fn field_in<'a>(
 ) -> Result<Option<&'a PathMap>, AllocError>
     ensures { IfOk result (λ o. content_or_nothing (option_map (λ m. m.now) o) ≡ inside (name_text name.now) (content map.now)) }
 {
-    if map.below.len() == 0 {
+    let children = map.children();
+    if children.len() == 0 {
         return Ok(None);
     }
     let element = ElemText::of_field(alloc, name)?;
-    Ok(map.below.get(&element))
+    Ok(map.child(&element))
 }
 
 #[cycle(print)]
@@ -76,7 +77,8 @@ fn put_each(
 ) -> Result<(), AllocError>
     ensures { OnOk result (members_view members.new.entries ≡ each_member (λ e. print (shape inner.now) (inside e (content map.now))) (heads (content map.now)) (members_view members.old.entries)) }
 {
-    for (element, below) in map.below.iter() {
+    let children = map.children();
+    for (element, below) in children {
         let value = print_map(inner, alloc, below)?;
         put_named(members, alloc, element, value)?;
     }
@@ -86,11 +88,9 @@ fn put_each(
 fn print_set(alloc: Global, map: &PathMap) -> Result<Vec<Value>, AllocError>
     ensures { IfOk result (λ ds. items_view ds.items ≡ each_item scalar_in (heads (content map.now))) }
 {
+    let children = map.children();
     let mut items = Vec::new(alloc);
-    for (element, below) in map.below.iter() {
-        if below.is_bare() {
-            continue;
-        }
+    for (element, _) in children {
         let item = scalar_of(alloc, element)?;
         push_item(&mut items, item)?;
     }
@@ -133,11 +133,9 @@ fn print_keyed(
 fn print_items(inner: &Schema, alloc: Global, map: &PathMap) -> Result<Vec<Value>, AllocError>
     ensures { IfOk result (λ ds. items_view ds.items ≡ each_item (λ e. option_map (λ ms. object (print_item (shape inner.now) (inside e (content map.now)) ms)) (keys_in e)) (heads (content map.now))) }
 {
+    let children = map.children();
     let mut items = Vec::new(alloc);
-    for (element, below) in map.below.iter() {
-        if below.is_bare() {
-            continue;
-        }
+    for (element, below) in children {
         let item = print_keyed(inner, alloc, element, below)?;
         push_item(&mut items, item)?;
     }

@@ -43,7 +43,7 @@ pub(crate) fn print_held(alloc: Global, held: &Held) -> Result<Option<Value>, Al
 pub(crate) fn print_top(alloc: Global, map: &PathMap) -> Result<Option<Value>, AllocError>
     ensures { IfOk result (λ o. option_map view o ≡ value_at (content map.now)) }
 {
-    match &map.held {
+    match map.held() {
         Some(held) => print_held(alloc, held),
         None => Ok(None),
     }

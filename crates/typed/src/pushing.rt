@@ -41,7 +41,7 @@ fn push_held(out: &mut Vec<u8>, alloc: Global, held: &Held) -> Result<(), AllocE
 pub(crate) fn push_top(map: &PathMap, alloc: Global, out: &mut Vec<u8>) -> Result<(), AllocError>
     ensures { HasNoFloat (value_at (content map.now)) → OnOk result (out.new.items ≡ out.old.items ++ text_or_none (value_at (content map.now))) }
 {
-    match &map.held {
+    match map.held() {
         Some(held) => push_held(out, alloc, held),
         None => Ok(()),
     }

@@ -2,8 +2,7 @@
 
 ghost use Rattle.std.specs.Prelude.{◌≡◌, []};
 ghost use Rattle.serde_json.specs.View.{items_view, members_view, view};
-ghost use Rattle.pathmap.specs.Contents.{gather};
-ghost use Rattle.pathmap.specs.Maps.{content, contents_in};
+ghost use Rattle.pathmap.specs.Maps.{content};
 ghost use Rattle.schema.specs.KeyNames.{names_in};
 ghost use Rattle.schema.specs.Shape.{fields_in, shape, text, truth, whole};
 ghost use Rattle.typed.specs.Faults.{Gives, below};
@@ -15,12 +14,10 @@ use crate::items::{
     Item, add_item, add_member, array_of, keyed_object, list_item, object_of, set_item,
 };
 use crate::plain::read_plain;
-use fieldpath::ElemText;
 use pathmap::{Held, PathMap};
 use schema::{ListKind, Schema};
 use serde_json::{Map, Value};
 use std::alloc::Global;
-use std::collections::BTreeMap;
 
 fn read_text(alloc: Global, value: &Value) -> Result<PathMap, ReadFault>
     ensures { Gives content result (content_of text (view value.now)) }
@@ -76,19 +73,15 @@ fn read_scalar_item(inner: &Schema, alloc: Global, item: &Value) -> Result<Item,
     set_item(alloc, &scalar)
 }
 
-fn read_set(
-    inner: &Schema,
-    alloc: Global,
-    items: &[Value],
-) -> Result<BTreeMap<ElemText, PathMap>, ReadFault>
-    ensures { Gives (λ m. gather (contents_in m.entries)) result (items_at (set_item (plain_of (shape inner.now))) 0 [] (items_view items.now)) }
+fn read_set(inner: &Schema, alloc: Global, items: &[Value]) -> Result<PathMap, ReadFault>
+    ensures { Gives content result (items_at (set_item (plain_of (shape inner.now))) 0 [] (items_view items.now)) }
 {
-    let mut below = BTreeMap::new(alloc);
+    let mut map = PathMap::empty(alloc);
     for (place, item) in items.iter().enumerate() {
         let read = read_scalar_item(inner, alloc, item);
-        add_item(alloc, &mut below, place, read)?;
+        add_item(alloc, &mut map, place, read)?;
     }
-    Ok(below)
+    Ok(map)
 }
 
 #[cycle(read)]
@@ -97,16 +90,16 @@ fn read_list(
     alloc: Global,
     names: &[String],
     items: &[Value],
-) -> Result<BTreeMap<ElemText, PathMap>, ReadFault>
-    ensures { Gives (λ m. gather (contents_in m.entries)) result
+) -> Result<PathMap, ReadFault>
+    ensures { Gives content result
         (items_at (keyed_item (names_in names.now) (λ ms. content_of_item (shape inner.now) (names_in names.now) ms)) 0 [] (items_view items.now)) }
 {
-    let mut below = BTreeMap::new(alloc);
+    let mut map = PathMap::empty(alloc);
     for (place, item) in items.iter().enumerate() {
         let read = read_item(inner, alloc, names, item);
-        add_item(alloc, &mut below, place, read)?;
+        add_item(alloc, &mut map, place, read)?;
     }
-    Ok(below)
+    Ok(map)
 }
 
 #[cycle(read)]
@@ -134,19 +127,19 @@ fn read_values(
     inner: &Schema,
     alloc: Global,
     members: &Map<String, Value>,
-) -> Result<BTreeMap<ElemText, PathMap>, ReadFault>
-    ensures { Gives (λ m. gather (contents_in m.entries)) result
+) -> Result<PathMap, ReadFault>
+    ensures { Gives content result
         (members_at (λ k e. content_of (shape inner.now) e) (members_view members.now.entries)) }
 {
-    let mut below = BTreeMap::new(alloc);
+    let mut map = PathMap::empty(alloc);
     for (name, member) in members.iter() {
         if !member.is_null() {
             let text = name.as_str();
             let read = read_map(inner, alloc, member);
-            add_member(alloc, &mut below, &[], text, read)?;
+            add_member(alloc, &mut map, &[], text, read)?;
         }
     }
-    Ok(below)
+    Ok(map)
 }
 
 #[cycle(read)]
@@ -172,19 +165,19 @@ fn read_struct(
     alloc: Global,
     names: &[String],
     members: &Map<String, Value>,
-) -> Result<BTreeMap<ElemText, PathMap>, ReadFault>
-    ensures { Gives (λ m. gather (contents_in m.entries)) result
+) -> Result<PathMap, ReadFault>
+    ensures { Gives content result
         (members_at (beside_keys (names_in names.now) (λ k e. content_of_field (fields_in fields.now) k e)) (members_view members.now.entries)) }
 {
-    let mut below = BTreeMap::new(alloc);
+    let mut map = PathMap::empty(alloc);
     for (name, member) in members.iter() {
         if !member.is_null() {
             let text = name.as_str();
             let read = read_field(fields, alloc, text, member);
-            add_member(alloc, &mut below, names, text, read)?;
+            add_member(alloc, &mut map, names, text, read)?;
         }
     }
-    Ok(below)
+    Ok(map)
 }
 
 /// The content of a value, or the first fault in its shape.
@@ -201,24 +194,24 @@ pub(crate) fn read_map(schema: &Schema, alloc: Global, value: &Value) -> Result<
                 return read_atomic(schema, alloc, value);
             }
             let members = object_of(alloc, value)?;
-            Ok(PathMap::branch(read_struct(fields, alloc, &[], members)?))
+            read_struct(fields, alloc, &[], members)
         }
         Schema::MapOf(inner, is_atomic) => {
             if *is_atomic {
                 return read_atomic(schema, alloc, value);
             }
             let members = object_of(alloc, value)?;
-            Ok(PathMap::branch(read_values(inner, alloc, members)?))
+            read_values(inner, alloc, members)
         }
         Schema::List(inner, kind) => match kind {
             ListKind::Atomic => read_atomic(schema, alloc, value),
             ListKind::Set => {
                 let items = array_of(alloc, value)?;
-                Ok(PathMap::branch(read_set(inner, alloc, items)?))
+                read_set(inner, alloc, items)
             }
             ListKind::Keyed(names) => {
                 let items = array_of(alloc, value)?;
-                Ok(PathMap::branch(read_list(inner, alloc, names, items)?))
+                read_list(inner, alloc, names, items)
             }
         },
     }

@@ -54,7 +54,7 @@ pub fn put_value(
     put_text(texts, alloc, name, text)
 }
 
-/// Appends the members and the closing bracket.
+/// Appends the members and the closing brace.
 fn push_members(out: &mut Vec<u8>, alloc: Global, texts: &Texts) -> Result<(), AllocError>
     ensures { OnOk result (out.new.items ≡ out.old.items ++ joined false (texts_in texts.now.entries)) }
 {

@@ -5,8 +5,7 @@
 
 ghost use Rattle.std.specs.Prelude.{◌≡◌, false, IfSome, map};
 ghost use Rattle.serde_json.specs.View.{members_view, view};
-ghost use Rattle.pathmap.specs.Contents.{gather};
-ghost use Rattle.pathmap.specs.Maps.{content, contents_in};
+ghost use Rattle.pathmap.specs.Maps.{content};
 ghost use Rattle.schema.specs.Keywords.{is_in};
 ghost use Rattle.schema.specs.Shape.{fields_in, shape, struct_of};
 ghost use Rattle.typed.specs.Faults.{Gives};
@@ -17,12 +16,10 @@ use crate::fault::{Cause, ReadFault, wrong};
 use crate::items::{add_member, object_of};
 use crate::omitted::{Omitted, copy_but, copy_without, is_absent};
 use crate::read::{read_field, read_map};
-use fieldpath::ElemText;
 use pathmap::PathMap;
 use schema::Schema;
 use serde_json::{Map, Value};
 use std::alloc::Global;
-use std::collections::BTreeMap;
 
 /// The fields, if the schema is a granular struct.
 fn granular_fields(schema: &Schema) -> Option<&[(String, Schema)]>
@@ -45,19 +42,19 @@ fn read_members_but(
     alloc: Global,
     members: &Map<String, Value>,
     names: &[&str],
-) -> Result<BTreeMap<ElemText, PathMap>, ReadFault>
-    ensures { Gives (λ m. gather (contents_in m.entries)) result
+) -> Result<PathMap, ReadFault>
+    ensures { Gives content result
         (members_at (λ k e. content_of_field (fields_in fields.now) k e) (members_kept (is_in (map (λ n. n.now) names.now)) (λ k d. d) (members_view members.now.entries))) }
 {
-    let mut below = BTreeMap::new(alloc);
+    let mut map = PathMap::empty(alloc);
     for (name, member) in members.iter() {
         let text = name.as_str();
         if !is_absent(text, member, names) {
             let read = read_field(fields, alloc, text, member);
-            add_member(alloc, &mut below, &[], text, read)?;
+            add_member(alloc, &mut map, &[], text, read)?;
         }
     }
-    Ok(below)
+    Ok(map)
 }
 
 /// A member that is a struct, without its members of these names.
@@ -70,7 +67,7 @@ fn read_struct_but(
     ensures { Gives content result (content_of (struct_of (fields_in fields.now) false) (but (map (λ n. n.now) names.now) (view value.now))) }
 {
     let members = object_of(alloc, value)?;
-    Ok(PathMap::branch(read_members_but(fields, alloc, members, names)?))
+    read_members_but(fields, alloc, members, names)
 }
 
 /// The content of a value without the members of these names.
@@ -128,19 +125,19 @@ fn read_members(
     alloc: Global,
     members: &Map<String, Value>,
     omitted: Omitted<'_>,
-) -> Result<BTreeMap<ElemText, PathMap>, ReadFault>
-    ensures { Gives (λ m. gather (contents_in m.entries)) result
+) -> Result<PathMap, ReadFault>
+    ensures { Gives content result
         (members_at (λ k e. content_of_field (fields_in fields.now) k e) (members_kept (is_in (omitted_of omitted.entry).names) (kept (omitted_of omitted.entry)) (members_view members.now.entries))) }
 {
-    let mut below = BTreeMap::new(alloc);
+    let mut map = PathMap::empty(alloc);
     for (name, member) in members.iter() {
         let text = name.as_str();
         if !is_absent(text, member, omitted.names) {
             let read = read_kept(fields, alloc, text, member, omitted);
-            add_member(alloc, &mut below, &[], text, read)?;
+            add_member(alloc, &mut map, &[], text, read)?;
         }
     }
-    Ok(below)
+    Ok(map)
 }
 
 /// An object that is a struct, without what is left out.
@@ -153,7 +150,7 @@ fn read_struct(
     ensures { Gives content result (content_of (struct_of (fields_in fields.now) false) (without (omitted_of omitted.entry) (view value.now))) }
 {
     let members = object_of(alloc, value)?;
-    Ok(PathMap::branch(read_members(fields, alloc, members, omitted)?))
+    read_members(fields, alloc, members, omitted)
 }
 
 /// The content of a value without what is left out. Only a struct whose members merge one by one is read without a copy.

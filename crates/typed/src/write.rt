@@ -53,7 +53,7 @@ fn write_member(
     Ok(true)
 }
 
-/// Appends a member for each field in which something stands, and the closing bracket.
+/// Appends a member for each field in which something stands, and the closing brace.
 #[cycle(write)]
 fn write_fields(
     fields: &[(String, Schema)],
@@ -74,7 +74,7 @@ fn write_fields(
     Ok(out.push(b'}')?)
 }
 
-/// Appends a member for each child in which something stands, and the closing bracket.
+/// Appends a member for each child in which something stands, and the closing brace.
 #[cycle(write)]
 fn write_children(
     inner: &Schema,
@@ -85,8 +85,9 @@ fn write_children(
     ensures { EachFits (shape inner.now) (content map.now) → OnOk result (out.new.items
         ≡ out.old.items ++ members_text false (each_member (λ e. print (shape inner.now) (inside e (content map.now))) (heads (content map.now)) no_members)) }
 {
+    let children = map.children();
     let mut later = false;
-    for (element, below) in map.below.iter() {
+    for (element, below) in children {
         let Some(name) = element.field_name() else {
             continue;
         };

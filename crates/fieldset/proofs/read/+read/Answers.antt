@@ -1,16 +1,17 @@
-use Rattle.std.specs.Cmp.Lexicographic.{slice_cmp}
-use Rattle.std.proofs.Common.{is_eq, nat_cmp, refl, ◌≡◌, Option, Some, None, Ok, string_bytes, sym, subst, ap, ◌∙◌}
+use Rattle.std.proofs.Common.{refl, false, ◌&&◌, ◌≡◌, Option, Some, None, Ok, string_bytes, sym, subst, ap, ap₂, ◌∙◌}
 use Rattle.std.proofs.lemmas.Result.{err_from_is_err_and}
 use Rattle.serde_json.specs.View.{members_view, view}
-use Rattle.pathmap.specs.Contents.{gather, under}
-use Rattle.pathmap.specs.Maps.{at_name, content, contents_in}
-use Rattle.pathmap.proofs.Trees.{gather-insert, untouched}
+use Rattle.serde_json.proofs.Views.{view-Object}
+use Rattle.pathmap.specs.Contents.{over}
+use Rattle.pathmap.specs.Maps.{content}
+use Rattle.pathmap.proofs.Contents.{nothing-over}
 use Rattle.schema.specs.Spots.{spot}
 use Rattle.fieldset.specs.declared.read.Member.{Member}
-use Rattle.fieldset.specs.Reading.{read_at, read_member, read_members}
+use Rattle.fieldset.specs.Reading.{are_due, is_empty, is_marked, read_at, read_member, read_members, top}
 use Rattle.fieldset.specs.Seen.{Fails, IsNamed, member_view}
-use Rattle.fieldset.proofs.Taking.{Entry, added, begin, failed, finish, is_new, nothing_added, passed_on}
+use Rattle.fieldset.proofs.Taking.{Entry, added, at_object, begin, failed, finish, nothing_added, passed_on}
 use Rattle.fieldset.proofs.read.+read.Goals as goal
+use Rattle.fieldset.proofs.read.+read.Goals.{read_at-then-is_marked, read_at-else-is_marked, read_at-else-are_due-via-then-are_due+else-is_empty, read_at-else-are_due-via-else-are_due}
 
 is_none : (o : Option Member) → ((m : Member) → o ≡ Some m → ⊥) → o ≡ None
 is_none None h = refl
@@ -18,7 +19,7 @@ is_none (Some m) h = absurd (h m refl)
 
 pub read_members-loop-name-init : goal.read_members-loop-name-init
 read_members-loop-name-init t c =
-    begin (spot c.args.here) (members_view c.args.members.now.entries) c.new-below.result.entries c.into_iter-name-iterator.result c.args.members.now.entries c.new-below.ensures.empty
+    begin (spot c.args.here) (members_view c.args.members.now.entries) (content c.empty-map.result) c.into_iter-name-iterator.result c.args.members.now.entries c.empty-map.ensures
     (c.into_iter-name-iterator.ensures.into_iter_gives ∙ c.iter-name-items.ensures.rest) c.iter-name-items.ensures.ordered
 
 pub read_members-returns-in_err-member : goal.read_members-returns-in_err-member
@@ -28,8 +29,8 @@ read_members-returns-in_err-member t c =
     let e : Entry = (c.in-Some.name.now, c.in-Some.value.now) in
     let p = err_from_is_err_and c.from_residual.result c.from_residual.ensures.1 in
     let f = c.in_err-member.field-0.0 in
-    passed_on (λ m. gather (contents_in m.entries)) p.0 f c.from_residual.result (read_members s ms ms) p.1 p.2
-    (failed s ms (read_members s ms ms) c.loop-name.below.entries c.loop-name.name-iterator e c.next.new.self c.in-Some.ensures.steps c.loop-name.invariant f
+    passed_on content p.0 f c.from_residual.result (read_members s ms ms) p.1 p.2
+    (failed s ms (read_members s ms ms) (content c.loop-name.map) c.loop-name.name-iterator e c.next.new.self c.in-Some.ensures.steps c.loop-name.invariant f
     (subst (λ k. Fails f (read_member s ms k (view e.1) (λ next. read_at next (view e.1)))) c.as_str.ensures.value c.in_err-member.ensures.read))
 
 pub read_members-loop-name-preserved-in_default : goal.read_members-loop-name-preserved-in_default
@@ -37,7 +38,7 @@ read_members-loop-name-preserved-in_default t c =
     let s = spot c.args.here in
     let ms = members_view c.args.members.now.entries in
     let e : Entry = (c.in-Some.name.now, c.in-Some.value.now) in
-    nothing_added s ms (read_members s ms ms) c.loop-name.below.entries c.loop-name.name-iterator e c.next.new.self c.in-Some.ensures.steps c.loop-name.invariant
+    nothing_added s ms (read_members s ms ms) (content c.loop-name.map) c.loop-name.name-iterator e c.next.new.self c.in-Some.ensures.steps c.loop-name.invariant
     (ap (λ k. read_member s ms k (view e.1) (λ next. read_at next (view e.1))) (sym c.as_str.ensures.value) ∙ c.in_ok-member.ensures.read ∙ ap (λ o. Ok (member_view o)) (is_none c.in_ok-member.field-0 c.in_default.not-Some))
 
 pub read_members-loop-name-preserved : goal.read_members-loop-name-preserved
@@ -45,18 +46,30 @@ read_members-loop-name-preserved t c =
     let s = spot c.args.here in
     let ms = members_view c.args.members.now.entries in
     let e : Entry = (c.in-Some.name.now, c.in-Some.value.now) in
-    let k = c.in-Some-2.member.element in
+    let k = string_bytes c.in-Some-2.member.element in
     let m = c.in-Some-2.member.map in
-    let old = c.loop-name.below.entries in
-    let named : string_bytes k ≡ string_bytes e.0 = subst (λ o. IsNamed o c.as_str.result.now) c.in-Some-2.is c.in_ok-member.ensures.named ∙ c.as_str.ensures.value in
-    let new = is_new s ms (read_members s ms ms) old c.loop-name.name-iterator e c.next.new.self c.in-Some.ensures.steps c.loop-name.invariant in
-    added s ms (read_members s ms ms) old c.loop-name.name-iterator e c.next.new.self c.in-Some.ensures.steps c.loop-name.invariant (under (string_bytes k) (content m)) c.insert.new.self.entries
+    added s ms (read_members s ms ms) (content c.loop-name.map) c.loop-name.name-iterator e c.next.new.self c.in-Some.ensures.steps c.loop-name.invariant k m (content c.insert_child.new.self) c.in_ok-insert_child.field-0
     (ap (λ k. read_member s ms k (view e.1) (λ next. read_at next (view e.1))) (sym c.as_str.ensures.value) ∙ c.in_ok-member.ensures.read ∙ ap (λ o. Ok (member_view o)) c.in-Some-2.is)
-    (gather-insert old c.insert.new.self.entries k m c.in_ok-insert.ensures.was_ordered c.in_ok-insert.ensures.ordered c.in_ok-insert.ensures.entries (ap (λ f. at_name f old) named ∙ new))
-    (λ g apart. ap (at_name g) c.in_ok-insert.ensures.entries ∙ untouched g old k m (ap (λ f. is_eq (slice_cmp nat_cmp g f)) named ∙ apart))
+    (subst (λ o. IsNamed o c.as_str.result.now) c.in-Some-2.is c.in_ok-member.ensures.named ∙ c.as_str.ensures.value) c.in_ok-insert_child.ensures.put c.in_ok-insert_child.ensures.taken
 
 pub read_members-returns : goal.read_members-returns
 read_members-returns t c =
     let s = spot c.args.here in
     let ms = members_view c.args.members.now.entries in
-    finish s ms (read_members s ms ms) c.loop-name.below.entries c.loop-name.name-iterator c.in-None.ensures.steps.0 c.loop-name.invariant
+    finish s ms (read_members s ms ms) (content c.loop-name.map) c.loop-name.name-iterator c.in-None.ensures.steps.0 c.loop-name.invariant
+
+pub read_at-returns : goal.read_at-returns
+read_at-returns t c =
+    let s = spot c.args.here in
+    let ms = members_view c.in-Object.members.entries in
+    let is_due : (are_due s && is_empty ms) ≡ false =
+    elim c.else-are_due.branch [
+      | read_at-else-are_due-via-then-are_due+else-is_empty w ↦ sym (ap₂ (λ a b. a && b) w.if-are_due.ensures w.if-is_empty.ensures)
+      | read_at-else-are_due-via-else-are_due w ↦ sym (ap (λ a. a && is_empty ms) w.if-are_due.ensures)
+    ] in
+    let topped : c.if-is_marked.map ≡ over (top (is_marked s ms)) c.in_ok-map.map =
+    elim c.if-is_marked.branch [
+      | read_at-then-is_marked w ↦ w.map-is ∙ w.mark.ensures ∙ ap (λ b. over (top b) c.in_ok-map.map) w.if-is_marked.ensures
+      | read_at-else-is_marked w ↦ w.map-is ∙ sym (nothing-over c.in_ok-map.map) ∙ ap (λ b. over (top b) c.in_ok-map.map) w.if-is_marked.ensures
+    ] in
+    ap (λ v. read_at s (view v)) c.in-Object.is ∙ ap (read_at s) (view-Object c.in-Object.members) ∙ at_object s ms c.in_ok-map.map c.if-is_marked.map is_due c.in_ok-map.ensures topped

@@ -1,4 +1,5 @@
 use Rattle.serde_json.specs.View.{members_view}
+use Rattle.pathmap.specs.Maps.{content}
 use Rattle.schema.specs.Spots.{spot}
 use Rattle.fieldset.specs.Reading.{read_members}
 use Rattle.fieldset.proofs.Taking.{IsSoFar}
@@ -7,4 +8,4 @@ use Rattle.fieldset.proofs.read.+read.Given as goal
 abbrev pub invariant-read_members-loop-name : goal.invariant-read_members-loop-name
 invariant-read_members-loop-name l =
     let ms = members_view l.members.entries in
-    IsSoFar (spot l.here) ms (read_members (spot l.here) ms ms) l.below.entries l.name-iterator
+    IsSoFar (spot l.here) ms (read_members (spot l.here) ms ms) (content l.map) l.name-iterator

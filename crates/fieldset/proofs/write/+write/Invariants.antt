@@ -1,5 +1,6 @@
-use Rattle.std.proofs.Common.{◌≡◌, ◌++◌, false}
-use Rattle.pathmap.specs.declared.pathmap.PathMap.{out-PathMap}
+use Rattle.std.proofs.Common.{◌≡◌, ◌*◌, ◌+◌, ◌++◌, drop, false}
+use Rattle.pathmap.specs.Levels.{height}
+use Rattle.pathmap.specs.Maps.{contents_in}
 use Rattle.schema.specs.Shape.{shape}
 use Rattle.serde_json.specs.Written.{members_text}
 use Rattle.fieldset.specs.Below.{members_under}
@@ -9,4 +10,10 @@ use Rattle.fieldset.proofs.write.+write.Given as goal
 -- what is there with what is left is all
 abbrev pub invariant-push_members-loop-name : goal.invariant-push_members-loop-name
 invariant-push_members-loop-name l =
-    l.out.items ++ members_text l.later (each_child (members_under (shape l.schema)) l.name-iterator) ≡ l.fn.out.items ++ members_text false (each_child (members_under (shape l.schema)) (out-PathMap l.map).below.entries)
+    l.out.items ++ members_text l.later (each_child (members_under (shape l.schema)) (contents_in (drop l.name-index l.name-items))) ≡ l.fn.out.items ++ members_text false (each_child (members_under (shape l.schema)) (contents_in l.name-items))
+
+abbrev pub decreases-push_object : goal.decreases-push_object
+decreases-push_object l = 2 * height l.map.now + 1
+
+abbrev pub decreases-push_members : goal.decreases-push_members
+decreases-push_members l = 2 * height l.map.now

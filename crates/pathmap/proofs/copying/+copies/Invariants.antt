@@ -1,9 +1,7 @@
-use Rattle.std.proofs.Common.{string_cmp}
-use Rattle.std.specs.List.Sorted.{IsStrictlySortedBy}
-use Rattle.std.specs.Map.{keys_of}
-use Rattle.pathmap.proofs.Copies.{Copies}
+use Rattle.std.proofs.Common.{◌≡◌, ◌++◌, drop}
+use Rattle.pathmap.specs.Maps.{contents_in}
 use Rattle.pathmap.proofs.copying.+copies.Given as goal
 
-abbrev pub invariant-copy_below-loop-name : goal.invariant-copy_below-loop-name
-invariant-copy_below-loop-name l =
-    Copies l.name-iterator l.copies.entries l.below.entries × IsStrictlySortedBy string_cmp (keys_of l.name-iterator) × IsStrictlySortedBy string_cmp (keys_of l.copies.entries)
+-- what is there, with what is left, is the whole
+abbrev pub invariant-push_copies-loop-name : goal.invariant-push_copies-loop-name
+invariant-push_copies-loop-name l = contents_in l.all.items ++ contents_in (drop l.name-index l.below) ≡ contents_in l.fn.all.items ++ contents_in l.below

@@ -1,12 +1,9 @@
-use Rattle.std.proofs.Common.{◌≡◌, ℕ, List, string_cmp}
-use Rattle.std.specs.List.Sorted.{IsStrictlySortedBy}
-use Rattle.std.specs.Map.{keys_of}
-use Rattle.pathmap.specs.Contents.{over}
-use Rattle.pathmap.specs.Maps.{content_at}
+use Rattle.std.proofs.Common.{◌≡◌, ◌++◌}
+use Rattle.pathmap.specs.Maps.{contents_in}
+use Rattle.pathmap.specs.Merged.{merged, under_it}
 use Rattle.pathmap.proofs.over.+put.Given as goal
 
--- what is left over what is there gives what all give over what was there
-abbrev pub invariant-put_all-loop-name : goal.invariant-put_all-loop-name
-invariant-put_all-loop-name l =
-    ((g : List ℕ) → over (content_at g l.name-iterator) (content_at g l.below.entries) ≡ over (content_at g l.theirs.entries) (content_at g l.fn.below.entries))
-    × IsStrictlySortedBy string_cmp (keys_of l.name-iterator) × IsStrictlySortedBy string_cmp (keys_of l.below.entries)
+-- what is there, with what is left walked side by side, is the whole
+abbrev pub invariant-put_below-loop-name : goal.invariant-put_below-loop-name
+invariant-put_below-loop-name l =
+    contents_in l.all.items ++ merged under_it (contents_in l.name-iterator.rest.items) (contents_in l.rest) ≡ merged under_it (contents_in l.fn.mine.items) (contents_in l.theirs)

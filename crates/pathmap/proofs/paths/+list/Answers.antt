@@ -1,26 +1,37 @@
-use Rattle.std.proofs.Common.{◌≡◌, ◌++◌, ◌∷◌, [], OnOk, String, Global, string_bytes, string_cmp, sym, ap, ◌∙◌, subst}
-use Rattle.std.specs.List.Sorted.{IsStrictlySortedBy}
-use Rattle.std.specs.Map.{keys_of}
-use Rattle.std.proofs.lemmas.Map.Keys.{sorted_tail}
-use Rattle.pathmap.specs.declared.pathmap.PathMap.{PathMap}
-use Rattle.pathmap.proofs.Listing.{after_front, listed_level, listed_more, listed_none, paths_below}
+use Rattle.std.proofs.Common.{◌+◌, ◌∷◌, ◌++◌, [], drop, string_bytes, sym, ap, ◌∙◌, subst, arith}
+use Rattle.pathmap.specs.Contents.{dom, in_order}
+use Rattle.pathmap.specs.Levels.{IsRising}
+use Rattle.pathmap.specs.Maps.{contents_in}
+use Rattle.pathmap.proofs.Fronts.{drop_next, drop-whole, rising_drop}
+use Rattle.pathmap.proofs.Listing.{after_front, listed_level, listed_more, listed_none, on_rising, paths_below}
 use Rattle.pathmap.proofs.paths.+list.Goals as goal
 
 pub list_below-loop-name-preserved : goal.list_below-loop-name-preserved
-list_below-loop-name-preserved t c =
-    let e : String Global × PathMap = (c.in-Some.name.now, c.in-Some.inner.now) in
-    let left = c.next.new.self in
+list_below-loop-name-preserved t c = λ rises.
+    let below = c.args.below.now in
+    let i = c.loop-name.name-index in
+    let e = c.loop-name-item.result in
+    let left = contents_in (drop (i + 1) below) in
     let front = c.args.front.now in
-    let sorted = subst (λ l. IsStrictlySortedBy string_cmp (keys_of l)) c.in-Some.ensures.steps c.loop-name.invariant.1 in
-    let next = c.in_ok-push.ensures.ok ∙ ap (λ p. p ++ string_bytes c.in-Some.name.now ∷ []) c.in_ok-path.ensures in (
-      listed_more front c.push.new.self e left sorted next c.loop-name.all.items c.list.new.all.items c.in_ok-list.ensures
-          ∙ ap (λ es. c.loop-name.all.items ++ after_front front (paths_below es)) (sym c.in-Some.ensures.steps) ∙ c.loop-name.invariant.0,
-      sorted_tail string_cmp e.0 (keys_of left) sorted,
-    )
+    let steps = ap contents_in (drop_next below i e c.loop-name-test.true c.loop-name-item.is) in
+    let sorted = subst IsRising steps (rising_drop i below rises) in
+    let next = c.in_ok-push.ensures.ok ∙ ap (λ p. p ++ string_bytes e.0 ∷ []) c.in_ok-path.ensures in
+    listed_more front c.push.new.self (string_bytes e.0, e.1) left sorted next c.loop-name.all.items c.list.new.all.items c.in_ok-list.ensures
+    ∙ ap (λ es. c.loop-name.all.items ++ after_front front (paths_below es)) (sym steps) ∙ c.loop-name.invariant rises
 
 pub list_below-returns : goal.list_below-returns
-list_below-returns t c = sym (listed_none c.args.front.now c.loop-name.name-iterator c.loop-name.all.items c.in-None.ensures.steps.0) ∙ c.loop-name.invariant.0
+list_below-returns t c = λ rises.
+    let i = c.loop-name.name-index in
+    let past = c.loop-name-test.false in
+    sym (listed_none c.args.front.now (contents_in (drop i c.args.below.now)) c.loop-name.all.items (ap contents_in (drop-whole i c.args.below.now (omega (arith, past))))) ∙ c.loop-name.invariant rises
 
 pub list-returns : goal.list-returns
 list-returns t c =
-    subst (λ xs. OnOk c.list_below.result (c.list_below.new.all.items ≡ xs)) (listed_level c.args.front.now c.args.below.now c.args.all.now.items c.list_held.new.all.items c.in_ok-list_held.ensures) c.list_below.ensures
+    let front = c.args.front.now in
+    let mid = c.list_held.new.all.items in
+    let old = c.args.all.now.items in
+    on_rising c.list_below.result _ _ _ (subst (λ l. IsRising (contents_in l)) (sym c.deref.ensures.value) c.below.invariant.0)
+    (λ did.
+    did ∙ ap (λ l. mid ++ after_front front (paths_below (contents_in l))) c.deref.ensures.value
+    ∙ listed_level front c.below.inside.held (contents_in c.below.inside.below.items) old mid c.in_ok-list_held.ensures ∙ ap (λ m. old ++ after_front front (in_order (dom m))) c.below.view_is)
+    c.list_below.ensures

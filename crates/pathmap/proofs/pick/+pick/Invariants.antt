@@ -1,18 +1,11 @@
-use Rattle.std.proofs.Common.{string_cmp}
-use Rattle.std.specs.List.Sorted.{IsStrictlySortedBy}
-use Rattle.std.specs.Map.{keys_of}
-use Rattle.pathmap.specs.Contents.{nothing}
-use Rattle.pathmap.specs.Maps.{content}
-use Rattle.pathmap.proofs.Picking.{Picks, AreNew, AreGuesses}
+use Rattle.std.proofs.Common.{◌≡◌, ◌++◌, drop}
+use Rattle.pathmap.specs.Levels.{IsRising}
+use Rattle.pathmap.specs.Maps.{contents_in}
+use Rattle.pathmap.specs.Picks.{picked_in}
 use Rattle.pathmap.proofs.pick.+pick.Given as goal
 
-abbrev pub invariant-pick_alone-loop-name : goal.invariant-pick_alone-loop-name
-invariant-pick_alone-loop-name l =
-    Picks l.rule nothing l.name-iterator l.below.entries l.mine.entries × AreNew l.rule nothing l.name-iterator l.below.entries
-    × IsStrictlySortedBy string_cmp (keys_of l.name-iterator) × IsStrictlySortedBy string_cmp (keys_of l.below.entries)
-
--- what was guessed and is to be guessed stands in the other map
-abbrev pub invariant-pick_beside-loop-name : goal.invariant-pick_beside-loop-name
-invariant-pick_beside-loop-name l =
-    Picks l.rule (content l.theirs) l.name-iterator l.below.entries l.mine.entries × AreNew l.rule (content l.theirs) l.name-iterator l.below.entries
-    × IsStrictlySortedBy string_cmp (keys_of l.name-iterator) × IsStrictlySortedBy string_cmp (keys_of l.below.entries) × AreGuesses l.theirs l.guesses
+-- what is picked, with what is left to pick beside what is left, is the whole
+abbrev pub invariant-pick_below-loop-name : goal.invariant-pick_below-loop-name
+invariant-pick_below-loop-name l =
+    IsRising (contents_in l.mine) → IsRising (contents_in l.theirs) → IsRising (contents_in l.rest)
+    × (contents_in l.all.items ++ picked_in l.rule (contents_in l.rest) (contents_in (drop l.name-index l.mine)) ≡ picked_in l.rule (contents_in l.theirs) (contents_in l.mine))

@@ -1,59 +1,21 @@
-use Rattle.std.proofs.Common.{ap, ap₂, sym, subst, ◌∙◌, string_bytes, string_cmp, String, Global}
-use Rattle.std.specs.List.Sorted.{IsStrictlySortedBy}
-use Rattle.std.specs.Map.{keys_of}
-use Rattle.std.proofs.lemmas.Map.Keys.{sorted_tail}
+use Rattle.std.proofs.Common.{ap, ap₂, sym, subst, ◌∙◌}
 use Rattle.pathmap.specs.Contents.{gather, over}
-use Rattle.pathmap.specs.Maps.{at_name, content, content_at, content_or_nothing, contents_in}
-use Rattle.pathmap.specs.declared.pathmap.PathMap.{PathMap, out-PathMap}
-use Rattle.pathmap.specs.declared.pathmap.PathMap.TheViews.{roll-PathMap}
-use Rattle.pathmap.proofs.Contents.{nothing-over, over-nothing}
-use Rattle.pathmap.proofs.Inserting.{on_ok}
-use Rattle.pathmap.proofs.Levels.{below_rolled, held_rolled, no_entries}
-use Rattle.pathmap.proofs.Merging.{content-out, gather_over, level, put_none, put_one, written}
-use Rattle.pathmap.proofs.Trees.{content-map}
+use Rattle.pathmap.specs.Levels.{AreChildren}
+use Rattle.pathmap.specs.Maps.{contents_in}
+use Rattle.pathmap.specs.Merged.{merged}
+use Rattle.pathmap.proofs.Levels.{level}
+use Rattle.pathmap.proofs.Merging.{gather-merged-over, over_children}
 use Rattle.pathmap.proofs.under.+fill.Goals as goal
-
-pub fill_at-returns-in-Some-clause-others : goal.fill_at-returns-in-Some-clause-others
-fill_at-returns-in-Some-clause-others t c = λ g apart. ap (at_name g) (c.get_mut.follows.holds c.fill.new.mine).0 ∙ written g (string_bytes c.args.name.now) c.args.below.now.entries c.fill.new.mine apart
-
-pub fill_at-returns-clause-here : goal.fill_at-returns-clause-here
-fill_at-returns-clause-here t c =
-    let theirs = content c.args.theirs.now in
-    on_ok c.put_new.result _ _ (λ did. did ∙ sym (ap (λ d. over d theirs) (ap content_or_nothing (sym c.in_default.ensures.value)) ∙ nothing-over theirs)) c.put_new.ensures.here
-
-pub fill_at-returns-clause-others : goal.fill_at-returns-clause-others
-fill_at-returns-clause-others t c = λ g apart. c.put_new.ensures.others g apart ∙ ap (λ m. at_name g m.entries) c.get_mut.follows.holds-at-none
-
-pub fill_all-returns-then-len-eq0 : goal.fill_all-returns-then-len-eq0
-fill_all-returns-then-len-eq0 t c =
-    let theirs = gather (contents_in c.args.theirs.now.entries) in
-    on_ok c.put_first.result _ _ (λ did. did ∙ sym (nothing-over theirs) ∙ ap (λ es. over (gather (contents_in es)) theirs) (sym (no_entries c.args.below.now.entries (sym c.len.ensures.len ∙ c.if-len-eq0.true)))) c.put_first.ensures
-
-pub fill_all-loop-name-preserved : goal.fill_all-loop-name-preserved
-fill_all-loop-name-preserved t c =
-    let e : String Global × PathMap = (c.in-Some.name.now, c.in-Some.inner.now) in
-    let left = c.next.new.self in
-    let es = c.loop-name.below.entries in
-    let fs = c.fill_at.new.below.entries in
-    let sorted = subst (λ l. IsStrictlySortedBy string_cmp (keys_of l)) c.in-Some.ensures.steps c.loop-name.invariant.1 in (
-      (λ g. put_one (λ t m. over m t) over-nothing e left sorted es fs c.in_ok-fill_at.ensures.here c.fill_at.ensures.others g ∙ ap (λ l. over (content_at g es) (content_at g l)) (sym c.in-Some.ensures.steps) ∙ c.loop-name.invariant.0 g),
-      sorted_tail string_cmp e.0 (keys_of left) sorted,
-      c.fill_at.ensures.ordered,
-    )
-
-pub fill_all-returns : goal.fill_all-returns
-fill_all-returns t c =
-    let ts = c.args.theirs.now.entries in
-    let es = c.loop-name.below.entries in
-    let ms = c.args.below.now.entries in
-    gather_over es ms ts c.loop-name.invariant.2 c.len.ensures.ordered c.iter-name-items.ensures.ordered (put_none (λ t m. over m t) over-nothing c.loop-name.name-iterator ts es ms c.in-None.ensures.steps.0 c.loop-name.invariant.0)
 
 pub fill-returns : goal.fill-returns
 fill-returns t c =
-    let theirs = out-PathMap c.args.theirs.now in
-    let mine = out-PathMap c.args.mine.now in
-    on_ok c.fill_all.result _ _ (λ did.
-    ap (λ h. content (roll-PathMap record { held = h; below = c.fill_all.new.below })) (held_rolled c.fill_held.new.mine mine.below)
-    ∙ content-map c.fill_held.new.mine c.fill_all.new.below ∙ ap₂ over c.in_ok-fill_held.ensures
-    (did ∙ ap (λ m. over (gather (contents_in m.entries)) (gather (contents_in theirs.below.entries))) (below_rolled c.fill_held.new.mine mine.below)) ∙ level mine.held theirs.held mine.below.entries theirs.below.entries
-    ∙ sym (ap₂ over (content-out c.args.mine.now) (content-out c.args.theirs.now))) c.fill_all.ensures
+    let ms = contents_in c.mine.inside.below.items in
+    let ts = contents_in c.theirs.inside.below.items in
+    ap₂ over c.in_ok-held.ensures (ap gather (c.in_ok-below.ensures ∙ ap (λ l. merged over ms (contents_in l)) c.deref.ensures.value) ∙ gather-merged-over ms ts c.mine.invariant c.theirs.invariant)
+    ∙ level c.mine.inside.held c.theirs.inside.held ms ts ∙ ap₂ over c.mine.view_is c.theirs.view_is
+
+pub fill-invariant_of-result : goal.fill-invariant_of-result
+fill-invariant_of-result t c =
+    let ms = contents_in c.mine.inside.below.items in
+    let ts = contents_in c.theirs.inside.below.items in
+    subst AreChildren (sym (c.in_ok-below.ensures ∙ ap (λ l. merged over ms (contents_in l)) c.deref.ensures.value)) (over_children ms ts c.mine.invariant c.theirs.invariant)

@@ -1,66 +1,78 @@
-use Rattle.std.proofs.Common.{sym, ap, ◌∙◌, subst, string_bytes, string_cmp, String, Global, None}
+use Rattle.std.proofs.Common.{◌+◌, nat_cmp, drop, true, false, Some, is_some, string_bytes, sym, ap, ◌∙◌, subst, arith}
+use Rattle.std.specs.Cmp.Lexicographic.{slice_cmp}
 use Rattle.std.specs.List.Sorted.{IsStrictlySortedBy}
-use Rattle.std.specs.Map.{keys_of}
-use Rattle.std.proofs.lemmas.Map.Keys.{sorted_tail}
-use Rattle.pathmap.specs.Contents.{dom, gather}
+use Rattle.pathmap.specs.Contents.{dom, gather, nothing, over}
 use Rattle.pathmap.specs.Beside.{without}
-use Rattle.pathmap.specs.Maps.{at_name, content, content_at, content_or_nothing, contents_in}
-use Rattle.pathmap.specs.declared.pathmap.PathMap.{PathMap, out-PathMap}
-use Rattle.pathmap.specs.declared.pathmap.PathMap.TheViews.{roll-PathMap}
-use Rattle.pathmap.proofs.Trees.{content-branch, content-map}
-use Rattle.pathmap.proofs.Merging.{content-out, removed, written}
-use Rattle.pathmap.proofs.Levels.{content_below, held_rolled, no_entries, top_some}
-use Rattle.pathmap.proofs.Cutting.{Cuts, cuts_more, cuts_all, without_all, without-level, nothing-without}
+use Rattle.pathmap.specs.Cuts.{cut_each, full_in}
+use Rattle.pathmap.specs.Levels.{AreChildren, IsRising, no_children}
+use Rattle.pathmap.specs.Maps.{content, contents_in}
+use Rattle.pathmap.proofs.Contents.{nothing-over}
+use Rattle.pathmap.proofs.Cutting.{cut_children, gather-cut, names-cut, no_top, set_cut, uncut, without-level, without_all}
+use Rattle.pathmap.proofs.Fronts.{drop_next, drop-whole}
+use Rattle.pathmap.proofs.Halving.{from_none, placed}
+use Rattle.pathmap.proofs.Levels.{held_some}
+use Rattle.pathmap.proofs.Picking.{top_is}
 use Rattle.pathmap.proofs.without.+cut.Goals as goal
 
-pub cut_at-returns-in-Some-clause-others : goal.cut_at-returns-in-Some-clause-others
-cut_at-returns-in-Some-clause-others t c = λ g apart. ap (at_name g) (c.get_mut.follows.holds c.cut.new.map).0 ∙ written g (string_bytes c.args.name.now) c.args.below.now.entries c.cut.new.map apart
-
-pub cut_at-returns-in-None-clause-here : goal.cut_at-returns-in-None-clause-here
-cut_at-returns-in-None-clause-here t c =
-    let name = string_bytes c.args.name.now in
-    let none = ap content_or_nothing (sym c.in-None.ensures.value) in
-    ap (λ m. content_at name m.entries) c.get_mut.follows.holds-at-none ∙ none ∙ sym (ap (λ m. without m (dom (content c.args.set.now))) none ∙ nothing-without (content c.args.set.now))
-
-pub cut_child-returns-then-cut_at-clause-others : goal.cut_child-returns-then-cut_at-clause-others
-cut_child-returns-then-cut_at-clause-others t c = λ g apart.
-    ap (at_name g) c.remove.ensures.entries ∙ removed g (string_bytes c.args.name.now) c.cut_at.new.below.entries apart ∙ c.cut_at.ensures.others g apart
-
-pub cut_below-returns-then-len-eq0 : goal.cut_below-returns-then-len-eq0
-cut_below-returns-then-len-eq0 t c =
-    let none = ap (λ es. gather (contents_in es)) (no_entries c.args.below.now.entries (sym c.len.ensures.len ∙ c.if-len-eq0.true)) in
-    let s = gather (contents_in c.args.set.now.entries) in
-    none ∙ sym (ap (λ m. without m (dom s)) none ∙ nothing-without s)
-
-pub cut_below-loop-name-preserved : goal.cut_below-loop-name-preserved
-cut_below-loop-name-preserved t c =
-    let e : String Global × PathMap = (c.in-Some.name.now, c.in-Some.inner.now) in
-    let left = c.next.new.self in
-    let es = c.loop-name.below.entries in
-    let fs = c.cut_child.new.below.entries in
-    let ss = c.args.set.now.entries in
-    let ms = c.args.below.now.entries in
-    let sorted = subst (λ l. IsStrictlySortedBy string_cmp (keys_of l)) c.in-Some.ensures.steps c.loop-name.invariant.1 in (
-      cuts_more e left sorted es fs c.cut_child.ensures.here c.cut_child.ensures.others ss ms (subst (λ l. Cuts l es ss ms) c.in-Some.ensures.steps c.loop-name.invariant.0),
-      sorted_tail string_cmp e.0 (keys_of left) sorted,
-      c.cut_child.ensures.ordered c.loop-name.invariant.2,
-    )
-
-pub cut_below-returns : goal.cut_below-returns
-cut_below-returns t c =
-    cuts_all c.loop-name.name-iterator c.loop-name.below.entries c.args.set.now.entries c.args.below.now.entries c.in-None.ensures.steps.0 c.loop-name.invariant.2 c.iter-name-items.ensures.ordered c.len.ensures.ordered
-    c.loop-name.invariant.0
+pub cut-invariant_of-map : goal.cut-invariant_of-map
+cut-invariant_of-map t c = subst (λ es. AreChildren (contents_in es)) (sym c.clear.ensures.items) no_children
 
 pub cut-returns-then-is_some : goal.cut-returns-then-is_some
 cut-returns-then-is_some t c =
-    ap (λ h. content (roll-PathMap record { held = h; below = c.clear.new.self })) (held_rolled None (out-PathMap c.args.map.now).below) ∙ content-branch c.clear.new.self ∙ ap (λ es. gather (contents_in es)) c.clear.ensures.empty
-    ∙ sym (without_all (content c.args.map.now) (content c.args.set.now) (top_some c.args.set.now ∙ sym c.is_some.ensures ∙ c.if-is_some.true))
+    let top = ap is_some (top_is c.set.inside.held (contents_in c.set.inside.below.items) c.args.set.now c.set.view_is) ∙ held_some c.set.inside.held ∙ sym c.is_some.ensures ∙ c.if-is_some.true in
+    ap (λ es. over nothing (gather (contents_in es))) c.clear.ensures.items ∙ nothing-over nothing ∙ sym (without_all (content c.args.map.now) (content c.args.set.now) top)
+
+pub cut-invariant_of-map-else-is_some : goal.cut-invariant_of-map-else-is_some
+cut-invariant_of-map-else-is_some t c =
+    let cs = contents_in c.map.inside.below.items in
+    subst AreChildren (sym (c.keep_full.ensures ∙ ap full_in (c.cut_below.ensures c.map.invariant.0 ∙ ap (λ l. cut_each (contents_in l) cs) c.deref.ensures.value)))
+    (cut_children (contents_in c.set.inside.below.items) cs c.map.invariant.0)
 
 pub cut-returns-else-is_some : goal.cut-returns-else-is_some
 cut-returns-else-is_some t c =
-    let map = out-PathMap c.args.map.now in
+    let cs = contents_in c.map.inside.below.items in
+    let ss = contents_in c.set.inside.below.items in
+    let set = content c.args.set.now in
     let none = sym c.is_some.ensures ∙ c.if-is_some.false in
-    content-map map.held c.cut_below.new.below
-    ∙ without-level map.held map.below.entries c.cut_below.new.below.entries (content c.args.set.now) (top_some c.args.set.now ∙ none)
-    (c.cut_below.ensures ∙ ap (λ s. without (gather (contents_in map.below.entries)) (dom s)) (sym (content_below c.args.set.now none)))
-    ∙ ap (λ m. without m (dom (content c.args.set.now))) (sym (content-out c.args.map.now))
+    let top = ap is_some (top_is c.set.inside.held ss c.args.set.now c.set.view_is) ∙ held_some c.set.inside.held ∙ none in
+    let made = c.keep_full.ensures ∙ ap full_in (c.cut_below.ensures c.map.invariant.0 ∙ ap (λ l. cut_each (contents_in l) cs) c.deref.ensures.value) in
+    without-level c.map.inside.held cs (contents_in c.keep_full.new.below.items) set top
+    (ap gather made ∙ gather-cut ss cs c.set.invariant.0 c.map.invariant.0 ∙ ap (λ m. without (gather cs) (dom m)) (no_top c.set.inside.held ss set c.set.view_is none))
+    ∙ ap (λ m. without m (dom set)) c.map.view_is
+
+pub cut_child-index_mut-requires : goal.cut_child-index_mut-requires
+cut_child-index_mut-requires t c =
+    let lt = c.stands_at.ensures.within c.if-stands_at.true in
+    let long = c.deref-2.ensures.len in
+    omega (arith, lt, long)
+
+pub cut_child-returns-then-stands_at : goal.cut_child-returns-then-stands_at
+cut_child-returns-then-stands_at t c = λ rises.
+    let name = string_bytes c.args.name.now in
+    set_cut name (content c.args.set.now) c.args.below.now.items 0 c.place_of-place.result c.index_mut.result.now c.cut.new.map
+    ((placed name c.deref.result.now c.deref-2.result.now c.args.below.now.items c.place_of-place.result c.stands_at.result true c.deref.ensures.value c.deref-2.ensures.value rises c.place_of-place.ensures.count c.stands_at.ensures.index c.if-stands_at.true).0 ∙ ap (λ n. Some n) (from_none c.place_of-place.result))
+    c.index_mut.ensures.value c.cut.ensures
+
+pub cut_child-returns-else-stands_at : goal.cut_child-returns-else-stands_at
+cut_child-returns-else-stands_at t c = λ rises.
+    let name = string_bytes c.args.name.now in
+    sym (uncut 0 name (content c.args.set.now) (contents_in c.args.below.now.items)
+    (placed name c.deref.result.now c.deref-2.result.now c.args.below.now.items c.place_of-place.result c.stands_at.result false c.deref.ensures.value c.deref-2.ensures.value rises c.place_of-place.ensures.count c.stands_at.ensures.index c.if-stands_at.false).0)
+
+pub cut_below-loop-name-preserved : goal.cut_below-loop-name-preserved
+cut_below-loop-name-preserved t c = λ rises.
+    let i = c.loop-name.name-index in
+    let set = c.args.set.now in
+    let e = c.loop-name-item.result in
+    let old = c.loop-name.invariant rises in
+    let cs = contents_in c.loop-name.below.items in
+    let made = c.cut_child.ensures old.0 in (
+      subst (λ l. IsRising l) (sym made) (subst (IsStrictlySortedBy (slice_cmp nat_cmp)) (sym (names-cut (string_bytes e.0) e.1 cs)) old.0),
+      ap (λ l. cut_each (contents_in (drop (i + 1) set)) l) made ∙ ap (λ l. cut_each (contents_in l) cs) (sym (drop_next set i e c.loop-name-test.true c.loop-name-item.is)) ∙ old.1,
+    )
+
+pub cut_below-returns : goal.cut_below-returns
+cut_below-returns t c = λ rises.
+    let i = c.loop-name.name-index in
+    let past = c.loop-name-test.false in
+    ap (λ l. cut_each (contents_in l) (contents_in c.loop-name.below.items)) (sym (drop-whole i c.args.set.now (omega (arith, past)))) ∙ (c.loop-name.invariant rises).1

@@ -1,9 +1,11 @@
-use Rattle.std.proofs.Common.{string_cmp}
-use Rattle.std.specs.List.Sorted.{IsStrictlySortedBy}
-use Rattle.std.specs.Map.{keys_of}
-use Rattle.pathmap.proofs.Cutting.{Cuts}
+use Rattle.std.proofs.Common.{◌≡◌, drop}
+use Rattle.pathmap.specs.Cuts.{cut_each}
+use Rattle.pathmap.specs.Levels.{IsRising}
+use Rattle.pathmap.specs.Maps.{contents_in}
 use Rattle.pathmap.proofs.without.+cut.Given as goal
 
+-- what is there, cut by what is left, is the whole
 abbrev pub invariant-cut_below-loop-name : goal.invariant-cut_below-loop-name
 invariant-cut_below-loop-name l =
-    Cuts l.name-iterator l.below.entries l.set.entries l.fn.below.entries × IsStrictlySortedBy string_cmp (keys_of l.name-iterator) × IsStrictlySortedBy string_cmp (keys_of l.below.entries)
+    IsRising (contents_in l.fn.below.items) → IsRising (contents_in l.below.items)
+    × (cut_each (contents_in (drop l.name-index l.set)) (contents_in l.below.items) ≡ cut_each (contents_in l.set) (contents_in l.fn.below.items))

@@ -1,28 +1,22 @@
-use Rattle.std.specs.Cmp.Lexicographic.{slice_cmp}
-use Rattle.std.proofs.Common.{is_eq, nat_cmp, ◌≡◌, Ok, string_bytes, subst, sym, ap, ◌∙◌}
-use Rattle.fieldpath.specs.Elements.{name_text}
-use Rattle.pathmap.specs.Contents.{gather, over, under}
-use Rattle.pathmap.specs.Maps.{content, contents_in, at_name}
-use Rattle.pathmap.proofs.Trees.{gather-insert, untouched}
+use Rattle.std.proofs.Common.{Ok, subst, sym, ap, ◌∙◌}
+use Rattle.pathmap.specs.Contents.{over, under}
+use Rattle.pathmap.specs.Insides.{inside}
+use Rattle.pathmap.specs.Maps.{content}
 use Rattle.schema.specs.KeyNames.{names_in}
 use Rattle.typed.specs.Faults.{Gives}
+use Rattle.typed.proofs.Adding.{is_added}
 use Rattle.typed.proofs.Joins.{key_joins, other_joins}
 use Rattle.typed.proofs.items.add_member.Goals as goal
 
-pub returns-then-is_key-clause-joins : goal.returns-then-is_key-clause-joins
-returns-then-is_key-clause-joins c answer none gives =
-    key_joins (gather (contents_in c.args.below.now.entries)) (names_in c.args.names.now) c.args.name.now answer (content c.in-Ok.map) (subst (λ r. Gives content r answer) c.in-Ok.is gives) (sym c.is_key.ensures ∙ c.if-is_key.true)
+pub returns-then-is_key : goal.returns-then-is_key
+returns-then-is_key c answer free gives =
+    key_joins (content c.args.map.now) (names_in c.args.names.now) c.args.name.now answer (content c.in-Ok.below) (subst (λ r. Gives content r answer) c.in-Ok.is gives) (sym c.is_key.ensures ∙ c.if-is_key.true)
 
-pub returns-in_ok-insert-in-Ok-clause-joins : goal.returns-in_ok-insert-in-Ok-clause-joins
-returns-in_ok-insert-in-Ok-clause-joins c answer none gives =
-    let old = c.args.below.now.entries in
-    let name = c.in_ok-of_field-in-Ok.field-0 in
-    let named : string_bytes name ≡ name_text c.args.name.now = c.in_ok-of_field-in-Ok.ensures in
-    let inserted = gather-insert old c.insert.new.self.entries name c.in-Ok.map c.in_ok-insert-in-Ok.ensures.was_ordered c.in_ok-insert-in-Ok.ensures.ordered c.in_ok-insert-in-Ok.ensures.entries (ap (λ f. at_name f old) named ∙ none) in
-    ap Ok (inserted ∙ ap (λ f. over (gather (contents_in old)) (under f (content c.in-Ok.map))) named)
-    ∙ other_joins (gather (contents_in old)) (names_in c.args.names.now) c.args.name.now answer (content c.in-Ok.map) (subst (λ r. Gives content r answer) c.in-Ok.is gives) (sym c.is_key.ensures ∙ c.if-is_key.false)
-
-pub returns-in_ok-insert-in-Ok-clause-others : goal.returns-in_ok-insert-in-Ok-clause-others
-returns-in_ok-insert-in-Ok-clause-others c g apart =
-    let named : string_bytes c.in_ok-of_field-in-Ok.field-0 ≡ name_text c.args.name.now = c.in_ok-of_field-in-Ok.ensures in
-    ap (at_name g) c.in_ok-insert-in-Ok.ensures.entries ∙ untouched g c.args.below.now.entries c.in_ok-of_field-in-Ok.field-0 c.in-Ok.map (ap (λ f. is_eq (slice_cmp nat_cmp g f)) named ∙ apart)
+pub returns-in_ok-insert_child-in-Ok : goal.returns-in_ok-insert_child-in-Ok
+returns-in_ok-insert_child-in-Ok c answer free gives =
+    let old = content c.args.map.now in
+    let m = content c.in-Ok.below in
+    let named = c.in_ok-of_field-in-Ok.ensures in
+    let added = is_added c.in_ok-insert_child-in-Ok.field-0 _ (ap (λ f. inside f old) named ∙ free) c.in_ok-insert_child-in-Ok.ensures.taken in
+    ap Ok (c.in_ok-insert_child-in-Ok.ensures.put added ∙ ap (λ f. over old (under f m)) named)
+    ∙ other_joins old (names_in c.args.names.now) c.args.name.now answer m (subst (λ r. Gives content r answer) c.in-Ok.is gives) (sym c.is_key.ensures ∙ c.if-is_key.false)

@@ -1,15 +1,15 @@
-use Rattle.std.proofs.Common.{◌≡◌, ℕ, List, ap, ap₂, sym, subst, ◌∙◌, true≢false, Some, option_map, IfOk, OnOk, String, Global, string_bytes}
+use Rattle.std.proofs.Common.{◌≡◌, ℕ, ◌+◌, List, drop, ap, ap₂, sym, subst, ◌∙◌, Some, option_map, IfOk, OnOk, string_bytes}
+use Rattle.std.proofs.lemmas.List.{drop_all}
 use Rattle.serde_json.specs.Data.{object, Members}
 use Rattle.serde_json.specs.View.{view, members_view}
 use Rattle.pathmap.specs.Contents.{Content}
 use Rattle.pathmap.specs.Maps.{content, content_or_nothing}
 use Rattle.pathmap.specs.Insides.{inside}
-use Rattle.pathmap.specs.declared.pathmap.PathMap.{PathMap}
 use Rattle.schema.specs.Shape.{struct_of, shape, fields_in}
 use Rattle.fieldpath.specs.Elements.{name_text}
 use Rattle.typed.specs.Printing.{each_member, keys_in, print, print_item, print_fields, with_member}
-use Rattle.typed.proofs.Insides.{living}
-use Rattle.typed.proofs.Prints.{print-nothing, shape-fields, fields_more, items_first, items_bare, items_more, items_last, members_first, members_more, children_first, one_inside, rest_inside}
+use Rattle.typed.proofs.Insides.{child_names, children-inside, heads-names}
+use Rattle.typed.proofs.Prints.{at_place, print-nothing, shape-fields, fields_more, items_first, items_more, items_last, members_more, one_inside, rest_inside}
 use Rattle.typed.proofs.print.+print.Goals as goal
 
 pub print_keyed-returns : goal.print_keyed-returns
@@ -30,63 +30,64 @@ put_fields-loop-name-preserved t c =
 
 pub print_items-loop-element-init : goal.print_items-loop-element-init
 print_items-loop-element-init t c =
-    let inner = λ (e : List ℕ). option_map (λ ms. object (print_item (shape c.args.inner.now) (inside e (content c.args.map.now)) ms)) (keys_in e) in
-    let started = c.into_iter-element-iterator.ensures.into_iter_gives ∙ c.iter-element-items.ensures.rest in (
-      items_first inner c.args.map.now c.new-items.result.items c.into_iter-element-iterator.result c.iter-element-items.ensures.ordered c.new-items.ensures.items started,
-      children_first c.args.map.now c.into_iter-element-iterator.result c.iter-element-items.ensures.ordered started,
-    )
-
-pub print_items-loop-element-preserved-then-is_bare : goal.print_items-loop-element-preserved-then-is_bare
-print_items-loop-element-preserved-then-is_bare t c =
-    let inner = λ (e : List ℕ). option_map (λ ms. object (print_item (shape c.args.inner.now) (inside e (content c.args.map.now)) ms)) (keys_in e) in
-    let e : String Global × PathMap = (c.in-Some.element.now, c.in-Some.below.now) in (
-      items_bare inner (content c.args.map.now) c.loop-element.element-iterator c.next.new.self e c.loop-element.items.items c.in-Some.ensures.steps c.loop-element.invariant.0 (c.is_bare.ensures.0 c.if-is_bare.true),
-      rest_inside (content c.args.map.now) c.loop-element.element-iterator c.next.new.self e c.in-Some.ensures.steps c.loop-element.invariant.1,
-    )
+    let whole = content c.args.map.now in
+    let inner = λ (e : List ℕ). option_map (λ ms. object (print_item (shape c.args.inner.now) (inside e whole) ms)) (keys_in e) in
+    let all = c.children-children.result.now in
+    (items_first inner whole c.new-items.result.items all c.new-items.ensures.items c.children-children.ensures, children-inside whole all c.children-children.ensures)
 
 pub print_items-loop-element-preserved : goal.print_items-loop-element-preserved
 print_items-loop-element-preserved t c =
     let whole = content c.args.map.now in
     let item_at = λ (d : Content). λ (e : List ℕ). option_map (λ ms. object (print_item (shape c.args.inner.now) d ms)) (keys_in e) in
     let inner = λ (e : List ℕ). item_at (inside e whole) e in
-    let e : String Global × PathMap = (c.in-Some.element.now, c.in-Some.below.now) in (
-      items_more inner whole c.loop-element.element-iterator c.next.new.self e c.loop-element.items.items c.in-Some.ensures.steps c.loop-element.invariant.0 c.in_ok-item.item c.push_item.new.items.items
-          (c.in_ok-item.ensures ∙ ap (λ d. item_at d (string_bytes e.0)) (sym (one_inside whole c.loop-element.element-iterator c.next.new.self e c.in-Some.ensures.steps c.loop-element.invariant.1)))
-          (λ none. true≢false (sym (c.is_bare.ensures.1 none) ∙ c.if-is_bare.false)) c.in_ok-push_item.ensures,
-      rest_inside whole c.loop-element.element-iterator c.next.new.self e c.in-Some.ensures.steps c.loop-element.invariant.1,
+    let all = c.children-children.result.now in
+    let i = c.loop-element.element-index in
+    let e = c.loop-element-item.result in
+    let it = drop i all in
+    let left = drop (i + 1) all in
+    let steps = at_place all i e c.loop-element-test.true c.loop-element-item.is in (
+      items_more inner whole it left e c.loop-element.items.items steps c.loop-element.invariant.0 c.in_ok-item.item c.push_item.new.items.items
+          (c.in_ok-item.ensures ∙ ap (λ d. item_at d (string_bytes e.0)) (sym (one_inside whole it left e steps c.loop-element.invariant.1))) c.in_ok-push_item.ensures,
+      rest_inside whole it left e steps c.loop-element.invariant.1,
     )
 
 pub print_items-returns : goal.print_items-returns
 print_items-returns t c =
     let inner = λ (e : List ℕ). option_map (λ ms. object (print_item (shape c.args.inner.now) (inside e (content c.args.map.now)) ms)) (keys_in e) in
-    items_last inner (content c.args.map.now) c.loop-element.items.items c.loop-element.element-iterator c.in-None.ensures.steps.0 c.loop-element.invariant.0
+    let all = c.children-children.result.now in
+    let i = c.loop-element.element-index in
+    items_last inner (content c.args.map.now) c.loop-element.items.items (drop i all) (drop_all i all c.loop-element-test.false) c.loop-element.invariant.0
 
 pub put_each-loop-element-init : goal.put_each-loop-element-init
 put_each-loop-element-init t c =
-    let inner = λ (e : List ℕ). print (shape c.args.inner.now) (inside e (content c.args.map.now)) in
-    let started = c.into_iter-element-iterator.ensures.into_iter_gives ∙ c.iter-element-items.ensures.rest in (
-      members_first inner c.args.map.now _ c.into_iter-element-iterator.result c.iter-element-items.ensures.ordered started,
-      children_first c.args.map.now c.into_iter-element-iterator.result c.iter-element-items.ensures.ordered started,
-    )
+    let whole = content c.args.map.now in
+    let inner = λ (e : List ℕ). print (shape c.args.inner.now) (inside e whole) in
+    let all = c.children-children.result.now in
+    (ap (λ hs. each_member inner hs (members_view c.args.members.now.entries)) (sym (heads-names whole all c.children-children.ensures)), children-inside whole all c.children-children.ensures)
 
 pub put_each-loop-element-preserved : goal.put_each-loop-element-preserved
 put_each-loop-element-preserved t c =
     let whole = content c.args.map.now in
     let inner = λ (e : List ℕ). print (shape c.args.inner.now) (inside e whole) in
-    let e : String Global × PathMap = (c.in-Some.element.now, c.in-Some.below.now) in
-    let below = one_inside whole c.loop-element.element-iterator c.next.new.self e c.in-Some.ensures.steps c.loop-element.invariant.1 in (
-      members_more inner c.loop-element.element-iterator c.next.new.self e (option_map view c.in_ok-value.value) (members_view c.loop-element.members.entries) (members_view c.put_named.new.members.entries) c.in-Some.ensures.steps
-          (c.in_ok-value.ensures ∙ ap (print (shape c.args.inner.now)) (sym below))
-          (λ bare. c.in_ok-value.ensures ∙ ap (print (shape c.args.inner.now)) bare ∙ print-nothing (shape c.args.inner.now))
-          c.in_ok-put_named.ensures
+    let all = c.children-children.result.now in
+    let i = c.loop-element.element-index in
+    let e = c.loop-element-item.result in
+    let it = drop i all in
+    let left = drop (i + 1) all in
+    let steps = at_place all i e c.loop-element-test.true c.loop-element-item.is in
+    let below = one_inside whole it left e steps c.loop-element.invariant.1 in (
+      members_more inner it left e (option_map view c.in_ok-value.value) (members_view c.loop-element.members.entries) (members_view c.put_named.new.members.entries) steps
+          (c.in_ok-value.ensures ∙ ap (print (shape c.args.inner.now)) (sym below)) c.in_ok-put_named.ensures
           ∙ c.loop-element.invariant.0,
-      rest_inside whole c.loop-element.element-iterator c.next.new.self e c.in-Some.ensures.steps c.loop-element.invariant.1,
+      rest_inside whole it left e steps c.loop-element.invariant.1,
     )
 
 pub put_each-returns : goal.put_each-returns
 put_each-returns t c =
     let inner = λ (e : List ℕ). print (shape c.args.inner.now) (inside e (content c.args.map.now)) in
-    ap (λ l. each_member inner (living l) (members_view c.loop-element.members.entries)) (sym c.in-None.ensures.steps.0) ∙ c.loop-element.invariant.0
+    let all = c.children-children.result.now in
+    let i = c.loop-element.element-index in
+    ap (λ l. each_member inner (child_names l) (members_view c.loop-element.members.entries)) (sym (drop_all i all c.loop-element-test.false)) ∙ c.loop-element.invariant.0
 
 pub put_fields-loop-name-preserved-in_default : goal.put_fields-loop-name-preserved-in_default
 put_fields-loop-name-preserved-in_default t c =

@@ -1,13 +1,14 @@
-use Rattle.std.proofs.Common.{◌≡◌, ◌++◌, false, String, Global, OnOk, ap, ap₂, sym, subst, ◌∙◌, string_bytes, true≢false, option_map}
+use Rattle.std.proofs.Common.{◌≡◌, ◌++◌, ◌+◌, drop, OnOk, ap, ap₂, refl, sym, subst, ◌∙◌, string_bytes, true≢false, option_map}
+use Rattle.std.proofs.lemmas.List.{drop_all}
 use Rattle.fieldpath.specs.Elements.{name_text}
 use Rattle.pathmap.specs.Insides.{inside}
 use Rattle.pathmap.specs.Maps.{content, content_or_nothing}
-use Rattle.pathmap.specs.declared.pathmap.PathMap.{PathMap}
 use Rattle.schema.specs.Shape.{fields_in, map_of, shape, struct_of, text}
 use Rattle.serde_json.specs.Written.{members_text}
 use Rattle.typed.specs.Printing.{print}
-use Rattle.typed.specs.Rows.{Fits, HasNoFloat, IsThere, row_of_children, text_or_none, then_member}
-use Rattle.typed.proofs.Prints.{children_first, one_inside, rest_inside, shape-fields}
+use Rattle.typed.specs.Rows.{Fits, HasNoFloat, IsThere, text_or_none, then_member}
+use Rattle.typed.proofs.Insides.{children-inside}
+use Rattle.typed.proofs.Prints.{at_place, one_inside, rest_inside, shape-fields}
 use Rattle.typed.proofs.Shapes.{shape-Text}
 use Rattle.typed.proofs.Rows.{fits_clean, struct_fits, values_fit}
 use Rattle.typed.proofs.Wholes.{all_wrote, weaker, child_skipped, child_wrote, children_wrote, field_wrote, map_top, no_member, one_member, struct_top, struct_wrote, values_wrote}
@@ -47,24 +48,22 @@ write_fields-returns t c = λ fit.
     all_wrote c.args.fields.now c.loop-name.name-index (content c.args.map.now) c.loop-name.later c.args.out.now.items c.loop-name.out.items c.push.new.self.items c.loop-name-test.false c.loop-name.invariant fit c.in_ok-push.ensures.items
 
 pub write_children-loop-element-init : goal.write_children-loop-element-init
-write_children-loop-element-init t c =
-    let started = c.into_iter-element-iterator.ensures.into_iter_gives ∙ c.iter-element-items.ensures.rest in (
-      children_first c.args.map.now c.into_iter-element-iterator.result c.iter-element-items.ensures.ordered started,
-      λ fits. ap (λ l. c.args.out.now.items ++ members_text false (row_of_children (shape c.args.inner.now) l)) started,
-    )
+write_children-loop-element-init t c = (children-inside (content c.args.map.now) c.children-children.result.now c.children-children.ensures, λ fits. refl)
 
 pub write_children-loop-element-preserved : goal.write_children-loop-element-preserved
 write_children-loop-element-preserved t c =
     let whole = content c.args.map.now in
     let s = shape c.args.inner.now in
-    let it = c.loop-element.element-iterator in
-    let left = c.next.new.self in
-    let e : String Global × PathMap = (c.in-Some.element.now, c.in-Some.below.now) in
-    let steps = c.in-Some.ensures.steps in
-    let named = sym c.field_name.ensures ∙ ap (option_map (λ n. n.now)) c.in-Some-field_name.is in
+    let all = c.children-children.result.now in
+    let i = c.loop-element.element-index in
+    let e = c.loop-element-item.result in
+    let it = drop i all in
+    let left = drop (i + 1) all in
+    let steps = at_place all i e c.loop-element-test.true c.loop-element-item.is in
+    let named = sym c.field_name.ensures ∙ ap (option_map (λ n. n.now)) c.in-Some.is in
     let below = one_inside whole it left e steps c.loop-element.invariant.0 in (
       rest_inside whole it left e steps c.loop-element.invariant.0,
-      λ fits. child_wrote s it left e steps c.loop-element.later c.loop-element.out.items _ (c.loop-element.invariant.1 fits) c.in-Some-field_name.name.now c.write_member.new.out.items c.in_ok-later.later named
+      λ fits. child_wrote s it left e steps c.loop-element.later c.loop-element.out.items _ (c.loop-element.invariant.1 fits) c.in-Some.name.now c.write_member.new.out.items c.in_ok-later.later named
           (c.in_ok-later.ensures (subst (Fits s) below (fits (string_bytes e.0)))),
     )
 
@@ -72,10 +71,12 @@ pub write_children-loop-element-preserved-in_default : goal.write_children-loop-
 write_children-loop-element-preserved-in_default t c =
     let whole = content c.args.map.now in
     let s = shape c.args.inner.now in
-    let it = c.loop-element.element-iterator in
-    let left = c.next.new.self in
-    let e : String Global × PathMap = (c.in-Some.element.now, c.in-Some.below.now) in
-    let steps = c.in-Some.ensures.steps in
+    let all = c.children-children.result.now in
+    let i = c.loop-element.element-index in
+    let e = c.loop-element-item.result in
+    let it = drop i all in
+    let left = drop (i + 1) all in
+    let steps = at_place all i e c.loop-element-test.true c.loop-element-item.is in
     let named = sym c.field_name.ensures ∙ ap (option_map (λ n. n.now)) c.in_default.is in (
       rest_inside whole it left e steps c.loop-element.invariant.0,
       λ fits. child_skipped s it left e steps c.loop-element.later c.loop-element.out.items _ (c.loop-element.invariant.1 fits) named,
@@ -83,7 +84,9 @@ write_children-loop-element-preserved-in_default t c =
 
 pub write_children-returns : goal.write_children-returns
 write_children-returns t c = λ fits.
-    children_wrote (shape c.args.inner.now) c.args.map.now c.loop-element.element-iterator c.loop-element.later c.args.out.now.items c.loop-element.out.items c.push.new.self.items c.iter-element-items.ensures.ordered c.in-None.ensures.steps.0
+    let all = c.children-children.result.now in
+    let i = c.loop-element.element-index in
+    children_wrote (shape c.args.inner.now) (content c.args.map.now) all (drop i all) c.loop-element.later c.args.out.now.items c.loop-element.out.items c.push.new.self.items c.children-children.ensures (drop_all i all c.loop-element-test.false)
     (c.loop-element.invariant.1 fits) c.in_ok-push.ensures.items
 
 pub write_struct-returns-then-is_atomic : goal.write_struct-returns-then-is_atomic

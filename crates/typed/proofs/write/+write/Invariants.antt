@@ -1,6 +1,5 @@
-use Rattle.std.proofs.Common.{◌≡◌, ◌++◌, false}
+use Rattle.std.proofs.Common.{◌≡◌, ◌++◌, drop, false}
 use Rattle.pathmap.specs.Maps.{content}
-use Rattle.pathmap.specs.declared.pathmap.PathMap.{out-PathMap}
 use Rattle.schema.specs.Shape.{shape}
 use Rattle.serde_json.specs.Written.{members_text}
 use Rattle.typed.specs.Rows.{EachFits, row_of_children}
@@ -15,6 +14,6 @@ invariant-write_fields-loop-name l = Wrote l.fields l.name-index (content l.map)
 -- and each child that is left is what stands inside its name
 abbrev pub invariant-write_children-loop-element : goal.invariant-write_children-loop-element
 invariant-write_children-loop-element l =
-    AreInside (content l.map) l.element-iterator
+    AreInside (content l.map) (drop l.element-index l.children)
     × (EachFits (shape l.inner) (content l.map)
-    → l.out.items ++ members_text l.later (row_of_children (shape l.inner) l.element-iterator) ≡ l.fn.out.items ++ members_text false (row_of_children (shape l.inner) (out-PathMap l.map).below.entries))
+    → l.out.items ++ members_text l.later (row_of_children (shape l.inner) (drop l.element-index l.children)) ≡ l.fn.out.items ++ members_text false (row_of_children (shape l.inner) l.children))

@@ -12,11 +12,11 @@ use Rattle.objects.proofs.owned.Owned.metadata_text.Goals as goal
 pub returns : goal.returns
 returns c = λ clean s managed.
     let of = identity_of c.args.of in
-    let labels = members_view c.args.labels.now.entries in
+    let others = members_view c.args.others.now.entries in
     let listed = c.entries.ensures.entries in
     ap (λ (v : Vec ℕ Global). v.items) c.into_bytes.ensures.value
-    ∙ metadata_is of c.args.version (entry_items s of.api_version (fin.entries c.args.self.now.managers)) labels
+    ∙ metadata_is of c.args.version (entry_items s of.api_version (fin.entries c.args.self.now.managers)) others
     (texts_in c.put_managed.new.texts.entries) (texts_in c.put_version.new.texts.entries) (texts_in c.put_string.new.texts.entries) (texts_in c.put_string-2.new.texts.entries) (string_bytes c.in_ok-text.text)
-    (c.in_ok-put_managed.ensures s of.api_version labels (managed ∙ sym (ap (λ es. compact_text (array (entry_items s of.api_version es))) listed)) (c.in_ok-texts.ensures clean)
-    ∙ ap (λ es. texts_of (put_entries (entry_items s of.api_version es) labels)) listed)
+    (c.in_ok-put_managed.ensures s of.api_version others (managed ∙ sym (ap (λ es. compact_text (array (entry_items s of.api_version es))) listed)) (c.in_ok-texts.ensures clean)
+    ∙ ap (λ es. texts_of (put_entries (entry_items s of.api_version es) others)) listed)
     c.in_ok-put_version.ensures c.in_ok-put_string.ensures c.in_ok-put_string-2.ensures c.in_ok-text.ensures
