@@ -1,14 +1,13 @@
 #!/usr/bin/env python3
-"""Times the layers by the built program bench, and the hub by the built program ssa_replay, with the peak memory.
+"""Times the layers by the programs of bench/build.py, and the hub by the built program ssa_replay, with the peak memory.
 
-Usage: bench/layers.py [--bench PROGRAM] [--tables PROGRAM] [--replay PROGRAM] [LAYER..]   (default: all layers, and the programs
-                       that `rt run` leaves in crates/bench/out and crates/ssa_replay/out)
+Usage: bench/layers.py [--layers PROGRAM] [--tables PROGRAM] [--replay PROGRAM] [LAYER..]   (default: all layers whose program is
+                       given, and the hub by the program that `rt run` leaves in crates/ssa_replay/out)
 
-Runs each layer of bench at 1,000, 10,000 and 100,000 (the reader at 1,000 and 10,000 lines, objects' texts over objects of 10,
-100 and 1,000 fields) in a process of its own and prints what the program says of the processor time (one core) and the peak
-memory of the process. The layer `tables` is a program of its own that `bench/tables.py build` leaves in the folder it is told;
-without it that layer is left out. The layer `hub` are tables of scripts' times (bench/scripts.py): applies, GETs on connections
-one after another, and requests in pieces.
+Runs each layer at 1,000, 10,000 and 100,000 (the reader at 1,000 and 10,000 lines, objects' texts over objects of 10, 100 and
+1,000 fields) in a process of its own and prints what the program says of the processor time (one core) and the peak memory of
+the process. `tables` is a program of its own; `layers` has the others. The layer `hub` are tables of scripts' times
+(bench/scripts.py): applies, GETs on connections one after another, and requests in pieces.
 """
 import argparse
 import os
@@ -132,21 +131,20 @@ def run_hub(program, folder):
 
 def main():
     words = argparse.ArgumentParser()
-    words.add_argument("--bench", default=os.path.join(TOP, "crates/bench/out/bench"))
+    words.add_argument("--layers", dest="program")
     words.add_argument("--tables")
     words.add_argument("--replay", default=program_of(TOP))
     words.add_argument("layers", nargs="*", metavar="LAYER")
     given = words.parse_args()
-    if TABLES in given.layers and not given.tables:
-        words.error("the layer tables wants --tables PROGRAM, which bench/tables.py build makes")
     for layer in given.layers or [*SIZES, "hub"]:
+        program = given.tables if layer == TABLES else given.program
         if layer == "hub":
             with tempfile.TemporaryDirectory() as folder:
                 run_hub(given.replay, folder)
-        elif layer == TABLES and not given.tables:
-            print("== tables: left out, since no --tables PROGRAM is given", flush=True)
+        elif not program:
+            print(f"== {layer}: left out, since its program isn't given (--{TABLES if layer == TABLES else 'layers'})", flush=True)
         else:
-            run_layer(given.tables if layer == TABLES else given.bench, layer)
+            run_layer(program, layer)
 
 
 if __name__ == "__main__":

@@ -1,66 +1,21 @@
 #!/usr/bin/env python3
 """Times the revisioned store over tables, several builds beside each other, and takes their peak memory.
 
-Usage: bench/tables.py build FOLDER [COMMIT]     builds the program over the store of this tree, or of a commit: FOLDER/tables
-       bench/tables.py run SIZE.. -- BINARY..    e.g. run 1000 100000 -- before/tables now/tables
+Usage: bench/tables.py SIZE.. -- BINARY..     e.g. 1000 100000 -- before/tables now/tables
 
-`build` makes a repository of its own, FOLDER/source, with the store's crates and the program `tables`, and calls `rt run` in
-it, so the program is proved before it is built; what FOLDER/source has kept of an earlier build is used again. The program
-isn't in the gate, since one that reaches the database costs it minutes. Its files are always those of this tree: bench/tables,
-where they end in .txt, since the gate refuses a source that no check reads, and crates/bench/src/timing.rt. For the same
-reason FOLDER must lie outside of this repository. `run` calls each binary, the binaries in turn, ROUNDS times (a variable of
-the environment; 5 if it isn't set), and prints a table for each size: what was timed in microseconds each, first with keys
-that ascend and then in no order, and the peak of the process in MiB; medians, a column a binary.
+`bench/build.py tables FOLDER [COMMIT]` builds the program over this tree or a commit. Each binary is called ROUNDS times (a
+variable of the environment; 5 if it isn't set), the binaries in turn; a table is printed for each size: what was timed in
+microseconds each, first with keys that ascend and then in no order, and the peak of the process in MiB; medians, a column a
+binary.
 """
 import os
 import re
-import shutil
 import statistics
 import subprocess
 import sys
 
-TOP = os.path.dirname(os.path.dirname(os.path.realpath(__file__)))
-STORE = ("history", "revtable", "revstore")
-PROGRAM = {"main.rt": "bench/tables/main.rt.txt", "storing.rt": "bench/tables/storing.rt.txt", "timing.rt": "crates/bench/src/timing.rt"}
 TOLD = re.compile(r"(.+): \d+ in \d+ ns, (\d+) ns each")
 ORDERS = ("keys ascend", "in no order")
-
-
-def put_store(source, commit):
-    """Puts the store's crates there, as they stand at the commit or in this tree, in place of those of an earlier build."""
-    names = ["crates.txt", "HANDLES", *(f"crates/{name}" for name in STORE)]
-    for crate in (os.path.join(source, name) for name in names[2:]):
-        for part in os.listdir(crate) if os.path.isdir(crate) else []:
-            if part != "out":
-                shutil.rmtree(os.path.join(crate, part))
-    pack = ["git", "archive", commit, *names] if commit else ["tar", "-c", "--exclude=out", *names]
-    files = subprocess.run(pack, cwd=TOP, stdout=subprocess.PIPE, check=True).stdout
-    subprocess.run(["tar", "-x", "-C", source], input=files, check=True)
-
-
-def put_program(source):
-    """Puts the program there, and lists it with the store's crates alone."""
-    path = os.path.join(source, "crates.txt")
-    with open(path) as given:
-        lines = [line for line in given if line.partition(":")[0] in STORE]
-    with open(path, "w") as listed:
-        listed.writelines([*lines, f"tables: {' '.join(STORE)} anyhow\n"])
-    os.makedirs(os.path.join(source, "crates/tables/src"), exist_ok=True)
-    for name, given in PROGRAM.items():
-        shutil.copyfile(os.path.join(TOP, given), os.path.join(source, "crates/tables/src", name))
-
-
-def build(folder, commit=None):
-    folder = os.path.realpath(folder)
-    if os.path.commonpath([folder, TOP]) == TOP:
-        sys.exit(f"{folder} lies in this repository, whose gate would refuse the sources there: name a folder outside of it")
-    source = os.path.join(folder, "source")
-    os.makedirs(source, exist_ok=True)
-    put_store(source, commit)
-    put_program(source)
-    crate = os.path.join(source, "crates/tables")
-    subprocess.run(["rt", "run"], cwd=crate, check=True)
-    shutil.copy(os.path.join(crate, "out/tables"), os.path.join(folder, "tables"))
 
 
 def told_in(lines):
@@ -110,13 +65,10 @@ def run(sizes, binaries):
 
 
 def main(words):
-    if words[:1] == ["build"] and len(words) in (2, 3):
-        return build(*words[1:])
-    if words[:1] == ["run"] and "--" in words:
-        at = words.index("--")
-        if words[1:at] and words[at + 1:]:
-            return run([int(word) for word in words[1:at]], words[at + 1:])
-    sys.exit(__doc__)
+    at = words.index("--") if "--" in words else 0
+    if not words[:at] or not words[at + 1:]:
+        sys.exit(__doc__)
+    run([int(word) for word in words[:at]], words[at + 1:])
 
 
 if __name__ == "__main__":
