@@ -7,7 +7,7 @@
 //! | `union SET and SET`, `minus ..`, `common ..`, `clear-of ..` | the paths of what is made of two sets |
 //! | `find PATH in SET` | whether the set has the path, has one at or below it, and has none |
 //! | `fields SET` | its FieldsV1 value under the widgets' schema |
-//! | `over MAP and MAP`, `under ..`, `changed-over ..`, `changed-under ..`, `without ..`, `changed ..`, `copy ..` | the paths of what is made of two maps |
+//! | `under MAP and MAP`, `changed-under ..`, `without ..`, `changed ..`, `copy ..` | the paths of what is made of two maps |
 //! | `holds PATH=VALUE in MAP` | whether the value stands at the path |
 //! | `children ELEMENT=VALUE,..` | of each value that is put below an element, whether it was put; then the children, in order |
 //! | `below ELEMENT in MAP` | what stands at the element itself |
@@ -18,7 +18,7 @@ use crate::given::{WIDGET_TYPES, first_schema, path, shown_paths, types_of};
 use crate::rows::{Answers, first_word, play_all, told};
 use fieldpath::{ElemText, Path};
 use fieldset::FieldSet;
-use pathmap::{Held, PathMap, put_over, put_under};
+use pathmap::{Held, PathMap, put_under};
 use std::alloc::{AllocError, Global};
 use std::test::Fail;
 
@@ -51,7 +51,7 @@ fn set(alloc: Global, paths: &str) -> Result<FieldSet, Fail> {
 
 fn made(
     alloc: Global,
-    one: &FieldSet,
+    one: FieldSet,
     call: &str,
     other: &FieldSet,
 ) -> Result<FieldSet, AllocError> {
@@ -67,7 +67,7 @@ fn of_two_sets(alloc: Global, call: &str, words: &str) -> Result<String, Fail> {
     let (one, other) = words.split_once(" and ").ok_or("no other set")?;
     let one = set(alloc, one)?;
     let other = set(alloc, other)?;
-    shown_paths(alloc, &made(alloc, &one, call, &other)?)
+    shown_paths(alloc, &made(alloc, one, call, &other)?)
 }
 
 /// A copy of the set of the marks at these paths.
@@ -125,9 +125,7 @@ fn joined(
 ) -> Result<PathMap, AllocError> {
     let copy = one.try_copy(alloc)?;
     match call {
-        "over" => put_over(other, alloc, copy),
         "under" => put_under(other, alloc, copy),
-        "changed-over" => put_over(other, alloc, copy)?.changed(alloc, other),
         "changed-under" => put_under(other, alloc, copy)?.changed(alloc, other),
         "without" => Ok(copy.without(other)),
         "changed" => copy.changed(alloc, other),
@@ -206,9 +204,7 @@ fields f:spec f:image,f:spec f:tags v:"a" => {"f:spec":{"f:image":{},"f:tags":{"
 fields f:spec f:ports k:{"name":"web"},f:spec f:ports k:{"name":"web"} f:port => {"f:spec":{"f:ports":{"k:{\"name\":\"web\"}":{".":{},"f:name":{},"f:port":{}}}}}
 
 maps_of_paths
-over f:a=x,f:b=1,f:c f:d=2 and f:a=y,f:b=1,f:c=3 => paths .a .b .c .c.d
 under f:a=x,f:b=1,f:c f:d=2 and f:a=y,f:b=1,f:c=3 => paths .a .b .c .c.d
-changed-over f:a=x,f:b=1,f:c f:d=2 and f:a=y,f:b=1,f:c=3 => paths .c.d
 changed-under f:a=x,f:b=1,f:c f:d=2 and f:a=y,f:b=1,f:c=3 => paths .a .c.d
 without f:a=x,f:b=1,f:c f:d=2 and f:a=y,f:b=1,f:c=3 => paths
 changed f:a=x,f:b=1,f:c f:d=2 and f:a=y,f:b=1,f:c=3 => paths .a .c.d

@@ -1,13 +1,9 @@
 -- The reader's loop over the members of an object, as far as it has come.
-use Rattle.std.proofs.Common.{◌≡◌, ◌&&◌, ℕ, Bool, true, false, cond, is_eq, List, [], ◌∷◌, length, None, Ok, Err, nat_cmp, string_cmp, Less, String, Global, string_bytes, refl, sym, ap, ap₂, subst, ◌∙◌, arith, IsTrue, true≢false}
+use Rattle.std.proofs.Common.{◌≡◌, ◌&&◌, ℕ, Bool, true, false, cond, not, List, [], ◌∷◌, length, Ok, Err, string_cmp, Less, String, Global, string_bytes, refl, sym, ap, ap₂, subst, ◌∙◌, arith, IsTrue}
 use Rattle.std.specs.declared.result.Result.{Result}
-use Rattle.std.specs.Cmp.Lexicographic.{slice_cmp}
-use Rattle.std.specs.FinMap as fin
 use Rattle.std.specs.List.{AllByRecursion}
 use Rattle.std.specs.List.Sorted.{IsStrictlySortedBy}
 use Rattle.std.specs.Map.{keys_of}
-use Rattle.std.specs.Ordering.{ordering_reverse}
-use Rattle.std.proofs.lemmas.Cmp.{nat_list_cmp_total}
 use Rattle.std.proofs.lemmas.Map.Keys.{sorted_head, sorted_tail}
 use Rattle.serde_json.specs.Data.{Members, object}
 use Rattle.serde_json.specs.View.{members_view, view}
@@ -15,9 +11,9 @@ use Rattle.serde_json.specs.declared.value.Value.{Value}
 use Rattle.pathmap.specs.Contents.{Content, nothing, over, under}
 use Rattle.pathmap.specs.Insides.{inside}
 use Rattle.pathmap.specs.Levels.{has_path}
-use Rattle.pathmap.proofs.Contents.{either, either-None, get-over, get-under, nothing-over, over-nothing, over-over, same}
+use Rattle.pathmap.proofs.Contents.{nothing-over, over-nothing, over-over}
 use Rattle.pathmap.proofs.Heads.{inside-nothing}
-use Rattle.pathmap.proofs.Insides.{get-inside}
+use Rattle.pathmap.proofs.Insides.{inside_after}
 use Rattle.pathmap.proofs.Levels.{nothing_path}
 use Rattle.schema.specs.Steps.{Spot}
 use Rattle.fieldset.specs.declared.fault.FieldsV1Fault.{FieldsV1Fault}
@@ -67,21 +63,9 @@ free_nothing : (it : List Entry) → AllFree nothing it
 free_nothing [] = tt
 free_nothing (e ∷ it) = (inside-nothing (string_bytes e.0), free_nothing it)
 
--- what is put below an element changes nothing at an element after it
-inside_other : (f g : List ℕ) (c m : Content) → slice_cmp nat_cmp f g ≡ Less → inside g (over c (under f m)) ≡ inside g c
-inside_other f g c m less = same (inside g (over c (under f m))) (inside g c) (λ q.
-    get-inside g (over c (under f m)) q ∙ get-over c (under f m) (g ∷ q)
-    ∙ ap (either (fin.get c (g ∷ q))) (get-under f m g q ∙ ap (λ o. cond (is_eq o) (fin.get m q) None) (nat_list_cmp_total.antisymm g f ∙ ap ordering_reverse less))
-    ∙ either-None (fin.get c (g ∷ q)) ∙ sym (get-inside g c q))
-
 free_put : (k : String Global) (c m : Content) (left : List Entry) → AllByRecursion (λ y. string_cmp k y ≡ Less) (keys_of left) → AllFree c left → AllFree (over c (under (string_bytes k) m)) left
 free_put k c m [] above free = tt
-free_put k c m (e ∷ left) above free = (inside_other (string_bytes k) (string_bytes e.0) c m above.0 ∙ free.0, free_put k c m left above.1 free.1)
-
--- where nothing stood, what a map holds was put
-was_put : (b : Bool) (k : List ℕ) (c d m : Content) → inside k c ≡ nothing → (b ≡ true → d ≡ over c (under k m)) → (b ≡ false → has_path (inside k c) ≡ true) → d ≡ over c (under k m)
-was_put true k c d m free put taken = put refl
-was_put false k c d m free put taken = absurd (true≢false (sym (taken refl) ∙ ap has_path free ∙ nothing_path))
+free_put k c m (e ∷ left) above free = (inside_after (string_bytes k) (string_bytes e.0) c m above.0 ∙ free.0, free_put k c m left above.1 free.1)
 
 -- what is there, joined with what the members that are left say, is what all say
 abbrev pub IsSoFar : Spot → Members → Reading → Content → List Entry → Type 0
@@ -122,11 +106,10 @@ module _ (spot : Spot) (beside : Members) where
         free.1,
       )
 
-      -- a map put below the name of this member
-      pub added : (k : List ℕ) (m d : Content) (b : Bool) → one ≡ Ok (under k m) → k ≡ string_bytes e.0 → (b ≡ true → d ≡ over c (under k m)) → (b ≡ false → has_path (inside k c) ≡ true) → IsSoFar spot beside whole d left
-      added k m d b is named put taken =
-          let f = string_bytes e.0 in
-          let there_now : d ≡ over c (under k m) = was_put b k c d m (ap (λ g. inside g c) named ∙ free.0) put taken in (
+      -- a map put below the name of this member, where nothing stood
+      pub added : (k : List ℕ) (m d : Content) (b : Bool) → one ≡ Ok (under k m) → k ≡ string_bytes e.0 → b ≡ not (has_path (inside k c)) → d ≡ cond b (over c (under k m)) c → IsSoFar spot beside whole d left
+      added k m d b is named is_free put =
+          let there_now : d ≡ over c (under k m) = put ∙ ap (λ t. cond t (over c (under k m)) c) (is_free ∙ ap (λ g. not (has_path (inside g c))) named ∙ ap (λ x. not (has_path x)) free.0 ∙ ap not nothing_path) in (
             ap (λ x. joined (Ok x) (read_members spot beside (members_view left))) there_now
                 ∙ joined-joined (Ok c) (Ok (under k m)) (read_members spot beside (members_view left))
                 ∙ ap (λ r. joined (Ok c) (joined r (read_members spot beside (members_view left)))) (sym is) ∙ there,

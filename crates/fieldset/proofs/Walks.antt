@@ -1,31 +1,27 @@
 -- The members of a map's paths, put one after another.
-use Rattle.std.proofs.Common.{◌≡◌, ◌≤◌, ◌<◌, ◌||◌, String, Global, subst, arith, drop, length, Bor, ℕ, zero, suc, Bool, true, false, cond, nat_cmp, List, [], ◌∷◌, map, Some, is_some, refl, sym, ap, ap₂, ◌∙◌, true≢false, Less, Greater}
+use Rattle.std.proofs.Common.{◌≡◌, Bor, ℕ, Bool, true, false, cond, nat_cmp, List, [], ◌∷◌, Some, is_some, refl, sym, ap, ap₂, ◌∙◌, true≢false, Less, Greater}
 use Rattle.std.specs.Prelude.{Option, None, option_and_then}
 use Rattle.std.specs.Option.{option_map}
 use Rattle.std.specs.Cmp.Lexicographic.{slice_cmp}
 use Rattle.std.specs.FinMap as fin
-use Rattle.std.specs.Cmp.{Equal-is}
-use Rattle.std.specs.FinMap.{find}
-use Rattle.std.specs.Ordering.{eq_by_cmp}
-use Rattle.std.specs.List.{AllByRecursion, list_any}
+use Rattle.std.specs.List.{AllByRecursion}
 use Rattle.std.specs.Ordering.{match_ordering, ordering_reverse}
 use Rattle.std.specs.Str.{bytes_eq}
 use Rattle.std.proofs.lemmas.Cmp.{nat_list_cmp_total}
 use Rattle.std.proofs.lemmas.Map.Keys.{sorted_head, sorted_tail}
 use Rattle.serde_json.specs.Data.{Data, object, Members, no_members, member, put}
 use Rattle.fieldpath.specs.Elements.{field_name}
-use Rattle.fieldpath.specs.Paths.{PathTexts, path_cmp}
-use Rattle.pathmap.specs.Contents.{Standing, Content, dom, mark, marked}
+use Rattle.fieldpath.specs.Paths.{PathTexts}
+use Rattle.pathmap.specs.Contents.{Content, dom, mark, marked}
 use Rattle.pathmap.specs.Insides.{heads, inside}
-use Rattle.pathmap.specs.Levels.{has_path, height, is_more, longest, standing}
-use Rattle.pathmap.specs.Maps.{contents_in}
-use Rattle.pathmap.specs.Sizes.{longest_path}
+use Rattle.pathmap.specs.Levels.{has_path, standing}
 use Rattle.pathmap.specs.declared.held.Held.{Held}
-use Rattle.pathmap.proofs.Contents.{path_cmp_antisymmetric, same}
-use Rattle.pathmap.proofs.Heads.{heads-inside, itself, one_path, one_rising, rising, some_path, Rises}
+use Rattle.pathmap.proofs.Children.{insides}
+use Rattle.pathmap.proofs.Contents.{same}
+use Rattle.pathmap.proofs.Heads.{heads-inside, one_path, one_rising, rising, some_path, Rises}
 use Rattle.pathmap.proofs.Insides.{get-inside}
 use Rattle.pathmap.proofs.Order.{get-marked, is_marked}
-use Rattle.pathmap.proofs.Sets.{contains-dom, or_true}
+use Rattle.pathmap.proofs.Sets.{contains-dom}
 use Rattle.schema.specs.Shape.{atomic, set, keyed, Shape, text, whole, truth, struct_of, map_of, list_of, Fields, no_fields, field, shape_at}
 use Rattle.fieldset.specs.FieldsV1.{each, members_of, members_of_field}
 use Rattle.schema.specs.Steps.{is_leaf}
@@ -33,12 +29,6 @@ use Rattle.fieldset.specs.Below.{members_some, members_under}
 
 abbrev pub Named : Type 0
 Named = List (List ℕ × Content)
-
-pub drop_all : {X : Type 0} (n : ℕ) (xs : List X) → length xs ≤ n → drop n xs ≡ []
-drop_all zero [] h = refl
-drop_all (suc n) [] h = refl
-drop_all zero (x ∷ xs) h = absurd (omega arith)
-drop_all (suc n) (x ∷ xs) h = drop_all n xs (omega arith)
 
 -- a mark at each path of a map
 abbrev pub marks_in : Content → Content
@@ -76,61 +66,6 @@ held_marks c o is = some_marks c [] ∙ ap is_some (sym is) ∙ by_held o
     by_held : (o : Option (Bor Held)) → is_some (option_map (λ h. standing h.now) o) ≡ is_some o
     by_held None = refl
     by_held (Some h) = refl
-
--- ---- what stands inside the first elements
-
-abbrev pub insides : Content → List (List ℕ) → Named
-insides c = map (λ f. (f, inside f c))
-
-longest_bound : (q : PathTexts) (es : List (PathTexts × Standing)) → is_some (find path_cmp q es) ≡ true → suc (length q) ≤ longest es
-longest_bound q [] h = absurd (true≢false (sym h))
-longest_bound q (e ∷ es) h = by_tie (longest_bound q es) (eq_by_cmp path_cmp q e.0) refl h
-  where
-    by_tie : (is_some (find path_cmp q es) ≡ true → suc (length q) ≤ longest es) → (b : Bool) → eq_by_cmp path_cmp q e.0 ≡ b → is_some (cond b (Some e.1) (find path_cmp q es)) ≡ true → suc (length q) ≤ longest (e ∷ es)
-    by_tie later true tie is = let alike = ap length (path_cmp_antisymmetric q e.0 ((Equal-is (path_cmp q e.0)).0 tie)) in omega (arith, alike)
-    by_tie later false tie is = let le = later is in omega (arith, le)
-
--- a path of the height
-abbrev IsHighest : Content → PathTexts → Type 0
-IsHighest c q = (is_some (fin.get c q) ≡ true) × (height c ≡ suc (length q))
-
-highest : (c : Content) → has_path c ≡ true → (q : PathTexts) × IsHighest c q
-highest c has = by_list (fin.entries c) (sym (ap is_more (fin.len-entries c)) ∙ has) refl
-  where
-    by_list : (es : List (PathTexts × Standing)) → is_more (length es) ≡ true → fin.entries c ≡ es → (q : PathTexts) × IsHighest c q
-    by_list [] h is = absurd (true≢false (sym h))
-    by_list (e ∷ es) h is = let found = longest_path e es in (found.0, (ap is_some (fin.get-entries c found.0 ∙ ap (find path_cmp found.0) is) ∙ found.1.0, ap longest is ∙ found.1.1))
-
-inside_lower : (c : Content) (g : List ℕ) → has_path (inside g c) ≡ true → height (inside g c) < height c
-inside_lower c g has =
-    let top = highest (inside g c) has in
-    let le = longest_bound (g ∷ top.0) (fin.entries c) (ap is_some (sym (get-inside g c top.0 ∙ fin.get-entries c (g ∷ top.0))) ∙ top.1.0) in
-    let h = top.1.1 in
-    omega (arith, le, h)
-
-heads_lower : (c : Content) (hs : List (List ℕ)) → ((g : List ℕ) → list_any (bytes_eq g) hs ≡ true → list_any (bytes_eq g) (heads c) ≡ true) → AllByRecursion (λ n. height n.1 < height c) (insides c hs)
-heads_lower c [] h = tt
-heads_lower c (g ∷ hs) h = (
-  inside_lower c g (sym (heads-inside c g) ∙ h g (ap (λ b. b || list_any (bytes_eq g) hs) (itself g))),
-  heads_lower c hs (λ k is. h k (ap (λ b. bytes_eq k g || b) is ∙ or_true (bytes_eq k g))),
-)
-
-abbrev AreLower : ℕ → List (String Global × Content) → Type 0
-AreLower n xs = AllByRecursion (λ x. height x.1 < n) xs
-
-lower_named : (n : ℕ) (xs : List (String Global × Content)) → AllByRecursion (λ x. height x.1 < n) (contents_in xs) → AreLower n xs
-lower_named n [] h = tt
-lower_named n (x ∷ xs) h = (h.0, lower_named n xs h.1)
-
-lower_drop : (n i : ℕ) (xs : List (String Global × Content)) → AreLower n xs → AreLower n (drop i xs)
-lower_drop n zero xs h = h
-lower_drop n (suc i) [] h = tt
-lower_drop n (suc i) (x ∷ xs) h = lower_drop n i xs h.1
-
--- a child is lower than the whole
-pub child_lower : (c : Content) (xs : List (String Global × Content)) → contents_in xs ≡ insides c (heads c) → (i : ℕ) (e : String Global × Content) (left : List (String Global × Content)) → drop i xs ≡ e ∷ left → height e.1 < height c
-child_lower c xs is i e left steps =
-    (subst (AreLower (height c)) steps (lower_drop (height c) i xs (lower_named (height c) xs (subst (λ ns. AllByRecursion (λ n. height n.1 < height c) ns) (sym is) (heads_lower c (heads c) (λ g h. h)))))).0
 
 -- ---- members in order
 

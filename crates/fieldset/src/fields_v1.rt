@@ -14,20 +14,9 @@ ghost use Rattle.fieldset.specs.Below.{as_item, members_some, shape_below};
 
 use fieldpath::ElemText;
 use pathmap::PathMap;
-use schema::{ListKind, Schema};
+use schema::{ListKind, Schema, field_at};
 use serde_json::{Map, Value};
 use std::alloc::{AllocError, Global};
-
-fn field_at<'a>(fields: &'a [(String, Schema)], name: &str) -> Option<&'a Schema>
-    ensures { option_map (λ s. shape s.now) result ≡ shape_at name.now (fields_in fields.now) }
-{
-    for (known, inner) in fields {
-        if known.as_str() == name {
-            return Some(inner);
-        }
-    }
-    None
-}
 
 fn field_schema<'a>(fields: &'a [(String, Schema)], element: &ElemText) -> Option<&'a Schema>
     ensures { option_map (λ s. shape s.now) result ≡ option_and_then (λ f. shape_at f (fields_in fields.now)) (field_name (string_bytes element.now)) }

@@ -17,7 +17,7 @@ use crate::fields_v1::members;
 use crate::read::read_paths;
 use crate::write::push_members;
 use fieldpath::Path;
-use pathmap::{Held, PathMap, put_over};
+use pathmap::{Held, PathMap, put_under};
 use schema::Schema;
 use serde_json::Value;
 use std::alloc::{AllocError, Global};
@@ -98,13 +98,12 @@ impl FieldSet {
         })
     }
 
-    /// The paths of either.
-    pub fn union(&self, alloc: Global, other: &FieldSet) -> Result<FieldSet, AllocError>
-        ensures { IfOk result (λ s. s ≡ set.union self.now other.now) }
+    /// The paths of either: those that the other has alone are copied, and no others.
+    pub fn union(self, alloc: Global, other: &FieldSet) -> Result<FieldSet, AllocError>
+        ensures { IfOk result (λ s. s ≡ set.union self other.now) }
     {
-        let theirs = other.map.try_copy(alloc)?;
         Ok(FieldSet {
-            map: put_over(&self.map, alloc, theirs)?,
+            map: put_under(&other.map, alloc, self.map)?,
         })
     }
 
@@ -158,7 +157,6 @@ impl FieldSet {
     ) -> Result<(), AllocError>
         ensures { OnOk result (out.new.items ≡ out.old.items ++ compact_text (fields_v1_of (shape schema.now) self.now)) }
     {
-        out.push(b'{')?;
         push_members(&self.map, alloc, Some(schema), out)
     }
 

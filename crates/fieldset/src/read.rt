@@ -1,7 +1,5 @@
 //! Reads FieldsV1 values.
 ghost use Rattle.std.specs.Prelude.{◌≡◌, IfOk, string_bytes};
-ghost use Rattle.std.specs.List.{list_any};
-ghost use Rattle.std.specs.Str.{bytes_eq};
 ghost use Rattle.serde_json.specs.View.{members_view, view};
 ghost use Rattle.fieldpath.specs.Elements.{read_element};
 ghost use Rattle.fieldpath.specs.Elems.{element};
@@ -17,7 +15,7 @@ ghost use Rattle.fieldset.specs.Seen.{Gives, IsNamed, Reads, member_view};
 use crate::fault::FieldsV1Fault;
 use fieldpath::{Elem, ElemFault, ElemText};
 use pathmap::PathMap;
-use schema::{Schema, Spot};
+use schema::{Schema, Spot, is_key};
 use serde_json::{Map, Value};
 use std::alloc::{AllocError, Global};
 
@@ -49,24 +47,13 @@ fn is_empty(members: &Map<String, Value>) -> bool
     members.is_empty()
 }
 
-fn is_named(names: &[String], name: &str) -> bool
-    ensures { result ≡ list_any (bytes_eq name.now) (names_in names.now) }
-{
-    for known in names {
-        if name == known.as_str() {
-            return true;
-        }
-    }
-    false
-}
-
 /// Whether the element is that of a key field of the item that stands here.
 fn is_key_field(here: Spot<'_>, elem: &Elem) -> bool
     ensures { result ≡ is_key_field (spot here.entry) (element elem.now) }
 {
     match here {
         Spot::MapItem(_, names) => match elem {
-            Elem::Field(name) => is_named(names, name.as_str()),
+            Elem::Field(name) => is_key(names, name.as_str()),
             Elem::Key(_) | Elem::Value(_) => false,
         },
         Spot::Value(_) | Spot::SetItem => false,

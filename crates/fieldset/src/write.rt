@@ -1,7 +1,7 @@
 //! FieldsV1 written as text, with no value in between but for items that are in the set.
 ghost use Rattle.std.specs.Prelude.{◌≡◌, ◌++◌, false, option_map, string_bytes, OnOk};
 ghost use Rattle.serde_json.specs.Data.{Members, object};
-ghost use Rattle.serde_json.specs.Written.{compact_text, members_text};
+ghost use Rattle.serde_json.specs.Written.{compact_text};
 ghost use Rattle.pathmap.specs.Contents.{dom, marked};
 ghost use Rattle.pathmap.specs.Maps.{content};
 ghost use Rattle.schema.specs.Shape.{shape};
@@ -54,11 +54,10 @@ fn push_object(
     if has_more(schema, map.held().is_some()) {
         return push_by_value(map, alloc, schema, name, out);
     }
-    out.push(b'{')?;
     push_members(map, alloc, schema_below(schema, name), out)
 }
 
-/// Appends the members of a map's paths, under the schema that stands there, if any does, and the closing brace.
+/// Appends the object of the members of a map's paths, under the schema that stands there, if any does.
 #[cycle(write)]
 pub(crate) fn push_members(
     map: &PathMap,
@@ -66,8 +65,9 @@ pub(crate) fn push_members(
     schema: Option<&Schema>,
     out: &mut Vec<u8>,
 ) -> Result<(), AllocError>
-    ensures { OnOk result (out.new.items ≡ out.old.items ++ members_text false (members_some (option_map (λ s. shape s.now) schema.entry) (marked (dom (content map.now))))) }
+    ensures { OnOk result (out.new.items ≡ out.old.items ++ compact_text (object (members_some (option_map (λ s. shape s.now) schema.entry) (marked (dom (content map.now)))))) }
 {
+    out.push(b'{')?;
     let Some(schema) = schema else {
         return Ok(out.push(b'}')?);
     };

@@ -1,14 +1,11 @@
 -- Entries are printed again as they were read, each with the FieldsV1 value that stood there.
-use Rattle.std.proofs.Common.{◌≡◌, true, List, [], ◌∷◌, ◌++◌, map, Option, Some, None, Ordering, Less, Equal, Greater, refl, sym, ap, ap₂, ◌∙◌, append_assoc, subst}
+use Rattle.std.proofs.Common.{◌≡◌, true, List, [], ◌∷◌, ◌++◌, Option, Some, None, Ordering, Less, Equal, Greater, refl, sym, ap, ◌∙◌, append_assoc, subst}
 use Rattle.std.specs.Prelude.{codes, ℕ, option_and_then, option_map}
 use Rattle.std.specs.Ordering.{match_ordering}
-use Rattle.std.proofs.lemmas.List.{map-append}
 use Rattle.std.specs.declared.result.Result.{Result}
 use Rattle.std.specs.declared.result.Result.TheVariants.{Ok, Err}
 use Rattle.serde_json.specs.Data.{Data, null, boolean, number, string, array, object, Items, no_items, item, Members, no_members, member}
 use Rattle.serde_json.specs.Find.{get_member, as_array, as_object}
-use Rattle.serde_json.specs.View.{view}
-use Rattle.serde_json.specs.declared.value.Value.{Value}
 use Rattle.fieldpath.specs.Spelled.{IsSpelled, AreSpelled, MembersAreSpelled}
 use Rattle.fieldset.specs.BothWays.{IsInOrder, AreInOrder}
 use Rattle.fieldset.specs.FieldsV1.{fields_v1_of}
@@ -17,13 +14,10 @@ use Rattle.fieldset.proofs.Back.{back_again}
 use Rattle.pathmap.specs.Contents.{PathSet}
 use Rattle.schema.specs.Lawful.{is_type_shape}
 use Rattle.schema.specs.Shape.{Shape}
-use Rattle.objects.specs.Managers.{pair, pairs}
 use Rattle.objects.specs.Owners.{Manager}
 use Rattle.objects.specs.Parts as parts
 use Rattle.objects.specs.Parts.{entries_in, entry_in, if_ok, in_two, items_or_none, less, own_members, split}
-use Rattle.objects.specs.declared.managers.Entry.{Entry}
 use Rattle.objects.proofs.Entries.{Pairs}
-use Rattle.objects.proofs.Objects.{value_of}
 use Rattle.objects.proofs.Taken.{no_some, same_some, found_spelled, cmp, less_spelled, tied, apart}
 
 mutual

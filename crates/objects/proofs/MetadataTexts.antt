@@ -1,8 +1,6 @@
 -- The text of `metadata`, put together of its members' texts.
-use Rattle.std.proofs.Common.{◌≡◌, ℕ, Bool, true, false, ◌==◌, nat_cmp, string_cmp, List, [], ◌∷◌, length, Less, String, Global, string_bytes, refl, sym, ap, ap₂, ◌∙◌, true≢false}
+use Rattle.std.proofs.Common.{◌≡◌, ℕ, true, false, ◌==◌, string_cmp, List, [], ◌∷◌, length, Less, String, Global, string_bytes, refl, sym, ap, ap₂, ◌∙◌, true≢false}
 use Rattle.std.specs.Prelude.{codes, decimal}
-use Rattle.std.specs.BTreeMap.{IsOrdered}
-use Rattle.std.specs.Cmp.Lexicographic.{slice_cmp}
 use Rattle.std.specs.List.{AllByRecursion}
 use Rattle.std.specs.List.Sorted.{IsStrictlySortedBy}
 use Rattle.std.specs.Map.{keys_of}

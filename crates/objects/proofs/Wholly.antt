@@ -1,5 +1,5 @@
 -- The text of an object, put together of its members' texts.
-use Rattle.std.proofs.Common.{◌≡◌, ℕ, List, Option, Some, None, refl, sym, ap, ap₂, ◌∙◌, true, false}
+use Rattle.std.proofs.Common.{◌≡◌, ℕ, List, Option, Some, None, refl, sym, ap, ◌∙◌, true, false}
 use Rattle.std.specs.Prelude.{codes, option_and_then}
 use Rattle.std.proofs.lemmas.Bool.{and_parts}
 use Rattle.serde_json.specs.Data.{Data, string, object, Members, no_members, member, put}
@@ -9,7 +9,7 @@ use Rattle.fieldpath.specs.Elements.{name_text}
 use Rattle.fieldpath.specs.Scalars.{ascend}
 use Rattle.pathmap.specs.Contents.{Content}
 use Rattle.pathmap.specs.Insides.{inside}
-use Rattle.schema.specs.Lawful.{are_well_formed, depth_limit, depth_of, is_lawful, is_well_formed, names_of}
+use Rattle.schema.specs.Lawful.{are_well_formed, is_lawful, is_well_formed, names_of}
 use Rattle.schema.specs.Shape.{Shape, Fields, struct_of, shape_at}
 use Rattle.typed.specs.Printing.{object_or_none, print, print_fields}
 use Rattle.typed.specs.Texts.{Texts, object_of, put_text, texts_of}

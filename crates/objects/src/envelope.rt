@@ -1,5 +1,5 @@
 //! What stands round an object's fields, taken apart.
-ghost use Rattle.std.specs.Prelude.{◌≡◌, codes, IfOk, OnOk, option_map, option_and_then};
+ghost use Rattle.std.specs.Prelude.{◌≡◌, codes, IfOk, OnOk, option_map};
 ghost use Rattle.serde_json.specs.Find.{as_object, as_str, get_member};
 ghost use Rattle.serde_json.specs.View.{members_view, view};
 ghost use Rattle.objects.specs.Parts.{fields_of, in_two, labels_left, less, own_members, put_labels, split, text_at, version_in};

@@ -11,7 +11,7 @@ ghost use Rattle.objects.specs.ObjectText.{metadata_members, object_value};
 ghost use Rattle.objects.specs.Views.{state_of};
 
 use crate::envelope::member;
-use crate::object::{granular_fields, labels_of, members_of};
+use crate::object::{labels_of, members_of};
 use crate::owned::Owned;
 use schema::Schema;
 use serde_json::{Map, Value};
@@ -34,10 +34,14 @@ fn count_labels(metadata: &Map<String, Value>) -> usize
 
 impl Owned {
     /// The labels and annotations that are printed.
-    fn marks(&self, alloc: Global, schema: &Schema) -> Result<Map<String, Value>, AllocError>
+    fn printed_metadata(
+        &self,
+        alloc: Global,
+        schema: &Schema,
+    ) -> Result<Map<String, Value>, AllocError>
         ensures { is_lawful (shape schema.now) ≡ true → IfOk result (λ m. members_view m.entries ≡ metadata_members (print (shape schema.now) self.now.tree)) }
     {
-        match granular_fields(schema) {
+        match schema.granular_fields() {
             Some(fields) => {
                 let printed = self.tree.field_value(alloc, fields, "metadata")?;
                 Ok(members_of(alloc, printed))
@@ -53,7 +57,7 @@ impl Owned {
     pub fn label_count(&self, alloc: Global, schema: &Schema) -> Result<usize, AllocError>
         ensures { is_lawful (shape schema.now) ≡ true → IfOk result (λ n. (of : texts.Identity) (version : ℕ) → n ≡ label_count (object_value (shape schema.now) of version (state_of self.now))) }
     {
-        let marks = self.marks(alloc, schema)?;
-        Ok(count_labels(&marks))
+        let metadata = self.printed_metadata(alloc, schema)?;
+        Ok(count_labels(&metadata))
     }
 }

@@ -17,7 +17,7 @@ ghost use Rattle.objects.specs.Parts.{Gives, entries_in, entry_in, if_ok, items_
 
 use crate::envelope::{into_object, take, text_at};
 use crate::fault::ObjectFault;
-use crate::listing::push_entry_with;
+use crate::managed_text::push_entry_with;
 use crate::manager::{Manager, Operation};
 use crate::managers::{Entry, Managers};
 use fieldset::{FieldSet, FieldsV1Fault, push_comma};
@@ -111,7 +111,7 @@ fn read_entries(
         → o.1.items ≡ compact_text (array (entry_items (shape schema.now) api_version.now (pairs o.0.items)))) }
 {
     let mut entries = Vec::new(alloc);
-    let mut text = Vec::new(alloc);
+    let mut text = Vec::with_capacity(alloc, 1024)?;
     text.push(b'[')?;
     let mut later = false;
     for value in values {

@@ -71,7 +71,6 @@ impl Owned {
         put_version(&mut texts, alloc, version)?;
         put_string(&mut texts, alloc, "namespace", of.namespace)?;
         put_string(&mut texts, alloc, "name", of.name)?;
-        let text = typed::object_of(alloc, &texts)?;
-        Ok(text.into_bytes())
+        typed::object_bytes(alloc, &texts)
     }
 }

@@ -1,6 +1,6 @@
 //! An object's text, both ways: its version, its content and who owns what.
 
-ghost use Rattle.std.specs.Prelude.{◌≡◌, true, false, IfOk, IfSome, OnOk, option_map, option_and_then, string_bytes};
+ghost use Rattle.std.specs.Prelude.{◌≡◌, true, false, IfOk, OnOk, option_map, option_and_then, string_bytes};
 ghost use Rattle.std.specs.FinMap as fin;
 ghost use Rattle.serde_json.specs.Data.{array, object, put, string};
 ghost use Rattle.serde_json.specs.Find.{as_object};
@@ -13,7 +13,7 @@ ghost use Rattle.objects.specs.Managers.{pair, pairs, manager_view};
 ghost use Rattle.objects.specs.ObjectText.{entry_items, entry_value, members_or_none, members_with, metadata_members, metadata_with, object_text, object_value, put_entries, put_filled, put_manager};
 ghost use Rattle.objects.specs.Views.{identity_of, state_of};
 
-use crate::listing::managed_text;
+use crate::managed_text::entries_text;
 use crate::manager::Manager;
 use crate::managers::Entry;
 use crate::owned::Owned;
@@ -184,21 +184,6 @@ fn metadata_with(
     Ok(metadata)
 }
 
-/// The fields, if the schema is a granular struct.
-pub(crate) fn granular_fields(schema: &Schema) -> Option<&[(String, Schema)]>
-    ensures { IfSome result (λ fs. shape schema.now ≡ struct_of (fields_in fs.now) false) }
-{
-    match schema {
-        Schema::Struct(fields, is_atomic) => {
-            if *is_atomic {
-                return None;
-            }
-            Some(fields.as_slice())
-        }
-        _ => None,
-    }
-}
-
 impl Owned {
     /// The items of `managedFields`.
     fn items(
@@ -270,10 +255,10 @@ impl Owned {
         typed::put_text(&mut texts, alloc, "metadata", metadata)?;
         typed::put_string(&mut texts, alloc, "kind", of.kind)?;
         typed::put_string(&mut texts, alloc, "apiVersion", of.api_version)?;
-        typed::object_of(alloc, &texts)
+        typed::object_text(alloc, &texts)
     }
 
-    /// The object's text where its shape is no struct with fields of their own: that of its value.
+    /// The object's text under a schema that is no granular struct: that of its value.
     fn value_text(
         &self,
         alloc: Global,
@@ -301,7 +286,7 @@ impl Owned {
             → is_lawful (shape schema.now) ≡ true → IsContent (shape schema.now) self.now.tree
             → IfOk result (λ t. string_bytes t ≡ object_text (shape schema.now) (identity_of of.entry) version (state_of self.now)) }
     {
-        match granular_fields(schema) {
+        match schema.granular_fields() {
             Some(fields) => self.fields_text(alloc, fields, of, version, managed),
             None => self.value_text(alloc, schema, of, version),
         }
@@ -318,7 +303,7 @@ impl Owned {
         ensures { is_lawful (shape schema.now) ≡ true → IsContent (shape schema.now) self.now.tree
             → IfOk result (λ t. string_bytes t ≡ object_text (shape schema.now) (identity_of of.entry) version (state_of self.now)) }
     {
-        let managed = managed_text(alloc, schema, of.api_version, self.managers.entries())?;
+        let managed = entries_text(alloc, schema, of.api_version, self.managers.entries())?;
         self.text_with(alloc, schema, of, version, managed)
     }
 }

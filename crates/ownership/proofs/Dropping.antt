@@ -1,5 +1,5 @@
 -- What an apply drops.
-use Rattle.std.proofs.Common.{◌≡◌, Bool, false, not, ◌&&◌, List, Some, None, sym, ap, ap₂, ◌∙◌}
+use Rattle.std.proofs.Common.{◌≡◌, Bool, true, false, not, ◌&&◌, List, Some, None, refl, sym, ap, ap₂, ◌∙◌}
 use Rattle.std.specs.FinMap as fin
 use Rattle.std.specs.FinSet as set
 use Rattle.std.specs.Option.{unwrap_or}
@@ -7,6 +7,7 @@ use Rattle.fieldpath.specs.Paths.{path_cmp}
 use Rattle.pathmap.specs.Contents.{Content, PathSet, dom, over}
 use Rattle.pathmap.specs.Beside.{has_at_or_below, clear_of, changed, without}
 use Rattle.pathmap.proofs.Contents.{path_cmp_total, path_cmp_antisymmetric}
+use Rattle.pathmap.proofs.Sets.{same_paths}
 use Rattle.objects.specs.Owners.{Manager, Owners, owned_by, others, taken_over}
 use Rattle.objects.specs.State.{State}
 use Rattle.ownership.specs.Apply.{Conflict, conflicts_with, conflicts, all_paths, dropped, applied}
@@ -28,6 +29,17 @@ module _ (live : State) (body : Content) (m : Manager) where
   pub dropped_none : fin.get live.owners m ≡ None → dropped live body m ≡ set.empty
   unfolding dropped owned_by
   dropped_none is = ap (λ o. clear_of (unwrap_or o set.empty) (all_paths (dom body) (others live.owners m))) is ∙ clear_of-empty _
+
+-- the paths that two sets have both, whichever of them is walked
+pub intersection-turned : (s t : PathSet) → set.intersection s t ≡ set.intersection t s
+intersection-turned s t = same_paths (set.intersection s t) (set.intersection t s) (λ q.
+    set.contains-intersection path_cmp_total s t q ∙ and_turned (set.contains s q) (set.contains t q) ∙ sym (set.contains-intersection path_cmp_total t s q))
+  where
+    and_turned : (a b : Bool) → (a && b) ≡ (b && a)
+    and_turned true true = refl
+    and_turned true false = refl
+    and_turned false true = refl
+    and_turned false false = refl
 
 -- ---- an apply, from what its steps gave
 module _ (live : State) (body : Content) (m : Manager) (changes : PathSet) (is : changes ≡ changed body live.content) where

@@ -7,7 +7,6 @@
 
 mod applying;
 mod conflict;
-mod others;
 mod outcome;
 mod same;
 mod updating;

@@ -2,7 +2,7 @@
 
 ghost use Rattle.std.specs.Prelude.{◌≡◌, IfOk};
 ghost use Rattle.std.specs.FinSet as set;
-ghost use Rattle.objects.specs.Owners.{WroteByNone, manager_of, owned_by, update_operation};
+ghost use Rattle.objects.specs.Owners.{WroteByNone, manager_of, owned_by, taken_over, update_operation};
 ghost use Rattle.schema.specs.Shape.{Shape};
 ghost use Rattle.typed.specs.Fitting.{IsContent};
 ghost use Rattle.objects.specs.Placed.{IsPlacedState, OwnedStand};
@@ -20,7 +20,7 @@ use typed::Tree;
 fn removed(alloc: Global, live: &Tree, new: &Tree) -> Result<FieldSet, AllocError>
     ensures { IfOk result (λ s. s ≡ removed live.now new.now) }
 {
-    live.paths(alloc)?.minus(alloc, &new.paths(alloc)?)
+    new.lacking(alloc, &live.paths(alloc)?)
 }
 
 /// What the manager owned and is not gone, and what it changed.
@@ -39,6 +39,21 @@ fn owned_then(
     }
 }
 
+/// Who owns what after a manager changed some paths and left others out.
+fn owners_then(
+    managers: &Managers,
+    alloc: Global,
+    manager: Manager,
+    changed: FieldSet,
+    gone: &FieldSet,
+) -> Result<Managers, AllocError>
+    ensures { IfOk result (λ w. w ≡ taken_over managers.now (manager_view manager) (set.union changed gone.now) (set.union (set.difference (owned_by managers.now (manager_view manager)) gone.now) changed)) }
+{
+    let owned = owned_then(managers, alloc, &manager, gone, &changed)?;
+    let lost = changed.union(alloc, gone)?;
+    managers.taken_over(alloc, manager, &lost, owned)
+}
+
 /// Replaces the content (Server-Side Apply, "Field management"): `live` is the object before, empty where there is none,
 /// `manager` the name of who updates, `new` the whole content. Who updates owns what it changed, and keeps what it owned
 /// and still stands; the others lose what was changed or went. An update has no conflict.
@@ -52,9 +67,7 @@ pub fn update(alloc: Global, live: &Owned, manager: &str, new: Tree) -> Result<O
     let manager = Manager::new(alloc, manager, Operation::Update)?;
     let changed = new.changed_from(alloc, &live.tree)?;
     let gone = removed(alloc, &live.tree, &new)?;
-    let lost = changed.union(alloc, &gone)?;
-    let owned = owned_then(&live.managers, alloc, &manager, &gone, &changed)?;
-    let managers = live.managers.taken_over(alloc, manager, &lost, owned)?;
+    let managers = owners_then(&live.managers, alloc, manager, changed, &gone)?;
     Ok(Owned {
         tree: new,
         managers,

@@ -1,78 +1,52 @@
 -- One child more among those that ascend.
-use Rattle.std.proofs.Common.{◌≡◌, ℕ, Bool, true, false, cond, not, is_lt, nat_cmp, List, [], ◌∷◌, ◌++◌, Option, Some, None, is_some, Ok, Err, IfOk, OnErr, refl, sym, subst, ap, ap₂, ◌∙◌, true≢false, IsTrue, ◌↔◌}
-use Rattle.std.specs.Cmp.Lexicographic.{slice_cmp}
+use Rattle.std.proofs.Common.{◌≡◌, ℕ, Bool, true, false, cond, not, List, ◌∷◌, [], Option, Some, None, is_some, Ok, Err, IfOk, OnErr, refl, sym, subst, ap, ap₂, ◌∙◌, true≢false, IsTrue, ◌↔◌}
 use Rattle.std.specs.FinMap as fin
-use Rattle.std.specs.List.Sorted.{IsStrictlySortedBy}
 use Rattle.std.specs.Str.{bytes_eq}
 use Rattle.std.specs.declared.alloc.AllocError.{AllocError}
 use Rattle.std.specs.declared.result.Result.{Result}
+use Rattle.std.proofs.lemmas.Map.Text.{is_eq-slice_cmp}
+use Rattle.std.proofs.lemmas.Slice.Eq.{bytes_eq-Decides}
 use Rattle.fieldpath.specs.Paths.{PathTexts}
 use Rattle.pathmap.specs.Contents.{Content, gather, here, mark, nothing, over, under}
 use Rattle.pathmap.specs.Insides.{inside}
-use Rattle.pathmap.specs.Levels.{at_top, AreChildren, AreFull, IsRising, child_of, has_path}
+use Rattle.pathmap.specs.Levels.{at_top, AreChildren, IsRising, child_of, has_path}
 use Rattle.pathmap.specs.Maps.{content_or_nothing}
-use Rattle.pathmap.specs.Merged.{back_of, front_of, join_on, left_of, merged, under_it}
+use Rattle.pathmap.specs.Puts.{put_in}
 use Rattle.pathmap.specs.declared.held.Held.{Held}
-use Rattle.pathmap.proofs.Children.{inside-level}
-use Rattle.pathmap.proofs.Contents.{either, get-over, over-nothing, over-over, same}
+use Rattle.pathmap.proofs.Children.{child_full, inside-level, turned}
+use Rattle.pathmap.proofs.Contents.{either, either-None, get-nothing, get-over, get-under, get-under-top, over-nothing, over-over, same}
 use Rattle.pathmap.proofs.Heads.{no_path}
-use Rattle.pathmap.proofs.Levels.{get-here-top, get-level-gather, nothing_path, under-nothing}
-use Rattle.pathmap.proofs.Merging.{gather-merged-under, under_children}
+use Rattle.pathmap.proofs.Levels.{get-child, get-gather-top, get-here-top, get-level-gather, nothing_path, under-nothing}
+use Rattle.pathmap.proofs.Putting.{child-put, put_children}
 
 abbrev Named : Type 0
 Named = List (List ℕ × Content)
 
-rising_one : (f : List ℕ) (c : Content) → IsRising ((f, c) ∷ [])
-unfolding IsStrictlySortedBy
-rising_one f c = (tt, tt)
-
--- no one from there on has a name that none has
-none_back : (f : List ℕ) (c : Content) (cs : Named) → child_of f cs ≡ None → (join_on under_it f c (back_of f cs) ≡ c) × (left_of f (back_of f cs) ≡ back_of f cs)
-none_back f c [] none = (refl, refl)
-none_back f c (x ∷ xs) none = by_name (none_back f c xs) (bytes_eq x.0 f) refl none
+-- a child put under a name that none has
+gather-put : (f : List ℕ) (c : Content) (cs : Named) → AreChildren cs → has_path c ≡ true → child_of f cs ≡ None → gather (put_in f c cs) ≡ over (gather cs) (under f c)
+gather-put f c cs kept full none = same (gather (put_in f c cs)) (over (gather cs) (under f c)) by_path
   where
-    by_order : (join_on under_it f c (back_of f xs) ≡ c) × (left_of f (back_of f xs) ≡ back_of f xs) → bytes_eq x.0 f ≡ false → (t : Bool)
-        → (join_on under_it f c (cond t (back_of f xs) (x ∷ xs)) ≡ c) × (left_of f (cond t (back_of f xs) (x ∷ xs)) ≡ cond t (back_of f xs) (x ∷ xs))
-    by_order later other true = later
-    by_order later other false = (ap (λ b. cond b (under_it c x.1) c) other, ap (λ b. cond b xs (x ∷ xs)) other)
+    by_name : (g : List ℕ) (q : PathTexts) (b : Bool) → bytes_eq f g ≡ b
+        → fin.get (content_or_nothing (cond b (Some c) (child_of g cs))) q ≡ either (fin.get (content_or_nothing (child_of g cs)) q) (cond (bytes_eq g f) (fin.get c q) None)
+    by_name g q true is =
+        sym (ap₂ (λ o b. either (fin.get (content_or_nothing o) q) (cond b (fin.get c q) None)) (ap (λ k. child_of k cs) (sym ((bytes_eq-Decides f g).0 is)) ∙ none) (turned f g true is)
+        ∙ ap (λ o. either o (fin.get c q)) (get-nothing q))
+    by_name g q false is =
+        sym (ap (λ b. either (fin.get (content_or_nothing (child_of g cs)) q) (cond b (fin.get c q) None)) (turned f g false is) ∙ either-None (fin.get (content_or_nothing (child_of g cs)) q))
 
-    by_name : (child_of f xs ≡ None → (join_on under_it f c (back_of f xs) ≡ c) × (left_of f (back_of f xs) ≡ back_of f xs)) → (b : Bool) → bytes_eq x.0 f ≡ b → cond b (Some x.1) (child_of f xs) ≡ None
-        → (join_on under_it f c (back_of f (x ∷ xs)) ≡ c) × (left_of f (back_of f (x ∷ xs)) ≡ back_of f (x ∷ xs))
-    by_name later true is h = absurd (true≢false (ap is_some h))
-    by_name later false is h = by_order (later h) is (is_lt (slice_cmp nat_cmp x.0 f))
+    by_path : (q : PathTexts) → fin.get (gather (put_in f c cs)) q ≡ fin.get (over (gather cs) (under f c)) q
+    by_path [] = get-gather-top (put_in f c cs) ∙ sym (get-over (gather cs) (under f c) [] ∙ ap₂ either (get-gather-top cs) (get-under-top f c))
+    by_path (g ∷ q) =
+        get-child g (put_in f c cs) (put_children f c cs full kept).0 q ∙ ap (λ o. fin.get (content_or_nothing o) q) (child-put f g c cs kept.0) ∙ by_name g q (bytes_eq f g) refl
+        ∙ sym (get-over (gather cs) (under f c) (g ∷ q) ∙ ap₂ either (get-child g cs kept.0 q) (get-under f c g q ∙ ap (λ b. cond b (fin.get c q) None) (is_eq-slice_cmp g f)))
 
-module _ (f : List ℕ) (c : Content) (cs new : Named) (kept : AreChildren cs) (none : child_of f cs ≡ None) (full : has_path c ≡ true) (put : new ≡ front_of f cs ++ (f, c) ∷ back_of f cs) where
-  as_merged : new ≡ merged under_it ((f, c) ∷ []) cs
-  as_merged =
-      let free = none_back f c cs none in
-      put ∙ ap₂ (λ m l. front_of f cs ++ (let first : List ℕ × Content = (f, m) in first ∷ l)) (sym free.0) (sym free.1)
+level-put : (h : Option Held) (f : List ℕ) (c : Content) (cs : Named) → AreChildren cs → has_path c ≡ true → child_of f cs ≡ None
+    → over (at_top h) (gather (put_in f c cs)) ≡ over (over (at_top h) (gather cs)) (under f c)
+level-put h f c cs kept full none = ap (over (at_top h)) (gather-put f c cs kept full none) ∙ sym (over-over (at_top h) (gather cs) (under f c))
 
-  one : AreChildren ((f, c) ∷ [])
-  one = (rising_one f c, (full, tt))
-
-  gather-added : gather new ≡ over (gather cs) (under f c)
-  gather-added = ap gather as_merged ∙ gather-merged-under ((f, c) ∷ []) cs one kept ∙ ap (over (gather cs)) (over-nothing (under f c))
-
-  pub added_children : AreChildren new
-  added_children = subst AreChildren (sym as_merged) (under_children ((f, c) ∷ []) cs one kept)
-
-  pub level-added : (h : Option Held) → over (at_top h) (gather new) ≡ over (over (at_top h) (gather cs)) (under f c)
-  level-added h = ap (over (at_top h)) gather-added ∙ sym (over-over (at_top h) (gather cs) (under f c))
-
-child_full : (f : List ℕ) (cs : Named) → AreFull cs → is_some (child_of f cs) ≡ true → has_path (content_or_nothing (child_of f cs)) ≡ true
-child_full f [] full is = absurd (true≢false (sym is))
-child_full f (c ∷ cs) full is = by_test (child_full f cs full.1) (bytes_eq c.0 f) is
-  where
-    by_test : (is_some (child_of f cs) ≡ true → has_path (content_or_nothing (child_of f cs)) ≡ true) → (b : Bool) → is_some (cond b (Some c.1) (child_of f cs)) ≡ true → has_path (content_or_nothing (cond b (Some c.1) (child_of f cs))) ≡ true
-    by_test later true h = full.0
-    by_test later false h = later h
-
-module _ (h : Option Held) (cs : Named) (kept : AreChildren cs) (f : List ℕ) where
-  pub none_inside : child_of f cs ≡ None → inside f (over (at_top h) (gather cs)) ≡ nothing
-  none_inside none = inside-level h cs kept f ∙ ap content_or_nothing none
-
-  pub some_inside : is_some (child_of f cs) ≡ true → has_path (inside f (over (at_top h) (gather cs))) ≡ true
-  some_inside some = ap has_path (inside-level h cs kept f) ∙ child_full f cs kept.1 some
+-- a child is there exactly if something stands inside its name
+pub inside_there : (h : Option Held) (cs : Named) → AreChildren cs → (f : List ℕ) → is_some (child_of f cs) ≡ has_path (inside f (over (at_top h) (gather cs)))
+inside_there h cs kept f = child_full f cs kept.1 ∙ sym (ap has_path (inside-level h cs kept f))
 
 -- ---- a map that may have no path
 
@@ -84,8 +58,9 @@ bare_path false c is = by_test (has_path c) refl
     by_test true h = sym h
     by_test false h = absurd (true≢false (sym (is.1 (no_path c h))))
 
-pub nothing_put : (c d : Content) (f : List ℕ) → d ≡ nothing → c ≡ over c (under f d)
-nothing_put c d f none = sym (ap (λ x. over c (under f x)) none ∙ ap (over c) (under-nothing f) ∙ over-nothing c)
+pub nothing_put : (b : Bool) (c d : Content) (f : List ℕ) → d ≡ nothing → c ≡ cond b (over c (under f d)) c
+nothing_put true c d f none = sym (ap (λ x. over c (under f x)) none ∙ ap (over c) (under-nothing f) ∙ over-nothing c)
+nothing_put false c d f none = refl
 
 -- ---- a mark at the empty path
 
@@ -101,17 +76,27 @@ mark_put h cs = same (over (here mark) (gather cs)) (over (here mark) (over (at_
 
 -- ---- after a call that puts it unless one has its name
 
-module _ (f : List ℕ) (m : Content) (cs new : Named) (kept : AreChildren cs) (full : has_path m ≡ true) where
-  pub children_after : (r : Result Bool AllocError) → IfOk r (λ b. b ≡ true → IsRising cs → child_of f cs ≡ None) → IfOk r (λ b. b ≡ true → IsRising cs → new ≡ front_of f cs ++ (f, m) ∷ back_of f cs)
-      → IfOk r (λ b. b ≡ false → new ≡ cs) → OnErr r (new ≡ cs) → AreChildren new
-  children_after (Ok true) absent put stays err = added_children f m cs new kept (absent refl kept.0) full (put refl kept.0)
-  children_after (Ok false) absent put stays err = subst AreChildren (sym (stays refl)) kept
-  children_after (Err e) absent put stays err = subst AreChildren (sym err) kept
+none_there : (o : Option Content) → true ≡ not (is_some o) → o ≡ None
+none_there None is = refl
+none_there (Some c) is = absurd (true≢false is)
 
-  pub level_after : (h : Option Held) (r : Result Bool AllocError) → IfOk r (λ b. b ≡ true → IsRising cs → child_of f cs ≡ None) → IfOk r (λ b. b ≡ true → IsRising cs → new ≡ front_of f cs ++ (f, m) ∷ back_of f cs)
-      → IfOk r (λ b. b ≡ true → over (at_top h) (gather new) ≡ over (over (at_top h) (gather cs)) (under f m))
-  level_after h (Ok b) absent put = λ is. level-added f m cs new kept (absent is kept.0) full (put is kept.0) h
-  level_after h (Err e) absent put = tt
+-- what such a call says of children that rise
+abbrev pub Added : Result Bool AllocError → List ℕ → Named → Type 0
+Added r f cs = IfOk r (λ b. IsRising cs → b ≡ not (is_some (child_of f cs)))
+
+abbrev pub Put : Result Bool AllocError → List ℕ → Content → Named → Named → Type 0
+Put r f m cs new = IfOk r (λ b. IsRising cs → new ≡ cond b (put_in f m cs) cs)
+
+module _ (f : List ℕ) (m : Content) (cs new : Named) (kept : AreChildren cs) (full : has_path m ≡ true) where
+  pub children_after : (r : Result Bool AllocError) → Put r f m cs new → OnErr r (new ≡ cs) → AreChildren new
+  children_after (Ok true) put err = subst AreChildren (sym (put kept.0)) (put_children f m cs full kept)
+  children_after (Ok false) put err = subst AreChildren (sym (put kept.0)) kept
+  children_after (Err e) put err = subst AreChildren (sym err) kept
+
+  pub level_after : (h : Option Held) (r : Result Bool AllocError) → Added r f cs → Put r f m cs new → IfOk r (λ b. over (at_top h) (gather new) ≡ cond b (over (over (at_top h) (gather cs)) (under f m)) (over (at_top h) (gather cs)))
+  level_after h (Ok true) added put = ap (λ l. over (at_top h) (gather l)) (put kept.0) ∙ level-put h f m cs kept full (none_there (child_of f cs) (added kept.0))
+  level_after h (Ok false) added put = ap (λ l. over (at_top h) (gather l)) (put kept.0)
+  level_after h (Err e) added put = tt
 
 pub if_ok : {A : Type 0} (P Q : A → Type 0) → ((x : A) → P x → Q x) → (r : Result A AllocError) → IfOk r P → IfOk r Q
 if_ok P Q more (Ok x) p = more x p

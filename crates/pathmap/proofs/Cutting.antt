@@ -1,5 +1,5 @@
 -- A content without the paths at or below those of a set, level by level.
-use Rattle.std.proofs.Common.{◌≡◌, ℕ, zero, suc, ◌+◌, ◌<◌, ◌≤◌, length, get_or, arith, Bool, true, false, cond, not, ◌||◌, filter, nat_cmp, List, [], ◌∷◌, map, Option, Some, None, is_some, String, Global, string_bytes, refl, sym, ap, ap₂, subst, ◌∙◌, true≢false}
+use Rattle.std.proofs.Common.{◌≡◌, ℕ, zero, suc, ◌+◌, ◌≤◌, get_or, arith, Bool, true, false, cond, not, ◌||◌, filter, nat_cmp, List, [], ◌∷◌, map, Option, Some, None, is_some, String, Global, string_bytes, refl, sym, ap, ap₂, subst, ◌∙◌, true≢false}
 use Rattle.std.specs.Cmp.Lexicographic.{slice_cmp}
 use Rattle.std.specs.FinMap as fin
 use Rattle.std.specs.List.Sorted.{IsStrictlySortedBy}
@@ -17,7 +17,7 @@ use Rattle.pathmap.specs.declared.held.Held.{Held}
 use Rattle.pathmap.proofs.Contents.{same, get-nothing, nothing-over}
 use Rattle.pathmap.proofs.Heads.{no_path}
 use Rattle.pathmap.proofs.Levels.{get-child, get-gather-top, get-level-gather, get-level-top, nothing_path}
-use Rattle.pathmap.proofs.Merging.{Above, child_above}
+use Rattle.pathmap.proofs.Merging.{Above, child_above, rising_more}
 use Rattle.pathmap.proofs.Sets.{get-without, has_above-at, has_above-top, passes_one, passes_some}
 
 abbrev Named : Type 0
@@ -142,10 +142,6 @@ above_full k (c ∷ cs) above = by_path (above_full k cs above.1) (has_path c.1)
     by_path later true = (above.0, later)
     by_path later false = later
 
-rising_more : (c : List ℕ × Content) (cs : Named) → Above c.0 cs → IsRising cs → IsRising (c ∷ cs)
-unfolding IsStrictlySortedBy
-rising_more c cs above rises = (above, rises)
-
 full_rises : (cs : Named) → IsRising cs → IsRising (full_in cs)
 full_rises [] rises = rises
 full_rises (c ∷ cs) rises = by_path (full_rises cs (sorted_tail (slice_cmp nat_cmp) c.0 (names_of cs) rises)) (has_path c.1)
@@ -216,7 +212,7 @@ filter-full (x ∷ xs) = by_path (filter-full xs) (has_path x.1)
 
 -- ---- one place of the vector
 
-abbrev number : Option ℕ → ℕ
+abbrev pub number : Option ℕ → ℕ
 number None = 0
 number (Some n) = n
 
@@ -227,14 +223,6 @@ index_high k f (c ∷ cs) p e = by_name (index_high (k + 1) f cs p) (bytes_eq c.
     by_name : (index_from (k + 1) f cs ≡ Some p → k + 1 ≤ p) → (b : Bool) → cond b (Some k) (index_from (k + 1) f cs) ≡ Some p → k ≤ p
     by_name later true h = let is = ap number h in omega (arith, is)
     by_name later false h = let le = later h in omega (arith, le)
-
-pub index_within : (k : ℕ) (f : List ℕ) (xs : List (String Global × Content)) (p : ℕ) → index_from k f (contents_in xs) ≡ Some p → p < k + length xs
-index_within k f [] p e = absurd (true≢false (ap is_some (sym e)))
-index_within k f (x ∷ xs) p e = by_name (index_within (k + 1) f xs p) (bytes_eq (string_bytes x.0) f) e
-  where
-    by_name : (index_from (k + 1) f (contents_in xs) ≡ Some p → p < k + 1 + length xs) → (b : Bool) → cond b (Some k) (index_from (k + 1) f (contents_in xs)) ≡ Some p → p < k + length (x ∷ xs)
-    by_name later true h = let is = ap number h in omega (arith, is)
-    by_name later false h = let lt = later h in omega (arith, lt)
 
 -- where no one has the name
 pub uncut : (k : ℕ) (f : List ℕ) (s : Content) (cs : Named) → index_from k f cs ≡ None → cut_at f s cs ≡ cs

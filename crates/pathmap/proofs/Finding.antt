@@ -1,5 +1,5 @@
 -- What stands at a path, and below it.
-use Rattle.std.proofs.Common.{◌≡◌, ℕ, suc, ◌<◌, ◌+◌, List, [], ◌∷◌, ◌++◌, length, map, drop, get_or, drop-cons, add-one, Option, Some, None, String, Global, Bor, string_bytes, sym, ap, ◌∙◌}
+use Rattle.std.proofs.Common.{◌≡◌, ℕ, suc, ◌<◌, ◌+◌, true, List, [], ◌∷◌, ◌++◌, length, map, drop, get_or, drop-cons, add-one, Option, Some, None, is_some, IfSome, String, Global, Bor, string_bytes, sym, ap, ◌∙◌}
 use Rattle.std.specs.Option.{option_map}
 use Rattle.std.specs.FinMap as fin
 use Rattle.std.proofs.lemmas.List.{append-nil}
@@ -7,10 +7,13 @@ use Rattle.fieldpath.specs.Paths.{PathTexts}
 use Rattle.pathmap.specs.Beside.{has_at_or_below}
 use Rattle.pathmap.specs.Contents.{Content, dom}
 use Rattle.pathmap.specs.Insides.{inside}
-use Rattle.pathmap.specs.Levels.{standing}
+use Rattle.pathmap.specs.Levels.{has_path, standing}
+use Rattle.pathmap.specs.Maps.{content, content_or_nothing}
 use Rattle.pathmap.specs.declared.held.Held.{Held}
+use Rattle.pathmap.specs.declared.pathmap.PathMap.{PathMap}
 use Rattle.pathmap.proofs.Contents.{same}
 use Rattle.pathmap.proofs.Insides.{get-inside}
+use Rattle.pathmap.proofs.Levels.{nothing_path}
 use Rattle.pathmap.proofs.Sets.{has_below-at}
 
 -- d is what stands in c at and below p
@@ -30,3 +33,15 @@ has_at (g ∷ p) c d at = has_below-at g c (inside g c) (get-inside g c) p ∙ h
 pub held-map : (h : Option (Bor Held)) (m : Option Held) → option_map (λ x. x.now) h ≡ m → option_map (λ x. standing x.now) h ≡ option_map standing m
 held-map None m is = ap (option_map standing) is
 held-map (Some h) m is = ap (option_map standing) is
+
+-- ---- a child that has a path
+
+-- the one found has a path, as each of them has
+pub full_found : (o : Option (Bor PathMap)) (c : Option Content) → option_map (λ m. content m.now) o ≡ c → is_some c ≡ has_path (content_or_nothing c) → IfSome o (λ m. has_path (content m.now) ≡ true)
+full_found None c is full = tt
+full_found (Some m) c is full = ap (λ o. has_path (content_or_nothing o)) is ∙ sym full ∙ ap is_some (sym is)
+
+-- one is found exactly if there is a path
+pub full_there : (o : Option (Bor PathMap)) → IfSome o (λ m. has_path (content m.now) ≡ true) → is_some o ≡ has_path (content_or_nothing (option_map (λ m. m.now) o))
+full_there None full = sym nothing_path
+full_there (Some m) full = sym full

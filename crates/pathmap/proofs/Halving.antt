@@ -15,8 +15,7 @@ use Rattle.pathmap.specs.Cuts.{index_from}
 use Rattle.pathmap.specs.Levels.{IsRising}
 use Rattle.pathmap.specs.Maps.{contents_in}
 use Rattle.pathmap.specs.Merged.{front_of}
-use Rattle.pathmap.proofs.Merging.{Above}
-use Rattle.pathmap.proofs.Trees.{ties}
+use Rattle.pathmap.proofs.Merging.{Above, after_all, equal_is, less_is}
 
 abbrev Named : Type 0
 Named = List (List ℕ × Content)
@@ -33,11 +32,6 @@ above_at : (g : List ℕ) (xs : List (String Global × Content)) (i : ℕ) (d : 
 above_at g [] i d above lt = absurd (omega (arith, lt))
 above_at g (x ∷ xs) zero d above lt = above.0
 above_at g (x ∷ xs) (suc i) d above lt = above_at g xs i d above.1 (omega (arith, lt))
-
-less_is : (o : Ordering) → is_lt o ≡ true → o ≡ Less
-less_is Less e = refl
-less_is Equal e = absurd (true≢false (sym e))
-less_is Greater e = absurd (true≢false (sym e))
 
 -- a name below this one, and all before it
 pub before : (f : List ℕ) (xs : List (String Global × Content)) (i : ℕ) (d : String Global × Content) → IsRising (contents_in xs) → i < length xs → less f (get_or xs i d) ≡ true → i < length (front_of f (contents_in xs))
@@ -109,17 +103,10 @@ unlike : (f g : List ℕ) → is_eq (cmp f g) ≡ false → (b : Bool) → bytes
 unlike f g other false is = refl
 unlike f g other true is = absurd (true≢false (ap is_eq (sym (tied_itself nat_list_cmp_total f) ∙ ap (cmp f) ((bytes_eq-Decides f g).0 is)) ∙ other))
 
-alike : (f g : List ℕ) → cmp f g ≡ Equal → bytes_eq f g ≡ true
-alike f g e = (bytes_eq-Decides f g).1 (ties f g (ap is_eq e))
-
 none_above : (k : ℕ) (f : List ℕ) (cs : Named) → Above f cs → index_from k f cs ≡ None
 none_above k f [] above = refl
 none_above k f (c ∷ cs) above =
     ap (λ b. cond b (Some k) (index_from (k + 1) f cs)) (unlike c.0 f (ap is_eq (nat_list_cmp_total.antisymm c.0 f ∙ ap ordering_reverse above.0)) (bytes_eq c.0 f) refl) ∙ none_above (k + 1) f cs above.1
-
-above_all : (y f : List ℕ) (cs : Named) → cmp y f ≡ Less → Above f cs → Above y cs
-above_all y f [] lt h = tt
-above_all y f (c ∷ cs) lt h = (nat_list_cmp_total.trans y f c.0 lt h.0, above_all y f cs lt h.1)
 
 -- the name at that place decides
 pub at_front : (k : ℕ) (f : List ℕ) (xs : List (String Global × Content)) (n : ℕ) (e : String Global × Content) → IsRising (contents_in xs) → n ≡ length (front_of f (contents_in xs)) → n < length xs → e ≡ get_or xs n e
@@ -157,10 +144,10 @@ at_front k f (x ∷ xs) n e rises at lt is =
           where
             further : k + 1 + m ≡ k + suc m
             further = omega arith
-    by_order more_of Equal tied = first true (ap is_lt tied) (alike (string_bytes x.0) f tied) refl
+    by_order more_of Equal tied = first true (ap is_lt tied) (equal_is (string_bytes x.0) f tied) refl
     by_order more_of Greater more =
         first false (ap is_lt more) (unlike (string_bytes x.0) f (ap is_eq more) (bytes_eq (string_bytes x.0) f) refl)
-        (none_above (k + 1) f (contents_in xs) (above_all f (string_bytes x.0) (contents_in xs) (nat_list_cmp_total.antisymm f (string_bytes x.0) ∙ ap ordering_reverse more) rest))
+        (none_above (k + 1) f (contents_in xs) (after_all f (string_bytes x.0) (contents_in xs) (nat_list_cmp_total.antisymm f (string_bytes x.0) ∙ ap ordering_reverse more) rest))
 
 -- behind all
 pub past_front : (k : ℕ) (f : List ℕ) (xs : List (String Global × Content)) → IsRising (contents_in xs) → length xs ≤ length (front_of f (contents_in xs)) → index_from k f (contents_in xs) ≡ None

@@ -1,5 +1,5 @@
 -- The first elements of a content: which they are, and that they ascend.
-use Rattle.std.proofs.Common.{◌≡◌, ℕ, zero, suc, Bool, true, false, cond, ◌||◌, is_eq, nat_cmp, Ordering, Less, Equal, Greater, List, [], ◌∷◌, Some, is_some, refl, sym, ap, ap₂, ◌∙◌, true≢false}
+use Rattle.std.proofs.Common.{◌≡◌, ℕ, Bool, true, false, cond, ◌||◌, is_eq, nat_cmp, Ordering, Less, Equal, Greater, List, [], ◌∷◌, Some, is_some, refl, sym, ap, ap₂, ◌∙◌, true≢false}
 use Rattle.std.specs.Prelude.{T, ◌&&◌}
 use Rattle.std.specs.Cmp.{tied_itself}
 use Rattle.std.specs.Cmp.Lexicographic.{slice_cmp}
@@ -17,12 +17,13 @@ use Rattle.fieldpath.specs.Paths.{PathTexts, path_cmp}
 use Rattle.pathmap.specs.Beside.{is_front, has_at_or_below}
 use Rattle.pathmap.specs.Contents.{Standing, Content, nothing, dom}
 use Rattle.pathmap.specs.Insides.{tails, inside, heads_of, heads}
-use Rattle.pathmap.specs.Levels.{is_more, has_path}
+use Rattle.pathmap.specs.Levels.{has_path}
 use Rattle.pathmap.proofs.Contents.{path_cmp_total, same, get-nothing}
 use Rattle.pathmap.proofs.Insides.{get-inside}
 use Rattle.pathmap.proofs.Levels.{nothing_path}
 use Rattle.pathmap.proofs.Sets.{has_none, passes_some}
 use Rattle.pathmap.proofs.Trees.{ties}
+pub use Rattle.pathmap.specs.Sizes.{no_path}
 
 abbrev Entries : Type 0
 Entries = List (PathTexts × Standing)
@@ -31,13 +32,6 @@ pub inside-nothing : (f : List ℕ) → inside f nothing ≡ nothing
 inside-nothing f = same (inside f nothing) nothing (λ q. get-inside f nothing q ∙ get-nothing (f ∷ q) ∙ sym (get-nothing q))
 
 -- ---- contents that have a path
-
-zero_of : (n : ℕ) → is_more n ≡ false → n ≡ 0
-zero_of zero e = refl
-zero_of (suc n) e = absurd (true≢false e)
-
-pub no_path : (c : Content) → has_path c ≡ false → c ≡ nothing
-no_path c e = fin.empty_of_len c (zero_of (fin.len c) e)
 
 abbrev is_cons : Entries → Bool
 is_cons [] = false
@@ -96,11 +90,11 @@ heads-inside c g = heads_has g (fin.entries c) ∙ cons_path (tails g (fin.entri
 
 -- ---- their order
 
-first : (a b : Bool) → T (a && b) → T a
+pub first : (a b : Bool) → T (a && b) → T a
 first true b p = tt
 first false b p = p
 
-second : (a b : Bool) → T (a && b) → T b
+pub second : (a b : Bool) → T (a && b) → T b
 second true b p = p
 second false b p = absurd p
 

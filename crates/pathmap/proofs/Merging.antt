@@ -11,11 +11,12 @@ use Rattle.std.proofs.lemmas.Cmp.{nat_list_cmp_total}
 use Rattle.std.proofs.lemmas.Map.Keys.{sorted_head, sorted_tail}
 use Rattle.std.proofs.lemmas.Slice.Eq.{bytes_eq-Decides}
 use Rattle.fieldpath.specs.Paths.{PathTexts}
-use Rattle.pathmap.specs.Contents.{Standing, Content, over, gather}
+use Rattle.pathmap.specs.Contents.{Content, over, gather}
 use Rattle.pathmap.specs.Levels.{has_path, IsRising, AreFull, AreChildren, child_of}
 use Rattle.pathmap.specs.Maps.{content_or_nothing}
-use Rattle.pathmap.specs.Merged.{first_of, front_of, back_of, join_on, left_of, merged, under_it}
-use Rattle.pathmap.proofs.Contents.{same, either, either-None, get-nothing, get-over}
+use Rattle.pathmap.specs.Merged.{first_of, front_of, back_of, join_on, left_of, merged}
+use Rattle.pathmap.specs.Sizes.{left_some}
+use Rattle.pathmap.proofs.Contents.{same, either, either-cond, either-None, get-nothing, get-over}
 use Rattle.pathmap.proofs.Heads.{some_path, one_path}
 use Rattle.pathmap.proofs.Levels.{get-child, get-gather-top}
 use Rattle.pathmap.proofs.Trees.{ties}
@@ -33,7 +34,7 @@ names_of = map (λ c. c.0)
 abbrev pub Above : List ℕ → Named → Type 0
 Above f cs = AllByRecursion (λ z. cmp f z ≡ Less) (names_of cs)
 
-rising_more : (c : List ℕ × Content) (cs : Named) → Above c.0 cs → IsRising cs → IsRising (c ∷ cs)
+pub rising_more : (c : List ℕ × Content) (cs : Named) → Above c.0 cs → IsRising cs → IsRising (c ∷ cs)
 unfolding IsStrictlySortedBy
 rising_more c cs above rises = (above, rises)
 
@@ -43,17 +44,14 @@ head_of c cs rises = sorted_head cmp c.0 (names_of cs) rises
 tail_of : (c : List ℕ × Content) (cs : Named) → IsRising (c ∷ cs) → IsRising cs
 tail_of c cs rises = sorted_tail cmp c.0 (names_of cs) rises
 
-after_all : (y f : List ℕ) (cs : Named) → cmp y f ≡ Less → Above f cs → Above y cs
+pub after_all : (y f : List ℕ) (cs : Named) → cmp y f ≡ Less → Above f cs → Above y cs
 after_all y f [] lt h = tt
 after_all y f (c ∷ cs) lt h = (nat_list_cmp_total.trans y f c.0 lt h.0, after_all y f cs lt h.1)
 
-less_is : (o : Ordering) → is_lt o ≡ true → o ≡ Less
+pub less_is : (o : Ordering) → is_lt o ≡ true → o ≡ Less
 less_is Less e = refl
 less_is Equal e = absurd (true≢false (sym e))
 less_is Greater e = absurd (true≢false (sym e))
-
-lt_of : (o : Ordering) → o ≡ Less → is_lt o ≡ true
-lt_of o e = ap is_lt e
 
 reversed : (f g : List ℕ) (o : Ordering) → cmp g f ≡ o → cmp f g ≡ ordering_reverse o
 reversed f g o e = nat_list_cmp_total.antisymm f g ∙ ap ordering_reverse e
@@ -67,7 +65,7 @@ apart_greater : (f g : List ℕ) → cmp g f ≡ Less → (b : Bool) → bytes_e
 apart_greater f g lt false is = refl
 apart_greater f g lt true is = absurd (true≢false (ap is_eq (sym (tied_itself nat_list_cmp_total g) ∙ ap (cmp g) (sym ((bytes_eq-Decides f g).0 is)) ∙ lt)))
 
-equal_is : (f g : List ℕ) → cmp f g ≡ Equal → bytes_eq f g ≡ true
+pub equal_is : (f g : List ℕ) → cmp f g ≡ Equal → bytes_eq f g ≡ true
 equal_is f g e = (bytes_eq-Decides f g).1 (ties f g (ap is_eq e))
 
 -- ---- what has a name
@@ -75,10 +73,6 @@ equal_is f g e = (bytes_eq-Decides f g).1 (ties f g (ap is_eq e))
 pub child_above : (g : List ℕ) (cs : Named) → Above g cs → child_of g cs ≡ None
 child_above g [] above = refl
 child_above g (c ∷ cs) above = ap (λ b. cond b (Some c.1) (child_of g cs)) (apart_greater c.0 g above.0 (bytes_eq c.0 g) refl) ∙ child_above g cs above.1
-
-either-cond : {X : Type 0} (b : Bool) (x : X) (r s : Option X) → either (cond b (Some x) r) s ≡ cond b (Some x) (either r s)
-either-cond true x r s = refl
-either-cond false x r s = refl
 
 child-append : (g : List ℕ) (xs ys : Named) → child_of g (xs ++ ys) ≡ either (child_of g xs) (child_of g ys)
 child-append g [] ys = refl
@@ -351,39 +345,19 @@ module _ (j : Content → Content → Content) where
     pub merged_children : (ts ms : Named) → AreChildren ts → AreChildren ms → AreChildren (merged j ts ms)
     merged_children ts ms a b = (merged_rises ts ms a.0 b.0, merged_full ts ms a.1 b.1)
 
--- ---- the two joins
-
-left_some : (a b : Option Standing) → is_some a ≡ true → is_some (either a b) ≡ true
-left_some None b h = absurd (true≢false (sym h))
-left_some (Some v) b h = refl
-
-right_some : (a b : Option Standing) → is_some b ≡ true → is_some (either a b) ≡ true
-right_some None b h = h
-right_some (Some v) b h = refl
+-- ---- one content over the other
 
 some_left : (c d : Content) → has_path c ≡ true → has_path (over c d) ≡ true
 some_left c d has = let found = some_path c has in one_path (over c d) found.0 (ap is_some (get-over c d found.0) ∙ left_some (fin.get c found.0) (fin.get d found.0) found.1)
 
-some_right : (c d : Content) → has_path c ≡ true → has_path (over d c) ≡ true
-some_right c d has = let found = some_path c has in one_path (over d c) found.0 (ap is_some (get-over d c found.0) ∙ right_some (fin.get d found.0) (fin.get c found.0) found.1)
-
-module _ (q : PathTexts) where
-  get-joined : (a b : Option Content) → fin.get (content_or_nothing (joined over a b)) q ≡ either (fin.get (content_or_nothing a) q) (fin.get (content_or_nothing b) q)
-  get-joined None b = sym (ap (λ o. either o (fin.get (content_or_nothing b) q)) (get-nothing q))
-  get-joined (Some c) None = sym (ap (either (fin.get c q)) (get-nothing q) ∙ either-None (fin.get c q))
-  get-joined (Some c) (Some d) = get-over c d q
-
-  get-joined-under : (a b : Option Content) → fin.get (content_or_nothing (joined under_it a b)) q ≡ either (fin.get (content_or_nothing b) q) (fin.get (content_or_nothing a) q)
-  get-joined-under None b = sym (ap (either (fin.get (content_or_nothing b) q)) (get-nothing q) ∙ either-None (fin.get (content_or_nothing b) q))
-  get-joined-under (Some c) None = sym (ap (λ o. either o (fin.get c q)) (get-nothing q))
-  get-joined-under (Some c) (Some d) = get-over d c q
+get-joined : (q : PathTexts) (a b : Option Content) → fin.get (content_or_nothing (joined over a b)) q ≡ either (fin.get (content_or_nothing a) q) (fin.get (content_or_nothing b) q)
+get-joined q None b = sym (ap (λ o. either o (fin.get (content_or_nothing b) q)) (get-nothing q))
+get-joined q (Some c) None = sym (ap (either (fin.get c q)) (get-nothing q) ∙ either-None (fin.get c q))
+get-joined q (Some c) (Some d) = get-over c d q
 
 module _ (ts ms : Named) (a : AreChildren ts) (b : AreChildren ms) where
   pub over_children : AreChildren (merged over ts ms)
   over_children = merged_children over some_left ts ms a b
-
-  pub under_children : AreChildren (merged under_it ts ms)
-  under_children = merged_children under_it some_right ts ms a b
 
   pub gather-merged-over : gather (merged over ts ms) ≡ over (gather ts) (gather ms)
   gather-merged-over = same (gather (merged over ts ms)) (over (gather ts) (gather ms)) by_path
@@ -393,12 +367,3 @@ module _ (ts ms : Named) (a : AreChildren ts) (b : AreChildren ms) where
       by_path (g ∷ q) =
           get-child g (merged over ts ms) over_children.0 q ∙ ap (λ o. fin.get (content_or_nothing o) q) (child-merged over g ts ms a.0 b.0) ∙ get-joined q (child_of g ts) (child_of g ms)
           ∙ sym (get-over (gather ts) (gather ms) (g ∷ q) ∙ ap₂ either (get-child g ts a.0 q) (get-child g ms b.0 q))
-
-  pub gather-merged-under : gather (merged under_it ts ms) ≡ over (gather ms) (gather ts)
-  gather-merged-under = same (gather (merged under_it ts ms)) (over (gather ms) (gather ts)) by_path
-    where
-      by_path : (q : PathTexts) → fin.get (gather (merged under_it ts ms)) q ≡ fin.get (over (gather ms) (gather ts)) q
-      by_path [] = get-gather-top (merged under_it ts ms) ∙ sym (get-over (gather ms) (gather ts) [] ∙ ap₂ either (get-gather-top ms) (get-gather-top ts))
-      by_path (g ∷ q) =
-          get-child g (merged under_it ts ms) under_children.0 q ∙ ap (λ o. fin.get (content_or_nothing o) q) (child-merged under_it g ts ms a.0 b.0) ∙ get-joined-under q (child_of g ts) (child_of g ms)
-          ∙ sym (get-over (gather ms) (gather ts) (g ∷ q) ∙ ap₂ either (get-child g ms b.0 q) (get-child g ts a.0 q))

@@ -21,8 +21,9 @@ use Rattle.pathmap.specs.Levels.{at_top, IsRising, child_of}
 use Rattle.pathmap.specs.Maps.{content_or_nothing}
 use Rattle.pathmap.specs.declared.held.Held.{Held}
 use Rattle.pathmap.proofs.Contents.{path_cmp_total, path_cmp_antisymmetric, either, get-nothing, get-over, get-under, get-under-top}
+use Rattle.pathmap.proofs.Heads.{first, second}
 use Rattle.pathmap.proofs.Levels.{get-child, get-gather-top, get-level-gather, get-level-top, held_some}
-use Rattle.pathmap.proofs.Sets.{same_paths, contains-dom}
+use Rattle.pathmap.proofs.Sets.{same_paths, contains-dom, or_true}
 
 -- ---- one list in order
 
@@ -32,14 +33,6 @@ holds b e = subst T (sym e) tt
 both : (a b : Bool) → T a → T b → T (a && b)
 both true b p q = q
 both false b p q = p
-
-first : (a b : Bool) → T (a && b) → T a
-first true b p = tt
-first false b p = p
-
-second : (a b : Bool) → T (a && b) → T b
-second true b p = p
-second false b p = absurd p
 
 abbrev units : List PathTexts → List (PathTexts × Unit {0})
 units = map (λ k. (k, tt))
@@ -111,16 +104,7 @@ is_marked s q = ap is_some (get-marked s q) ∙ there (set.contains s q)
 pub dom-marked : (s : PathSet) → dom (marked s) ≡ s
 dom-marked s = same_paths (dom (marked s)) s (λ q. contains-dom (marked s) q ∙ is_marked s q)
 
--- the paths of a content, in order
-pub in_order-dom : (c : Content) → in_order (dom c) ≡ fin.keys c
-in_order-dom c = same_in_order (in_order (dom c)) (fin.keys c) (keys_ascend (marked (dom c))) (keys_ascend c) (λ q.
-    sym (fin.contains_key-keys (marked (dom c)) q) ∙ is_marked (dom c) q ∙ contains-dom c q ∙ fin.contains_key-keys c q)
-
 -- ---- the paths of a map, level by level
-
-or_true : (b : Bool) → (b || true) ≡ true
-or_true true = refl
-or_true false = refl
 
 all_of_members : (P : PathTexts → Type 0) (xs : List PathTexts) → ((q : PathTexts) → list_any (eq_by_cmp path_cmp q) xs ≡ true → P q) → AllByRecursion P xs
 all_of_members P [] h = tt

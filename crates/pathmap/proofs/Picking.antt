@@ -1,7 +1,6 @@
 -- What a rule picks at the empty path, and below an element.
 use Rattle.std.proofs.Common.{◌≡◌, ℕ, Bool, true, false, cond, not, ◌&&◌, nat_cmp, List, [], ◌∷◌, ◌++◌, map, Option, Some, None, is_some, refl, sym, ap, ap₂, subst, ◌∙◌, true≢false}
 use Rattle.std.specs.Cmp.Lexicographic.{slice_cmp}
-use Rattle.std.specs.List.Sorted.{IsStrictlySortedBy}
 use Rattle.std.specs.Option.{option_map}
 use Rattle.std.specs.FinMap as fin
 use Rattle.std.specs.FinSet as set
@@ -24,7 +23,7 @@ use Rattle.pathmap.proofs.Heads.{no_path}
 use Rattle.pathmap.proofs.Insides.{get-inside}
 use Rattle.pathmap.proofs.Levels.{get-level-top, get-level-below, held_some, nothing_path}
 use Rattle.pathmap.specs.Merged.{back_of, first_of, left_of}
-use Rattle.pathmap.proofs.Merging.{Above, child_above, first_back, left_keeps}
+use Rattle.pathmap.proofs.Merging.{Above, child_above, first_back, left_keeps, rising_more}
 use Rattle.pathmap.proofs.Order.{get-marked}
 use Rattle.pathmap.proofs.Sets.{same_paths, contains-dom, contains-changed, contains-clear_of, IsBelow, has_below-at, has_none, nothing-has}
 
@@ -104,10 +103,6 @@ Named = List (List ℕ × Content)
 
 get-picked : (rule : Rule) (c d : Content) (q : PathTexts) → fin.get (marked (picked rule c d)) q ≡ cond (decides rule (fin.get c q) d q) (Some mark) None
 get-picked rule c d q = get-marked (picked rule c d) q ∙ ap (λ b. cond b (Some mark) None) (contains-picked rule c d q)
-
-rising_more : (c : List ℕ × Content) (cs : Named) → Above c.0 cs → IsRising cs → IsRising (c ∷ cs)
-unfolding IsStrictlySortedBy
-rising_more c cs above rises = (above, rises)
 
 -- one that is kept stands before the others
 pub kept-before : (f : List ℕ) (c : Content) (cs : Named) → kept f c [] ++ cs ≡ kept f c cs

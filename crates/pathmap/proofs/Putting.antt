@@ -19,7 +19,7 @@ use Rattle.pathmap.specs.Merged.{front_of, back_of, left_of, join_on}
 use Rattle.pathmap.specs.Puts.{put_in}
 use Rattle.pathmap.specs.declared.held.Held.{Held}
 use Rattle.pathmap.proofs.Contents.{path_cmp_total, same}
-use Rattle.pathmap.proofs.Cutting.{index_high}
+use Rattle.pathmap.proofs.Cutting.{index_high, number}
 use Rattle.pathmap.proofs.Heads.{one_path}
 use Rattle.pathmap.proofs.Levels.{get-level-below, get-level-gather, get-level-top}
 use Rattle.pathmap.proofs.Merging.{Above, child-merged, joined, merged_children}
@@ -53,10 +53,6 @@ put_first f m x cs is =
   where
     not_less : is_lt (slice_cmp nat_cmp x.0 f) ≡ false
     not_less = ap (λ k. is_lt (slice_cmp nat_cmp k f)) is ∙ ap is_lt (tied_itself nat_list_cmp_total f)
-
-abbrev number : Option ℕ → ℕ
-number None = 0
-number (Some n) = n
 
 -- one that has the name is not before the head of a list that rises
 later_less : (f : List ℕ) (x : List ℕ × Content) (k p : ℕ) (cs : Named) → IsRising (x ∷ cs) → index_from k f cs ≡ Some p → slice_cmp nat_cmp x.0 f ≡ Less
@@ -163,23 +159,27 @@ insert_front f (x ∷ xs) y = by_order (insert_front f xs y) (is_lt (slice_cmp n
     by_order later false = refl
 
 -- a new child
-pub put_new : (f : List ℕ) (xs : List (String Global × Content)) (i : ℕ) (n : String Global) (m none : Content) (p : PathTexts) (v : Standing) → index_from 0 f (contents_in xs) ≡ None → i ≡ length (front_of f (contents_in xs)) → string_bytes n ≡ f
-    → none ≡ nothing → m ≡ fin.insert none p v → contents_in (insert xs i (n, m)) ≡ put_in f (fin.insert (content_or_nothing (child_of f (contents_in xs))) p v) (contents_in xs)
-put_new f xs i n m none p v at place named bare made =
-    let gone = absent 0 f (contents_in xs) at in
+pub put_new : (f : List ℕ) (xs : List (String Global × Content)) (i : ℕ) (n : String Global) (m : Content) → index_from 0 f (contents_in xs) ≡ None → i ≡ length (front_of f (contents_in xs)) → string_bytes n ≡ f
+    → contents_in (insert xs i (n, m)) ≡ put_in f m (contents_in xs)
+put_new f xs i n m at place named =
     ap (λ k. contents_in (insert xs k (n, m))) place ∙ insert_front f xs (n, m)
-    ∙ ap₂ (λ k l. front_of f (contents_in xs) ++ (let first : List ℕ × Content = (k, m) in first ∷ l)) named (sym gone.1) ∙ sym (put_is f m (contents_in xs))
-    ∙ ap (λ c. put_in f c (contents_in xs)) (made ∙ ap (λ c. fin.insert c p v) (bare ∙ sym (ap content_or_nothing gone.0)))
+    ∙ ap₂ (λ k l. front_of f (contents_in xs) ++ (let first : List ℕ × Content = (k, m) in first ∷ l)) named (sym (absent 0 f (contents_in xs) at).1) ∙ sym (put_is f m (contents_in xs))
+
+-- a new child that has one path
+pub insert_new : (f : List ℕ) (xs : List (String Global × Content)) (i : ℕ) (n : String Global) (m none : Content) (p : PathTexts) (v : Standing) → index_from 0 f (contents_in xs) ≡ None → i ≡ length (front_of f (contents_in xs)) → string_bytes n ≡ f
+    → none ≡ nothing → m ≡ fin.insert none p v → contents_in (insert xs i (n, m)) ≡ put_in f (fin.insert (content_or_nothing (child_of f (contents_in xs))) p v) (contents_in xs)
+insert_new f xs i n m none p v at place named bare made =
+    put_new f xs i n m at place named ∙ ap (λ c. put_in f c (contents_in xs)) (made ∙ ap (λ c. fin.insert c p v) (bare ∙ sym (ap content_or_nothing (absent 0 f (contents_in xs) at).0)))
 
 -- ---- a level with one path more
 
-inserted_path : (c : Content) (p : PathTexts) (v : Standing) → has_path (fin.insert c p v) ≡ true
+pub inserted_path : (c : Content) (p : PathTexts) (v : Standing) → has_path (fin.insert c p v) ≡ true
 inserted_path c p v = one_path (fin.insert c p v) p (ap is_some (fin.get-insert path_cmp_total c p v p) ∙ ap (λ o. is_some (cond (is_eq o) (Some v) (fin.get c p))) (tied_itself path_cmp_total p))
 
-pub put_children : (f : List ℕ) (c : Content) (p : PathTexts) (v : Standing) (cs : Named) → AreChildren cs → AreChildren (put_in f (fin.insert c p v) cs)
-put_children f c p v cs kept = merged_children (λ x y. x) (λ x y has. has) ((f, fin.insert c p v) ∷ []) cs (rising_one f (fin.insert c p v), (inserted_path c p v, tt)) kept
+pub put_children : (f : List ℕ) (c : Content) (cs : Named) → has_path c ≡ true → AreChildren cs → AreChildren (put_in f c cs)
+put_children f c cs full kept = merged_children (λ x y. x) (λ x y has. has) ((f, c) ∷ []) cs (rising_one f c, (full, tt)) kept
 
-child-put : (f g : List ℕ) (c : Content) (cs : Named) → IsRising cs → child_of g (put_in f c cs) ≡ cond (bytes_eq f g) (Some c) (child_of g cs)
+pub child-put : (f g : List ℕ) (c : Content) (cs : Named) → IsRising cs → child_of g (put_in f c cs) ≡ cond (bytes_eq f g) (Some c) (child_of g cs)
 child-put f g c cs rises = child-merged (λ x y. x) g ((f, c) ∷ []) cs (rising_one f c) rises ∙ by_name (bytes_eq f g)
   where
     by_child : (o : Option Content) → joined (λ x y. x) (Some c) o ≡ Some c
@@ -216,6 +216,6 @@ insert-below h f p v cs kept = same (over (at_top h) (gather (put_in f (fin.inse
     by_path : (q : PathTexts) → fin.get (over (at_top h) (gather (put_in f (fin.insert (content_or_nothing (child_of f cs)) p v) cs))) q ≡ fin.get (fin.insert (over (at_top h) (gather cs)) (f ∷ p) v) q
     by_path [] = get-level-top h (put_in f (fin.insert (content_or_nothing (child_of f cs)) p v) cs) ∙ sym (get-level-top h cs) ∙ sym (fin.get-insert path_cmp_total (over (at_top h) (gather cs)) (f ∷ p) v [])
     by_path (g ∷ q) =
-        get-level-below h (put_in f (fin.insert (content_or_nothing (child_of f cs)) p v) cs) (put_children f (content_or_nothing (child_of f cs)) p v cs kept).0 g q
+        get-level-below h (put_in f (fin.insert (content_or_nothing (child_of f cs)) p v) cs) (put_children f (fin.insert (content_or_nothing (child_of f cs)) p v) cs (inserted_path (content_or_nothing (child_of f cs)) p v) kept).0 g q
         ∙ ap (λ o. fin.get (content_or_nothing o) q) (child-put f g (fin.insert (content_or_nothing (child_of f cs)) p v) cs kept.0) ∙ by_order g q (slice_cmp nat_cmp g f) refl (bytes_eq f g) refl
         ∙ ap (cond (eq_by_cmp path_cmp (g ∷ q) (f ∷ p)) (Some v)) (sym (get-level-below h cs kept.0 g q)) ∙ sym (fin.get-insert path_cmp_total (over (at_top h) (gather cs)) (f ∷ p) v (g ∷ q))

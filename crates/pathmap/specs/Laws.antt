@@ -1,4 +1,4 @@
--- What maps from paths answer.
+-- Laws of maps from paths, which the measure of `PathMap` needs too (`size_decreases`).
 use Rattle.std.proofs.Common.{◌≡◌, ℕ, Bool, true, false, cond, List, [], ◌∷◌, ◌++◌, map, Option, Some, None, refl, sym, ap, ap₂, ◌∙◌, Ordering, Less, Equal, Greater, is_eq, nat_cmp}
 use Rattle.std.specs.Ordering.{eq_by_cmp, ordering_then}
 use Rattle.std.specs.Cmp.{IsTotalOrder}
@@ -23,7 +23,7 @@ abbrev pub either : {X : Type 0} → Option X → Option X → Option X
 either None b = b
 either (Some a) b = Some a
 
-either-cond : {X : Type 0} (b : Bool) (x : X) (r s : Option X) → either (cond b (Some x) r) s ≡ cond b (Some x) (either r s)
+pub either-cond : {X : Type 0} (b : Bool) (x : X) (r s : Option X) → either (cond b (Some x) r) s ≡ cond b (Some x) (either r s)
 either-cond true x r s = refl
 either-cond false x r s = refl
 

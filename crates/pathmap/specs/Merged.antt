@@ -3,7 +3,7 @@ use Rattle.std.specs.Prelude.{ℕ, List, [], ◌∷◌, ◌++◌, if◌then◌el
 use Rattle.std.specs.Ordering.{is_lt, nat_cmp}
 use Rattle.std.specs.Str.{bytes_eq}
 use Rattle.std.specs.Cmp.Lexicographic.{slice_cmp}
-use Rattle.pathmap.specs.Contents.{Content, over}
+use Rattle.pathmap.specs.Contents.{Content}
 
 -- those at the front whose names are below this one, and those from there on
 abbrev pub front_of : List ℕ → List (List ℕ × Content) → List (List ℕ × Content)
@@ -32,7 +32,3 @@ join_on j f c (m ∷ ms) = if bytes_eq m.0 f then j c m.1 else c
 abbrev pub merged : (Content → Content → Content) → List (List ℕ × Content) → List (List ℕ × Content) → List (List ℕ × Content)
 merged j [] ms = ms
 merged j (t ∷ ts) ms = front_of t.0 ms ++ ((t.0, join_on j t.0 t.1 (back_of t.0 ms)) ∷ merged j ts (left_of t.0 (back_of t.0 ms)))
-
--- the second over the first
-abbrev pub under_it : Content → Content → Content
-under_it c d = over d c

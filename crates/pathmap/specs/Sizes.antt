@@ -21,10 +21,6 @@ zero_of (suc n) e = absurd (true≢false e)
 pub no_path : (c : Content) → has_path c ≡ false → c ≡ nothing
 no_path c e = fin.empty_of_len c (zero_of (fin.len c) e)
 
-abbrev pub is_cons : List (PathTexts × Standing) → Bool
-is_cons [] = false
-is_cons (e ∷ es) = true
-
 -- a path of the longest
 abbrev pub IsLongest : List (PathTexts × Standing) → PathTexts → Type 0
 IsLongest es q = (is_some (find path_cmp q es) ≡ true) × (longest es ≡ suc (length q))
@@ -44,7 +40,7 @@ longest_path e (f ∷ es) = by_order (longest_path f es) (cases_lt (suc (length 
     by_order found (inl le) = (found.0, (some_cond (eq_by_cmp path_cmp found.0 e.0) e.1 (find path_cmp found.0 (f ∷ es)) found.1.0, (let is = found.1.1 in omega (arith, is, le))))
     by_order found (inr le) = (e.0, (first_found e (f ∷ es), omega (arith, le)))
 
-longest_bound : (q : PathTexts) (es : List (PathTexts × Standing)) → is_some (find path_cmp q es) ≡ true → suc (length q) ≤ longest es
+pub longest_bound : (q : PathTexts) (es : List (PathTexts × Standing)) → is_some (find path_cmp q es) ≡ true → suc (length q) ≤ longest es
 longest_bound q [] h = absurd (true≢false (sym h))
 longest_bound q (e ∷ es) h = by_tie (longest_bound q es) (eq_by_cmp path_cmp q e.0) refl h
   where
@@ -59,7 +55,7 @@ height_bound c q is = longest_bound q (fin.entries c) (sym (ap is_some (fin.get-
 abbrev pub IsHighest : Content → PathTexts → Type 0
 IsHighest c q = (is_some (fin.get c q) ≡ true) × (height c ≡ suc (length q))
 
-highest : (c : Content) → has_path c ≡ true → (q : PathTexts) × IsHighest c q
+pub highest : (c : Content) → has_path c ≡ true → (q : PathTexts) × IsHighest c q
 highest c has = by_list (fin.entries c) (sym (ap is_more (fin.len-entries c)) ∙ has) refl
   where
     by_list : (es : List (PathTexts × Standing)) → is_more (length es) ≡ true → fin.entries c ≡ es → (q : PathTexts) × IsHighest c q
@@ -78,7 +74,7 @@ higher c d more = by_list (fin.entries c) refl
         let h = ap longest is ∙ found.1.1 in
         omega (arith, le, h)
 
-left_some : (a b : Option Standing) → is_some a ≡ true → is_some (either a b) ≡ true
+pub left_some : (a b : Option Standing) → is_some a ≡ true → is_some (either a b) ≡ true
 left_some None b h = absurd (true≢false (sym h))
 left_some (Some v) b h = refl
 

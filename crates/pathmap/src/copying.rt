@@ -50,7 +50,7 @@ fn copy(map: &PathMap, alloc: Global) -> Result<PathMap, AllocError>
     ensures { IfOk result (λ n. content n ≡ content map.now) }
 {
     let held = copy_held(&map.held)?;
-    let mut below = Vec::new(alloc);
+    let mut below = Vec::with_capacity(alloc, map.below.len())?;
     push_copies(&map.below, alloc, &mut below)?;
     Ok(PathMap { held, below })
 }

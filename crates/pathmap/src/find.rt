@@ -1,13 +1,13 @@
 //! What stands at a path, and at or below it.
 
-ghost use Rattle.std.specs.Prelude.{◌≡◌, ◌++◌, map, string_bytes, IsTrue, ◌↔◌, true};
+ghost use Rattle.std.specs.Prelude.{◌≡◌, ◌++◌, map, string_bytes, IfSome, IsTrue, ◌↔◌, true};
 ghost use Rattle.std.specs.Option.{option_map};
 ghost use Rattle.std.specs.FinMap as fin;
 ghost use Rattle.fieldpath.specs.Paths.{PathTexts};
 ghost use Rattle.pathmap.specs.Beside.{has_at_or_below};
 ghost use Rattle.pathmap.specs.Contents.{dom, nothing};
 ghost use Rattle.pathmap.specs.Insides.{inside};
-ghost use Rattle.pathmap.specs.Levels.{child_of, IsRising};
+ghost use Rattle.pathmap.specs.Levels.{child_of, has_path, IsRising};
 ghost use Rattle.pathmap.specs.Maps.{content, content_or_nothing, contents_in, standing};
 
 use crate::held::Held;
@@ -60,7 +60,8 @@ impl PathMap {
 
     /// What stands below an element, if anything does.
     pub fn child(&self, name: &ElemText) -> Option<&PathMap>
-        ensures { content_or_nothing (option_map (λ m. m.now) result) ≡ inside (string_bytes name.now) (content self.now) }
+        ensures inside { content_or_nothing (option_map (λ m. m.now) result) ≡ inside (string_bytes name.now) (content self.now) }
+        ensures full { IfSome result (λ m. has_path (content m.now) ≡ true) }
     {
         named(&self.below, name)
     }

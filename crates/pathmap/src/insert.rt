@@ -1,8 +1,8 @@
 //! One more path, or all paths of a map below an element.
 
-ghost use Rattle.std.specs.Prelude.{◌≡◌, map, true, false, IfOk, OnOk, OnErr, string_bytes};
+ghost use Rattle.std.specs.Prelude.{◌≡◌, map, not, if◌then◌else◌, IfOk, OnOk, OnErr, string_bytes};
 ghost use Rattle.std.specs.FinMap as fin;
-ghost use Rattle.pathmap.specs.Contents.{here, mark, nothing, over, under};
+ghost use Rattle.pathmap.specs.Contents.{here, mark, over, under};
 ghost use Rattle.pathmap.specs.Insides.{inside};
 ghost use Rattle.pathmap.specs.Levels.{child_of, has_path, IsRising};
 ghost use Rattle.pathmap.specs.Maps.{content, content_or_nothing, contents_in, standing};
@@ -65,19 +65,14 @@ impl PathMap {
     fn has_child(&self, name: &ElemText) -> bool
         ensures { result ≡ has_path (inside (string_bytes name.now) (content self.now)) }
     {
-        match self.child(name) {
-            Some(map) => !map.is_bare(),
-            None => false,
-        }
+        self.child(name).is_some()
     }
 
     /// Puts what a map holds below an element, unless something stands there already, and says whether it was put.
     /// A refused allocation changes no content.
     pub fn insert_child(&mut self, name: ElemText, map: PathMap) -> Result<bool, AllocError>
-        ensures free { IfOk result (λ added. added ≡ true → inside (string_bytes name) (content self.old) ≡ nothing) }
-        ensures put { IfOk result (λ added. added ≡ true → content self.new ≡ over (content self.old) (under (string_bytes name) (content map))) }
-        ensures taken { IfOk result (λ added. added ≡ false → has_path (inside (string_bytes name) (content self.old)) ≡ true) }
-        ensures stays { IfOk result (λ added. added ≡ false → content self.new ≡ content self.old) }
+        ensures added { IfOk result (λ added. added ≡ not (has_path (inside (string_bytes name) (content self.old)))) }
+        ensures put { IfOk result (λ added. content self.new ≡ (if added then over (content self.old) (under (string_bytes name) (content map)) else content self.old)) }
         ensures err { OnErr result (content self.new ≡ content self.old) }
     {
         if map.is_bare() {

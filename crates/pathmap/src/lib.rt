@@ -8,7 +8,6 @@ mod copying;
 mod find;
 mod held;
 mod insert;
-mod over;
 mod pathmap;
 mod paths;
 mod pick;
@@ -18,6 +17,5 @@ mod walk;
 mod without;
 
 pub use held::Held;
-pub use over::put_over;
 pub use pathmap::PathMap;
 pub use under::put_under;

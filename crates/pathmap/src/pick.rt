@@ -182,10 +182,10 @@ impl PathMap {
         picked_paths(self, alloc, Some(other), Rule::Clear)
     }
 
-    /// All its paths.
+    /// A mark at each of its paths.
     pub fn marks(&self, alloc: Global) -> Result<PathMap, AllocError>
-        ensures { IfOk result (λ m. dom (content m) ≡ dom (content self.now)) }
+        ensures { IfOk result (λ m. content m ≡ marked (dom (content self.now))) }
     {
-        picked_paths(self, alloc, None, Rule::Absent)
+        pick(self, alloc, None, Rule::Absent)
     }
 }

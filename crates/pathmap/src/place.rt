@@ -1,13 +1,14 @@
 //! Where a name stands among children, and a child put there: a search by halves, as their names ascend.
 
-ghost use Rattle.std.specs.Prelude.{◌≡◌, ◌≤◌, ◌<◌, ◌∷◌, ◌++◌, true, false, length, Some, None, is_some, if◌then◌else◌, string_bytes, IfOk, OnErr};
+ghost use Rattle.std.specs.Prelude.{◌≡◌, ◌≤◌, ◌<◌, true, not, length, Some, None, is_some, if◌then◌else◌, string_bytes, IfOk, OnErr};
 ghost use Rattle.std.specs.Ordering.{is_lt, nat_cmp};
 ghost use Rattle.std.specs.Cmp.Lexicographic.{slice_cmp};
 ghost use Rattle.std.specs.Str.{bytes_eq};
 ghost use Rattle.pathmap.specs.Cuts.{index_from};
 ghost use Rattle.pathmap.specs.Levels.{child_of, IsRising};
 ghost use Rattle.pathmap.specs.Maps.{content, contents_in};
-ghost use Rattle.pathmap.specs.Merged.{back_of, front_of};
+ghost use Rattle.pathmap.specs.Merged.{front_of};
+ghost use Rattle.pathmap.specs.Puts.{put_in};
 
 use crate::pathmap::PathMap;
 use fieldpath::ElemText;
@@ -59,10 +60,8 @@ pub(crate) fn put_child(
     name: ElemText,
     map: PathMap,
 ) -> Result<bool, AllocError>
-    ensures absent { IfOk result (λ added. added ≡ true → IsRising (contents_in children.old.items) → child_of (string_bytes name) (contents_in children.old.items) ≡ None) }
-    ensures put { IfOk result (λ added. added ≡ true → IsRising (contents_in children.old.items) → contents_in children.new.items ≡ front_of (string_bytes name) (contents_in children.old.items) ++ (string_bytes name, content map) ∷ back_of (string_bytes name) (contents_in children.old.items)) }
-    ensures taken { IfOk result (λ added. added ≡ false → IsRising (contents_in children.old.items) → is_some (child_of (string_bytes name) (contents_in children.old.items)) ≡ true) }
-    ensures stays { IfOk result (λ added. added ≡ false → contents_in children.new.items ≡ contents_in children.old.items) }
+    ensures added { IfOk result (λ added. IsRising (contents_in children.old.items) → added ≡ not (is_some (child_of (string_bytes name) (contents_in children.old.items)))) }
+    ensures put { IfOk result (λ added. IsRising (contents_in children.old.items) → contents_in children.new.items ≡ (if added then put_in (string_bytes name) (content map) (contents_in children.old.items) else contents_in children.old.items)) }
     ensures err { OnErr result (contents_in children.new.items ≡ contents_in children.old.items) }
 {
     let place = place_of(children, &name);

@@ -8,7 +8,7 @@ ghost use Rattle.pathmap.specs.Merged.{join_on, left_of, merged};
 use crate::copying::{copy_held, push_copies};
 use crate::held::Held;
 use crate::pathmap::PathMap;
-use crate::walk::pass;
+use crate::walk::{pass, split_named};
 use fieldpath::ElemText;
 use std::alloc::{AllocError, Global};
 
@@ -33,15 +33,13 @@ fn fill_one<'a>(
     ensures put { OnOk result (contents_in all.new.items ≡ contents_in all.old.items ++ (string_bytes name, join_on over (string_bytes name) (content mine) (contents_in rest.now)) ∷ []) }
     ensures left { IfOk result (λ r. contents_in r.now ≡ left_of (string_bytes name) (contents_in rest.now)) }
 {
-    if let Some((first, left)) = rest.split_first() {
-        if first.0.as_str() == name.as_str() {
-            let made = fill(mine, alloc, &first.1)?;
-            all.push((name, made))?;
-            return Ok(left);
-        }
-    }
-    all.push((name, mine))?;
-    Ok(rest)
+    let (map, left) = split_named(rest, &name);
+    let made = match map {
+        Some(theirs) => fill(mine, alloc, theirs)?,
+        None => mine,
+    };
+    all.push((name, made))?;
+    Ok(left)
 }
 
 /// Both in order, walked side by side.
@@ -53,7 +51,7 @@ fn fill_below(
 ) -> Result<Vec<(ElemText, PathMap)>, AllocError>
     ensures { IfOk result (λ v. contents_in v.items ≡ merged over (contents_in mine.items) (contents_in theirs.now)) }
 {
-    let mut all = Vec::new(alloc);
+    let mut all = Vec::with_capacity(alloc, mine.len())?;
     let mut rest = theirs;
     for (name, inner) in mine {
         rest = pass(rest, alloc, &name, &mut all)?;

@@ -22,5 +22,5 @@ pub use fault::TypesFault;
 pub use place::Place;
 pub use schema::{ListKind, Schema};
 pub use served::Served;
-pub use step::Spot;
+pub use step::{Spot, field_at, is_key};
 pub use types::Types;

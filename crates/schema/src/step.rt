@@ -1,12 +1,13 @@
-//! One step down a schema, and the place of a path, which is the fold of its steps.
-ghost use Rattle.std.specs.Prelude.{◌≡◌, Some, map, option_map, string_bytes};
+//! One step down a schema and what it looks at, and the place of a path, which is the fold of its steps.
+ghost use Rattle.std.specs.Prelude.{◌≡◌, false, IfSome, None, Some, map, option_map, string_bytes};
 ghost use Rattle.std.specs.List.{list_all, list_any};
 ghost use Rattle.std.specs.Str.{bytes_eq};
 ghost use Rattle.fieldpath.specs.Elems.{element};
 ghost use Rattle.fieldpath.specs.Scalars.{key_fields, scalar};
 ghost use Rattle.schema.specs.KeyFields.{fits_key};
 ghost use Rattle.schema.specs.KeyNames.{names_in};
-ghost use Rattle.schema.specs.Shape.{shape, fields_in, shape_at};
+ghost use Rattle.schema.specs.Lawful.{is_granular_struct};
+ghost use Rattle.schema.specs.Shape.{shape, fields_in, shape_at, struct_of};
 ghost use Rattle.schema.specs.Place.{fit_keys, fits, fits_some, place_of};
 ghost use Rattle.schema.specs.Spots.{spot};
 ghost use Rattle.schema.specs.Steps.{is_leaf, value_of, place_from, place_here, step, step_beside, step_field, step_item, step_key, step_scalar, step_value};
@@ -26,7 +27,8 @@ pub enum Spot<'a> {
     MapItem(&'a [(String, Schema)], &'a [String]),
 }
 
-pub(crate) fn is_key(names: &[String], name: &str) -> bool
+/// Whether the name is that of a key field.
+pub fn is_key(names: &[String], name: &str) -> bool
     ensures { result ≡ list_any (bytes_eq name.now) (names_in names.now) }
 {
     for known in names {
@@ -37,7 +39,8 @@ pub(crate) fn is_key(names: &[String], name: &str) -> bool
     false
 }
 
-fn field_at<'a>(fields: &'a [(String, Schema)], name: &str) -> Option<&'a Schema>
+/// The schema of the field of this name.
+pub fn field_at<'a>(fields: &'a [(String, Schema)], name: &str) -> Option<&'a Schema>
     ensures { option_map (λ s. shape s.now) result ≡ shape_at name.now (fields_in fields.now) }
 {
     for (known, inner) in fields {
@@ -175,6 +178,22 @@ impl Schema {
             Schema::Struct(_, is_atomic) | Schema::MapOf(_, is_atomic) => *is_atomic,
             Schema::List(_, ListKind::Atomic) => true,
             Schema::List(_, ListKind::Set | ListKind::Keyed(_)) => false,
+        }
+    }
+
+    /// The fields, if it is a struct whose members merge one by one.
+    pub fn granular_fields(&self) -> Option<&[(String, Schema)]>
+        ensures there { IfSome result (λ fs. shape self.now ≡ struct_of (fields_in fs.now) false) }
+        ensures none { result ≡ None → is_granular_struct (shape self.now) ≡ false }
+    {
+        match self {
+            Schema::Struct(fields, is_atomic) => {
+                if *is_atomic {
+                    return None;
+                }
+                Some(fields.as_slice())
+            }
+            _ => None,
         }
     }
 

@@ -1,14 +1,9 @@
 -- What stands inside an element, and the first elements, of the content that a map holds.
-use Rattle.std.proofs.Common.{◌≡◌, ℕ, Bool, true, false, cond, ◌||◌, List, [], ◌∷◌, map, Some, String, Global, string_bytes, refl, sym, ap, ◌∙◌, subst, true≢false}
-use Rattle.std.specs.List.{list_any}
-use Rattle.std.specs.Str.{bytes_eq}
-use Rattle.std.proofs.lemmas.Slice.Eq.{bytes_eq-Decides}
-use Rattle.pathmap.specs.Contents.{Content, nothing}
+use Rattle.std.proofs.Common.{◌≡◌, ℕ, List, [], ◌∷◌, map, String, Global, string_bytes, refl, sym, ap, ◌∙◌, subst}
+use Rattle.pathmap.specs.Contents.{Content}
 use Rattle.pathmap.specs.Insides.{inside, heads}
-use Rattle.pathmap.specs.Levels.{child_of, has_path}
-use Rattle.pathmap.specs.Maps.{content, content_or_nothing, contents_in}
+use Rattle.pathmap.specs.Maps.{content, contents_in}
 use Rattle.pathmap.specs.declared.pathmap.PathMap.{PathMap}
-use Rattle.pathmap.proofs.Heads.{heads-inside, no_path}
 
 abbrev pub Children : Type 0
 Children = List (String Global × PathMap)
@@ -16,31 +11,6 @@ Children = List (String Global × PathMap)
 -- the children that a content has
 abbrev pub children_of : Content → List (List ℕ × Content)
 children_of c = map (λ f. (f, inside f c)) (heads c)
-
-turned : (f g : List ℕ) (t : Bool) → bytes_eq f g ≡ t → bytes_eq g f ≡ t
-turned f g true is = (bytes_eq-Decides g f).1 (sym ((bytes_eq-Decides f g).0 is))
-turned f g false is = by_test (bytes_eq g f) refl
-  where
-    by_test : (t : Bool) → bytes_eq g f ≡ t → bytes_eq g f ≡ false
-    by_test true h = absurd (true≢false (sym ((bytes_eq-Decides f g).1 (sym ((bytes_eq-Decides g f).0 h))) ∙ is))
-    by_test false h = h
-
-found_in : (c : Content) (g : List ℕ) (hs : List (List ℕ)) → content_or_nothing (child_of g (map {B = List ℕ × Content} (λ f. (f, inside f c)) hs)) ≡ cond (list_any (bytes_eq g) hs) (inside g c) nothing
-found_in c g [] = refl
-found_in c g (h ∷ hs) = by_test (found_in c g hs) (bytes_eq h g) refl
-  where
-    by_test : content_or_nothing (child_of g (map {B = List ℕ × Content} (λ f. (f, inside f c)) hs)) ≡ cond (list_any (bytes_eq g) hs) (inside g c) nothing → (b : Bool) → bytes_eq h g ≡ b
-        → content_or_nothing (cond b (Some (inside h c)) (child_of g (map {B = List ℕ × Content} (λ f. (f, inside f c)) hs))) ≡ cond (bytes_eq g h || list_any (bytes_eq g) hs) (inside g c) nothing
-    by_test later true is = ap (λ f. inside f c) ((bytes_eq-Decides h g).0 is) ∙ sym (ap (λ b. cond (b || list_any (bytes_eq g) hs) (inside g c) nothing) (turned h g true is))
-    by_test later false is = later ∙ sym (ap (λ b. cond (b || list_any (bytes_eq g) hs) (inside g c) nothing) (turned h g false is))
-
--- the child of a name is what stands inside it
-pub inside-child : (c : Content) (g : List ℕ) → content_or_nothing (child_of g (children_of c)) ≡ inside g c
-inside-child c g = found_in c g (heads c) ∙ by_test (list_any (bytes_eq g) (heads c)) (heads-inside c g)
-  where
-    by_test : (b : Bool) → b ≡ has_path (inside g c) → cond b (inside g c) nothing ≡ inside g c
-    by_test true is = refl
-    by_test false is = sym (no_path (inside g c) (sym is))
 
 -- ---- the first elements
 

@@ -6,13 +6,13 @@ use Rattle.fieldpath.specs.Elements.{name_text}
 use Rattle.pathmap.specs.Contents.{Content, nothing, under, over}
 use Rattle.pathmap.specs.Insides.{inside}
 use Rattle.pathmap.proofs.Contents.{nothing-over, over-nothing, over-over}
+use Rattle.pathmap.proofs.Insides.{inside_others}
 use Rattle.pathmap.proofs.Levels.{under-nothing}
 use Rattle.typed.specs.declared.fault.ReadFault.{ReadFault}
 use Rattle.typed.specs.declared.fault.ReadFault.TheVariants as faults
 use Rattle.typed.specs.Faults.{Read, Tells, fault_in}
 use Rattle.typed.specs.Reading.{at_field, joined}
 use Rattle.typed.specs.Steps.{unless_key}
-use Rattle.typed.proofs.Adding.{inside_others}
 use Rattle.typed.proofs.Floats.{err_not_ok, ok_is}
 
 pub joined-nothing : (a : Read Content) → joined (Ok nothing) a ≡ a

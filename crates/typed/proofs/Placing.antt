@@ -34,11 +34,10 @@ use Rattle.typed.specs.declared.fault.Cause.TheVariants.{NotAnObject, WrongType,
 use Rattle.typed.specs.Faults.{Read, below, and_then, some_or, shown_name, shown_place}
 use Rattle.typed.specs.Placed.{IsWithin, IsAtomic, is_field, IsSetItem, HasKeys, IsItem, IsPlaced, ArePlaced, ReadingsArePlaced}
 use Rattle.typed.specs.Reading.{is_null, is_there, text_in, whole_in, truth_in, have_keys, put_some, keys_in, plain_of, leaf, at_field, joined, one_member, members_at, marked, one_item, items_at, named_item, set_item, keyed_item, beside_keys, content_of, content_of_item, content_of_field}
-use Rattle.typed.proofs.Adding.{inside-over, inside-under}
 use Rattle.typed.proofs.ElementTexts.{scalar_same}
 use Rattle.typed.proofs.Floats.{ok_is, err_not_ok, below_ok, and_then_ok, named_is, plain_clean, content_item_clean, keys_clean}
 use Rattle.pathmap.proofs.Heads.{inside-nothing, itself}
-use Rattle.pathmap.proofs.Insides.{get-inside}
+use Rattle.pathmap.proofs.Insides.{get-inside, inside-over, inside-under}
 use Rattle.typed.proofs.KeyFields.{AreRising, ascend_rising, keys_text, field-at}
 use Rattle.typed.proofs.PlainAgain.{ascend_skip, ascend_rest, plain_leaf}
 use Rattle.typed.proofs.Putting.{same_ok, StandsBelow, one_stands, split}

@@ -1,5 +1,5 @@
 -- What is printed, one child or field after another.
-use Rattle.std.proofs.Common.{◌≡◌, ℕ, ◌+◌, ◌<◌, get_or, Bool, true, false, cond, List, [], ◌∷◌, ◌++◌, length, drop, Option, Some, None, option_map, String, Global, Vec, string_bytes, refl, sym, ap, ◌∙◌, true≢false, subst, rules}
+use Rattle.std.proofs.Common.{◌≡◌, ℕ, ◌+◌, ◌<◌, get_or, Bool, true, false, cond, List, [], ◌∷◌, ◌++◌, length, drop, Option, Some, None, option_map, String, Global, string_bytes, refl, sym, ap, ◌∙◌, true≢false, subst}
 use Rattle.std.specs.Prelude.{◌==◌, option_and_then, option_to_list}
 use Rattle.serde_json.specs.Data.{Data, array, object, Items, no_items, item, Members, no_members}
 use Rattle.serde_json.specs.View.{view, items_view, members_view}
@@ -10,7 +10,7 @@ use Rattle.pathmap.specs.Maps.{content, contents_in}
 use Rattle.pathmap.specs.declared.pathmap.PathMap.{PathMap}
 use Rattle.pathmap.proofs.Contents.{get-nothing}
 use Rattle.schema.specs.Shape.{atomic, set, keyed, Shape, text, whole, truth, struct_of, map_of, list_of, Fields, no_fields, field, shape, fields_in}
-use Rattle.schema.specs.declared.schema.Schema.{Schema, Struct, the_lemmas}
+use Rattle.schema.specs.declared.schema.Schema.{Schema}
 use Rattle.std.proofs.lemmas.List.{drop_more}
 use Rattle.fieldpath.specs.Elements.{field_name, name_text}
 use Rattle.typed.specs.Printing.{value_at, value_of, object_or_none, array_or_none, with_member, with_named, with_item, each_member, each_item, scalar_in, keys_in, print, print_item, print_fields}
@@ -108,9 +108,6 @@ module _ (inner : List ℕ → Option Data) where
 pub fields_more : (all : List (String Global × Schema)) (i : ℕ) (f : String Global × Schema) → i < length all → f ≡ get_or all i f → (c : Content) (ms new : Members)
     → new ≡ with_member (string_bytes f.0) (print (shape f.1) (inside (name_text (string_bytes f.0)) c)) ms → print_fields (fields_in (drop (i + 1) all)) c new ≡ print_fields (fields_in (drop i all)) c ms
 fields_more all i f lt is c ms new put = ap (print_fields (fields_in (drop (i + 1) all)) c) put ∙ sym (ap (λ fs. print_fields (fields_in fs) c ms) (drop_more all i f lt ∙ ap (λ x. x ∷ drop (i + 1) all) (sym is)))
-
-pub shape-fields : (fields : Vec (String Global × Schema) Global) (is_atomic : Bool) → shape (Struct fields is_atomic) ≡ struct_of (fields_in fields.items) is_atomic
-shape-fields fields is_atomic = search (rules, the_lemmas)
 
 -- ---- arrays and objects of what is there
 

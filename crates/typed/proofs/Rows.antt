@@ -1,27 +1,32 @@
 -- Members that are put in the order of their names stand one after another.
-use Rattle.std.proofs.Common.{◌≡◌, ℕ, Bool, true, false, cond, drop, nat_cmp, List, [], ◌∷◌, Option, Some, None, Less, string_bytes, refl, sym, ap, ap₂, ◌∙◌, subst, true≢false}
+use Rattle.std.proofs.Common.{◌≡◌, ℕ, Bool, true, false, cond, drop, ◌⊎◌, inl, inr, nat_cmp, List, [], ◌∷◌, Option, Some, None, Less, string_bytes, refl, sym, ap, ap₂, ◌∙◌, subst, true≢false}
 use Rattle.std.specs.Cmp.Lexicographic.{slice_cmp}
+use Rattle.std.specs.FinMap as fin
 use Rattle.std.specs.List.{AllByRecursion}
 use Rattle.std.specs.Ordering.{match_ordering}
 use Rattle.std.proofs.lemmas.Bool.{and_parts}
 use Rattle.serde_json.specs.Data.{Data, Members, no_members, member, put}
-use Rattle.serde_json.specs.Written.{members_text}
+use Rattle.serde_json.specs.Written.{compact_text, members_text}
 use Rattle.fieldpath.specs.Elements.{field_name, has_prefix, name_text}
 use Rattle.fieldpath.specs.Scalars.{ascend}
-use Rattle.pathmap.specs.Contents.{Content}
+use Rattle.pathmap.specs.Contents.{Standing, Content, here, nothing}
+use Rattle.pathmap.specs.Contents as standing
 use Rattle.pathmap.specs.Insides.{inside, heads}
 use Rattle.pathmap.specs.Maps.{contents_in}
+use Rattle.pathmap.proofs.Contents.{get-nothing}
+use Rattle.pathmap.proofs.Levels.{get-here-top}
 use Rattle.schema.proofs.Members.{put_turned}
 use Rattle.schema.specs.Lawful.{names_of, is_well_formed, are_well_formed}
-use Rattle.schema.specs.Shape.{Shape, Fields, no_fields, field, map_of, struct_of}
-use Rattle.typed.specs.Placed.{ArePlaced, ReadsBack}
-use Rattle.typed.specs.Printing.{each_member, object_or_none, print, print_fields, with_member, with_named}
-use Rattle.typed.specs.Rows.{AllFit, EachFits, Fits, HasNoFloat, IsThere, row_of_children, row_of_fields, text_or_none, then_member, then_named}
+use Rattle.schema.specs.Shape.{atomic, set, keyed, Shape, text, whole, truth, Fields, no_fields, field, map_of, struct_of, list_of}
+use Rattle.typed.specs.Placed.{IsAtomic, IsPlaced, ArePlaced, ReadsBack}
+use Rattle.typed.specs.Printing.{each_member, object_or_none, print, print_fields, value_at, with_member, with_named}
+use Rattle.typed.specs.Reading.{leaf}
+use Rattle.typed.specs.Rows.{AllFit, EachFits, Fits, HasNoFloat, IsCompact, IsThere, IsWritable, row_of_children, row_of_fields, text_or_none, then_member, then_named}
 use Rattle.typed.proofs.Floats.{content_clean}
 use Rattle.typed.proofs.Insides.{AreInside, Children, child_names, children-inside, children_of, heads-names}
 use Rattle.typed.proofs.KeyFields.{AreRising, ascend_rising}
 use Rattle.typed.proofs.Putting.{below_differs}
-use Rattle.typed.proofs.RoundTrip.{heads_rise, prefix_name, round}
+use Rattle.typed.proofs.RoundTrip.{heads_rise, leaf_is, prefix_name, round}
 
 -- every name is above k
 abbrev AllAbove : List ℕ → List (List ℕ) → Type 0
@@ -132,6 +137,42 @@ fits_clean s c fits = by_printed (print s c) refl
     by_printed : (o : Option Data) → print s c ≡ o → HasNoFloat o
     by_printed None is = tt
     by_printed (Some d) is = content_clean s d c (subst (λ o. ReadsBack s o c) is (round s c fits.0 fits.1)).1
+
+-- an atomic value at the top is kept as compact text
+none_compact : (c : Content) → fin.get c [] ≡ None → IsCompact (fin.get c [])
+none_compact c top = subst IsCompact (sym top) tt
+
+here_compact : (c : Content) (v : Standing) → c ≡ here v → IsCompact (Some v) → IsCompact (fin.get c [])
+here_compact c v is compact = subst IsCompact (sym (ap (λ d. fin.get d []) is ∙ get-here-top v)) compact
+
+empty_compact : (c : Content) → c ≡ nothing → IsCompact (fin.get c [])
+empty_compact c none = none_compact c (ap (λ d. fin.get d []) none ∙ get-nothing [])
+
+atomic_compact : (s : Shape) (c : Content) → IsAtomic s c → IsCompact (fin.get c [])
+atomic_compact s c (inl none) = empty_compact c none
+atomic_compact s c (inr (d, plain, reads, is)) = by_leaf (leaf_is d)
+  where
+    by_leaf : (leaf d ≡ nothing) ⊎ (leaf d ≡ here (standing.plain (compact_text d))) → IsCompact (fin.get c [])
+    by_leaf (inl none) = empty_compact c (is ∙ none)
+    by_leaf (inr there) = here_compact c (standing.plain (compact_text d)) (is ∙ there) (sym (ap text_or_none reads))
+
+top_compact : (s : Shape) (c : Content) → IsPlaced s c → IsCompact (fin.get c [])
+top_compact text c (inl none) = empty_compact c none
+top_compact text c (inr (s, is)) = here_compact c (standing.text s) is tt
+top_compact whole c (inl none) = empty_compact c none
+top_compact whole c (inr (n, within, is)) = here_compact c (standing.whole n) is tt
+top_compact truth c (inl none) = empty_compact c none
+top_compact truth c (inr (b, is)) = here_compact c (standing.truth b) is tt
+top_compact (struct_of all true) c placed = atomic_compact (struct_of all true) c placed
+top_compact (struct_of all false) c placed = none_compact c placed.0.0
+top_compact (map_of s true) c placed = atomic_compact (map_of s true) c placed
+top_compact (map_of s false) c placed = none_compact c placed.0.0
+top_compact (list_of s atomic) c placed = atomic_compact (list_of s atomic) c placed
+top_compact (list_of s set) c placed = none_compact c placed.0
+top_compact (list_of s (keyed names)) c placed = none_compact c placed.0
+
+pub fits_writable : (s : Shape) (c : Content) → value_at c ≡ print s c → Fits s c → IsWritable (fin.get c [])
+fits_writable s c top fits = (subst HasNoFloat (sym top) (fits_clean s c fits), top_compact s c fits.1)
 
 pub there : (s : Shape) (c : Content) → IsThere s c → (d : Data) × (print s c ≡ Some d)
 there s c is_there = by_printed (print s c) refl

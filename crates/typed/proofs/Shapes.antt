@@ -5,7 +5,8 @@ use Rattle.serde_json.specs.Find.{as_object, as_array}
 use Rattle.serde_json.specs.View.{items_view}
 use Rattle.serde_json.specs.declared.value.Value.{Value}
 use Rattle.schema.specs.KeyNames.{names_in}
-use Rattle.schema.specs.Shape.{shape, text, struct_of, map_of, list_of, fields_in, kind_of}
+use Rattle.schema.proofs.Shapes.{shape-Struct, shape-MapOf, shape-List}
+use Rattle.schema.specs.Shape.{shape, text, whole, truth, fields_in, kind_of}
 use Rattle.schema.specs.declared.schema.ListKind.{ListKind}
 use Rattle.schema.specs.declared.schema.ListKind.TheVariants as kinds
 use Rattle.schema.specs.declared.schema.Schema as schemas
@@ -17,14 +18,11 @@ use Rattle.typed.specs.Reading.{plain_of, plain_of_field, plain_members, plain_i
 pub shape-Text : shape schemas.Text ≡ text
 shape-Text = search (rules, the_lemmas)
 
-pub shape-Struct : (v : Vec (String Global × Schema) Global) (b : Bool) → shape (schemas.Struct v b) ≡ struct_of (fields_in v.items) b
-shape-Struct v b = search (rules, the_lemmas)
+pub shape-Whole : shape schemas.Whole ≡ whole
+shape-Whole = search (rules, the_lemmas)
 
-pub shape-MapOf : (inner : Box Schema Global) (b : Bool) → shape (schemas.MapOf inner b) ≡ map_of (shape inner.value) b
-shape-MapOf inner b = search (rules, the_lemmas)
-
-pub shape-List : (inner : Box Schema Global) (kind : ListKind) → shape (schemas.List inner kind) ≡ list_of (shape inner.value) (kind_of kind)
-shape-List inner kind = search (rules, the_lemmas)
+pub shape-Truth : shape schemas.Truth ≡ truth
+shape-Truth = search (rules, the_lemmas)
 
 pub plain_struct : (s : Schema) (v : Vec (String Global × Schema) Global) (b : Bool) (fs : List (String Global × Schema)) (d : Data) (ms : Members) → s ≡ schemas.Struct v b → fs ≡ v.items → some_or NotAnObject (as_object d) ≡ Ok ms
     → plain_of (shape s) d ≡ below [] object (plain_members (λ k e. plain_of_field (fields_in fs) k e) ms)

@@ -1,5 +1,5 @@
 -- Texts that are put together of pieces.
-use Rattle.std.proofs.Common.{◌≡◌, ℕ, ◌+◌, ◌<◌, ◌≤◌, Bool, true, false, get_or, drop, length, nat_cmp, string_cmp, List, [], ◌∷◌, ◌++◌, Option, Some, None, Ordering, Less, Equal, Greater, String, Vec, Global, string_bytes, refl, sym, ap, ap₂, ◌∙◌, subst, true≢false, append_assoc}
+use Rattle.std.proofs.Common.{◌≡◌, ℕ, ◌+◌, ◌<◌, ◌≤◌, Bool, true, false, ◌⊎◌, inl, inr, get_or, drop, length, nat_cmp, string_cmp, List, [], ◌∷◌, ◌++◌, Option, Some, None, Ordering, Less, Equal, Greater, String, Vec, Global, string_bytes, refl, sym, ap, ap₂, ◌∙◌, subst, true≢false, append_assoc}
 use Rattle.std.specs.BTreeMap.{insert_entry}
 use Rattle.std.specs.Cmp.Lexicographic.{slice_cmp}
 use Rattle.std.specs.Ordering.{match_ordering}
@@ -17,6 +17,7 @@ use Rattle.pathmap.specs.Maps.{content, contents_in}
 use Rattle.pathmap.specs.declared.pathmap.PathMap.{PathMap}
 use Rattle.schema.specs.Shape.{Fields, Shape, fields_in, map_of, shape, struct_of}
 use Rattle.schema.specs.declared.schema.Schema.{Schema}
+use Rattle.schema.specs.declared.schema.Schema as schemas
 use Rattle.fieldset.proofs.Appended.{regroup}
 use Rattle.typed.specs.Printing.{each_member, object_or_none, print as printed, print_fields, value_at, with_member}
 use Rattle.typed.specs.Rows.{AllFit, Fits, IsThere, row_of_children, row_of_fields, text_or_none, then_member, then_named}
@@ -24,6 +25,7 @@ use Rattle.typed.specs.Texts.{Texts, joined, object_of, put_text, texts_in, text
 use Rattle.typed.proofs.Insides.{Children, children_of}
 use Rattle.typed.proofs.Prints.{fields_more, print-nothing}
 use Rattle.typed.proofs.Rows.{children_row, opened, struct_row, there}
+use Rattle.typed.proofs.Shapes.{shape-Text, shape-Truth, shape-Whole}
 
 pub weaker : {X E : Type 0} {P Q : Type 0} (r : Result X E) → (P → Q) → OnOk r P → OnOk r Q
 weaker (Ok x) f h = f h
@@ -115,6 +117,11 @@ struct_top all false c is = absurd (true≢false (sym is))
 pub map_top : (s : Shape) (b : Bool) (c : Content) → b ≡ true → value_at c ≡ printed (map_of s b) c
 map_top s true c is = refl
 map_top s false c is = absurd (true≢false (sym is))
+
+pub scalar_top : (t : Schema) (c : Content) → (t ≡ schemas.Text) ⊎ ((t ≡ schemas.Whole) ⊎ (t ≡ schemas.Truth)) → value_at c ≡ printed (shape t) c
+scalar_top t c (inl is) = sym (ap (λ s. printed s c) (ap shape is ∙ shape-Text))
+scalar_top t c (inr (inl is)) = sym (ap (λ s. printed s c) (ap shape is ∙ shape-Whole))
+scalar_top t c (inr (inr is)) = sym (ap (λ s. printed s c) (ap shape is ∙ shape-Truth))
 
 -- ---- texts, one after another
 

@@ -1,17 +1,19 @@
 -- For private clauses: what is printed, member by member in byte order of their names, and its text.
-use Rattle.std.specs.Prelude.{◌≡◌, ℕ, List, [], ◌∷◌, true, false, Option, Some, None, String, string_bytes}
+use Rattle.std.specs.Prelude.{◌≡◌, ℕ, List, [], ◌∷◌, true, false, Option, Some, None, String, string_bytes, option_and_then}
 use Rattle.std.specs.declared.alloc.Global.{Global}
 use Rattle.serde_json.specs.Data.{Data, Members, no_members, member}
+use Rattle.serde_json.specs.Read.{read}
 use Rattle.serde_json.specs.Written.{compact_text, has_float}
 use Rattle.fieldpath.specs.Elements.{field_name, name_text}
-use Rattle.pathmap.specs.Contents.{Content, nothing}
+use Rattle.pathmap.specs.Contents.{Standing, Content, nothing}
+use Rattle.pathmap.specs.Contents as standing
 use Rattle.pathmap.specs.Insides.{inside}
 use Rattle.pathmap.specs.Maps.{content}
 use Rattle.pathmap.specs.declared.pathmap.PathMap.{PathMap}
 use Rattle.schema.specs.Lawful.{is_well_formed}
 use Rattle.schema.specs.Shape.{Shape, Fields, no_fields, field}
 use Rattle.typed.specs.Placed.{IsPlaced}
-use Rattle.typed.specs.Printing.{print}
+use Rattle.typed.specs.Printing.{print, value_of}
 
 abbrev pub text_or_none : Option Data → List ℕ
 text_or_none None = []
@@ -20,6 +22,15 @@ text_or_none (Some d) = compact_text d
 abbrev pub HasNoFloat : Option Data → Type 0
 HasNoFloat None = Unit {0}
 HasNoFloat (Some d) = has_float d ≡ false
+
+-- an atomic value is the compact text of what it spells
+abbrev pub IsCompact : Option Standing → Type 0
+IsCompact (Some (standing.plain s)) = s ≡ text_or_none (read s)
+IsCompact _ = Unit {0}
+
+-- what can be written as it stands
+abbrev pub IsWritable : Option Standing → Type 0
+IsWritable v = HasNoFloat (option_and_then value_of v) × IsCompact v
 
 -- a content of the shape
 abbrev pub Fits : Shape → Content → Type 0

@@ -43,21 +43,31 @@ impl Tree {
         Ok(FieldSet::of(self.map().changed(alloc, other.map())?))
     }
 
+    /// The paths that the other content lacks.
+    fn added_to(&self, alloc: Global, other: &Tree) -> Result<FieldSet, AllocError>
+        ensures { IfOk result (λ s. s ≡ set.difference (dom self.now) (dom other.now)) }
+    {
+        other.lacking(alloc, &self.paths(alloc)?)
+    }
+
+    /// The paths of both whose values differ.
+    fn modified_from(&self, alloc: Global, other: &Tree) -> Result<FieldSet, AllocError>
+        ensures { IfOk result (λ s. s ≡ set.intersection (changed self.now other.now) (dom other.now)) }
+    {
+        self.changed_from(alloc, other)?
+            .common(alloc, &other.paths(alloc)?)
+    }
+
     /// What this content added to another, modified and removed.
     pub fn compare(&self, alloc: Global, other: &Tree) -> Result<Changes, AllocError>
         ensures added { IfOk result (λ c. c.added ≡ set.difference (dom self.now) (dom other.now)) }
         ensures modified { IfOk result (λ c. c.modified ≡ set.intersection (changed self.now other.now) (dom other.now)) }
         ensures removed { IfOk result (λ c. c.removed ≡ set.difference (dom other.now) (dom self.now)) }
     {
-        let mine = self.paths(alloc)?;
-        let theirs = other.paths(alloc)?;
-        let added = mine.minus(alloc, &theirs)?;
-        let modified = self.changed_from(alloc, other)?.common(alloc, &theirs)?;
-        let removed = theirs.minus(alloc, &mine)?;
         Ok(Changes {
-            added,
-            modified,
-            removed,
+            added: self.added_to(alloc, other)?,
+            modified: self.modified_from(alloc, other)?,
+            removed: other.added_to(alloc, self)?,
         })
     }
 

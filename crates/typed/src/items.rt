@@ -3,8 +3,6 @@
 ghost use Rattle.std.specs.Prelude.{◌≡◌, ℕ, List, [], Err, Ok, IfOk, OnOk, if◌then◌else◌, option_map, string_bytes};
 ghost use Rattle.fieldpath.specs.Elements.{list_item_text, name_text, set_item_text};
 ghost use Rattle.pathmap.specs.Contents.{Content, nothing};
-ghost use Rattle.std.specs.List.{list_any};
-ghost use Rattle.std.specs.Str.{bytes_eq};
 ghost use Rattle.pathmap.specs.Maps.{content};
 ghost use Rattle.serde_json.specs.Data.{object};
 ghost use Rattle.serde_json.specs.Find.{as_array, as_object, get_member};
@@ -18,6 +16,7 @@ ghost use Rattle.typed.specs.Steps.{AddsItem, AreSeen, IsFree, Joins, item_view,
 use crate::fault::{Cause, ReadFault, wrong};
 use fieldpath::ElemText;
 use pathmap::PathMap;
+use schema::is_key;
 use serde_json::{Map, Value};
 use std::alloc::{AllocError, Global};
 
@@ -185,18 +184,6 @@ pub(crate) fn add_item(
         }
         Err(fault) => Err(fault.in_item(alloc, place)),
     }
-}
-
-/// Whether the name is that of a key field.
-fn is_key(names: &[String], name: &str) -> bool
-    ensures { result ≡ list_any (bytes_eq name.now) (names_in names.now) }
-{
-    for known in names {
-        if name == known.as_str() {
-            return true;
-        }
-    }
-    false
 }
 
 /// Takes what was read of a member. Of a key field only a fault counts, since its value stands in the item's element.

@@ -27,5 +27,5 @@ pub use print_law::{
     contents_are_kept, contents_are_placed, contents_have_places, printed_has_no_float,
     printed_is_textual, printed_reads_back, readings_are_placed,
 };
-pub use texts::{Texts, object_of, put_string, put_text, put_value};
+pub use texts::{Texts, object_bytes, object_text, put_string, put_text, put_value};
 pub use tree::Tree;

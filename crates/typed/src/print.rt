@@ -5,7 +5,7 @@ ghost use Rattle.serde_json.specs.Data.{object};
 ghost use Rattle.serde_json.specs.View.{view, items_view, members_view};
 ghost use Rattle.fieldpath.specs.Elements.{field_name, name_text};
 ghost use Rattle.pathmap.specs.Insides.{inside, heads};
-ghost use Rattle.pathmap.specs.Maps.{content, content_or_nothing, contents_in};
+ghost use Rattle.pathmap.specs.Maps.{content, content_or_nothing};
 ghost use Rattle.schema.specs.Shape.{fields_in, kind_of, list_of, map_of, shape, shape_at, struct_of};
 ghost use Rattle.typed.specs.Printing.{each_item, each_member, keys_in, print, print_fields, print_item, scalar_in, with_named};
 
@@ -40,10 +40,6 @@ pub(crate) fn field_in<'a>(
 ) -> Result<Option<&'a PathMap>, AllocError>
     ensures { IfOk result (λ o. content_or_nothing (option_map (λ m. m.now) o) ≡ inside (name_text name.now) (content map.now)) }
 {
-    let children = map.children();
-    if children.len() == 0 {
-        return Ok(None);
-    }
     let element = ElemText::of_field(alloc, name)?;
     Ok(map.child(&element))
 }
@@ -176,8 +172,9 @@ fn print_each(
     Ok(object_of(members))
 }
 
+/// The value of a list, if it has an item.
 #[cycle(print)]
-fn print_list(
+pub(crate) fn print_list(
     inner: &Schema,
     alloc: Global,
     kind: &ListKind,

@@ -1,9 +1,10 @@
 //! JSON texts of what stands at a path, appended.
-ghost use Rattle.std.specs.Prelude.{◌≡◌, ◌++◌, OnOk, option_map};
+ghost use Rattle.std.specs.Prelude.{◌≡◌, ◌++◌, [], OnOk, Some, option_map};
+ghost use Rattle.std.specs.FinMap as fin;
 ghost use Rattle.pathmap.specs.Maps.{content, standing};
 ghost use Rattle.serde_json.specs.View.{view};
 ghost use Rattle.typed.specs.Printing.{value_at, value_of};
-ghost use Rattle.typed.specs.Rows.{HasNoFloat, text_or_none};
+ghost use Rattle.typed.specs.Rows.{HasNoFloat, IsWritable, text_or_none};
 
 use crate::print_parts::print_held;
 use fieldset::{push_string, push_value};
@@ -25,11 +26,13 @@ pub(crate) fn push_some(
     }
 }
 
+/// Appends what is held: an atomic value as it is kept, since that is compact JSON; a number or a truth value by a JSON value.
 fn push_held(out: &mut Vec<u8>, alloc: Global, held: &Held) -> Result<(), AllocError>
-    ensures { HasNoFloat (value_of (standing held.now)) → OnOk result (out.new.items ≡ out.old.items ++ text_or_none (value_of (standing held.now))) }
+    ensures { IsWritable (Some (standing held.now)) → OnOk result (out.new.items ≡ out.old.items ++ text_or_none (value_of (standing held.now))) }
 {
     match held {
         Held::Text(text) => push_string(out, alloc, text.as_str()),
+        Held::Plain(text) => Ok(out.extend_from_slice(text.as_str().as_bytes())?),
         _ => {
             let value = print_held(alloc, held)?;
             push_some(out, alloc, &value)
@@ -39,7 +42,7 @@ fn push_held(out: &mut Vec<u8>, alloc: Global, held: &Held) -> Result<(), AllocE
 
 /// Appends the value at the top.
 pub(crate) fn push_top(map: &PathMap, alloc: Global, out: &mut Vec<u8>) -> Result<(), AllocError>
-    ensures { HasNoFloat (value_at (content map.now)) → OnOk result (out.new.items ≡ out.old.items ++ text_or_none (value_at (content map.now))) }
+    ensures { IsWritable (fin.get (content map.now) []) → OnOk result (out.new.items ≡ out.old.items ++ text_or_none (value_at (content map.now))) }
 {
     match map.held() {
         Some(held) => push_held(out, alloc, held),

@@ -68,7 +68,7 @@ fn push_members(out: &mut Vec<u8>, alloc: Global, texts: &Texts) -> Result<(), A
     Ok(out.push(b'}')?)
 }
 
-/// The text of bytes that are one.
+/// The text of bytes that are one, as all that is written here are; the other arm isn't met.
 fn text_of(bytes: Vec<u8>) -> Result<String, AllocError>
     ensures { IfOk result (λ t. string_bytes t ≡ bytes.items) }
 {
@@ -78,12 +78,19 @@ fn text_of(bytes: Vec<u8>) -> Result<String, AllocError>
     }
 }
 
-/// The text of the object that has these members.
-pub fn object_of(alloc: Global, texts: &Texts) -> Result<String, AllocError>
-    ensures { IfOk result (λ t. string_bytes t ≡ object_of (texts_in texts.now.entries)) }
+/// The object that has these members, as its text's bytes.
+pub fn object_bytes(alloc: Global, texts: &Texts) -> Result<Vec<u8>, AllocError>
+    ensures { IfOk result (λ v. v.items ≡ object_of (texts_in texts.now.entries)) }
 {
     let mut out = Vec::with_capacity(alloc, 1024)?;
     out.push(b'{')?;
     push_members(&mut out, alloc, texts)?;
-    text_of(out)
+    Ok(out)
+}
+
+/// The text of the object that has these members.
+pub fn object_text(alloc: Global, texts: &Texts) -> Result<String, AllocError>
+    ensures { IfOk result (λ t. string_bytes t ≡ object_of (texts_in texts.now.entries)) }
+{
+    text_of(object_bytes(alloc, texts)?)
 }

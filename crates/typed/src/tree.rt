@@ -23,7 +23,7 @@ use crate::read::read_map;
 use crate::texts::Texts;
 use crate::without::read_without;
 use crate::write::texts_of_fields;
-use pathmap::{PathMap, put_over, put_under};
+use pathmap::{PathMap, put_under};
 use schema::Schema;
 use serde_json::Value;
 use std::alloc::{AllocError, Global};
@@ -104,7 +104,7 @@ impl Tree {
         ensures { IfOk result (λ t. t ≡ over other.now self.now) }
     {
         Ok(Tree {
-            map: put_over(&other.map, alloc, self.map.try_copy(alloc)?)?,
+            map: put_under(&self.map, alloc, other.map.try_copy(alloc)?)?,
         })
     }
 

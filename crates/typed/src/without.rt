@@ -3,7 +3,7 @@
 //! below them is read as in `read`. Only a struct whose members merge one by one is read so: under another schema a copy
 //! without these members is read.
 
-ghost use Rattle.std.specs.Prelude.{◌≡◌, false, IfSome, map};
+ghost use Rattle.std.specs.Prelude.{false, map};
 ghost use Rattle.serde_json.specs.View.{members_view, view};
 ghost use Rattle.pathmap.specs.Maps.{content};
 ghost use Rattle.schema.specs.Keywords.{is_in};
@@ -20,21 +20,6 @@ use pathmap::PathMap;
 use schema::Schema;
 use serde_json::{Map, Value};
 use std::alloc::Global;
-
-/// The fields, if the schema is a granular struct.
-fn granular_fields(schema: &Schema) -> Option<&[(String, Schema)]>
-    ensures { IfSome result (λ fs. shape schema.now ≡ struct_of (fields_in fs.now) false) }
-{
-    match schema {
-        Schema::Struct(fields, is_atomic) => {
-            if *is_atomic {
-                return None;
-            }
-            Some(fields.as_slice())
-        }
-        _ => None,
-    }
-}
 
 /// The members of a member, without those of these names.
 fn read_members_but(
@@ -79,7 +64,7 @@ fn read_but(
 ) -> Result<PathMap, ReadFault>
     ensures { Gives content result (content_of (shape schema.now) (but (map (λ n. n.now) names.now) (view value.now))) }
 {
-    match granular_fields(schema) {
+    match schema.granular_fields() {
         Some(fields) => read_struct_but(fields, alloc, value, names),
         None => read_map(schema, alloc, &copy_but(alloc, value, names)?),
     }
@@ -162,7 +147,7 @@ pub(crate) fn read_without(
 ) -> Result<PathMap, ReadFault>
     ensures { Gives content result (content_of (shape schema.now) (without (omitted_of omitted.entry) (view value.now))) }
 {
-    match granular_fields(schema) {
+    match schema.granular_fields() {
         Some(fields) => read_struct(fields, alloc, value, omitted),
         None => read_map(schema, alloc, &copy_without(alloc, value, omitted)?),
     }

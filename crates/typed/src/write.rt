@@ -1,34 +1,42 @@
-//! Contents written as JSON texts, with no value in between but for lists.
+//! Contents written as JSON texts. Objects, texts and atomic values are written straight; numbers, truth values and lists of
+//! items go by a JSON value.
 ghost use Rattle.std.specs.Prelude.{◌≡◌, ◌++◌, false, IfOk, OnOk};
 ghost use Rattle.pathmap.specs.Insides.{heads, inside};
 ghost use Rattle.pathmap.specs.Maps.{content};
-ghost use Rattle.schema.specs.Shape.{fields_in, map_of, shape, struct_of};
+ghost use Rattle.schema.specs.Shape.{fields_in, kind_of, list_of, map_of, shape, struct_of};
 ghost use Rattle.serde_json.specs.Data.{Members, no_members};
 ghost use Rattle.serde_json.specs.Written.{members_text};
 ghost use Rattle.typed.specs.Printing.{each_member, print, print_fields, with_member};
-ghost use Rattle.typed.specs.Rows.{AllFit, EachFits, Fits, HasNoFloat, IsThere, row_of_fields, text_or_none, then_member};
+ghost use Rattle.typed.specs.Rows.{AllFit, EachFits, Fits, IsThere, row_of_fields, text_or_none, then_member};
 ghost use Rattle.typed.specs.Texts.{texts_in, texts_of};
 
-use crate::print::{field_in, print_map};
+use crate::print::{field_in, print_list};
 use crate::pushing::{push_some, push_top};
 use crate::texts::{Texts, put_text};
 use fieldset::{push_comma, push_name};
 use pathmap::PathMap;
-use schema::Schema;
+use schema::{ListKind, Schema};
 use std::alloc::{AllocError, Global};
 use std::collections::BTreeMap;
 
-/// Appends what is printed of a map.
-fn write_printed(
-    schema: &Schema,
+/// Appends a list in which something stands.
+fn write_list(
+    inner: &Schema,
     alloc: Global,
+    kind: &ListKind,
     map: &PathMap,
     out: &mut Vec<u8>,
 ) -> Result<(), AllocError>
-    ensures { HasNoFloat (print (shape schema.now) (content map.now)) → OnOk result (out.new.items ≡ out.old.items ++ text_or_none (print (shape schema.now) (content map.now))) }
+    ensures { IsThere (list_of (shape inner.now) (kind_of kind.now)) (content map.now)
+        → OnOk result (out.new.items ≡ out.old.items ++ text_or_none (print (list_of (shape inner.now) (kind_of kind.now)) (content map.now))) }
 {
-    let value = print_map(schema, alloc, map)?;
-    push_some(out, alloc, &value)
+    match kind {
+        ListKind::Atomic => push_top(map, alloc, out),
+        _ => {
+            let value = print_list(inner, alloc, kind, map)?;
+            push_some(out, alloc, &value)
+        }
+    }
 }
 
 /// Appends a member after the others, if anything stands in it; whether there are members then.
@@ -145,8 +153,8 @@ fn write_map(
     match schema {
         Schema::Struct(fields, is_atomic) => write_struct(fields, alloc, *is_atomic, map, out),
         Schema::MapOf(inner, is_atomic) => write_values(inner, alloc, *is_atomic, map, out),
-        Schema::Text => push_top(map, alloc, out),
-        _ => write_printed(schema, alloc, map, out),
+        Schema::List(inner, kind) => write_list(inner, alloc, kind, map, out),
+        Schema::Text | Schema::Whole | Schema::Truth => push_top(map, alloc, out),
     }
 }
 

@@ -5,10 +5,11 @@ use Rattle.serde_json.specs.View.{members_view}
 use Rattle.serde_json.specs.declared.value.Value.{Object}
 use Rattle.serde_json.proofs.Views.{members_view-insert_entry, view-Object}
 use Rattle.pathmap.specs.Maps.{contents_in}
-use Rattle.pathmap.proofs.Fronts.{drop_next}
+use Rattle.pathmap.proofs.Children.{child_lower}
+use Rattle.pathmap.proofs.Fronts.{drop_next, drop-whole}
 use Rattle.schema.specs.Shape.{shape}
 use Rattle.fieldset.specs.Below.{as_item, members_some, members_under}
-use Rattle.fieldset.proofs.Walks.{child_lower, drop_all, held_marks, marks_in, members-each, puts, puts_all, puts_next}
+use Rattle.fieldset.proofs.Walks.{held_marks, marks_in, members-each, puts, puts_all, puts_next}
 use Rattle.fieldset.proofs.fields_v1.+members.Goals as goal
 
 pub loop-name-preserved : goal.loop-name-preserved
@@ -29,7 +30,7 @@ pub returns : goal.returns
 returns t c =
     let s = shape c.in-Some.schema.now in
     let all = c.children-name-items.result.now in
-    sym (ap (λ es. puts (members_under s) (contents_in es) (members_view c.loop-name.all.entries)) (drop_all c.loop-name.name-index all c.loop-name-test.false))
+    sym (ap (λ es. puts (members_under s) (contents_in es) (members_view c.loop-name.all.entries)) (drop-whole c.loop-name.name-index all c.loop-name-test.false))
     ∙ c.loop-name.invariant ∙ puts_all (members_under s) c.args.map.now (contents_in all) c.children-name-items.ensures
     ∙ sym (members-each s (marks_in c.args.map.now) (sym c.is_leaf.ensures ∙ c.if-is_leaf.false)) ∙ ap (λ o. members_some (option_map (λ x. shape x.now) o) (marks_in c.args.map.now)) (sym c.in-Some.is)
 

@@ -50,7 +50,7 @@ read_members-loop-name-preserved t c =
     let m = c.in-Some-2.member.map in
     added s ms (read_members s ms ms) (content c.loop-name.map) c.loop-name.name-iterator e c.next.new.self c.in-Some.ensures.steps c.loop-name.invariant k m (content c.insert_child.new.self) c.in_ok-insert_child.field-0
     (ap (λ k. read_member s ms k (view e.1) (λ next. read_at next (view e.1))) (sym c.as_str.ensures.value) ∙ c.in_ok-member.ensures.read ∙ ap (λ o. Ok (member_view o)) c.in-Some-2.is)
-    (subst (λ o. IsNamed o c.as_str.result.now) c.in-Some-2.is c.in_ok-member.ensures.named ∙ c.as_str.ensures.value) c.in_ok-insert_child.ensures.put c.in_ok-insert_child.ensures.taken
+    (subst (λ o. IsNamed o c.as_str.result.now) c.in-Some-2.is c.in_ok-member.ensures.named ∙ c.as_str.ensures.value) c.in_ok-insert_child.ensures.added c.in_ok-insert_child.ensures.put
 
 pub read_members-returns : goal.read_members-returns
 read_members-returns t c =

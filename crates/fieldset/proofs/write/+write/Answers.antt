@@ -1,16 +1,21 @@
-use Rattle.std.proofs.Common.{arith, [], ◌∷◌, ◌+◌, ◌++◌, drop, false, ap, sym, ◌∙◌, string_bytes}
+use Rattle.std.proofs.Common.{arith, [], ◌∷◌, ◌+◌, ◌++◌, drop, refl, ap, sym, ◌∙◌, string_bytes}
 use Rattle.std.specs.Option.{option_map}
 use Rattle.std.proofs.lemmas.Result.{on_ok_weaker}
 use Rattle.pathmap.specs.Maps.{contents_in}
-use Rattle.pathmap.proofs.Fronts.{drop_next}
+use Rattle.pathmap.proofs.Children.{child_lower}
+use Rattle.pathmap.proofs.Fronts.{drop_next, drop-whole}
 use Rattle.json.specs.Print.{quoted}
 use Rattle.schema.specs.Shape.{shape}
 use Rattle.serde_json.specs.Data.{object}
 use Rattle.serde_json.specs.Written.{compact_text, members_text}
 use Rattle.fieldset.specs.Below.{as_item, members_some, members_under, shape_below}
 use Rattle.fieldset.proofs.Appended.{child_pushed, opened}
-use Rattle.fieldset.proofs.Walks.{child_lower, children_all, drop_all, each_child, held_marks, marks_in, members-each}
+use Rattle.fieldset.proofs.Walks.{children_all, each_child, held_marks, marks_in, members-each}
 use Rattle.fieldset.proofs.write.+write.Goals as goal
+
+pub push_members-loop-name-init : goal.push_members-loop-name-init
+push_members-loop-name-init t c =
+    opened (each_child (members_under (shape c.in-Some.schema.now)) (contents_in c.children-name-items.result.now)) c.args.out.now.items c.push.new.self.items _ c.in_ok-push.ensures.items refl
 
 pub push_members-loop-name-preserved : goal.push_members-loop-name-preserved
 push_members-loop-name-preserved t c =
@@ -26,9 +31,9 @@ push_members-returns t c =
     let s = shape c.in-Some.schema.now in
     let start = c.args.out.now.items in
     let all = c.children-name-items.result.now in
-    c.in_ok-push-3.ensures.items
-    ∙ sym (ap (λ l. c.loop-name.out.items ++ members_text c.loop-name.later (each_child (members_under s) (contents_in l))) (drop_all c.loop-name.name-index all c.loop-name-test.false)) ∙ c.loop-name.invariant
-    ∙ ap (λ ms. start ++ members_text false ms)
+    c.in_ok-push-4.ensures.items
+    ∙ sym (ap (λ l. c.loop-name.out.items ++ members_text c.loop-name.later (each_child (members_under s) (contents_in l))) (drop-whole c.loop-name.name-index all c.loop-name-test.false)) ∙ c.loop-name.invariant
+    ∙ ap (λ ms. start ++ compact_text (object ms))
     (children_all (members_under s) c.args.map.now (contents_in all) c.children-name-items.ensures ∙ sym (members-each s (marks_in c.args.map.now) (sym c.is_leaf.ensures ∙ c.if-is_leaf.false))
     ∙ ap (λ o. members_some (option_map (λ x. shape x.now) o) (marks_in c.args.map.now)) (sym c.in-Some.is))
 
@@ -38,13 +43,9 @@ push_object-returns t c =
     let k = string_bytes c.args.name.now in
     let whole = marks_in c.args.map.now in
     let old = c.args.out.now.items in
-    let one = c.push.new.self.items in
-    let new = c.push_members.new.out.items in
     let below = members_some (shape_below s k) whole in
     let same = ap (λ b. as_item s b below) (held_marks c.args.map.now c.held.result c.held.ensures ∙ sym c.is_some.ensures) ∙ c.has_more.ensures c.if-has_more.false below in
-    on_ok_weaker c.push_members.result (λ pushed.
-    opened below old one new c.in_ok-push.ensures.items (pushed ∙ ap (λ o. one ++ members_text false (members_some o whole)) c.schema_below.ensures) ∙ ap (λ ms. old ++ compact_text (object ms)) (sym same))
-    c.push_members.ensures
+    on_ok_weaker c.push_members.result (λ pushed. pushed ∙ ap (λ o. old ++ compact_text (object (members_some o whole))) c.schema_below.ensures ∙ ap (λ ms. old ++ compact_text (object ms)) (sym same)) c.push_members.ensures
 
 pub push_members-push_object-requires : goal.push_members-push_object-requires
 push_members-push_object-requires t c =

@@ -7,7 +7,7 @@ use Rattle.ownership.proofs.updating.owned_then.Goals as goal
 pub returns-in_ok-minus-in-Some : goal.returns-in_ok-minus-in-Some
 returns-in_ok-minus-in-Some c =
     let m = manager_view c.args.manager.now in
-    subst (λ t. IfOk c.union-in-Some.result (λ s. s ≡ t)) (ap (λ s. set.union s c.args.changed.now) c.in_ok-minus-in-Some.ensures ∙ then_some c.args.managers.now m c.args.gone.now c.args.changed.now c.in-Some.owned.now (sym c.in-Some.ensures)) c.union-in-Some.ensures
+    subst (λ t. IfOk c.union.result (λ s. s ≡ t)) (ap (λ s. set.union s c.args.changed.now) c.in_ok-minus-in-Some.ensures ∙ then_some c.args.managers.now m c.args.gone.now c.args.changed.now c.in-Some.owned.now (sym c.in-Some.ensures)) c.union.ensures
 
 pub returns-in-None : goal.returns-in-None
 returns-in-None c =

@@ -1,7 +1,8 @@
 use Rattle.std.proofs.Common.{◌≡◌, refl, sym, subst}
 use Rattle.objects.specs.State.{State}
 use Rattle.objects.specs.Managers.{manager_view}
-use Rattle.objects.specs.Owners.{WroteByNone, manager_of, update_operation}
+use Rattle.std.specs.FinSet as set
+use Rattle.objects.specs.Owners.{WroteByNone, manager_of, owned_by, update_operation}
 use Rattle.objects.specs.Views.{state_of}
 use Rattle.ownership.specs.Update.{updated}
 use Rattle.ownership.proofs.Changing.{updated_is, update_stands, update_leaves}
@@ -14,9 +15,12 @@ returns c =
     let live = state_of c.args.live.now in
     let m = manager_of c.args.manager.now update_operation in
     let after : State = record { content = c.args.new; owners = c.in_ok-managers.managers } in
+    let k = manager_view c.in_ok-manager.manager in
+    let changed = c.in_ok-changed.changed in
+    let gone = c.in_ok-gone.gone in
     let is : after ≡ updated live c.args.new m =
-    updated_is live c.args.new m (manager_view c.in_ok-manager.manager) c.in_ok-changed.changed c.in_ok-gone.gone c.in_ok-lost.lost c.in_ok-owned.owned c.in_ok-managers.managers
-    c.in_ok-manager.ensures c.in_ok-changed.ensures c.in_ok-gone.ensures c.in_ok-lost.ensures c.in_ok-owned.ensures c.in_ok-managers.ensures in
+    updated_is live c.args.new m k changed gone (set.union changed gone) (set.union (set.difference (owned_by live.owners k) gone) changed) c.in_ok-managers.managers
+    c.in_ok-manager.ensures c.in_ok-changed.ensures c.in_ok-gone.ensures refl refl c.in_ok-managers.ensures in
     record {
       updates = is;
       stand = update_stands live c.args.new m after is;

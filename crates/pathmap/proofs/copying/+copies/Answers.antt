@@ -6,8 +6,8 @@ use Rattle.pathmap.proofs.copying.+copies.Goals as goal
 
 pub copy-returns : goal.copy-returns
 copy-returns t c =
-    ap₂ over c.in_ok-held.ensures (ap gather (c.in_ok-push_copies.ensures ∙ ap₂ (λ l m. contents_in l ++ contents_in m) c.new-below.ensures.items c.deref.ensures.value)) ∙ c.map.view_is
+    ap₂ over c.in_ok-held.ensures (ap gather (c.in_ok-push_copies.ensures ∙ ap₂ (λ l m. contents_in l ++ contents_in m) c.in_ok-below.ensures.items c.deref.ensures.value)) ∙ c.map.view_is
 
 pub copy-invariant_of-result : goal.copy-invariant_of-result
 copy-invariant_of-result t c =
-    subst AreChildren (sym (c.in_ok-push_copies.ensures ∙ ap₂ (λ l m. contents_in l ++ contents_in m) c.new-below.ensures.items c.deref.ensures.value)) c.map.invariant
+    subst AreChildren (sym (c.in_ok-push_copies.ensures ∙ ap₂ (λ l m. contents_in l ++ contents_in m) c.in_ok-below.ensures.items c.deref.ensures.value)) c.map.invariant

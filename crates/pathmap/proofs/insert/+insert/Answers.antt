@@ -6,7 +6,7 @@ use Rattle.pathmap.specs.Maps.{content, content_or_nothing, contents_in, standin
 use Rattle.pathmap.proofs.Halving.{placed}
 use Rattle.pathmap.proofs.Inserting.{either_way, on_ok}
 use Rattle.pathmap.proofs.Levels.{no_entries}
-use Rattle.pathmap.proofs.Putting.{insert-below, insert-top, put_at, put_children, put_new}
+use Rattle.pathmap.proofs.Putting.{insert-below, insert-top, inserted_path, insert_new, put_at, put_children}
 use Rattle.pathmap.proofs.insert.+insert.Goals as goal
 
 pub insert_at-returns-in_default-clause-ok : goal.insert_at-returns-in_default-clause-ok
@@ -19,8 +19,11 @@ pub insert_at-invariant_of-here-2 : goal.insert_at-invariant_of-here-2
 insert_at-invariant_of-here-2 t c =
     let cs = contents_in c.here.inside.below.items in
     let f = string_bytes c.in-Some.name.now in
+    let old = content_or_nothing (child_of f cs) in
+    let p = map string_bytes c.in-Some.rest.now in
+    let v = standing c.args.held in
     either_way c.insert_below.result _ _ (AreChildren (contents_in c.insert_below.new.below.items))
-    (λ did. subst AreChildren (sym (did c.here.invariant.0)) (put_children f (content_or_nothing (child_of f cs)) (map string_bytes c.in-Some.rest.now) (standing c.args.held) cs c.here.invariant))
+    (λ did. subst AreChildren (sym (did c.here.invariant.0)) (put_children f (fin.insert old p v) cs (inserted_path old p v) c.here.invariant))
     (λ kept. subst AreChildren (sym kept) c.here.invariant) c.insert_below.ensures.ok c.insert_below.ensures.err
 
 pub insert_at-returns-clause-ok : goal.insert_at-returns-clause-ok
@@ -51,5 +54,5 @@ insert_below-returns-clause-ok t c = λ rises.
     let name = string_bytes c.args.name.now in
     let at = placed name c.deref.result.now c.deref-2.result.now c.args.below.now.items c.place_of-place.result c.stands_at.result false c.deref.ensures.value c.deref-2.ensures.value rises c.place_of-place.ensures.count c.stands_at.ensures.index c.if-stands_at.false in
     ap contents_in c.in_ok-insert.ensures.items
-    ∙ put_new name c.args.below.now.items c.place_of-place.result c.in_ok-try_copy.field-0 c.insert_at-2.new.here (content c.empty-made.result) (map string_bytes c.args.rest.now) (standing c.args.held)
+    ∙ insert_new name c.args.below.now.items c.place_of-place.result c.in_ok-try_copy.field-0 c.insert_at-2.new.here (content c.empty-made.result) (map string_bytes c.args.rest.now) (standing c.args.held)
     at.0 at.1 c.in_ok-try_copy.ensures c.empty-made.ensures c.in_ok-insert_at.ensures.ok

@@ -9,7 +9,8 @@ use Rattle.schema.specs.Shape.{struct_of, shape, fields_in}
 use Rattle.fieldpath.specs.Elements.{name_text}
 use Rattle.typed.specs.Printing.{each_member, keys_in, print, print_item, print_fields, with_member}
 use Rattle.typed.proofs.Insides.{child_names, children-inside, heads-names}
-use Rattle.typed.proofs.Prints.{at_place, print-nothing, shape-fields, fields_more, items_first, items_more, items_last, members_more, one_inside, rest_inside}
+use Rattle.schema.proofs.Shapes.{shape-Struct}
+use Rattle.typed.proofs.Prints.{at_place, print-nothing, fields_more, items_first, items_more, items_last, members_more, one_inside, rest_inside}
 use Rattle.typed.proofs.print.+print.Goals as goal
 
 pub print_keyed-returns : goal.print_keyed-returns
@@ -106,11 +107,11 @@ put_item-returns-in-Struct t c =
     let start = members_view c.args.members.now.entries in
     subst (λ ms. OnOk c.put_fields.result (members_view c.put_fields.new.members.entries ≡ ms))
     (ap (λ fs. print_fields (fields_in fs) whole start) c.deref.ensures.value
-    ∙ sym (ap (λ s. print_item (shape s) whole start) c.in-Struct.is ∙ ap (λ s. print_item s whole start) (shape-fields c.in-Struct.fields c.in-Struct.field-1))) c.put_fields.ensures
+    ∙ sym (ap (λ s. print_item (shape s) whole start) c.in-Struct.is ∙ ap (λ s. print_item s whole start) (shape-Struct c.in-Struct.fields c.in-Struct.field-1))) c.put_fields.ensures
 
 pub print_map-returns-in-Struct : goal.print_map-returns-in-Struct
 print_map-returns-in-Struct t c =
     let whole = content c.args.map.now in
     subst (λ d. IfOk c.print_struct.result (λ o. option_map view o ≡ d))
     (ap (λ fs. print (struct_of (fields_in fs) c.in-Struct.is_atomic) whole) c.deref.ensures.value
-    ∙ sym (ap (λ s. print (shape s) whole) c.in-Struct.is ∙ ap (λ s. print s whole) (shape-fields c.in-Struct.fields c.in-Struct.is_atomic))) c.print_struct.ensures
+    ∙ sym (ap (λ s. print (shape s) whole) c.in-Struct.is ∙ ap (λ s. print s whole) (shape-Struct c.in-Struct.fields c.in-Struct.is_atomic))) c.print_struct.ensures

@@ -3,15 +3,15 @@ use Rattle.std.proofs.lemmas.List.{drop_all}
 use Rattle.fieldpath.specs.Elements.{name_text}
 use Rattle.pathmap.specs.Insides.{inside}
 use Rattle.pathmap.specs.Maps.{content, content_or_nothing}
-use Rattle.schema.specs.Shape.{fields_in, map_of, shape, struct_of, text}
+use Rattle.schema.specs.Shape.{fields_in, map_of, shape, struct_of}
 use Rattle.serde_json.specs.Written.{members_text}
 use Rattle.typed.specs.Printing.{print}
-use Rattle.typed.specs.Rows.{Fits, HasNoFloat, IsThere, text_or_none, then_member}
+use Rattle.typed.specs.Rows.{Fits, IsThere, text_or_none, then_member}
 use Rattle.typed.proofs.Insides.{children-inside}
-use Rattle.typed.proofs.Prints.{at_place, one_inside, rest_inside, shape-fields}
-use Rattle.typed.proofs.Shapes.{shape-Text}
-use Rattle.typed.proofs.Rows.{fits_clean, struct_fits, values_fit}
-use Rattle.typed.proofs.Wholes.{all_wrote, weaker, child_skipped, child_wrote, children_wrote, field_wrote, map_top, no_member, one_member, struct_top, struct_wrote, values_wrote}
+use Rattle.schema.proofs.Shapes.{shape-Struct}
+use Rattle.typed.proofs.Prints.{at_place, one_inside, rest_inside}
+use Rattle.typed.proofs.Rows.{fits_writable, struct_fits, values_fit}
+use Rattle.typed.proofs.Wholes.{all_wrote, weaker, child_skipped, child_wrote, children_wrote, field_wrote, map_top, no_member, one_member, scalar_top, struct_top, struct_wrote, values_wrote}
 use Rattle.typed.proofs.write.+write.Goals as goal
 
 pub write_member-returns-then-is_bare : goal.write_member-returns-then-is_bare
@@ -94,7 +94,7 @@ write_struct-returns-then-is_atomic t c = λ there.
     let all = fields_in c.args.fields.now in
     let whole = content c.args.map.now in
     let top = struct_top all c.args.is_atomic whole c.if-is_atomic.true in
-    subst (λ o. HasNoFloat o → OnOk c.push_top.result (c.push_top.new.out.items ≡ c.args.out.now.items ++ text_or_none o)) top c.push_top.ensures (fits_clean (struct_of all c.args.is_atomic) whole there.0)
+    subst (λ o. OnOk c.push_top.result (c.push_top.new.out.items ≡ c.args.out.now.items ++ text_or_none o)) top (c.push_top.ensures (fits_writable (struct_of all c.args.is_atomic) whole top there.0))
 
 pub write_struct-returns : goal.write_struct-returns
 write_struct-returns t c = λ there.
@@ -108,7 +108,7 @@ write_values-returns-then-is_atomic t c = λ there.
     let s = shape c.args.inner.now in
     let whole = content c.args.map.now in
     let top = map_top s c.args.is_atomic whole c.if-is_atomic.true in
-    subst (λ o. HasNoFloat o → OnOk c.push_top.result (c.push_top.new.out.items ≡ c.args.out.now.items ++ text_or_none o)) top c.push_top.ensures (fits_clean (map_of s c.args.is_atomic) whole there.0)
+    subst (λ o. OnOk c.push_top.result (c.push_top.new.out.items ≡ c.args.out.now.items ++ text_or_none o)) top (c.push_top.ensures (fits_writable (map_of s c.args.is_atomic) whole top there.0))
 
 pub write_values-returns : goal.write_values-returns
 write_values-returns t c = λ there.
@@ -120,13 +120,11 @@ write_values-returns t c = λ there.
 pub write_map-returns-in-Struct : goal.write_map-returns-in-Struct
 write_map-returns-in-Struct t c =
     let whole = content c.args.map.now in
-    let same = ap shape c.in-Struct.is ∙ shape-fields c.in-Struct.fields c.in-Struct.is_atomic ∙ ap (λ fs. struct_of (fields_in fs) c.in-Struct.is_atomic) (sym c.deref.ensures.value) in
+    let same = ap shape c.in-Struct.is ∙ shape-Struct c.in-Struct.fields c.in-Struct.is_atomic ∙ ap (λ fs. struct_of (fields_in fs) c.in-Struct.is_atomic) (sym c.deref.ensures.value) in
     subst (λ s. IsThere s whole → OnOk c.write_struct.result (c.write_struct.new.out.items ≡ c.args.out.now.items ++ text_or_none (print s whole))) (sym same) c.write_struct.ensures
 
 pub write_map-returns-in-Text : goal.write_map-returns-in-Text
-write_map-returns-in-Text t c =
+write_map-returns-in-Text t c = λ there.
     let whole = content c.args.map.now in
-    subst (λ s. IsThere s whole → OnOk c.push_top.result (c.push_top.new.out.items ≡ c.args.out.now.items ++ text_or_none (print s whole))) (sym (ap shape c.in-Text.is ∙ shape-Text)) (λ there. c.push_top.ensures (fits_clean text whole there.0))
-
-pub write_map-returns-in_default : goal.write_map-returns-in_default
-write_map-returns-in_default t c = λ there. c.write_printed.ensures (fits_clean (shape c.args.schema.now) (content c.args.map.now) there.0)
+    let top = scalar_top c.args.schema.now whole c.in-Text.is in
+    subst (λ o. OnOk c.push_top.result (c.push_top.new.out.items ≡ c.args.out.now.items ++ text_or_none o)) top (c.push_top.ensures (fits_writable (shape c.args.schema.now) whole top there.0))

@@ -22,8 +22,8 @@ returns c = λ managed lawful content.
     let labels = c.members_of-labels.ensures ∙ ap members_printed c.in_ok-printed.ensures ∙ labels_printed all state.content lawful in
     let clean = ap members_have_float labels ∙ (labels_fine s lawful of c.args.version state content).2 in
     let metadata = c.in_ok-metadata.ensures clean s managed ∙ ap (λ ms. compact_text (object (metadata_with of c.args.version (entry_items s of.api_version (fin.entries state.owners)) ms))) labels in
-    ok_map c.object_of.result (λ t text. struct_text all of c.args.version state (metadata_of s of c.args.version state.owners (metadata_members (print s state.content)))
+    ok_map c.object_text.result (λ t text. struct_text all of c.args.version state (metadata_of s of c.args.version state.owners (metadata_members (print s state.content)))
     base (texts_in c.put_text.new.texts.entries) (texts_in c.put_string.new.texts.entries) (texts_in c.put_string-2.new.texts.entries) _
     refl (c.in_ok-texts.ensures (well_formed s lawful) content)
     (c.in_ok-put_text.ensures ∙ ap (λ m. put_text (codes "metadata") m base) metadata)
-    c.in_ok-put_string.ensures c.in_ok-put_string-2.ensures text) c.object_of.ensures
+    c.in_ok-put_string.ensures c.in_ok-put_string-2.ensures text) c.object_text.ensures

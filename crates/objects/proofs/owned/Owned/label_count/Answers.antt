@@ -9,4 +9,4 @@ use Rattle.objects.proofs.owned.Owned.label_count.Goals as goal
 
 pub returns : goal.returns
 returns c = λ lawful of version.
-    c.count_labels.ensures ∙ ap (λ ms. size (option_and_then as_object (get_member (codes "labels") ms))) (c.in_ok-marks.ensures lawful) ∙ sym (labels_counted (shape c.args.schema.now) of version (state_of c.args.self.now))
+    c.count_labels.ensures ∙ ap (λ ms. size (option_and_then as_object (get_member (codes "labels") ms))) (c.in_ok-metadata.ensures lawful) ∙ sym (labels_counted (shape c.args.schema.now) of version (state_of c.args.self.now))

@@ -13,4 +13,4 @@ pub returns-in-Some : goal.returns-in-Some
 returns-in-Some c =
     subst (λ (s : Shape). c.args.managed.items ≡ compact_text (array (entry_items s c.args.of.api_version.now (fin.entries c.args.self.now.managers))) → is_lawful s ≡ true → IsContent s c.args.self.now.tree
     → IfOk c.fields_text.result (λ t. string_bytes t ≡ object_text s (identity_of c.args.of) c.args.version (state_of c.args.self.now)))
-    (sym c.in-Some.ensures) c.fields_text.ensures
+    (sym c.in-Some.ensures.there) c.fields_text.ensures

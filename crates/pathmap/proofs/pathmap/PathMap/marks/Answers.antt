@@ -1,8 +1,8 @@
 use Rattle.std.proofs.Common.{◌≡◌, IfOk, subst}
-use Rattle.pathmap.specs.Contents.{dom}
+use Rattle.pathmap.specs.Contents.{marked}
 use Rattle.pathmap.specs.Maps.{content}
 use Rattle.pathmap.proofs.Picking.{minus_nothing}
 use Rattle.pathmap.proofs.pathmap.PathMap.marks.Goals as goal
 
 pub returns : goal.returns
-returns c = subst (λ s. IfOk c.picked_paths.result (λ m. dom (content m) ≡ s)) (minus_nothing (content c.args.self.now)) c.picked_paths.ensures
+returns c = subst (λ s. IfOk c.pick.result (λ m. content m ≡ marked s)) (minus_nothing (content c.args.self.now)) c.pick.ensures
