@@ -12,8 +12,8 @@ use Rattle.std.specs.declared.result.Result.TheVariants.{Ok, Err}
 use Rattle.serde_json.specs.Find.{as_str}
 use Rattle.serde_json.specs.View.{view, members_view}
 use Rattle.serde_json.specs.declared.value.Value.{Value}
-use Rattle.decoder.specs.declared.malformed.Malformed.TheVariants as amiss
-use Rattle.decoder.specs.Members.{Read, or_amiss}
+use Rattle.decoder.specs.declared.malformed.Malformed.TheVariants as malformed
+use Rattle.decoder.specs.Members.{Read, or_malformed}
 use Rattle.decoder.specs.Objects.{texts_of}
 
 abbrev pub Pair : Type 0
@@ -84,14 +84,14 @@ none_more (Some more) = refl
 pub begun : (es : List Pair) (it all : List Entry) → es ≡ [] → it ≡ all → and_more es (texts_of (members_view it)) ≡ texts_of (members_view all)
 begun es it all none is = ap (λ l. and_more l (texts_of (members_view it))) none ∙ none_more (texts_of (members_view it)) ∙ ap (λ l. texts_of (members_view l)) is
 
-pub ended : (es : List Pair) (it : List Entry) (whole : Option (List Pair)) → it ≡ [] → and_more es (texts_of (members_view it)) ≡ whole → or_amiss amiss.Labels whole ≡ Ok es
-ended es it whole none so_far = ap (or_amiss amiss.Labels) (sym so_far ∙ ap (λ l. and_more es (texts_of (members_view l))) none ∙ ap Some (append-nil es))
+pub ended : (es : List Pair) (it : List Entry) (whole : Option (List Pair)) → it ≡ [] → and_more es (texts_of (members_view it)) ≡ whole → or_malformed malformed.Labels whole ≡ Ok es
+ended es it whole none so_far = ap (or_malformed malformed.Labels) (sym so_far ∙ ap (λ l. and_more es (texts_of (members_view l))) none ∙ ap Some (append-nil es))
 
 abbrev text_or : List ℕ → Read (List ℕ) → List ℕ
 text_or v (Ok w) = w
 text_or v (Err m) = v
 
-is_there : (r : Option (List ℕ)) (v : List ℕ) → or_amiss amiss.Labels r ≡ Ok v → r ≡ Some v
+is_there : (r : Option (List ℕ)) (v : List ℕ) → or_malformed malformed.Labels r ≡ Ok v → r ≡ Some v
 is_there (Some w) v e = ap Some (ap (text_or v) e)
 is_there None v e = absurd cc
 
@@ -99,7 +99,7 @@ module _ (whole : Option (List Pair)) (es : List Pair) (it : List Entry) (e : En
   there : and_more es (option_and_then (λ v. option_map (λ more. (string_bytes e.0, v) ∷ more) (texts_of (members_view left))) (as_str (view e.1))) ≡ whole
   there = sym (ap (λ l. and_more es (texts_of (members_view l))) steps) ∙ so_far.0
 
-  module _ (k v : List ℕ) (named : k ≡ string_bytes e.0) (reads : or_amiss amiss.Labels (as_str (view e.1)) ≡ Ok v) (new : List Pair) (is : new ≡ insert_entry bytes_cmp es k v) where
+  module _ (k v : List ℕ) (named : k ≡ string_bytes e.0) (reads : or_malformed malformed.Labels (as_str (view e.1)) ≡ Ok v) (new : List Pair) (is : new ≡ insert_entry bytes_cmp es k v) where
     says : as_str (view e.1) ≡ Some v
     says = is_there (as_str (view e.1)) v reads
 

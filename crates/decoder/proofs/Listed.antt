@@ -30,7 +30,7 @@ module _ (wanted : Wanted) where
         )
 
     pub fails : (m : Malformed) → object_of wanted (view v) ≡ Err m → whole ≡ Err m
-    fails m amiss = sym there ∙ ap (λ r. and_more os (r >>= λ o. objects_of wanted (items_view (drop (i + 1) items)) >>= λ more. Ok (o ∷ more))) amiss
+    fails m failed = sym there ∙ ap (λ r. and_more os (r >>= λ o. objects_of wanted (items_view (drop (i + 1) items)) >>= λ more. Ok (o ∷ more))) failed
 
     pub takes : (o : Stored) (new : List Stored) → object_of wanted (view v) ≡ Ok o → new ≡ os ++ o ∷ [] → and_more new (objects_of wanted (items_view (drop (i + 1) items))) ≡ whole
     takes o new read pushed =

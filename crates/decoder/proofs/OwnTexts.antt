@@ -12,9 +12,9 @@ use Rattle.fieldpath.specs.Spelled.{IsSpelled, AreSpelled, MembersAreSpelled}
 use Rattle.fieldpath.proofs.Spelled.{compact-read, spelled-read}
 use Rattle.indexer.specs.Objects.{Stored}
 use Rattle.decoder.specs.declared.malformed.Malformed.{Malformed}
-use Rattle.decoder.specs.declared.malformed.Malformed.TheVariants as amiss
+use Rattle.decoder.specs.declared.malformed.Malformed.TheVariants as malformed
 use Rattle.decoder.specs.Wanted.{Wanted, api_version_of}
-use Rattle.decoder.specs.Members.{Read, ◌>>=◌, or_amiss, value_in, members_of, unless_null, at, text_at, is_of, metadata_in, version_in}
+use Rattle.decoder.specs.Members.{Read, ◌>>=◌, or_malformed, value_in, members_of, unless_null, at, text_at, is_of, metadata_in, version_in}
 use Rattle.decoder.specs.Objects.{namespace_in, labels_of, text_of, object_of}
 use Rattle.decoder.specs.Pages.{Page, token_of, objects_of, page_in}
 use Rattle.decoder.specs.Lines.{Line, put, deleted, bookmark, error, bookmark_of, line_in}
@@ -30,7 +30,7 @@ bound : {A B : Type 0} (r : Read A) (f : A → Read B) (b : B) → (r >>= f) ≡
 bound (Ok a) f b is = (a, refl, is)
 bound (Err m) f b is = absurd cc
 
-found : {A : Type 0} (m : Malformed) (o : Option A) (a : A) → or_amiss m o ≡ Ok a → o ≡ Some a
+found : {A : Type 0} (m : Malformed) (o : Option A) (a : A) → or_malformed m o ≡ Ok a → o ≡ Some a
 found m (Some x) a is = ap Some (ap (or_else a) is)
 found m None a is = absurd cc
 
@@ -97,7 +97,7 @@ array_fits n (array es) ds fits is =
     subst (ItemsFit n) (some_is es ds is) (fits.0, shallow)
 
 value_fits : (bytes : List ℕ) (d : Data) → value_in bytes ≡ Ok d → Fits max_depth d
-value_fits bytes d is = spelled-read bytes d (if_text (is_utf8 bytes) (found amiss.Json _ d is))
+value_fits bytes d is = spelled-read bytes d (if_text (is_utf8 bytes) (found malformed.Json _ d is))
   where
     if_text : (b : Bool) → cond b (read bytes) None ≡ Some d → read bytes ≡ Some d
     if_text true here = here
@@ -114,7 +114,7 @@ text_kept wanted d o is =
     let top = bound (members_of d) _ o is in
     let wants = bound (is_of (api_version_of wanted) wanted.kind top.0) _ o top.2 in
     let metadata = bound (metadata_in top.0) _ o wants.2 in
-    let name = bound (or_amiss amiss.Name (text_at (codes "name") metadata.0)) _ o metadata.2 in
+    let name = bound (or_malformed malformed.Name (text_at (codes "name") metadata.0)) _ o metadata.2 in
     let namespace = bound (namespace_in wanted.namespace metadata.0) _ o name.2 in
     let revision = bound (version_in metadata.0) _ o namespace.2 in
     let labels = bound (labels_of (at (codes "labels") metadata.0)) _ o revision.2 in
@@ -122,7 +122,7 @@ text_kept wanted d o is =
     text.1 ∙ ap Ok (ap (or_text text.0) text.2)
 
 abbrev text_unless : Bool → Data → Read (List ℕ)
-text_unless b d = cond b (Err amiss.Number) (Ok (compact_text d))
+text_unless b d = cond b (Err malformed.Number) (Ok (compact_text d))
 
 compact : (d : Data) (text : List ℕ) → text_of d ≡ Ok text → (has_float d ≡ false) × (compact_text d ≡ text)
 compact d text is = by_float (has_float d) refl is
@@ -135,7 +135,7 @@ its_text : (wanted : Wanted) (d : Data) (o : Stored) → Fits max_depth d → ob
 its_text wanted d o fits is =
     let clean = compact d o.text (text_kept wanted d o is) in
     let back : read o.text ≡ Some d = ap read (sym clean.1) ∙ compact-read d fits.0 clean.0 fits.1 in
-    ap (λ (r : Option Data). or_amiss amiss.Json r >>= λ e. object_of wanted e) back ∙ is
+    ap (λ (r : Option Data). or_malformed malformed.Json r >>= λ e. object_of wanted e) back ∙ is
 
 pub same_text : (wanted : Wanted) (o p : Stored) → IsItsText wanted o → IsItsText wanted p → o.text ≡ p.text → o ≡ p
 same_text wanted o p first second texts = ap (or_else o) (sym first ∙ ap (object_in wanted) texts ∙ second)
@@ -163,10 +163,10 @@ page_texts wanted bytes p is =
     let metadata = bound (metadata_in top.0) _ p wants.2 in
     let revision = bound (version_in metadata.0) _ p metadata.2 in
     let token = bound (token_of (at (codes "continue") metadata.0)) _ p revision.2 in
-    let ds = bound (or_amiss amiss.Items (option_and_then as_array (at (codes "items") top.0))) _ p token.2 in
+    let ds = bound (or_malformed malformed.Items (option_and_then as_array (at (codes "items") top.0))) _ p token.2 in
     let os = bound (objects_of wanted ds.0) _ p ds.2 in
-    let fit = object_fits max_depth value.0 top.0 (value_fits bytes value.0 value.1) (found amiss.Object _ top.0 top.1) in
-    let there = then_some as_array (at (codes "items") top.0) ds.0 (found amiss.Items _ ds.0 ds.1) in
+    let fit = object_fits max_depth value.0 top.0 (value_fits bytes value.0 value.1) (found malformed.Object _ top.0 top.1) in
+    let there = then_some as_array (at (codes "items") top.0) ds.0 (found malformed.Items _ ds.0 ds.1) in
     subst (AreTheirTexts wanted) (ap (or_objects os.0) os.2)
     (items_texts wanted ds.0 os.0 (array_fits max_depth there.0 ds.0 (at_fits max_depth (codes "items") top.0 there.0 fit there.1) there.2) os.1)
 
@@ -174,7 +174,7 @@ page_texts wanted bytes p is =
 
 abbrev by_name : Wanted → Data → Bool → Bool → Bool → Bool → Read Line
 by_name wanted d a b c e =
-    cond a (object_of wanted d >>= λ o. Ok (put o)) (cond b (object_of wanted d >>= λ o. Ok (deleted o)) (cond c (bookmark_of wanted d >>= λ r. Ok (bookmark r)) (cond e (Ok error) (Err amiss.LineType))))
+    cond a (object_of wanted d >>= λ o. Ok (put o)) (cond b (object_of wanted d >>= λ o. Ok (deleted o)) (cond c (bookmark_of wanted d >>= λ r. Ok (bookmark r)) (cond e (Ok error) (Err malformed.LineType))))
 
 typed_texts : (wanted : Wanted) (d : Data) (l : Line) → Fits max_depth d → (a b c e : Bool) → by_name wanted d a b c e ≡ Ok l → ShowsItsText wanted l
 typed_texts wanted d l fits true b c e here = let one = bound (object_of wanted d) _ l here in subst (ShowsItsText wanted) (ap (or_else l) one.2) (its_text wanted d one.0 fits one.1)
@@ -187,8 +187,8 @@ pub line_texts : (wanted : Wanted) (bytes : List ℕ) (l : Line) → line_in wan
 line_texts wanted bytes l is =
     let value = bound (value_in bytes) _ l is in
     let top = bound (members_of value.0) _ l value.2 in
-    let name = bound (or_amiss amiss.LineType (text_at (codes "type") top.0)) _ l top.2 in
-    let subject = bound (or_amiss amiss.Object (at (codes "object") top.0)) _ l name.2 in
-    let fit = object_fits max_depth value.0 top.0 (value_fits bytes value.0 value.1) (found amiss.Object _ top.0 top.1) in
-    typed_texts wanted subject.0 l (at_fits max_depth (codes "object") top.0 subject.0 fit (found amiss.Object _ subject.0 subject.1))
+    let name = bound (or_malformed malformed.LineType (text_at (codes "type") top.0)) _ l top.2 in
+    let subject = bound (or_malformed malformed.Object (at (codes "object") top.0)) _ l name.2 in
+    let fit = object_fits max_depth value.0 top.0 (value_fits bytes value.0 value.1) (found malformed.Object _ top.0 top.1) in
+    typed_texts wanted subject.0 l (at_fits max_depth (codes "object") top.0 subject.0 fit (found malformed.Object _ subject.0 subject.1))
     (bytes_eq name.0 (codes "ADDED") || bytes_eq name.0 (codes "MODIFIED")) (bytes_eq name.0 (codes "DELETED")) (bytes_eq name.0 (codes "BOOKMARK")) (bytes_eq name.0 (codes "ERROR")) subject.2

@@ -6,7 +6,7 @@ use Rattle.serde_json.specs.Data.{Data}
 use Rattle.indexer.specs.Objects.{Stored}
 use Rattle.decoder.specs.declared.malformed.Malformed.TheVariants.{Object, LineType}
 use Rattle.decoder.specs.Wanted.{Wanted, api_version_of}
-use Rattle.decoder.specs.Members.{Read, ◌>>=◌, or_amiss, value_in, members_of, at, text_at, is_of, metadata_in, version_in}
+use Rattle.decoder.specs.Members.{Read, ◌>>=◌, or_malformed, value_in, members_of, at, text_at, is_of, metadata_in, version_in}
 use Rattle.decoder.specs.Objects.{object_of}
 
 pub data Line : Type 0 where
@@ -35,8 +35,8 @@ typed wanted name subject =
 abbrev pub line_of : Wanted → Data → Read Line
 line_of wanted d =
     members_of d >>= λ top.
-    or_amiss LineType (text_at (codes "type") top) >>= λ name.
-    or_amiss Object (at (codes "object") top) >>= λ subject.
+    or_malformed LineType (text_at (codes "type") top) >>= λ name.
+    or_malformed Object (at (codes "object") top) >>= λ subject.
     typed wanted name subject
 
 -- what the line says

@@ -20,19 +20,19 @@ abbrev pub ◌>>=◌ : {A B : Type 0} → Read A → (A → Read B) → Read B
 (Ok x) >>= f = f x
 (Err m) >>= f = Err m
 
-abbrev pub or_amiss : {A : Type 0} → Malformed → Option A → Read A
-or_amiss m (Some x) = Ok x
-or_amiss m None = Err m
+abbrev pub or_malformed : {A : Type 0} → Malformed → Option A → Read A
+or_malformed m (Some x) = Ok x
+or_malformed m None = Err m
 
 abbrev pub unless : Bool → Malformed → Read ⊤
 unless b m = if b then Ok tt else Err m
 
 -- the JSON value that these bytes are
 abbrev pub value_in : List ℕ → Read Data
-value_in bytes = or_amiss Json (if is_utf8 bytes then read bytes else None)
+value_in bytes = or_malformed Json (if is_utf8 bytes then read bytes else None)
 
 abbrev pub members_of : Data → Read Members
-members_of d = or_amiss Object (as_object d)
+members_of d = or_malformed Object (as_object d)
 
 -- ---- members
 
@@ -60,7 +60,7 @@ abbrev pub is_of : List ℕ → List ℕ → Members → Read ⊤
 is_of api_version kind top = unless (is_text api_version (text_at (codes "apiVersion") top)) ApiVersion >>= λ u. unless (is_text kind (text_at (codes "kind") top)) Kind
 
 abbrev pub metadata_in : Members → Read Members
-metadata_in top = or_amiss Metadata (option_and_then as_object (at (codes "metadata") top))
+metadata_in top = or_malformed Metadata (option_and_then as_object (at (codes "metadata") top))
 
 abbrev pub version_in : Members → Read ℕ
-version_in metadata = or_amiss Version (option_and_then version_of (text_at (codes "resourceVersion") metadata))
+version_in metadata = or_malformed Version (option_and_then version_of (text_at (codes "resourceVersion") metadata))

@@ -7,10 +7,10 @@ use Rattle.serde_json.specs.Written.{has_float, compact_text}
 use Rattle.indexer.specs.Objects.{Stored}
 use Rattle.decoder.specs.declared.malformed.Malformed.TheVariants.{Name, Namespace, Labels, Number}
 use Rattle.decoder.specs.Wanted.{Wanted, api_version_of, is_in}
-use Rattle.decoder.specs.Members.{Read, ◌>>=◌, or_amiss, unless, members_of, at, text_at, is_of, metadata_in, version_in}
+use Rattle.decoder.specs.Members.{Read, ◌>>=◌, or_malformed, unless, members_of, at, text_at, is_of, metadata_in, version_in}
 
 abbrev pub namespace_in : Option (List ℕ) → Members → Read (List ℕ)
-namespace_in asked metadata = or_amiss Namespace (text_at (codes "namespace") metadata) >>= λ namespace. unless (is_in asked namespace) Namespace >>= λ u. Ok namespace
+namespace_in asked metadata = or_malformed Namespace (text_at (codes "namespace") metadata) >>= λ namespace. unless (is_in asked namespace) Namespace >>= λ u. Ok namespace
 
 -- names and texts, where each member is a text
 abbrev pub texts_of : Members → Option (List (List ℕ × List ℕ))
@@ -19,7 +19,7 @@ texts_of (member k d ms) = option_and_then (λ v. option_map (λ more. (k, v) �
 
 abbrev pub labels_of : Option Data → Read (List (List ℕ × List ℕ))
 labels_of None = Ok []
-labels_of (Some d) = or_amiss Labels (option_and_then texts_of (as_object d))
+labels_of (Some d) = or_malformed Labels (option_and_then texts_of (as_object d))
 
 -- its compact JSON, which has no text for a float
 abbrev pub text_of : Data → Read (List ℕ)
@@ -31,7 +31,7 @@ object_of wanted d =
     members_of d >>= λ top.
     is_of (api_version_of wanted) wanted.kind top >>= λ u.
     metadata_in top >>= λ metadata.
-    or_amiss Name (text_at (codes "name") metadata) >>= λ name.
+    or_malformed Name (text_at (codes "name") metadata) >>= λ name.
     namespace_in wanted.namespace metadata >>= λ namespace.
     version_in metadata >>= λ revision.
     labels_of (at (codes "labels") metadata) >>= λ labels.

@@ -6,13 +6,13 @@ use Rattle.serde_json.specs.Read.{read}
 use Rattle.indexer.specs.Objects.{Stored}
 use Rattle.decoder.specs.declared.malformed.Malformed.TheVariants.{Json}
 use Rattle.decoder.specs.Wanted.{Wanted}
-use Rattle.decoder.specs.Members.{Read, ◌>>=◌, or_amiss}
+use Rattle.decoder.specs.Members.{Read, ◌>>=◌, or_malformed}
 use Rattle.decoder.specs.Objects.{object_of}
 use Rattle.decoder.specs.Lines.{Line, put, deleted, bookmark, error}
 
 -- the object that a JSON text is
 abbrev pub object_in : Wanted → List ℕ → Read Stored
-object_in wanted text = or_amiss Json (read text) >>= λ d. object_of wanted d
+object_in wanted text = or_malformed Json (read text) >>= λ d. object_of wanted d
 
 -- all that is kept of an object (namespace, name, revision, labels and text) is read from the text that is kept
 abbrev pub IsItsText : Wanted → Stored → Type 0

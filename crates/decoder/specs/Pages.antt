@@ -5,9 +5,9 @@ use Rattle.serde_json.specs.Data.{Data, Items, no_items, item}
 use Rattle.serde_json.specs.Find.{as_str, as_array}
 use Rattle.indexer.specs.Objects.{Stored}
 use Rattle.decoder.specs.declared.malformed.Malformed.TheVariants.{Token}
-use Rattle.decoder.specs.declared.malformed.Malformed.TheVariants as amiss
+use Rattle.decoder.specs.declared.malformed.Malformed.TheVariants as malformed
 use Rattle.decoder.specs.Wanted.{Wanted, api_version_of}
-use Rattle.decoder.specs.Members.{Read, ◌>>=◌, or_amiss, value_in, members_of, at, unless_empty, is_of, metadata_in, version_in}
+use Rattle.decoder.specs.Members.{Read, ◌>>=◌, or_malformed, value_in, members_of, at, unless_empty, is_of, metadata_in, version_in}
 use Rattle.decoder.specs.Objects.{object_of}
 
 -- the revision that the list is of, its objects, and where it goes on, if some are left
@@ -19,7 +19,7 @@ pub record Page : Type 0 where
 -- `continue`; an empty one is none
 abbrev pub token_of : Option Data → Read (Option (List ℕ))
 token_of None = Ok None
-token_of (Some d) = or_amiss Token (option_map unless_empty (as_str d))
+token_of (Some d) = or_malformed Token (option_map unless_empty (as_str d))
 
 abbrev pub objects_of : Wanted → Items → Read (List Stored)
 objects_of wanted no_items = Ok []
@@ -32,7 +32,7 @@ page_of wanted d =
     metadata_in top >>= λ metadata.
     version_in metadata >>= λ revision.
     token_of (at (codes "continue") metadata) >>= λ token.
-    or_amiss amiss.Items (option_and_then as_array (at (codes "items") top)) >>= λ ds.
+    or_malformed malformed.Items (option_and_then as_array (at (codes "items") top)) >>= λ ds.
     objects_of wanted ds >>= λ objects.
     Ok (record { revision = revision; token = token; objects = objects })
 

@@ -8,7 +8,7 @@ use Rattle.serde_json.specs.Data.{Data, Members, Items}
 use Rattle.serde_json.specs.Find.{as_array}
 use Rattle.indexer.specs.Objects.{stored_of}
 use Rattle.decoder.specs.declared.malformed.Malformed.{Malformed}
-use Rattle.decoder.specs.declared.malformed.Malformed.TheVariants as amiss
+use Rattle.decoder.specs.declared.malformed.Malformed.TheVariants as malformed
 use Rattle.decoder.specs.declared.fault.DecodeFault.{DecodeFault}
 use Rattle.decoder.specs.declared.fault.DecodeFault.TheVariants as fault
 use Rattle.decoder.specs.declared.wanted.Wanted as asked
@@ -16,7 +16,7 @@ use Rattle.decoder.specs.declared.page.Page as pages
 use Rattle.decoder.specs.declared.line.Line as lines
 use Rattle.decoder.specs.declared.line.Line.TheVariants as line
 use Rattle.decoder.specs.Wanted.{Wanted}
-use Rattle.decoder.specs.Members.{Read, or_amiss, at, text_at}
+use Rattle.decoder.specs.Members.{Read, or_malformed, at, text_at}
 use Rattle.decoder.specs.Pages.{Page}
 use Rattle.decoder.specs.Lines.{Line, put, deleted, bookmark, error}
 
@@ -49,13 +49,13 @@ abbrev pub labels_in : BTreeMap (String Global) (String Global) → List (List �
 labels_in labels = map (λ e. (string_bytes e.0, string_bytes e.1)) labels.entries
 
 abbrev pub name_in : Members → Read (List ℕ)
-name_in metadata = or_amiss amiss.Name (text_at (codes "name") metadata)
+name_in metadata = or_malformed malformed.Name (text_at (codes "name") metadata)
 
 abbrev pub items_in : Members → Read Items
-items_in top = or_amiss amiss.Items (option_and_then as_array (at (codes "items") top))
+items_in top = or_malformed malformed.Items (option_and_then as_array (at (codes "items") top))
 
 abbrev pub type_in : Members → Read (List ℕ)
-type_in top = or_amiss amiss.LineType (text_at (codes "type") top)
+type_in top = or_malformed malformed.LineType (text_at (codes "type") top)
 
 abbrev pub subject_in : Members → Read Data
-subject_in top = or_amiss amiss.Object (at (codes "object") top)
+subject_in top = or_malformed malformed.Object (at (codes "object") top)

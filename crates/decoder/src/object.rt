@@ -7,8 +7,8 @@ ghost use Rattle.std.specs.BTreeMap.{insert_entry};
 ghost use Rattle.serde_json.specs.View.{members_view, view};
 ghost use Rattle.serde_json.specs.Find.{as_str};
 ghost use Rattle.indexer.specs.Objects.{stored_of};
-ghost use Rattle.decoder.specs.declared.malformed.Malformed.TheVariants as amiss;
-ghost use Rattle.decoder.specs.Members.{or_amiss};
+ghost use Rattle.decoder.specs.declared.malformed.Malformed.TheVariants as malformed;
+ghost use Rattle.decoder.specs.Members.{or_malformed};
 ghost use Rattle.decoder.specs.Objects.{labels_of, namespace_in, object_of, text_of, texts_of};
 ghost use Rattle.decoder.specs.Seen.{Gives, Says, labels_in, name_in, wanted_of};
 
@@ -39,7 +39,7 @@ fn namespace_in<'a>(wanted: &Wanted, metadata: &'a Map<String, Value>) -> Result
 }
 
 fn text_in(value: &Value) -> Result<&str, Malformed>
-    ensures { Says (λ s. s.now) result (or_amiss amiss.Labels (as_str (view value.now))) }
+    ensures { Says (λ s. s.now) result (or_malformed malformed.Labels (as_str (view value.now))) }
 {
     value.as_str().ok_or(Malformed::Labels)
 }
@@ -63,7 +63,7 @@ fn texts_in(
     alloc: Global,
     members: &Map<String, Value>,
 ) -> Result<BTreeMap<String, String>, DecodeFault>
-    ensures { Gives labels_in result (or_amiss amiss.Labels (texts_of (members_view members.now.entries))) }
+    ensures { Gives labels_in result (or_malformed malformed.Labels (texts_of (members_view members.now.entries))) }
 {
     let mut labels = BTreeMap::new(alloc);
     for (name, value) in members.iter() {

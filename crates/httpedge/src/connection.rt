@@ -38,7 +38,7 @@ pub(crate) enum Connection {
     Gone(bool),
 }
 
-/// A new connection, where so many are open; it is refused where these are as many as may be.
+/// A new connection where `count` are open; past the limit it is refused.
 pub(crate) fn opening(alloc: Global, count: usize) -> Result<Connection, AllocError>
     ensures { (types : List ServedShape) (all : Connections) → count ≡ open_count all → IfOk result (λ c. Holds types c (opening all)) }
 {
@@ -206,7 +206,7 @@ fn receive(
     }
 }
 
-/// Bytes come on a connection; without memory it is dead. One that doesn't wait for them wants none.
+/// Bytes come on a connection; without memory it is dead. One that waits for no bytes needs no memory.
 pub(crate) fn receive_on(
     alloc: Global,
     api: &mut Api,

@@ -216,7 +216,7 @@ impl Hub {
     /// Handles an event: in the event that decides what the bytes of a connection ask, the reply is written and the
     /// connection has ended, or watches. Refused, an event changes nothing; without memory an opening changes nothing,
     /// and a connection that waits is dead where bytes come on it, a watch where it is pumped. At a tick each watch has
-    /// its turn, and only one that found no memory for what it writes is dead. Bytes on one that has ended want no
+    /// its turn, and only one that found no memory for what it writes is dead. Bytes on one that has ended need no
     /// memory. A compaction that fails changes nothing. The store is asked where bytes come, at a pump and at a
     /// compaction: no other event fails by it.
     pub fn on(&mut self, event: &Event) -> Result<(), HubFault>

@@ -22,7 +22,7 @@ pub struct Object {
     pub revision: u64,
     /// Its `metadata.labels`.
     pub labels: BTreeMap<String, String>,
-    /// The object as it was read, JSON.
+    /// Its compact JSON.
     pub text: String,
 }
 

@@ -7,7 +7,7 @@ use Rattle.selector.specs.Labels.{Labels}
 use Rattle.indexer.specs.Objects.{Stored}
 use Rattle.decoder.specs.declared.malformed.Malformed.{Malformed}
 use Rattle.decoder.specs.declared.malformed.Malformed.TheVariants as malformed
-use Rattle.decoder.specs.Members.{Read, ◌>>=◌, at, is_of, members_of, metadata_in, or_amiss, text_at, unless_null, version_in}
+use Rattle.decoder.specs.Members.{Read, ◌>>=◌, at, is_of, members_of, metadata_in, or_malformed, text_at, unless_null, version_in}
 use Rattle.decoder.specs.Objects as client
 use Rattle.decoder.specs.Wanted.{api_version_of}
 use Rattle.lists.specs.Labels.{label_members, texts_of}
@@ -31,7 +31,7 @@ passed : {A B : Type 0} (r : Read A) (f : A → Read B) (y : B) → r >>= f ≡ 
 passed (Ok x) f y e = (x, refl, e)
 passed (Err m) f y e = fails m y e
 
-given : {A : Type 0} (m : Malformed) (o : Option A) (y : A) → or_amiss m o ≡ Ok y → o ≡ Some y
+given : {A : Type 0} (m : Malformed) (o : Option A) (y : A) → or_malformed m o ≡ Ok y → o ≡ Some y
 given m None y e = fails m y e
 given m (Some x) y e = ap Some (same_ok x y e)
 
@@ -74,7 +74,7 @@ readers_agree wanted text d x is e =
     let top = passed (members_of d) _ x e in
     let named = passed (is_of (api_version_of wanted) wanted.kind top.0) _ x top.2 in
     let metadata = passed (metadata_in top.0) _ x named.2 in
-    let name = passed (or_amiss malformed.Name (text_at (codes "name") metadata.0)) _ x metadata.2 in
+    let name = passed (or_malformed malformed.Name (text_at (codes "name") metadata.0)) _ x metadata.2 in
     let namespace = passed (client.namespace_in wanted.namespace metadata.0) _ x name.2 in
     let version = passed (version_in metadata.0) _ x namespace.2 in
     let labels = passed (client.labels_of (at (codes "labels") metadata.0)) _ x version.2 in

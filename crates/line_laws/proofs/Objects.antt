@@ -35,7 +35,7 @@ use Rattle.objects.proofs.Taken.{apart, cmp}
 use Rattle.objects.proofs.Textual.{value_textual}
 use Rattle.indexer.specs.Objects.{Stored}
 use Rattle.decoder.specs.declared.malformed.Malformed.TheVariants.{ApiVersion, Kind, Labels, Metadata, Name, Namespace, Number, Version}
-use Rattle.decoder.specs.Members.{Read, ◌>>=◌, is_text, or_amiss, unless, unless_empty, unless_null}
+use Rattle.decoder.specs.Members.{Read, ◌>>=◌, is_text, or_malformed, unless, unless_empty, unless_null}
 use Rattle.decoder.specs.Objects.{labels_of, object_of, texts_of}
 use Rattle.decoder.specs.Wanted.{Wanted, api_version_of, is_in}
 use Rattle.line_laws.specs.Shown.{HasPlace, IsStored}
@@ -95,8 +95,8 @@ each_text inner are [] ms h = h
 each_text inner are (e ∷ es) ms h = each_text inner are es (with_named (field_name e) (inner e) ms) (with_text (field_name e) (inner e) ms (are e) h)
 
 read_texts : (ms : Members) (ts : Texts) → texts_of ms ≡ Some ts → labels_of (option_and_then unless_null (object_or_none ms)) ≡ Ok ts
-read_texts no_members ts is = ap (λ (o : Option Texts). or_amiss Labels o) is
-read_texts (member k d ms) ts is = ap (λ (o : Option Texts). or_amiss Labels o) is
+read_texts no_members ts is = ap (λ (o : Option Texts). or_malformed Labels o) is
+read_texts (member k d ms) ts is = ap (λ (o : Option Texts). or_malformed Labels o) is
 
 abbrev LabelsRead : Option Data → Type 0
 LabelsRead o = (ts : Texts) × (labels_of (option_and_then unless_null o) ≡ Ok ts)
@@ -189,9 +189,9 @@ stored namespace name revision labels body = record { namespace = namespace; nam
 -- what is read of `metadata`, by what is found there
 abbrev of_texts : Wanted → Option (List ℕ) → Option (List ℕ) → Option (List ℕ) → Read Texts → Read (List ℕ) → Read Stored
 of_texts wanted name namespace version labels body =
-    or_amiss Name name >>= λ n.
-    (or_amiss Namespace namespace >>= λ ns. unless (is_in wanted.namespace ns) Namespace >>= λ u. Ok ns) >>= λ ns.
-    or_amiss Version (option_and_then version_of version) >>= λ r.
+    or_malformed Name name >>= λ n.
+    (or_malformed Namespace namespace >>= λ ns. unless (is_in wanted.namespace ns) Namespace >>= λ u. Ok ns) >>= λ ns.
+    or_malformed Version (option_and_then version_of version) >>= λ r.
     labels >>= λ ls.
     body >>= λ t.
     Ok (stored ns n r ls t)
@@ -205,7 +205,7 @@ of_metadata wanted d ms =
 abbrev of_top : Wanted → Data → Option (List ℕ) → Option (List ℕ) → Option Data → Read Stored
 of_top wanted d api_version kind metadata =
     (unless (is_text (api_version_of wanted) api_version) ApiVersion >>= λ u. unless (is_text wanted.kind kind) Kind) >>= λ u.
-    or_amiss Metadata (option_and_then as_object (option_and_then unless_null metadata)) >>= λ ms.
+    or_malformed Metadata (option_and_then as_object (option_and_then unless_null metadata)) >>= λ ms.
     of_metadata wanted d ms
 
 top_is : (wanted : Wanted) (ms : Members)
@@ -220,7 +220,7 @@ wanted_top wanted d api_version kind meta one other =
 texts_read : (wanted : Wanted) (namespace name version : List ℕ) (v : ℕ) (labels : Texts) (body : List ℕ) → is_in wanted.namespace namespace ≡ true → version_of version ≡ Some v
     → of_texts wanted (Some name) (Some namespace) (Some version) (Ok labels) (Ok body) ≡ Ok (stored namespace name v labels body)
 texts_read wanted namespace name version v labels body inside_it numbered =
-    ap₂ (λ b o. (unless b Namespace >>= λ u. Ok namespace) >>= λ ns. or_amiss Version o >>= λ r. Ok (stored ns name r labels body)) inside_it numbered
+    ap₂ (λ b o. (unless b Namespace >>= λ u. Ok namespace) >>= λ ns. or_malformed Version o >>= λ r. Ok (stored ns name r labels body)) inside_it numbered
 
 module _ (wanted : Wanted) (s : Shape) (of : Identity) (v : ℕ) (state : State) (shaped : IsObjectShape s) (placed : IsPlacedState s state) (low : v ≤ max_version) (has : HasPlace wanted of) where
   abbrev base : Members

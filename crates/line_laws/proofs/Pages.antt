@@ -17,7 +17,7 @@ use Rattle.objects.specs.ReadBack.{max_version}
 use Rattle.objects.proofs.Back.{text_read}
 use Rattle.indexer.specs.Objects.{Stored}
 use Rattle.decoder.specs.declared.malformed.Malformed.TheVariants.{ApiVersion, Json, Kind, Version}
-use Rattle.decoder.specs.Members.{Read, ◌>>=◌, is_text, or_amiss, unless, unless_empty}
+use Rattle.decoder.specs.Members.{Read, ◌>>=◌, is_text, or_malformed, unless, unless_empty}
 use Rattle.decoder.specs.Objects.{object_of}
 use Rattle.decoder.specs.Pages.{Page, objects_of, page_of}
 use Rattle.decoder.specs.Wanted.{Wanted, api_version_of, is_in}
@@ -57,7 +57,7 @@ list_read of revision token ds are none low =
 abbrev of_found : Wanted → Option (List ℕ) → Option (List ℕ) → Option (List ℕ) → Read (Option (List ℕ)) → Read (List Stored) → Read Page
 of_found wanted api_version kind version token objects =
     (unless (is_text (api_version_of wanted) api_version) ApiVersion >>= λ u. unless (is_text (wanted.kind ++ codes "List") kind) Kind) >>= λ u.
-    or_amiss Version (option_and_then version_of version) >>= λ r.
+    or_malformed Version (option_and_then version_of version) >>= λ r.
     token >>= λ t.
     objects >>= λ os.
     Ok (record { revision = r; token = t; objects = os })
@@ -91,9 +91,9 @@ page_read wanted of revision next ds objects is low are =
     (ap unless_empty is.of_version ∙ joined_filled wanted.group wanted.version) (ap (λ k. unless_empty (k ++ codes "List")) is.of_kind ∙ filled_by wanted.kind 76 (codes "ist"))
     ∙ ap₂ (λ t os. of_found wanted (Some api_version) (Some kind) (unless_empty (decimal revision)) t os) (token_goes_on revision next) are
     ∙ ap (λ v. of_found wanted (Some api_version) (Some kind) v (Ok token) (Ok objects)) (version_filled (decimal revision) revision (version_back revision low))
-    ∙ ap₂ (λ p q. (unless p ApiVersion >>= λ u. unless q Kind) >>= λ u. or_amiss Version (version_of (decimal revision)) >>= λ r. Ok (record { revision = r; token = token; objects = objects }))
+    ∙ ap₂ (λ p q. (unless p ApiVersion >>= λ u. unless q Kind) >>= λ u. or_malformed Version (version_of (decimal revision)) >>= λ r. Ok (record { revision = r; token = token; objects = objects }))
     (itself api_version) (itself kind)
-    ∙ ap (λ o. or_amiss Version o >>= λ r. Ok (record { revision = r; token = token; objects = objects })) (version_back revision low)
+    ∙ ap (λ o. or_malformed Version o >>= λ r. Ok (record { revision = r; token = token; objects = objects })) (version_back revision low)
 
 -- ---- its objects
 
@@ -149,7 +149,7 @@ module _ (wanted : Wanted) (of : Collection) (is : IsWanted wanted of) where
           of_name = stored.of_name;
           of_revision = stored.of_revision;
           text_is = stored.text_is ∙ sym kept.says.is_text;
-          is_read = ap (λ d. or_amiss Json d >>= object_of wanted) (text_read kept.shape (identity_of of k) o.revision kept.state o.body kept.shaped kept.says) ∙ taken_as.1;
+          is_read = ap (λ d. or_malformed Json d >>= object_of wanted) (text_read kept.shape (identity_of of k) o.revision kept.state o.body kept.shaped kept.says) ∙ taken_as.1;
         }
 
     one_more : (es : Entries) → AreItems wanted es → AreItems wanted ((k, o) ∷ es)

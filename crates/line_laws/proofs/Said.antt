@@ -21,7 +21,7 @@ use Rattle.indexer.specs.Objects.{Stored}
 use Rattle.decoder.specs.declared.malformed.Malformed.TheVariants.{ApiVersion, Kind, Version}
 use Rattle.decoder.specs.Lines as reads
 use Rattle.decoder.specs.Lines.{bookmark_of, line_in, line_of}
-use Rattle.decoder.specs.Members.{Read, ◌>>=◌, is_text, or_amiss, unless, unless_empty}
+use Rattle.decoder.specs.Members.{Read, ◌>>=◌, is_text, or_malformed, unless, unless_empty}
 use Rattle.decoder.specs.Objects.{object_of}
 use Rattle.decoder.specs.Wanted.{Wanted, api_version_of}
 use Rattle.watchline.specs.declared.event.EventType.{EventType}
@@ -107,7 +107,7 @@ pub itself : (xs : List ℕ) → bytes_eq xs xs ≡ true
 itself xs = (bytes_decides xs xs).1 refl
 
 abbrev marks : List ℕ → List ℕ → Option (List ℕ) → Option (List ℕ) → Option (List ℕ) → Read ℕ
-marks api_version kind a k v = (unless (is_text api_version a) ApiVersion >>= λ u. unless (is_text kind k) Kind) >>= λ u. or_amiss Version (option_and_then version_of v)
+marks api_version kind a k v = (unless (is_text api_version a) ApiVersion >>= λ u. unless (is_text kind k) Kind) >>= λ u. or_malformed Version (option_and_then version_of v)
 
 bookmark_is : (wanted : Wanted) (r : ℕ) → r ≤ max_version → (wanted.kind ≡ [] → ⊥) → bookmark_of wanted (bookmark_value (api_version_of wanted) wanted.kind (decimal r)) ≡ Ok r
 bookmark_is wanted r low some =
@@ -115,8 +115,8 @@ bookmark_is wanted r low some =
     let kind = wanted.kind in
     ap (λ a. marks api_version kind a (unless_empty kind) (unless_empty (decimal r))) (joined_filled wanted.group wanted.version)
     ∙ ap₂ (λ k v. marks api_version kind (Some api_version) k v) (filled kind some) (version_filled (decimal r) r (version_back r low))
-    ∙ ap₂ (λ p q. (unless p ApiVersion >>= λ u. unless q Kind) >>= λ u. or_amiss Version (version_of (decimal r))) (itself api_version) (itself kind)
-    ∙ ap (or_amiss Version) (version_back r low)
+    ∙ ap₂ (λ p q. (unless p ApiVersion >>= λ u. unless q Kind) >>= λ u. or_malformed Version (version_of (decimal r))) (itself api_version) (itself kind)
+    ∙ ap (or_malformed Version) (version_back r low)
 
 pub bookmark_fits : (api_version kind version : List ℕ) → IsShown (bookmark_value api_version kind version)
 bookmark_fits api_version kind version = record { spelled = (refl, (tt, (tt, ((refl, (tt, tt)), tt)))); whole = refl; shallow = omega arith }

@@ -3,12 +3,15 @@
 use crate::refusal::Refusal;
 use revtable::Fault;
 use std::alloc::AllocError;
+use thiserror::Error;
 
 /// Why there is no list.
-#[derive(Debug, Drop)]
+#[derive(Debug, Drop, Error)]
 pub enum ListFault {
+    #[error("{0}")]
     Refused(Refusal),
     /// Memory ran out, or the store refused a statement.
+    #[error("{0}")]
     Failed(Fault),
 }
 

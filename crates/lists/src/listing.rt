@@ -1,4 +1,4 @@
-//! The text of a list, from the parameters that ask for it.
+//! A list as it is asked for: its parameters judged, its page and its text.
 ghost use Rattle.std.specs.Prelude.{◌≡◌, string_bytes};
 ghost use Rattle.history.specs.View.{state_in};
 ghost use Rattle.params.specs.Views.{values_of};

@@ -112,8 +112,8 @@ fn found_from(
     Ok(found)
 }
 
-/// The first that are selected from a start on, at most so many, and whether more are left; the names of the type are
-/// not looked at.
+/// The first that are selected from a start on, at most so many, and whether more are left; `api_version` and
+/// `item_kind` aren't used.
 pub fn selected_page(
     alloc: Global,
     store: &mut Store,

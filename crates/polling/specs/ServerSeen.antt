@@ -1,4 +1,4 @@
--- What callers see of a server.
+-- What callers see of a server of many connections at once.
 use Rattle.std.specs.Prelude.{Bool}
 use Rattle.httpedge.specs.declared.hub.Hub.{Hub}
 use Rattle.polling.specs.declared.peer.Peer.{Peer}

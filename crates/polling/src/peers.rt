@@ -193,8 +193,8 @@ impl Peers {
         None
     }
 
-    /// Pumps the watches once something was written, and then forgets what isn't kept: so no watch loses what came in
-    /// one turn.
+    /// Pumps the watches once something was written, and then forgets what isn't kept: so a watch gets what came in one
+    /// turn, unless more is left for it than one pump tells, or its bytes still wait for its peer.
     pub(crate) fn settle(&mut self, now: Instant)
         ensures { Leads self.old.hub self.new.hub }
     {

@@ -12,7 +12,7 @@ replay_fault_of failed.Store = Store
 replay_fault_of failed.Unreadable = Store
 
 -- out of memory, here or in the store; the writer took what was handed to it
-abbrev pub IsWant : ReplayFault → Type 0
-IsWant Memory = ⊤
-IsWant Store = ⊤
-IsWant (Write error) = ⊥
+abbrev pub IsStarved : ReplayFault → Type 0
+IsStarved Memory = ⊤
+IsStarved Store = ⊤
+IsStarved (Write error) = ⊥

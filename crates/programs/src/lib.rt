@@ -1,5 +1,5 @@
-//! The bodies of the programs, of which each `main` only calls its own, and what programs share: words, command lines,
-//! types files, faults and exit statuses.
+//! The program `ssa-replay`, of which `main` only calls the body, and what both programs share: words, command lines, types
+//! files, faults and exit statuses.
 //!
 //! Promises: the values of a program's words are those of `clap`'s exact matches; a script reads as exactly the events
 //! of its lines, or as the number of its first bad line; a play of events writes the replies of one hub to the

@@ -9,7 +9,7 @@ ghost use Rattle.httpedge.specs.Steps as edge;
 ghost use Rattle.wireclient.specs.Views.{told_of};
 ghost use Rattle.programs.specs.ApplyLine.{apply_of, event_view};
 ghost use Rattle.programs.specs.Recorded.{Records};
-ghost use Rattle.programs.specs.ReplayFaults.{IsWant};
+ghost use Rattle.programs.specs.ReplayFaults.{IsStarved};
 ghost use Rattle.programs.specs.Replays.{Answers, Applies, Does, Leads, Plays, Prints, PrintsFront, TellsReply, connection_text, connections_text, next_id, start, words_of};
 ghost use Rattle.programs.specs.Replays as replays;
 ghost use Rattle.programs.specs.Requests.{IsRequestOf, query_of, request_target_of};
@@ -214,14 +214,14 @@ impl Run {
 
 fn write<W: Write>(writer: &mut W, text: &[u8]) -> Result<(), ReplayFault>
     ensures ok { OnOk result (Appends (W.contents writer.old) (W.contents writer.new) text.now) }
-    ensures fault { IsErrAnd result IsWant → ⊥ }
+    ensures fault { IsErrAnd result IsStarved → ⊥ }
 {
     writer.write_all(text).map_err(ReplayFault::Write)
 }
 
 fn take_all<W: Write>(run: &mut Run, events: &[Event], writer: &mut W) -> Result<(), ReplayFault>
     ensures ok { (r : replays.Run) → RunStands run.old r → OnOk result ((q : replays.Run) × (text : List ℕ) × Plays r (map event_view events.now) text q × RunStands run.new q × Appends (W.contents writer.old) (W.contents writer.new) text) }
-    ensures starved { (r : replays.Run) → RunStands run.old r → IsErrAnd result IsWant → (i : ℕ) × (q : replays.Run) × (text : List ℕ) × Plays r (map event_view (take i events.now)) text q × Appends (W.contents writer.old) (W.contents writer.new) text }
+    ensures starved { (r : replays.Run) → RunStands run.old r → IsErrAnd result IsStarved → (i : ℕ) × (q : replays.Run) × (text : List ℕ) × Plays r (map event_view (take i events.now)) text q × Appends (W.contents writer.old) (W.contents writer.new) text }
 {
     for event in events {
         let text = run.take(event)?;
@@ -237,7 +237,7 @@ fn write_connections<W: Write>(
     writer: &mut W,
 ) -> Result<(), ReplayFault>
     ensures ok { (s : edge.State) → Records recorder.now s → OnOk result (Appends (W.contents writer.old) (W.contents writer.new) (connections_text s ids.now)) }
-    ensures starved { (s : edge.State) → Records recorder.now s → IsErrAnd result IsWant → (i : ℕ) × Appends (W.contents writer.old) (W.contents writer.new) (connections_text s (take i ids.now)) }
+    ensures starved { (s : edge.State) → Records recorder.now s → IsErrAnd result IsStarved → (i : ℕ) × Appends (W.contents writer.old) (W.contents writer.new) (connections_text s (take i ids.now)) }
 {
     for id in ids {
         let lines = connection_lines(alloc, *id, recorder.written(*id))?;
@@ -258,7 +258,7 @@ pub fn replay<W: Write>(
     writer: &mut W,
 ) -> Result<(), ReplayFault>
     ensures ok { OnOk result ((text : List ℕ) × Prints (types_view types) (map event_view events.now) text × Appends (W.contents writer.old) (W.contents writer.new) text) }
-    ensures starved { IsErrAnd result IsWant → (text : List ℕ) × PrintsFront (types_view types) (map event_view events.now) text × Appends (W.contents writer.old) (W.contents writer.new) text }
+    ensures starved { IsErrAnd result IsStarved → (text : List ℕ) × PrintsFront (types_view types) (map event_view events.now) text × Appends (W.contents writer.old) (W.contents writer.new) text }
 {
     let mut run = Run::new(alloc, types)?;
     take_all(&mut run, events, writer)?;

@@ -1,4 +1,4 @@
-//! A client that mirrors a server's objects, and that it follows the server (Kubernetes API Concepts, "Efficient
+//! A client that mirrors a server's objects, and the laws by which it follows the server (Kubernetes API Concepts, "Efficient
 //! detection of changes").
 //!
 //! It lists in pages, then watches from the list's revision. All that doesn't fit the question, or breaks a rule,

@@ -19,7 +19,8 @@ use indexer::IndexBy;
 use std::alloc::{AllocError, Global};
 use wireclient::{Item, ReplyReader};
 
-/// The items that a piece of the reply completes.
+/// The items that a piece of the reply completes. A reader that has told a malformed reply isn't asked again, so what
+/// fails is memory.
 fn read(reader: &mut ReplyReader, piece: &[u8]) -> Result<Vec<Item>, AllocError>
     ensures { (bytes : List ℕ) (told : List Told) → IsRead (Some reader.old) bytes told → IfOk result (λ items. IsRead (Some reader.new) (bytes ++ piece.now) (told ++ map told_of items.items)) }
 {

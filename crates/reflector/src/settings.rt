@@ -7,6 +7,7 @@ ghost use Rattle.reflector.specs.Seen.{settings_of};
 
 use decoder::Wanted;
 use names::is_dns_label;
+use thiserror::Error;
 
 /// The wanted objects that the selector's text selects, in pages of so many.
 #[derive(Debug, Drop)]
@@ -19,11 +20,13 @@ pub struct Settings {
 }
 
 /// Why nothing can be mirrored so: the first of these.
-#[derive(Clone, Copy, Debug, PartialEq, Eq)]
+#[derive(Clone, Copy, Debug, PartialEq, Eq, Error)]
 pub enum SettingsFault {
     /// A page has 1 to 500 objects.
+    #[error("a page has 1 to 500 objects")]
     Page,
     /// The namespace is no DNS label (RFC 1123).
+    #[error("the namespace is no DNS label")]
     Namespace,
 }
 

@@ -1,5 +1,5 @@
-//! The changes, kept in the rows of a database. Its store is any that is never in doubt (`clean`): the proofs say what they
-//! need of it, and the prover is done sooner than where it has a name. `memory` has the one that a table stands on.
+//! The changes in the rows of a database. Its store is any that never lost a page (`IsAlwaysClean`): the proofs say
+//! what they need of it, and the prover is done sooner than where it has a name. `memory` has the one that a table stands on.
 
 ghost use Rattle.std.specs.Prelude.{◌≡◌, [], ◌∷◌, ◌++◌, ℕ, ◌^◌, ◌<◌, ◌≤◌, IfOk, OnOk, OnErr, option_map, false};
 ghost use Rattle.history.specs.History.{IsRising};
@@ -20,14 +20,15 @@ use sqlite::{Alter, Connection, Error, Row, params};
 use std::marker::Model;
 use std::snapshot::Snapshot;
 
-/// The rows of a database, seen as the changes that they keep. A store that fails may shut the database for good.
+/// The rows of a database, seen as the changes that stand in them. A store that fails may shut the database for good.
 /// From then on each call answers an error, and the rows are still seen as they were.
-pub(crate) struct Log<S: Alter> {
+pub(crate) struct ChangeLog<S: Alter> {
     base: Connection<S>,
-    kept: Snapshot<Connection<S>>,
+    /// The connection as it was after the last change.
+    seen: Snapshot<Connection<S>>,
 }
 
-impl<S: Alter> Model for Log<S> {
+impl<S: Alter> Model for ChangeLog<S> {
     ghost use Rattle.std.specs.Prelude.{List};
     ghost use Rattle.history.specs.History.{Change};
     ghost use Rattle.sqlite.specs.Held.{state};
@@ -35,21 +36,21 @@ impl<S: Alter> Model for Log<S> {
 
     ghost Value = { List Change };
 
-    ghost view = { λ l. changes_in (state S.Store l.kept.value) };
+    ghost view = { λ l. changes_in (state S.Store l.seen.value) };
 
-    ghost invariant = { λ l. IsAlwaysClean S.Store × Keeps (changes_in (state S.Store l.kept.value)) (state S.Store l.base) };
+    ghost invariant = { λ l. IsAlwaysClean S.Store × Keeps (changes_in (state S.Store l.seen.value)) (state S.Store l.base) };
 }
 
 // It is written out, so that what holds a log does not prove again how each part is dropped.
-impl<S: Alter + Drop> Drop for Log<S> {
+impl<S: Alter + Drop> Drop for ChangeLog<S> {
     fn drop(self) {
-        let Log { base: _, kept: _ } = self;
+        let ChangeLog { base: _, seen: _ } = self;
     }
 }
 
-impl<S: Alter + Drop> Log<S> {
+impl<S: Alter + Drop> ChangeLog<S> {
     /// The rows of an empty database: none, once it has its table, with an index by key and revision.
-    pub(crate) fn new(mut base: Connection<S>) -> Result<Log<S>, Error>
+    pub(crate) fn new(mut base: Connection<S>) -> Result<ChangeLog<S>, Error>
         requires clean { IsAlwaysClean S.Store }
         requires empty { IsEmpty (state S.Store base) }
         ensures { IfOk result (λ log. log ≡ []) }
@@ -58,13 +59,13 @@ impl<S: Alter + Drop> Log<S> {
             "CREATE TABLE change (revision INTEGER PRIMARY KEY, kind INTEGER NOT NULL, namespace TEXT NOT NULL, name TEXT NOT NULL, body TEXT, UNIQUE (kind, namespace, name, revision)) STRICT",
             &[],
         )?;
-        let kept = Snapshot::of(&base);
-        Ok(Log { base, kept })
+        let seen = Snapshot::of(&base);
+        Ok(ChangeLog { base, seen })
     }
 }
 
 // These ask no `Drop` of the store, which each caller that names one would have to prove.
-impl<S: Alter> Log<S> {
+impl<S: Alter> ChangeLog<S> {
     /// Adds a change whose revision is above all others.
     pub(crate) fn insert(
         &mut self,
@@ -81,7 +82,7 @@ impl<S: Alter> Log<S> {
             "INSERT INTO change (revision, kind, namespace, name, body) VALUES (?1, ?2, ?3, ?4, ?5)",
             params![revision as i64, key.kind, &key.namespace, &key.name, body],
         )?;
-        self.kept = Snapshot::of(&self.base);
+        self.seen = Snapshot::of(&self.base);
         Ok(())
     }
 
@@ -95,7 +96,7 @@ impl<S: Alter> Log<S> {
         ensures err { OnErr result (self.new ≡ self.old) }
     {
         compaction::delete_between(&mut self.base, from, to)?;
-        self.kept = Snapshot::of(&self.base);
+        self.seen = Snapshot::of(&self.base);
         Ok(())
     }
 

@@ -1,8 +1,9 @@
 //! Compaction, revision by revision: what each change superseded is deleted, so it costs a look-up for each revision, and what
 //! it removes. All of it is one transaction, so that a deletion that fails leaves the rows as they were. Each step looks up the
-//! change of one revision and deletes the older changes of its key, and itself if it is a deletion. Behind the last step the
-//! rows are those that a compaction to that revision keeps. The store is any that is never in doubt (`clean`), not the one over
-//! files in memory which `change_log` has: the proofs say what they need of it, and the prover is done sooner.
+//! change of one revision and deletes the older changes of its key, and the change itself if it is a deletion. After the last
+//! step the rows are those that a compaction to that revision keeps. The store is any that never lost a page
+//! (`IsAlwaysClean`), not the one over files in memory, which only `memory` names: the proofs say what they need of it, and
+//! the prover is done sooner.
 
 ghost use Rattle.std.specs.Prelude.{◌≡◌, suc, ℕ, ◌^◌, ◌<◌, ◌≤◌, List, map, false, IfOk, OnOk, OnErr};
 ghost use Rattle.history.specs.History.{Change, IsRising};

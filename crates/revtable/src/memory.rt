@@ -1,20 +1,20 @@
-//! The log over two files in memory. Here alone its store has a name.
+//! The changes in a database over two files in memory. Here alone its store has a name.
 
 ghost use Rattle.std.specs.Prelude.{◌≡◌, [], IfOk};
 ghost use Rattle.sqlite.specs.Files.{file_state};
 ghost use Rattle.sqlite.specs.Steps.{IsEmpty};
 
-use crate::change_log::Log;
+use crate::change_log::ChangeLog;
 use crate::file::MemoryFile;
 use sqlite::{Connection, Error, FileStore, Files, Options};
 use std::alloc::Global;
 
-/// How many changed pages a transaction keeps in memory before they go to the log. A compaction changes the pages of the
-/// index again and again; where they stay in memory, the log doesn't grow by each such change.
+/// How many changed pages a transaction keeps in memory before they go to the database's write-ahead log. A compaction
+/// changes the pages of the index again and again; where they stay in memory, that log doesn't grow by each such change.
 const SPILL_PAGES: usize = 6_000;
 
-/// A log over two files in memory.
-pub(crate) type MemoryLog = Log<FileStore<MemoryFile>>;
+/// The changes over two files in memory.
+pub(crate) type MemoryLog = ChangeLog<FileStore<MemoryFile>>;
 
 /// An empty database over two empty files.
 fn empty(alloc: Global) -> Result<Connection<FileStore<MemoryFile>>, Error>
@@ -32,9 +32,9 @@ fn empty(alloc: Global) -> Result<Connection<FileStore<MemoryFile>>, Error>
     }
 }
 
-/// A log without a row.
+/// No changes yet.
 pub(crate) fn open(alloc: Global) -> Result<MemoryLog, Error>
     ensures { IfOk result (λ log. log ≡ []) }
 {
-    Log::new(empty(alloc)?)
+    ChangeLog::new(empty(alloc)?)
 }

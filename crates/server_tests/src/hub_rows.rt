@@ -38,6 +38,10 @@ pub fn first_word(text: &str) -> (&str, &str) {
     text.split_once(' ').unwrap_or((text, ""))
 }
 
+fn number(text: &str) -> Result<u64, Fail> {
+    Ok(text.parse::<u64>().ok().ok_or("no number")?)
+}
+
 /// The bytes that a text in one line shows.
 pub fn bytes_of(alloc: Global, text: &str) -> Result<Vec<u8>, Fail> {
     let text = text.replace(alloc, '|', "\r")?;
@@ -58,33 +62,9 @@ fn request_of(alloc: Global, line: &str) -> Result<Vec<u8>, Fail> {
     Ok(request_bytes(alloc, method, target.as_str(), Some(content))?)
 }
 
+/// A call in a function of its own, so that what calls it carries none of its clauses.
 fn on(hub: &mut Hub, event: &Event) -> Result<(), HubFault> {
     hub.on(event)
-}
-
-/// What the hub says to the event of a step. Where a request comes, its connection opens before; that is refused, and
-/// changes nothing, where it waits.
-fn handed(
-    alloc: Global,
-    hub: &mut Hub,
-    word: &str,
-    id: u64,
-    rest: &str,
-) -> Result<Result<(), HubFault>, Fail> {
-    let event = match word {
-        "open" => Event::Open(id),
-        "in" => Event::In(id, bytes_of(alloc, rest)?),
-        "gone" => Event::Gone(id),
-        "pump" => Event::Pump(id, rest.parse::<u64>().ok().ok_or("no number")?),
-        "tick" => Event::Tick(id),
-        "compact" => Event::Compact(id),
-        "ask" | "told" | "got" => {
-            let _ = on(hub, &Event::Open(id));
-            Event::In(id, request_of(alloc, rest)?)
-        }
-        _ => return Err("no step".into()),
-    };
-    Ok(on(hub, &event))
 }
 
 /// Opens each connection from one to another.
@@ -113,6 +93,35 @@ fn comes_by_bytes(alloc: Global, hub: &mut Hub, id: u64, line: &str) -> Result<(
     Ok(())
 }
 
+/// What the hub says to what happens at a step; at one that only looks nothing does. Where a request comes, its connection
+/// opens before; that is refused, and changes nothing, where it waits.
+fn happens(
+    alloc: Global,
+    hub: &mut Hub,
+    word: &str,
+    id: u64,
+    rest: &str,
+) -> Result<Result<(), HubFault>, Fail> {
+    let event = match word {
+        "out" | "take" | "stand" => return Ok(Ok(())),
+        "told" | "got" if rest.is_empty() => return Ok(Ok(())),
+        "ask" | "told" | "got" => {
+            let _ = on(hub, &Event::Open(id));
+            Event::In(id, request_of(alloc, rest)?)
+        }
+        "bytes" => return Ok(Ok(comes_by_bytes(alloc, hub, id, rest)?)),
+        "open" if !rest.is_empty() => return Ok(open_all(hub, id, number(rest)?)),
+        "open" => Event::Open(id),
+        "in" => Event::In(id, bytes_of(alloc, rest)?),
+        "gone" => Event::Gone(id),
+        "pump" => Event::Pump(id, number(rest)?),
+        "tick" => Event::Tick(id),
+        "compact" => Event::Compact(id),
+        _ => return Err("no step".into()),
+    };
+    Ok(on(hub, &event))
+}
+
 /// The bytes that are out on a connection, in one line; they are taken.
 fn shown(alloc: Global, hub: &mut Hub, id: u64) -> Result<String, Fail> {
     let text = str::from_utf8(hub.out(id))?.replace(alloc, '\r', "|")?;
@@ -125,7 +134,7 @@ fn shown(alloc: Global, hub: &mut Hub, id: u64) -> Result<String, Fail> {
 
 /// Takes bytes that are out on a connection: how many are left.
 fn taken(alloc: Global, hub: &mut Hub, id: u64, count: &str) -> Result<String, Fail> {
-    hub.take(id, count.parse::<usize>().ok().ok_or("no number")?);
+    hub.take(id, number(count)? as usize);
     let left = hub.out(id).len();
     Ok(format!(in alloc; "{left}")?)
 }
@@ -155,28 +164,24 @@ fn told(alloc: Global, reply: &str, is_whole: bool) -> Result<String, Fail> {
     Ok(format!(in alloc; "{status} {words}")?)
 }
 
+/// What is seen behind a step.
+fn seen(alloc: Global, hub: &mut Hub, word: &str, id: u64, rest: &str) -> Result<String, Fail> {
+    match word {
+        "out" => shown(alloc, hub, id),
+        "take" => taken(alloc, hub, id, rest),
+        "stand" => standing(alloc, hub, id),
+        "told" | "got" => told(alloc, shown(alloc, hub, id)?.as_str(), word == "got"),
+        _ => shown(alloc, hub, 1),
+    }
+}
+
 fn answer_to(alloc: Global, hub: &mut Hub, step: &str) -> Result<String, Fail> {
     let (word, rest) = first_word(step);
     let (first, rest) = first_word(rest);
-    let id = first.parse::<u64>().ok().ok_or("no number")?;
-    match word {
-        "out" => return shown(alloc, hub, id),
-        "take" => return taken(alloc, hub, id, rest),
-        "stand" => return standing(alloc, hub, id),
-        "bytes" => comes_by_bytes(alloc, hub, id, rest)?,
-        "open" if !rest.is_empty() => {
-            open_all(hub, id, rest.parse::<u64>().ok().ok_or("no number")?)?;
-        }
-        "told" | "got" if rest.is_empty() => {}
-        _ => {
-            if let Err(fault) = handed(alloc, hub, word, id, rest)? {
-                return Ok(format!(in alloc; "{fault:?}")?);
-            }
-        }
-    }
-    match word {
-        "told" | "got" => told(alloc, shown(alloc, hub, id)?.as_str(), word == "got"),
-        _ => shown(alloc, hub, 1),
+    let id = number(first)?;
+    match happens(alloc, hub, word, id, rest)? {
+        Ok(()) => seen(alloc, hub, word, id, rest),
+        Err(fault) => Ok(format!(in alloc; "{fault:?}")?),
     }
 }
 

@@ -1,4 +1,4 @@
--- What callers see of a server.
+-- What callers see of a server of one connection after another.
 use Rattle.std.specs.Prelude.{ℕ, ◌+◌, Bool, true, false, List, [], ◌∷◌, ◌++◌, map}
 use Rattle.httpedge.specs.declared.hub.Hub.{Hub}
 use Rattle.serving.specs.declared.server.Limits.{Limits}

@@ -1,4 +1,4 @@
--- What is done with a hub.
+-- What a server's calls make of its hub.
 use Rattle.std.specs.Prelude.{◌≡◌, ℕ, false, List, [], Option, Result, Ok, Err}
 use Rattle.std.specs.Io.KnownBytes.{Appends, Consumes}
 use Rattle.httpedge.specs.Connections.{open_on, out_on}

@@ -14,6 +14,7 @@ use std::time::Instant;
 /// How many bytes the head of a watch has.
 const HEAD: usize = 98;
 
+/// A call in a function of its own, so that what calls it carries none of its clauses.
 fn open(hub: &mut Hub, id: u64) -> Result<(), HubFault> {
     hub.on(&Event::Open(id))
 }

@@ -17,7 +17,7 @@ const ABOUT: &str = "Serves the types of a file on loopback, with objects in mem
 const NOTES: &str = "Example:
   ssa-server --types crates/ssa_replay/data/types.json --port 8001
 
-Exit status: 0 so many connections were served, 1 output failed, 2 wrong usage, 3 bad types file or unreadable file, 5 out of memory or the store failed, 6 the port can't be listened on or the clock can't be read";
+Exit status: 0 so many connections were served, 1 output failed, 2 wrong usage, 3 bad types file or unreadable file, 5 out of memory or the store failed, 6 the port can't be listened on, the clock can't be read, or, with --concurrent, what is ready";
 
 const TYPES_HELP: &str = "The types to serve, one JSON object {\"types\":[..]}";
 

@@ -1,7 +1,7 @@
-//! What lists and watch lines say, and each thing that may be amiss with them.
+//! What lists and watch lines say, and each thing that may be wrong with them.
 //!
 //! `line` is a line of a watch, `any` one of any namespace, `object` an object that is added, and `page` a list's body. The
-//! answer is what it says, or what is amiss with it.
+//! answer is what it says, or what is wrong with it.
 
 use crate::rows::{Answers, first_word, play_all, told};
 use decoder::{DecodeFault, Line, Page, Wanted, read_line, read_page};
@@ -125,7 +125,7 @@ line [] => Object
 line  => Json
 line {"type":"ADDED", => Json
 
-what_is_amiss_with_an_object
+what_is_wrong_with_an_object
 object {"apiVersion":"demo.example/v2","kind":"Gadget"} => ApiVersion
 object {"apiVersion":"demo.example/v1","kind":"WidgetList"} => Kind
 object {"apiVersion":"demo.example/v1","kind":"Widget","metadata":null} => Metadata

@@ -1,4 +1,4 @@
-//! How many objects have each value of one label.
+//! The counts themselves, and the calls that take notices.
 
 ghost use Rattle.std.specs.Prelude.{◌≡◌};
 

@@ -128,7 +128,7 @@ impl Api {
         }
     }
 
-    /// The next lines of a watch, at most `max`. Refused, the cursor stays; nothing else changes ever.
+    /// The next lines of a watch, at most `max`. Refused, the cursor stays; nothing else changes in any case.
     pub fn pump(&mut self, cursor: &mut WatchCursor, max: usize) -> Result<Pumped, Fault>
         ensures pumped { (types : List ServedShape) (m : History) → Stands self.old types m
             → IfOk result (λ p. turn_of p cursor.new ≡ pumped (from_history m) max cursor.old) }

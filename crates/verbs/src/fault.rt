@@ -8,7 +8,7 @@ use crate::reason::Reason;
 use std::alloc::{AllocError, AllocFailed, Global};
 use thiserror::Error;
 
-/// Why a step has no object to answer.
+/// Why a check doesn't pass.
 #[derive(Debug, Drop)]
 pub enum CallError {
     Refused(CallRefusal),

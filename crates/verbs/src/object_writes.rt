@@ -96,7 +96,7 @@ pub(crate) fn plan_written(
     }
 }
 
-/// The same over what stands: that is what is known, so it is remembered unless the write stores another text.
+/// The plan of a write over what stands: that is what is known, so it is remembered unless the write stores another text.
 fn plan_over(
     alloc: Global,
     live: Live,

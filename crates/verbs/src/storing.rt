@@ -161,7 +161,7 @@ fn stored_plan(
     stored_as(alloc, text, labels, current, key, status)
 }
 
-/// The same, and its state is remembered.
+/// The text that is stored of a state, and the state with it, which is remembered.
 pub fn stored(
     alloc: Global,
     served: &Served,

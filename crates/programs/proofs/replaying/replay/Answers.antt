@@ -7,14 +7,14 @@ use Rattle.std.proofs.lemmas.Result.{on_ok_weaker}
 use Rattle.schema.specs.Served.{types_view}
 use Rattle.programs.specs.ApplyLine.{event_view}
 use Rattle.programs.specs.Replays.{Plays, connections_text, start}
-use Rattle.programs.specs.ReplayFaults.{IsWant}
+use Rattle.programs.specs.ReplayFaults.{IsStarved}
 use Rattle.programs.specs.declared.replay_fault.ReplayFault.{ReplayFault}
 use Rattle.programs.proofs.FrontLemmas.{at_connection, at_event}
 use Rattle.programs.proofs.replaying.replay.Goals as goal
 
-want_of : {T : Type 0} (r : Result T ReplayFault) (fault : ReplayFault) → IsErrAnd r (λ x. x ≡ fault) → IsErrAnd r IsWant → IsWant fault
-want_of (Ok x) fault is want = absurd is
-want_of (Err x) fault is want = subst IsWant is want
+starved_of : {T : Type 0} (r : Result T ReplayFault) (fault : ReplayFault) → IsErrAnd r (λ x. x ≡ fault) → IsErrAnd r IsStarved → IsStarved fault
+starved_of (Ok x) fault is want = absurd is
+starved_of (Err x) fault is want = subst IsStarved is want
 
 pub returns-clause-ok : goal.returns-clause-ok
 returns-clause-ok g c =
@@ -31,7 +31,7 @@ returns-in_err-run-clause-starved g c = λ e.
 pub returns-in_err-take_all-clause-starved : goal.returns-in_err-take_all-clause-starved
 returns-in_err-take_all-clause-starved g c = λ e.
     let types = types_view c.args.types in
-    let want = want_of c.from_residual-in_err-take_all.result _ c.from_residual-in_err-take_all.ensures.1 e in
+    let want = starved_of c.from_residual-in_err-take_all.result _ c.from_residual-in_err-take_all.ensures.1 e in
     let all = c.in_err-take_all.ensures.starved (start types) c.in_ok-run.ensures want in
     let ran = subst (λ es. Plays (start types) es all.2 all.1) (sym (take-map event_view all.0 c.args.events.now)) all.3 in
     (all.2, at_event types (map event_view c.args.events.now) all.0 all.1 all.2 ran, all.4)

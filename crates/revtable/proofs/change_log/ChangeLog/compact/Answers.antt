@@ -2,8 +2,8 @@ use Rattle.std.proofs.Common.{◌≡◌, ap, subst, sym, ◌∙◌}
 use Rattle.history.specs.Kept.{kept}
 use Rattle.sqlite.specs.Held.{state}
 use Rattle.revtable.specs.Rows.{changes_in, Keeps}
-use Rattle.revtable.proofs.change_log.Log.compact.Given.{Over}
-use Rattle.revtable.proofs.change_log.Log.compact.Goals as goal
+use Rattle.revtable.proofs.change_log.ChangeLog.compact.Given.{Over}
+use Rattle.revtable.proofs.change_log.ChangeLog.compact.Goals as goal
 
 done : (g : Over) (c : goal.After-drop-self-inside g) → Keeps (kept c.args.to c.args.self.now) (state g.S.Store c.delete_between.new.base) × (changes_in (state g.S.Store c.delete_between.new.base) ≡ kept c.args.to c.args.self.now)
 done g c = c.in_ok-delete_between.ensures.ok c.args.self.now c.requires.rising.0 c.requires.rising.1 c.requires.left (subst (λ l. Keeps l (state g.S.Store c.self.inside.base)) c.self.view_is c.self.invariant.1)

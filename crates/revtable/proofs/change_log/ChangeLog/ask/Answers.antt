@@ -3,8 +3,8 @@ use Rattle.sqlite.specs.Held.{state}
 use Rattle.sqlite.specs.Values.{bound}
 use Rattle.revtable.proofs.Outcomes.{asked_keeps, shows}
 use Rattle.revtable.specs.Rows.{Keeps, IsAnswer}
-use Rattle.revtable.proofs.change_log.Log.ask.Given.{Over}
-use Rattle.revtable.proofs.change_log.Log.ask.Goals as goal
+use Rattle.revtable.proofs.change_log.ChangeLog.ask.Given.{Over}
+use Rattle.revtable.proofs.change_log.ChangeLog.ask.Goals as goal
 
 done : (g : Over) (c : goal.After-query_all g) → Keeps c.args.self.now (state g.S.Store c.query_all.new.self) × IfOk c.query_all.result (λ rows. IsAnswer c.args.sql.now (bound c.args.params.now) c.args.self.now rows.items)
 done g c =

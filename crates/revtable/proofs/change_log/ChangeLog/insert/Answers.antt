@@ -7,8 +7,8 @@ use Rattle.revtable.specs.Rows.{changes_in, Keeps}
 use Rattle.revtable.proofs.Inserts.{put_adds, raw_change}
 use Rattle.revtable.proofs.Outcomes.{refused_still}
 use Rattle.revtable.proofs.Texts.{insert_text}
-use Rattle.revtable.proofs.change_log.Log.insert.Given.{Over}
-use Rattle.revtable.proofs.change_log.Log.insert.Goals as goal
+use Rattle.revtable.proofs.change_log.ChangeLog.insert.Given.{Over}
+use Rattle.revtable.proofs.change_log.ChangeLog.insert.Goals as goal
 
 abbrev written : (g : Over) → goal.After-drop-self-inside g → Change
 written g c = record { revision = c.args.revision; key = key_of c.args.key.now; body = option_map (λ b. b.now) c.args.body }
