@@ -137,6 +137,19 @@ fn push_part(alloc: Global, text: &mut String, set: &FieldSet) -> Result<(), All
     text.push_str(" |")
 }
 
+fn push_own(alloc: Global, text: &mut String, new: &Tree) -> Result<(), AllocError> {
+    push_part(alloc, text, &new.paths(alloc)?)
+}
+
+fn push_changed(
+    alloc: Global,
+    text: &mut String,
+    new: &Tree,
+    old: &Tree,
+) -> Result<(), AllocError> {
+    push_part(alloc, text, &new.changed_from(alloc, old)?)
+}
+
 fn push_changes(alloc: Global, text: &mut String, changes: &Changes) -> Result<(), AllocError> {
     push_part(alloc, text, &changes.added)?;
     push_part(alloc, text, &changes.modified)?;
@@ -145,8 +158,8 @@ fn push_changes(alloc: Global, text: &mut String, changes: &Changes) -> Result<(
 
 fn compared(alloc: Global, new: &Tree, old: &Tree) -> Result<String, AllocError> {
     let mut text = String::from_str(alloc, "|")?;
-    push_part(alloc, &mut text, &new.paths(alloc)?)?;
-    push_part(alloc, &mut text, &new.changed_from(alloc, old)?)?;
+    push_own(alloc, &mut text, new)?;
+    push_changed(alloc, &mut text, new, old)?;
     push_changes(alloc, &mut text, &new.compare(alloc, old)?)?;
     Ok(text)
 }

@@ -20,7 +20,7 @@ object {"apiVersion":"demo.example/v1","kind":"Widget","metadata":{"managedField
 object {"apiVersion":"demo.example/v1","kind":"Widget","metadata":{"managedFields":[{"apiVersion":"demo.example/v1","fieldsType":"FieldsV1","fieldsV1":{"f:spec":{"f:image":{}}},"manager":"dave","operation":"Update"}],"name":"w1","namespace":"default","resourceVersion":"6"},"spec":{"image":"b"}} => same
 object {"apiVersion":"demo.example/v1","kind":"Widget","metadata":{"annotations":{"a":""},"name":"w1","namespace":"default","resourceVersion":"3"},"spec":{"args":["x","y"]}} => same
 
-other_texts_are_refused: no JSON; a blank; members out of order; another name; another kind; no version; a version with a leading zero; a version past the last; an unknown field; a value of a wrong type; a null; another namespace; another version of the type; a member of `metadata` that it hasn't; a member twice; a letter as an escape; a float; an item twice; an item without its key field; an empty object
+other_texts_are_refused: no JSON; a blank; members out of order; another name; another kind; no version; a version with a leading zero; a version past the last; an unknown field; a value of a wrong type; a null; another namespace; another version of the type; a member of `metadata` that it hasn't; a member twice; a letter as an escape; a float; an item twice; an item without its key field; an empty object; no object; no `metadata`; a `metadata` that is no object
 object {"apiVersion": => refused
 object {"apiVersion":"demo.example/v1","kind":"Widget","metadata":{"name":"w1","namespace":"default","resourceVersion":"2"} } => refused
 object {"kind":"Widget","apiVersion":"demo.example/v1","metadata":{"name":"w1","namespace":"default","resourceVersion":"2"}} => refused
@@ -41,8 +41,11 @@ object {"apiVersion":"demo.example/v1","kind":"Widget","metadata":{"name":"w1","
 object {"apiVersion":"demo.example/v1","kind":"Widget","metadata":{"name":"w1","namespace":"default","resourceVersion":"2"},"spec":{"tags":["a","a"]}} => refused
 object {"apiVersion":"demo.example/v1","kind":"Widget","metadata":{"name":"w1","namespace":"default","resourceVersion":"2"},"spec":{"ports":[{"port":80}]}} => refused
 object {"apiVersion":"demo.example/v1","kind":"Widget","metadata":{"name":"w1","namespace":"default","resourceVersion":"2"},"spec":{}} => refused
+object ["demo.example/v1","Widget"] => refused
+object {"apiVersion":"demo.example/v1","kind":"Widget","spec":{"replicas":3}} => refused
+object {"apiVersion":"demo.example/v1","kind":"Widget","metadata":"w1","spec":{"replicas":3}} => refused
 
-other_owners_are_refused: no entries in the list; an entry without paths; entries out of order; a path that the content lacks; another `apiVersion` in an entry; no manager; an operation that is none; an empty subresource; a subresource; another `fieldsType`; FieldsV1 that isn't canonical, or has no place; a manager twice; a member of an entry that it hasn't; entries that are no list; items out of order
+other_owners_are_refused: no entries in the list; an entry without paths; entries out of order; a path that the content lacks; another `apiVersion` in an entry; no manager; an operation that is none; an empty subresource; a subresource; another `fieldsType`; FieldsV1 that isn't canonical, or has no place; a manager twice; a member of an entry that it hasn't; entries that are no list; items out of order; an entry that is no object; an entry without `fieldsV1`
 object {"apiVersion":"demo.example/v1","kind":"Widget","metadata":{"managedFields":[],"name":"w1","namespace":"default","resourceVersion":"2"},"spec":{"replicas":3}} => refused
 object {"apiVersion":"demo.example/v1","kind":"Widget","metadata":{"managedFields":[{"apiVersion":"demo.example/v1","fieldsType":"FieldsV1","fieldsV1":{},"manager":"alice","operation":"Apply"}],"name":"w1","namespace":"default","resourceVersion":"2"},"spec":{"replicas":3}} => refused
 object {"apiVersion":"demo.example/v1","kind":"Widget","metadata":{"managedFields":[{"apiVersion":"demo.example/v1","fieldsType":"FieldsV1","fieldsV1":{"f:spec":{"f:replicas":{}}},"manager":"bob","operation":"Apply"},{"apiVersion":"demo.example/v1","fieldsType":"FieldsV1","fieldsV1":{"f:spec":{"f:replicas":{}}},"manager":"alice","operation":"Apply"}],"name":"w1","namespace":"default","resourceVersion":"2"},"spec":{"replicas":3}} => refused
@@ -58,7 +61,9 @@ object {"apiVersion":"demo.example/v1","kind":"Widget","metadata":{"managedField
 object {"apiVersion":"demo.example/v1","kind":"Widget","metadata":{"managedFields":[{"apiVersion":"demo.example/v1","fieldsType":"FieldsV1","fieldsV1":{"f:spec":{"f:replicas":{}}},"manager":"alice","operation":"Apply"},{"apiVersion":"demo.example/v1","fieldsType":"FieldsV1","fieldsV1":{"f:spec":{"f:image":{}}},"manager":"alice","operation":"Apply"}],"name":"w1","namespace":"default","resourceVersion":"2"},"spec":{"image":"a","replicas":3}} => refused
 object {"apiVersion":"demo.example/v1","kind":"Widget","metadata":{"managedFields":[{"apiVersion":"demo.example/v1","fieldsType":"FieldsV1","fieldsV1":{"f:spec":{"f:replicas":{}}},"manager":"alice","operation":"Apply","time":"2026-01-01T00:00:00Z"}],"name":"w1","namespace":"default","resourceVersion":"2"},"spec":{"replicas":3}} => refused
 object {"apiVersion":"demo.example/v1","kind":"Widget","metadata":{"managedFields":{},"name":"w1","namespace":"default","resourceVersion":"2"},"spec":{"replicas":3}} => refused
-object {"apiVersion":"demo.example/v1","kind":"Widget","metadata":{"name":"w1","namespace":"default","resourceVersion":"2"},"spec":{"tags":["b","a"]}} => refused"#;
+object {"apiVersion":"demo.example/v1","kind":"Widget","metadata":{"name":"w1","namespace":"default","resourceVersion":"2"},"spec":{"tags":["b","a"]}} => refused
+object {"apiVersion":"demo.example/v1","kind":"Widget","metadata":{"managedFields":["alice"],"name":"w1","namespace":"default","resourceVersion":"2"},"spec":{"replicas":3}} => refused
+object {"apiVersion":"demo.example/v1","kind":"Widget","metadata":{"managedFields":[{"apiVersion":"demo.example/v1","fieldsType":"FieldsV1","manager":"alice","operation":"Apply"}],"name":"w1","namespace":"default","resourceVersion":"2"},"spec":{"replicas":3}} => refused"#;
 
 #[test]
 fn examples(rt: HostRuntime) -> Result<(), Fail> {

@@ -6,7 +6,7 @@ ghost use Rattle.schema.specs.Shape.{shape, fields_in, kind_of, shape_at};
 ghost use Rattle.schema.specs.Lawful.{max_depth, is_scalar, is_some_name, is_some_scalar, names_of, has_keys, item_is_lawful, depth_limit, depth_of, fields_depth, is_well_formed, are_well_formed, is_lawful};
 
 use crate::schema::{ListKind, Schema};
-use crate::step::is_key;
+use crate::step::{field_at, is_key};
 
 /// How deep a type's schema may nest, itself counted.
 pub const MAX_DEPTH: usize = 16;
@@ -37,12 +37,10 @@ fn are_key_names(names: &[String]) -> bool
 fn has_scalar(fields: &[(String, Schema)], name: &str) -> bool
     ensures { result ≡ is_some_scalar (shape_at name.now (fields_in fields.now)) }
 {
-    for (known, inner) in fields {
-        if known.as_str() == name {
-            return inner.is_scalar();
-        }
+    match field_at(fields, name) {
+        Some(inner) => inner.is_scalar(),
+        None => false,
     }
-    false
 }
 
 impl ListKind {

@@ -1,6 +1,0 @@
-use Rattle.std.proofs.Common.{◌≡◌, drop}
-use Rattle.schema.specs.Shape.{fields_in, shape_at}
-use Rattle.schema.proofs.lawful.has_scalar.Given as goal
-
-abbrev pub invariant-loop-known : goal.invariant-loop-known
-invariant-loop-known l = shape_at l.name (fields_in (drop l.known-index l.fields)) ≡ shape_at l.name (fields_in l.fields)
