@@ -1,5 +1,5 @@
 -- The key fields of an item, among its members.
-use Rattle.std.proofs.Common.{◌≡◌, ℕ, Bool, true, false, cond, ◌&&◌, ◌||◌, not, is_eq, nat_cmp, List, [], ◌∷◌, ◌++◌, Option, Some, None, is_some, Ok, Ordering, Less, Equal, Greater, refl, sym, ap, ap₂, ◌∙◌, true≢false, subst}
+use Rattle.std.proofs.Common.{◌≡◌, ℕ, Bool, true, false, cond, ◌&&◌, ◌||◌, not, is_eq, nat_cmp, List, [], ◌∷◌, ◌++◌, Option, Some, None, is_some, Ok, Err, Ordering, Less, Equal, Greater, refl, sym, ap, ap₂, ◌∙◌, true≢false, subst}
 use Rattle.std.specs.Cmp.{tied_itself, first_so, second_so}
 use Rattle.std.specs.Cmp.Lexicographic.{slice_cmp}
 use Rattle.std.specs.List.{AllByRecursion, list_any}
@@ -19,6 +19,7 @@ use Rattle.pathmap.proofs.Levels.{under-nothing}
 use Rattle.fieldpath.specs.Scalars.{ascend, ascend_from}
 use Rattle.schema.specs.Place.{fits_some, fit_keys}
 use Rattle.schema.specs.Shape.{Shape, Fields, no_fields, field, shape_at}
+use Rattle.typed.specs.declared.fault.Cause.TheVariants.{UnknownField}
 use Rattle.typed.specs.Faults.{below}
 use Rattle.typed.specs.Printing.{with_member, print, print_fields}
 use Rattle.typed.specs.Reading.{is_null, is_there, have_keys, put_some, keys_in, at_field, joined, members_at, beside_keys, content_of, content_of_field}
@@ -202,6 +203,15 @@ field-at (field known t more) k d s h = by_test (bytes_eq known k) h (field-at m
 
     by_test : (b : Bool) → cond b (Some t) (shape_at k more) ≡ Some s → (shape_at k more ≡ Some s → content_of_field more k d ≡ content_of s d) → cond b (content_of t d) (content_of_field more k d) ≡ content_of s d
     by_test true h later = ap (λ o. content_of (shape_or o) d) h
+    by_test false h later = later h
+
+pub no_field-at : (all : Fields) (k : List ℕ) (d : Data) → shape_at k all ≡ None → content_of_field all k d ≡ Err (UnknownField, [])
+no_field-at no_fields k d h = refl
+no_field-at (field known t more) k d h = by_test (bytes_eq known k) h (no_field-at more k d)
+  where
+    by_test : (b : Bool) → cond b (Some t) (shape_at k more) ≡ None → (shape_at k more ≡ None → content_of_field more k d ≡ Err (UnknownField, []))
+        → cond b (content_of t d) (content_of_field more k d) ≡ Err (UnknownField, [])
+    by_test true h later = absurd (true≢false (ap is_some h))
     by_test false h later = later h
 
 pub keys_read : (names : List (List ℕ)) (all : Fields) (ns : List (List ℕ)) (ms : Members) → ((n : List ℕ) → list_any (bytes_eq n) ns ≡ true → list_any (bytes_eq n) names ≡ true) → AreKeys ns all ms

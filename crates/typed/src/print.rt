@@ -14,7 +14,7 @@ use crate::print_parts::{
 };
 use fieldpath::ElemText;
 use pathmap::PathMap;
-use schema::{ListKind, Schema};
+use schema::{ListKind, Schema, field_at};
 use serde_json::{Map, Value};
 use std::alloc::{AllocError, Global};
 
@@ -215,12 +215,10 @@ pub(crate) fn print_field(
 ) -> Result<Option<Value>, AllocError>
     ensures { IfOk result (λ o. option_map view o ≡ option_and_then (λ s. print s (inside (name_text name.now) (content map.now))) (shape_at name.now (fields_in fields.now))) }
 {
-    for (known, inner) in fields {
-        if known.as_str() == name {
-            return print_below(inner, alloc, name, map);
-        }
+    match field_at(fields, name) {
+        Some(inner) => print_below(inner, alloc, name, map),
+        None => Ok(None),
     }
-    Ok(None)
 }
 
 fn print_below(

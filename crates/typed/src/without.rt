@@ -17,7 +17,7 @@ use crate::items::{add_member, object_of};
 use crate::omitted::{Omitted, copy_but, copy_without, is_absent};
 use crate::read::{read_field, read_map};
 use pathmap::PathMap;
-use schema::Schema;
+use schema::{Schema, field_at};
 use serde_json::{Map, Value};
 use std::alloc::Global;
 
@@ -80,12 +80,10 @@ fn read_field_but(
 ) -> Result<PathMap, ReadFault>
     ensures { Gives content result (content_of_field (fields_in fields.now) name.now (but (map (λ n. n.now) names.now) (view value.now))) }
 {
-    for (known, inner) in fields {
-        if known.as_str() == name {
-            return read_but(inner, alloc, value, names);
-        }
+    match field_at(fields, name) {
+        Some(inner) => read_but(inner, alloc, value, names),
+        None => Err(wrong(alloc, Cause::UnknownField)),
     }
-    Err(wrong(alloc, Cause::UnknownField))
 }
 
 /// The content of what a member keeps.
