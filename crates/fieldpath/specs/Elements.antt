@@ -114,6 +114,10 @@ has_prefix kind s = bytes_eq (take 2 s) (kind ∷ 58 ∷ [])
 abbrev pub text_after : ℕ → List ℕ → Option (List ℕ)
 text_after kind s = if has_prefix kind s then Some (drop 2 s) else None
 
+-- the text is that of a field's element
+abbrev pub is_field_text : List ℕ → Bool
+is_field_text = has_prefix 102
+
 -- of a field's element, the name
 abbrev pub field_name : List ℕ → Option (List ℕ)
 field_name = text_after 102

@@ -8,7 +8,7 @@ use Rattle.std.specs.Str.{bytes_eq}
 use Rattle.serde_json.specs.Data.{Data, depth}
 use Rattle.serde_json.specs.Read.{read, max_depth}
 use Rattle.serde_json.specs.Written.{compact_text, has_float}
-use Rattle.fieldpath.specs.Elements.{Scalar, KeyFields, has_prefix, read_element, name_text}
+use Rattle.fieldpath.specs.Elements.{Scalar, KeyFields, is_field_text, read_element, name_text}
 use Rattle.fieldpath.specs.Elements as element
 use Rattle.fieldpath.specs.Paths.{PathTexts}
 use Rattle.fieldpath.specs.Spelled.{IsSpelled}
@@ -57,7 +57,7 @@ abbrev mutual
   IsPlaced whole c = (c ≡ nothing) ⊎ (n : ℤ) × IsWithin n × (c ≡ here (standing.whole n))
   IsPlaced truth c = (c ≡ nothing) ⊎ (b : Bool) × (c ≡ here (standing.truth b))
   IsPlaced (struct_of all is_atomic) c = When is_atomic (IsAtomic (struct_of all is_atomic) c) (IsBelow (is_field all) c × ArePlaced all c)
-  IsPlaced (map_of s is_atomic) c = When is_atomic (IsAtomic (map_of s is_atomic) c) (IsBelow (has_prefix 102) c × ((e : List ℕ) → IsPlaced s (inside e c)))
+  IsPlaced (map_of s is_atomic) c = When is_atomic (IsAtomic (map_of s is_atomic) c) (IsBelow is_field_text c × ((e : List ℕ) → IsPlaced s (inside e c)))
   IsPlaced (list_of s atomic) c = IsAtomic (list_of s atomic) c
   IsPlaced (list_of s set) c = (fin.get c [] ≡ None) × ((e : List ℕ) → (inside e c ≡ nothing) ⊎ IsSetItem s e (inside e c))
   IsPlaced (list_of s (keyed names)) c = (fin.get c [] ≡ None) × ((e : List ℕ) → (inside e c ≡ nothing) ⊎ IsItem names s e (inside e c))
