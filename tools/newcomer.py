@@ -1,12 +1,14 @@
-#!/usr/bin/env python3
-"""Runs the commands of README's section "A server, by curl" against a server that was built, and compares what they print;
-then makes the same requests by urllib, of a fresh server, and compares their replies. All of it twice: of a server that
-serves one connection after another, and of one that serves many at once.
+"""Runs the commands of README.md and docs/API.md against a server that was built, and compares what they print; then makes
+the same requests by urllib and compares their replies. All of it twice: of a server that serves one connection after another,
+and of one that serves many at once.
 
     tools/newcomer.py [PROGRAM]
 
-PROGRAM is crates/ssa_server/out/ssa_server where none is named. In README a line "$ COMMAND" is run by bash, and the lines
-behind it are what it prints. The server gets a free port in place of README's. The status is 1 where something differs.
+PROGRAM is crates/ssa_server/out/ssa_server where none is named. The commands are the lines "$ COMMAND" of the code blocks that
+begin with such a line, in the order of the page; the lines behind one are what it prints. A command of ./ssa-server starts a
+fresh server, on a free port in place of the page's, and the next one sets the variable S; those after it are run by bash.
+urllib leaves out the commands of curl -si, whose replies are shown with their heads: it can't make some of these requests.
+The status is 1 where something differs.
 """
 import itertools
 import json
@@ -18,16 +20,18 @@ import urllib.error
 import urllib.request
 
 TOP = os.path.dirname(os.path.dirname(os.path.realpath(__file__)))
-TITLE = "## A server, by curl\n"
-README_PORT = "8001"
+PAGES = ["README.md", "docs/API.md"]
+PORT = "8001"
 
 
-def commands():
-    """Each command with the text that it prints."""
-    with open(f"{TOP}/README.md", encoding="utf-8") as it:
-        section = it.read().partition(TITLE)[2].partition("\n## ")[0]
+def commands(page):
+    """Each command of the page with the text that it prints."""
+    with open(f"{TOP}/{page}", encoding="utf-8") as it:
+        blocks = it.read().split("```\n")[1::2]
     found = []
-    for block in section.split("```\n")[1::2]:
+    for block in blocks:
+        if not block.startswith("$ "):
+            continue
         for line in block.splitlines():
             if line.startswith("$ "):
                 found.append((line[2:], []))
@@ -36,12 +40,23 @@ def commands():
     return [(command, "\n".join(lines)) for command, lines in found]
 
 
+def sessions():
+    """The commands of each fresh server, from the one that starts it on."""
+    found = []
+    for page in PAGES:
+        for row in commands(page):
+            if row[0].startswith("./ssa-server "):
+                found.append([])
+            found[-1].append(row)
+    return found
+
+
 class Server:
-    """The server of README's first command, on a free port."""
+    """The server that a page's command starts, on a free port."""
 
     def __init__(self, program, command, mode):
         words = [program, *shlex.split(command)[1:], *mode]
-        words[words.index(README_PORT)] = "0"
+        words[words.index(PORT)] = "0"
         self.process = subprocess.Popen(words, cwd=TOP, stdout=subprocess.PIPE, text=True)
         self.said = self.process.stdout.readline().rstrip("\n")
         self.port = self.said.rpartition(":")[2]
@@ -108,6 +123,8 @@ def by_urllib(base, rows):
     request is made, and the watch's lines are read."""
     count = 0
     for command, wanted in rows:
+        if " -si " in command:
+            continue
         steps = [step for part in command.split(" & ") for step in part.split("; ") if step.startswith("curl ")]
         asked = [request_of(shlex.split(step.replace("$S", base))) for step in steps]
         replies = [opened(request) for request in asked]
@@ -127,14 +144,16 @@ def main(words):
     if not os.access(program, os.X_OK):
         sys.exit(f"newcomer: {program} isn't built: run `rt run` in crates/ssa_server")
     os.environ["no_proxy"] = "127.0.0.1"
-    (start, said), (setting, _), *rows = commands()
-    count = 0
-    for mode, ask in itertools.product(([], ["--concurrent"]), (by_curl, by_urllib)):
-        with Server(os.path.realpath(program), start, mode) as server:
-            count += differs(start, server.said.replace(server.port, README_PORT), said)
-            base = setting.partition("=")[2].replace(README_PORT, server.port)
-            count += ask(base, rows)
-    print(f"{len(rows)} commands by curl and by urllib, of both modes, {count} differences")
+    count = played = 0
+    for session in sessions():
+        (start, said), (setting, _), *rows = session
+        played += len(rows)
+        for mode, ask in itertools.product(([], ["--concurrent"]), (by_curl, by_urllib)):
+            with Server(os.path.realpath(program), start, mode) as server:
+                count += differs(start, server.said.replace(server.port, PORT), said)
+                base = setting.partition("=")[2].replace(PORT, server.port)
+                count += ask(base, rows)
+    print(f"{played} commands by curl and by urllib, of both modes, {count} differences")
     return int(count > 0)
 
 
