@@ -26,3 +26,4 @@ pub mod Spelling
 pub mod FieldTexts
 pub mod Rows
 pub mod Wholes
+pub mod ItemTexts

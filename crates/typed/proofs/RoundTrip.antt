@@ -103,10 +103,10 @@ all_found all (field f s more) rise same = (
 
 -- ---- elements, one after another
 
-abbrev Every : (List ℕ → Type 0) → List (List ℕ) → Type 0
+abbrev pub Every : (List ℕ → Type 0) → List (List ℕ) → Type 0
 Every P es = AllByRecursion P es
 
-every : (P : List ℕ → Type 0) (hs : List (List ℕ)) → ((e : List ℕ) → list_any (bytes_eq e) hs ≡ true → P e) → Every P hs
+pub every : (P : List ℕ → Type 0) (hs : List (List ℕ)) → ((e : List ℕ) → list_any (bytes_eq e) hs ≡ true → P e) → Every P hs
 every P [] each = tt
 every P (h ∷ hs) each = (each h (one_so (bytes_eq h h) (list_any (bytes_eq h) hs) (itself h)), every P hs (λ e t. each e (other_so (bytes_eq e h) (list_any (bytes_eq e) hs) t)))
 
@@ -230,7 +230,7 @@ array_back s inner (item d ds) c at is = (refl, at (item d ds) ∙ is)
 
 -- ---- a set's items
 
-lives : (c : Content) (e : List ℕ) → list_any (bytes_eq e) (heads c) ≡ true → inside e c ≡ nothing → ⊥
+pub lives : (c : Content) (e : List ℕ) → list_any (bytes_eq e) (heads c) ≡ true → inside e c ≡ nothing → ⊥
 lives c e h bare = true≢false (sym h ∙ heads-inside c e ∙ ap has_path bare ∙ nothing_path)
 
 set_reads : (s : Shape) (c : Content) (e : List ℕ) → IsSetItem s e (inside e c) → Reads (set_item (plain_of s)) scalar_in c e

@@ -186,7 +186,7 @@ pub opened : (s : Shape) (c : Content) (ms : Members) → IsThere s c → print 
 opened s c no_members is_there is = absurd (is_there.1 (subst (λ o. ReadsBack s o c) is (round s c is_there.0.0 is_there.0.1)))
 opened s c (member k d ms) is_there is = ap text_or_none is
 
-all_fit : (fs : Fields) (c : Content) → are_well_formed fs ≡ true → ArePlaced fs c → AllFit fs c
+pub all_fit : (fs : Fields) (c : Content) → are_well_formed fs ≡ true → ArePlaced fs c → AllFit fs c
 all_fit no_fields c formed placed = tt
 all_fit (field f s more) c formed placed = let parts = and_parts (is_well_formed s) (are_well_formed more) formed in ((parts.0, placed.0), all_fit more c parts.1 placed.1)
 

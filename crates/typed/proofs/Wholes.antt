@@ -162,24 +162,27 @@ text_put s c k text old new is_there value put ms before =
 pub no_text : (s : Shape) (c : Content) (k : List ℕ) (old : Texts) → c ≡ nothing → (ms : Members) → old ≡ texts_of ms → old ≡ texts_of (with_member k (printed s c) ms)
 no_text s c k old bare ms before = before ∙ sym (ap (λ o. texts_of (with_member k o ms)) (ap (printed s) bare ∙ print-nothing s))
 
-abbrev pub PutAll : List (String Global × Schema) → ℕ → Content → Texts → Type 0
-PutAll all i c texts = AllFit (fields_in all) c → AllFit (fields_in (drop i all)) c × (ms : Members) × (texts ≡ texts_of ms) × (print_fields (fields_in (drop i all)) c ms ≡ print_fields (fields_in all) c no_members)
+-- of texts that were those of some members, what is there with what is left of the fields gives them all
+abbrev pub PutAll : List (String Global × Schema) → ℕ → Content → Texts → Texts → Type 0
+PutAll all i c start texts =
+    AllFit (fields_in all) c → AllFit (fields_in (drop i all)) c
+    × ((ms : Members) → start ≡ texts_of ms → (now : Members) × (texts ≡ texts_of now) × (print_fields (fields_in (drop i all)) c now ≡ print_fields (fields_in all) c ms))
 
-pub field_put : (all : List (String Global × Schema)) (i : ℕ) (f : String Global × Schema) → i < length all → f ≡ get_or all i f → (c : Content) (old new : Texts) → PutAll all i c old
-    → (Fits (shape f.1) (inside (name_text (string_bytes f.0)) c) → (ms : Members) → old ≡ texts_of ms → new ≡ texts_of (with_member (string_bytes f.0) (printed (shape f.1) (inside (name_text (string_bytes f.0)) c)) ms)) → PutAll all (i + 1) c new
-field_put all i f lt is c old new before step fit =
-    let so_far = before fit in
-    let ms = so_far.1 in (
+pub field_put : (all : List (String Global × Schema)) (i : ℕ) (f : String Global × Schema) → i < length all → f ≡ get_or all i f → (c : Content) (start old new : Texts) → PutAll all i c start old
+    → (Fits (shape f.1) (inside (name_text (string_bytes f.0)) c) → (ms : Members) → old ≡ texts_of ms → new ≡ texts_of (with_member (string_bytes f.0) (printed (shape f.1) (inside (name_text (string_bytes f.0)) c)) ms)) → PutAll all (i + 1) c start new
+field_put all i f lt is c start old new before step fit =
+    let so_far = before fit in (
       rest_fit all i f lt is c so_far.0,
-      with_member (string_bytes f.0) (printed (shape f.1) (inside (name_text (string_bytes f.0)) c)) ms,
-      step (field_fits all i f lt is c so_far.0) ms so_far.2,
-      fields_more all i f lt is c ms (with_member (string_bytes f.0) (printed (shape f.1) (inside (name_text (string_bytes f.0)) c)) ms) refl ∙ so_far.3,
+      λ ms begun.
+          let at = so_far.1 ms begun in
+          let now = with_member (string_bytes f.0) (printed (shape f.1) (inside (name_text (string_bytes f.0)) c)) at.0 in
+          (now, step (field_fits all i f lt is c so_far.0) at.0 at.1, fields_more all i f lt is c at.0 now refl ∙ at.2),
     )
 
-pub all_put : (all : List (String Global × Schema)) (i : ℕ) (c : Content) (texts : Texts) → length all ≤ i → PutAll all i c texts → AllFit (fields_in all) c → texts ≡ texts_of (print_fields (fields_in all) c no_members)
-all_put all i c texts past before fit =
-    let so_far = before fit in
-    so_far.2 ∙ ap texts_of (sym (ap (λ fs. print_fields (fields_in fs) c so_far.1) (drop_all i all past)) ∙ so_far.3)
+pub all_put : (all : List (String Global × Schema)) (i : ℕ) (c : Content) (start texts : Texts) → length all ≤ i → PutAll all i c start texts → AllFit (fields_in all) c
+    → (ms : Members) → start ≡ texts_of ms → texts ≡ texts_of (print_fields (fields_in all) c ms)
+all_put all i c start texts past before fit ms begun =
+    let at = (before fit).1 ms begun in at.1 ∙ ap texts_of (sym (ap (λ fs. print_fields (fields_in fs) c at.0) (drop_all i all past)) ∙ at.2)
 
 -- one text more in a loop over all of them
 pub one_text : (old one two three k t : List ℕ) (later : Bool) (rest : Texts) → one ≡ old ++ comma_if later → two ≡ one ++ (quoted k ++ 58 ∷ []) → three ≡ two ++ t → three ++ joined true rest ≡ old ++ joined later ((k, t) ∷ rest)

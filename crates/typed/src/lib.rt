@@ -19,6 +19,7 @@ mod texts;
 mod tree;
 mod without;
 mod write;
+mod write_items;
 
 pub use changes::Changes;
 pub use fault::{Cause, ReadFault};

@@ -22,11 +22,12 @@ use crate::print::{print_field, print_map};
 use crate::read::read_map;
 use crate::texts::Texts;
 use crate::without::read_without;
-use crate::write::texts_of_fields;
+use crate::write::put_fields;
 use pathmap::{PathMap, put_under};
 use schema::Schema;
 use serde_json::Value;
 use std::alloc::{AllocError, Global};
+use std::collections::BTreeMap;
 use std::marker::Model;
 
 /// The content of an object: a finite map from paths to what stands there.
@@ -150,6 +151,8 @@ impl Tree {
         ensures { is_well_formed (struct_of (fields_in fields.now) false) ≡ true → IsContent (struct_of (fields_in fields.now) false) self.now
             → IfOk result (λ m. texts_in m.entries ≡ texts_of (print_fields (fields_in fields.now) self.now no_members)) }
     {
-        texts_of_fields(fields, alloc, &self.map)
+        let mut texts = BTreeMap::new(alloc);
+        put_fields(&mut texts, alloc, fields, &self.map)?;
+        Ok(texts)
     }
 }

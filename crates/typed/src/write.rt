@@ -1,25 +1,26 @@
-//! Contents written as JSON texts. Objects, texts and atomic values are written straight; numbers, truth values and lists of
-//! items go by a JSON value.
-ghost use Rattle.std.specs.Prelude.{◌≡◌, ◌++◌, false, IfOk, OnOk};
+//! Contents written as JSON texts, straight but for numbers, truth values and map lists of several key fields, which go by a
+//! JSON value.
+ghost use Rattle.std.specs.Prelude.{◌≡◌, [], ◌∷◌, ◌++◌, false, IfOk, OnOk};
 ghost use Rattle.pathmap.specs.Insides.{heads, inside};
 ghost use Rattle.pathmap.specs.Maps.{content};
-ghost use Rattle.schema.specs.Shape.{fields_in, kind_of, list_of, map_of, shape, struct_of};
-ghost use Rattle.serde_json.specs.Data.{Members, no_members};
-ghost use Rattle.serde_json.specs.Written.{members_text};
-ghost use Rattle.typed.specs.Printing.{each_member, print, print_fields, with_member};
-ghost use Rattle.typed.specs.Rows.{AllFit, EachFits, Fits, IsThere, row_of_fields, text_or_none, then_member};
+ghost use Rattle.schema.specs.Shape.{fields_in, keyed, kind_of, list_of, map_of, shape, struct_of};
+ghost use Rattle.serde_json.specs.Data.{Data, Members, member, no_members, object};
+ghost use Rattle.serde_json.specs.Written.{compact_text, items_text, members_text};
+ghost use Rattle.typed.specs.Printing.{each_item, each_member, print, print_fields, print_item, with_member};
+ghost use Rattle.typed.specs.Rows.{AllFit, EachFits, FieldsFit, Fits, IsThere, item_of, row_of_fields, text_or_none, then_member};
 ghost use Rattle.typed.specs.Texts.{texts_in, texts_of};
 
 use crate::print::{field_in, print_list};
 use crate::pushing::{push_some, push_top};
-use crate::texts::{Texts, put_text};
+use crate::texts::{Texts, object_bytes, put_text};
+use crate::write_items::{key_texts, write_set};
 use fieldset::{push_comma, push_name};
 use pathmap::PathMap;
 use schema::{ListKind, Schema};
 use std::alloc::{AllocError, Global};
-use std::collections::BTreeMap;
 
 /// Appends a list in which something stands.
+#[cycle(write)]
 fn write_list(
     inner: &Schema,
     alloc: Global,
@@ -32,11 +33,97 @@ fn write_list(
 {
     match kind {
         ListKind::Atomic => push_top(map, alloc, out),
-        _ => {
-            let value = print_list(inner, alloc, kind, map)?;
-            push_some(out, alloc, &value)
-        }
+        ListKind::Set => write_set(map, out),
+        ListKind::Keyed(names) => match names.as_slice() {
+            [name] => write_keyed(inner, alloc, name.as_str(), map, out),
+            _ => {
+                let value = print_list(inner, alloc, kind, map)?;
+                push_some(out, alloc, &value)
+            }
+        },
     }
+}
+
+/// Appends a map list of one key field in which something stands.
+#[cycle(write)]
+fn write_keyed(
+    inner: &Schema,
+    alloc: Global,
+    name: &str,
+    map: &PathMap,
+    out: &mut Vec<u8>,
+) -> Result<(), AllocError>
+    ensures { IsThere (list_of (shape inner.now) (keyed (name.now ∷ []))) (content map.now)
+        → OnOk result (out.new.items ≡ out.old.items ++ text_or_none (print (list_of (shape inner.now) (keyed (name.now ∷ []))) (content map.now))) }
+{
+    out.push(b'[')?;
+    write_items(inner, alloc, name, map, out)
+}
+
+/// Appends an item for each child of a map list of one key field, and the closing bracket.
+#[cycle(write)]
+fn write_items(
+    inner: &Schema,
+    alloc: Global,
+    name: &str,
+    map: &PathMap,
+    out: &mut Vec<u8>,
+) -> Result<(), AllocError>
+    ensures { Fits (list_of (shape inner.now) (keyed (name.now ∷ []))) (content map.now)
+        → OnOk result (out.new.items ≡ out.old.items ++ items_text false (each_item (item_of (shape inner.now) (content map.now)) (heads (content map.now)))) }
+{
+    let children = map.children();
+    let mut later = false;
+    for (element, below) in children {
+        let Some(keys) = element.keys_json() else {
+            continue;
+        };
+        push_comma(out, later)?;
+        write_item(inner, alloc, name, keys, below, out)?;
+        later = true;
+    }
+    Ok(out.push(b']')?)
+}
+
+/// Appends an item of a map list, by the JSON object of its one key field.
+#[cycle(write)]
+fn write_item(
+    inner: &Schema,
+    alloc: Global,
+    name: &str,
+    keys: &str,
+    below: &PathMap,
+    out: &mut Vec<u8>,
+) -> Result<(), AllocError>
+    ensures { (d : Data) → keys.now ≡ compact_text (object (member name.now d no_members)) → FieldsFit (shape inner.now) (content below.now)
+        → OnOk result (out.new.items ≡ out.old.items ++ compact_text (object (print_item (shape inner.now) (content below.now) (member name.now d no_members)))) }
+{
+    match inner {
+        Schema::Struct(fields, _) => write_object(fields, alloc, name, keys, below, out),
+        _ => Ok(out.extend_from_slice(keys.as_bytes())?),
+    }
+}
+
+/// Appends the object of an item that is a struct: its key field's alone where nothing else stands in it.
+#[cycle(write)]
+fn write_object(
+    fields: &[(String, Schema)],
+    alloc: Global,
+    name: &str,
+    keys: &str,
+    below: &PathMap,
+    out: &mut Vec<u8>,
+) -> Result<(), AllocError>
+    ensures { (d : Data) → keys.now ≡ compact_text (object (member name.now d no_members)) → AllFit (fields_in fields.now) (content below.now)
+        → OnOk result (out.new.items ≡ out.old.items ++ compact_text (object (print_fields (fields_in fields.now) (content below.now) (member name.now d no_members)))) }
+{
+    if below.children().len() == 0 {
+        return Ok(out.extend_from_slice(keys.as_bytes())?);
+    }
+    let mut texts = key_texts(alloc, name, keys)?;
+    put_fields(&mut texts, alloc, fields, below)?;
+    let text = object_bytes(alloc, &texts)?;
+    Ok(out.extend_from_slice(text.as_slice())?)
 }
 
 /// Appends a member after the others, if anything stands in it; whether there are members then.
@@ -159,6 +246,7 @@ fn write_map(
 }
 
 /// Puts a member's text, if anything stands in it.
+#[cycle(write)]
 fn put_member(
     texts: &mut Texts,
     alloc: Global,
@@ -177,21 +265,23 @@ fn put_member(
     put_text(texts, alloc, name, text)
 }
 
-/// The texts of the members that a struct's fields are printed as.
-pub(crate) fn texts_of_fields(
-    fields: &[(String, Schema)],
+/// Puts the texts of the members that a struct's fields are printed as.
+#[cycle(write)]
+pub(crate) fn put_fields(
+    texts: &mut Texts,
     alloc: Global,
+    fields: &[(String, Schema)],
     map: &PathMap,
-) -> Result<Texts, AllocError>
-    ensures { AllFit (fields_in fields.now) (content map.now) → IfOk result (λ m. texts_in m.entries ≡ texts_of (print_fields (fields_in fields.now) (content map.now) no_members)) }
+) -> Result<(), AllocError>
+    ensures { AllFit (fields_in fields.now) (content map.now) → OnOk result ((ms : Members) → texts_in texts.old.entries ≡ texts_of ms
+        → texts_in texts.new.entries ≡ texts_of (print_fields (fields_in fields.now) (content map.now) ms)) }
 {
-    let mut texts = BTreeMap::new(alloc);
     for (name, inner) in fields {
         let text = name.as_str();
         let Some(below) = field_in(map, alloc, text)? else {
             continue;
         };
-        put_member(&mut texts, alloc, inner, text, below)?;
+        put_member(texts, alloc, inner, text, below)?;
     }
-    Ok(texts)
+    Ok(())
 }

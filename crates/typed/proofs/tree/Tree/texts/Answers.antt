@@ -1,5 +1,4 @@
-use Rattle.std.proofs.Common.{◌≡◌, IfOk, false, refl, subst, sym}
-use Rattle.pathmap.specs.Contents.{Content}
+use Rattle.std.proofs.Common.{◌∙◌, ap, false, refl, subst, sym}
 use Rattle.pathmap.specs.Maps.{content}
 use Rattle.serde_json.specs.Data.{no_members}
 use Rattle.schema.specs.Shape.{fields_in, struct_of}
@@ -16,5 +15,5 @@ returns c = λ formed is_content.
     let s = struct_of all false in
     let whole = content c.self.inside.map in
     let fits = subst (IsContent s) (sym c.self.view_is) is_content in
-    subst (λ (d : Content). IfOk c.texts_of_fields.result (λ m. texts_in m.entries ≡ texts_of (print_fields all d no_members))) c.self.view_is
-    (c.texts_of_fields.ensures (struct_fits all false whole refl (formed, content_placed s formed whole fits)))
+    let put = c.in_ok-put_fields.ensures (struct_fits all false whole refl (formed, content_placed s formed whole fits)) no_members (ap texts_in c.new-texts.ensures.empty) in
+    put ∙ ap (λ d. texts_of (print_fields all d no_members)) c.self.view_is
