@@ -11,9 +11,11 @@
 mod key;
 mod laws;
 mod page_laws;
+mod revision;
 mod seen_laws;
 
 pub use key::Key;
 pub use laws::{histories_stay_whole, kept_is_enough, view_of_calls, view_of_kept};
 pub use page_laws::{lists_come_in_pages, pages_make_the_list, rows_lead_on};
+pub use revision::LAST_REVISION;
 pub use seen_laws::{seen_changes_lead_on, seen_changes_one_by_one, seen_stays, types_stand_apart};

@@ -6,8 +6,8 @@ ghost use Rattle.std.specs.Char.{is_ascii_digit};
 ghost use Rattle.std.specs.List.{list_all};
 ghost use Rattle.names.specs.Decimals.{IsDecimalOf, is_decimal, decimal_up_to, version_of};
 
-/// The greatest version, also that of any 64-bit signed integer.
-const MAX_VERSION: u64 = 9223372036854775807;
+/// The highest version that a text can name: the highest 64-bit signed integer.
+pub const LAST_VERSION: u64 = 9223372036854775807;
 
 fn has_digits(text: &str) -> bool
     ensures { result ≡ list_all is_ascii_digit text.now }
@@ -41,7 +41,7 @@ pub fn decimal_up_to(max: u64, text: &str) -> Option<u64>
 /// The version that a text is: a decimal without leading zeros, at most 9223372036854775807.
 pub fn version_of(text: &str) -> Option<u64>
     ensures value { result ≡ version_of text.now }
-    ensures exact { (n : ℕ) → (result ≡ Some n) ↔ IsDecimalOf MAX_VERSION text.now n }
+    ensures exact { (n : ℕ) → (result ≡ Some n) ↔ IsDecimalOf LAST_VERSION text.now n }
 {
-    decimal_up_to(MAX_VERSION, text)
+    decimal_up_to(LAST_VERSION, text)
 }

@@ -10,6 +10,6 @@ mod decimal;
 mod dns;
 mod label;
 
-pub use decimal::{decimal_up_to, version_of};
+pub use decimal::{LAST_VERSION, decimal_up_to, version_of};
 pub use dns::{is_dns_label, is_dns_subdomain};
 pub use label::{is_label_key, is_label_value};

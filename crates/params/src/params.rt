@@ -2,8 +2,7 @@
 
 ghost use Rattle.std.specs.Prelude.{◌≡◌, IfOk, option_map, string_bytes};
 ghost use Rattle.params.specs.Query.{pairs_in};
-ghost use Rattle.params.specs.Reading.{applied, deleted, got, is_any, listed, listed_or_watched, match_fits, params_of, together, token_fits, truth_in, watched, written};
-ghost use Rattle.params.specs.declared.parameter.Parameter.TheVariants as parameter;
+ghost use Rattle.params.specs.Reading.{applied, deleted, got, is_any, listed, listed_or_watched, match_fits, params_of, together, token_fits, watched, written};
 ghost use Rattle.params.specs.Texts.{ReadsBack, token_text};
 ghost use Rattle.params.specs.Values.{no_values};
 ghost use Rattle.params.specs.Views.{Gives, pairs_of, token_view, values_of};
@@ -11,11 +10,12 @@ ghost use Rattle.params.specs.Views.{Gives, pairs_of, token_view, values_of};
 use crate::fault::ParamsFault;
 use crate::parameter::Parameter;
 use crate::query::Query;
+use names::LAST_VERSION;
 use selector::Selector;
 use std::alloc::{AllocError, Global};
 
-/// The greatest limit, that of a 64-bit signed integer.
-const MAX_LIMIT: u64 = 9223372036854775807;
+/// The highest limit: a 64-bit signed integer, as a version is.
+const MAX_LIMIT: u64 = LAST_VERSION;
 
 /// The greatest number of seconds, that of a 32-bit signed integer.
 const MAX_TIMEOUT: u64 = 2147483647;
@@ -243,13 +243,6 @@ impl Params {
             selector: Selector::all(alloc),
             watch: None,
         }
-    }
-
-    /// Whether a list is to be watched, which is read before all else.
-    pub fn is_watch(alloc: Global, query: &[u8]) -> Result<bool, ParamsFault>
-        ensures { Gives (λ b. b) result (truth_in parameter.Watch (pairs_in query.now)) }
-    {
-        Query::read(alloc, query)?.truth(Parameter::Watch)
     }
 
     /// Reads the parameters that what is asked knows; the others are ignored. A parameter that is given
