@@ -23,7 +23,7 @@ use Rattle.pathmap.proofs.Insides.{get-inside}
 use Rattle.pathmap.proofs.Order.{get-marked}
 use Rattle.pathmap.proofs.Sets.{contains-dom}
 use Rattle.pathmap.proofs.Trees.{ties}
-use Rattle.schema.specs.Keywords.{has}
+use Rattle.json_values.specs.Members.{has}
 use Rattle.schema.specs.Shape.{Shape, Fields, shape_at}
 use Rattle.schema.specs.Steps.{Spot, value_of, set_item, map_item, is_leaf}
 use Rattle.fieldset.specs.BothWays.{AreInOrder, IsInOrder, ReadIsWritten}

@@ -13,7 +13,7 @@ use Rattle.fieldpath.specs.Elements as element
 use Rattle.pathmap.specs.Contents.{Content, nothing, over, gather}
 use Rattle.pathmap.specs.Insides.{inside}
 use Rattle.pathmap.proofs.Trees.{ties}
-use Rattle.schema.specs.Keywords.{has}
+use Rattle.json_values.specs.Members.{has}
 use Rattle.schema.specs.Shape.{Fields, shape_at}
 use Rattle.schema.specs.Steps.{Spot, value_of, set_item, map_item, step}
 use Rattle.fieldset.specs.FieldsV1.{each, leaf, put_names}

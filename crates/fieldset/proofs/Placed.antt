@@ -11,7 +11,7 @@ use Rattle.pathmap.specs.Contents.{Standing, Content, PathSet, dom, nothing, ove
 use Rattle.pathmap.proofs.Contents.{either, get-nothing, get-over, get-under, get-under-top}
 use Rattle.pathmap.proofs.Sets.{contains-dom}
 use Rattle.pathmap.proofs.Trees.{ties}
-use Rattle.schema.specs.Keywords.{has}
+use Rattle.json_values.specs.Members.{has}
 use Rattle.schema.specs.Steps.{Spot, value_of, set_item, map_item, step}
 use Rattle.fieldset.specs.BothWays.{HavePlaces, ReadHavePlaces}
 use Rattle.fieldset.specs.Reading.{Refusal, Reading, and_then, are_due, bad_key, dot, element_in, is_empty, is_key_field, is_marked, joined, may_have_dot, not_an_object, not_canonical, off_schema, read_at, read_below, read_mark, read_member, read_members, some_or, top}

@@ -7,7 +7,7 @@ use Rattle.fieldpath.specs.Elements.{Element, NoElement, has_prefix, name_text, 
 use Rattle.fieldpath.specs.Elements as element
 use Rattle.pathmap.specs.Contents.{Content, nothing, under}
 use Rattle.schema.proofs.Steps.{name_in, name-of}
-use Rattle.schema.specs.Keywords.{has}
+use Rattle.json_values.specs.Members.{has}
 use Rattle.schema.specs.Shape.{shape_at}
 use Rattle.schema.specs.Steps.{Spot, value_of, set_item, map_item, step}
 use Rattle.fieldset.specs.FieldsV1.{leaf}

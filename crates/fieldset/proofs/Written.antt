@@ -16,7 +16,7 @@ use Rattle.pathmap.specs.Levels.{has_path}
 use Rattle.pathmap.proofs.Heads.{some_path}
 use Rattle.pathmap.proofs.Insides.{get-inside}
 use Rattle.pathmap.proofs.Order.{dom-marked, get-marked, is_marked}
-use Rattle.schema.specs.Keywords.{has}
+use Rattle.json_values.specs.Members.{has}
 use Rattle.schema.specs.Lawful.{depth_limit, depth_of, is_granular_struct, is_lawful, is_type_shape, is_well_formed}
 use Rattle.schema.specs.Shape.{Shape, text, whole, truth, struct_of, map_of, list_of}
 use Rattle.schema.specs.Steps.{Spot, value_of, set_item, map_item, is_leaf}

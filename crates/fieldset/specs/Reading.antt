@@ -12,7 +12,7 @@ use Rattle.fieldpath.specs.Elements.{Element, NoElement, name_text, read_element
 use Rattle.fieldpath.specs.Elements as element
 use Rattle.pathmap.specs.Contents.{Content, PathSet, mark, nothing, here, under, over, dom}
 use Rattle.schema.specs.Shape.{Shape}
-use Rattle.schema.specs.Keywords.{has}
+use Rattle.json_values.specs.Members.{has}
 use Rattle.schema.specs.Steps.{Spot, value_of, set_item, map_item, is_leaf, step}
 
 -- 1: not an object where one is due

@@ -5,7 +5,7 @@ ghost use Rattle.fieldpath.specs.Elements.{read_element};
 ghost use Rattle.fieldpath.specs.Elems.{element};
 ghost use Rattle.pathmap.specs.Contents.{dom, nothing};
 ghost use Rattle.pathmap.specs.Maps.{content};
-ghost use Rattle.schema.specs.Keywords.{has};
+ghost use Rattle.json_values.specs.Members.{has};
 ghost use Rattle.schema.specs.KeyNames.{names_in};
 ghost use Rattle.schema.specs.Shape.{shape};
 ghost use Rattle.schema.specs.Spots.{spot};
@@ -14,6 +14,7 @@ ghost use Rattle.fieldset.specs.Seen.{Gives, IsNamed, Reads, member_view};
 
 use crate::fault::FieldsV1Fault;
 use fieldpath::{Elem, ElemFault, ElemText};
+use json_values::has;
 use pathmap::PathMap;
 use schema::{Schema, Spot, is_key};
 use serde_json::{Map, Value};
@@ -33,12 +34,6 @@ fn object_of(value: &Value) -> Result<&Map<String, Value>, FieldsV1Fault>
         Some(members) => Ok(members),
         None => Err(FieldsV1Fault::NotAnObject),
     }
-}
-
-fn has(members: &Map<String, Value>, name: &str) -> bool
-    ensures { result ≡ has name.now (members_view members.now.entries) }
-{
-    members.get(name).is_some()
 }
 
 fn is_empty(members: &Map<String, Value>) -> bool

@@ -14,7 +14,8 @@ use Rattle.serde_json.specs.Data.{Data, null, boolean, number, string, array, ob
 use Rattle.serde_json.specs.Find.{get_member, as_object}
 use Rattle.fieldpath.specs.Scalars.{ascend, ascend_from}
 use Rattle.schema.specs.Forms.{Form, object_form, list_form, scalar_form, object_fits, list_fits, scalar_fits, form_of, own_form}
-use Rattle.schema.specs.Keywords.{has, has_only, keywords, members_at, items_at, texts_in, map_type, TypeName, object_type, array_type, scalar_type, type_in, type_named, text_at, text_or, is_scalar_type, is_object_type, is_scalar_schema, have_scalars, is_granular, is_keyed_struct, name_set, different, key_names, atomic_kind, set_kind, keyed_kind, kind_named, list_type}
+use Rattle.json_values.specs.Members.{has, members_at, items_at, text_at}
+use Rattle.schema.specs.Keywords.{has_only, keywords, texts_in, map_type, TypeName, object_type, array_type, scalar_type, type_in, type_named, text_or, is_scalar_type, is_object_type, is_scalar_schema, have_scalars, is_granular, is_keyed_struct, name_set, different, key_names, atomic_kind, set_kind, keyed_kind, kind_named, list_type}
 use Rattle.schema.specs.Lawful.{max_depth, is_scalar, is_some_scalar, has_keys, is_some_name, item_is_lawful}
 use Rattle.schema.specs.Refusals.{Refusal, unknown_keyword, unknown_type, misfit, too_deep, and_then, some_or}
 use Rattle.schema.specs.Shape.{Kind, atomic, set, keyed, Shape, text, whole, truth, struct_of, Fields, field, shape_at}

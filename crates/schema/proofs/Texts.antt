@@ -4,7 +4,8 @@ use Rattle.serde_json.specs.Data.{Items, Members}
 use Rattle.serde_json.specs.Find.{as_str}
 use Rattle.serde_json.specs.View.{view, items_view}
 use Rattle.serde_json.specs.declared.value.Value.{Value}
-use Rattle.schema.specs.Keywords.{one_text, texts_in, items_at, key_names, different}
+use Rattle.json_values.specs.Members.{items_at}
+use Rattle.schema.specs.Keywords.{one_text, texts_in, key_names, different}
 use Rattle.schema.specs.Refusals.{misfit, some_or}
 
 -- the texts so far, with those that are left

@@ -5,7 +5,8 @@ use Rattle.std.specs.declared.result.Result.TheVariants.{Ok, Err}
 use Rattle.serde_json.specs.Data.{Members}
 use Rattle.schema.specs.Shape.{Kind, Shape}
 use Rattle.schema.specs.Lawful.{max_depth}
-use Rattle.schema.specs.Keywords.{has, has_no, has_only, members_at, is_object_or_absent, keywords, TypeName, object_type, array_type, scalar_type, type_in, map_type, list_type}
+use Rattle.json_values.specs.Members.{has, members_at}
+use Rattle.schema.specs.Keywords.{has_no, has_only, is_object_or_absent, keywords, TypeName, object_type, array_type, scalar_type, type_in, map_type, list_type}
 use Rattle.schema.specs.Refusals.{Refusal, unknown_keyword, unknown_type, misfit, too_deep, and_then, some_or}
 
 pub data Form : Type 0 where

@@ -8,14 +8,12 @@ use Rattle.std.specs.Cmp.Lexicographic.{slice_cmp}
 use Rattle.std.specs.FinMap as fin
 use Rattle.std.specs.Str.{bytes_eq}
 use Rattle.serde_json.specs.Data.{Data, Items, no_items, item, Members, no_members, member}
-use Rattle.serde_json.specs.Find.{get_member, as_str, as_object, as_array}
+use Rattle.serde_json.specs.Find.{get_member, as_str}
+use Rattle.json_values.specs.Members.{has, text_at, members_at, items_at}
 use Rattle.schema.specs.Shape.{Kind, atomic, set, keyed, Shape, text, whole, truth}
 
 abbrev pub is_in : List (List ℕ) → List ℕ → Bool
 is_in names k = list_any (λ n. bytes_eq n k) names
-
-abbrev pub has : List ℕ → Members → Bool
-has k ms = is_some (get_member k ms)
 
 abbrev pub has_no : List (List ℕ) → Members → Bool
 has_no names ms = list_all (λ k. not (has k ms)) names
@@ -23,15 +21,6 @@ has_no names ms = list_all (λ k. not (has k ms)) names
 abbrev pub has_only : List (List ℕ) → Members → Bool
 has_only names no_members = true
 has_only names (member k d ms) = is_in names k && has_only names ms
-
-abbrev pub text_at : List ℕ → Members → Option (List ℕ)
-text_at k ms = option_and_then as_str (get_member k ms)
-
-abbrev pub members_at : List ℕ → Members → Option Members
-members_at k ms = option_and_then as_object (get_member k ms)
-
-abbrev pub items_at : List ℕ → Members → Option Items
-items_at k ms = option_and_then as_array (get_member k ms)
 
 -- a member, where it is there, is an object
 abbrev pub is_object_or_absent : List ℕ → Members → Bool

@@ -12,7 +12,8 @@ use Rattle.schema.specs.Shape.{Shape, text, struct_of, map_of, list_of, Fields, 
 use Rattle.names.specs.Names.{is_dns_label, is_dns_subdomain}
 use Rattle.schema.specs.Names.{is_kind_name, is_plural}
 use Rattle.schema.specs.Refusals.{Refusal, misfit, same_names, not_the_form, and_then, some_or}
-use Rattle.schema.specs.Keywords.{is_in, has, has_only, text_at, members_at, items_at}
+use Rattle.json_values.specs.Members.{has, text_at, members_at, items_at}
+use Rattle.schema.specs.Keywords.{is_in, has_only}
 use Rattle.schema.specs.Forms.{Form, object_form, list_form, scalar_form, own_form}
 
 -- ---- shapes

@@ -10,11 +10,11 @@ ghost use Rattle.schema.specs.Seen.{type_name, form_view, Gives};
 
 use crate::fault::TypesFault;
 use crate::keywords::{
-    KEYWORDS, TypeName, has, has_no, has_only, is_object_or_absent, items_at, map_type, members_at,
-    text_or, type_in,
+    KEYWORDS, TypeName, has_no, has_only, is_object_or_absent, map_type, text_or, type_in,
 };
 use crate::lawful::MAX_DEPTH;
 use crate::schema::ListKind;
+use json_values::{has, items_at, members_at};
 use serde_json::{Map, Value};
 use std::alloc::Global;
 

@@ -2,10 +2,11 @@
 ghost use Rattle.std.specs.Prelude.{◌≡◌, map, option_map, length};
 ghost use Rattle.std.specs.List.{list_all};
 ghost use Rattle.serde_json.specs.Find.{get_member};
-ghost use Rattle.serde_json.specs.View.{view, items_view, members_view};
-ghost use Rattle.schema.specs.Keywords.{is_in, has, has_no, has_only, text_at, members_at, items_at, is_object_or_absent, text_or, keywords, type_named, type_in, is_scalar_type, map_type};
+ghost use Rattle.serde_json.specs.View.{members_view};
+ghost use Rattle.schema.specs.Keywords.{is_in, has_no, has_only, is_object_or_absent, text_or, keywords, type_named, type_in, is_scalar_type, map_type};
 ghost use Rattle.schema.specs.Seen.{type_name};
 
+use json_values::{has, member, members_at, text_at};
 use serde_json::{Map, Value};
 
 /// The keywords that a schema takes.
@@ -40,26 +41,14 @@ impl TypeName {
     }
 }
 
-/// What stands at a name.
-pub(crate) fn member<'a>(members: &'a Map<String, Value>, name: &str) -> Option<&'a Value>
-    ensures { option_map (λ v. view v.now) result ≡ get_member name.now (members_view members.now.entries) }
-{
-    members.get(name)
-}
-
-pub(crate) fn has(members: &Map<String, Value>, name: &str) -> bool
-    ensures { result ≡ has name.now (members_view members.now.entries) }
-{
-    member(members, name).is_some()
-}
-
 pub(crate) fn has_no(members: &Map<String, Value>, names: &[&str]) -> bool
     ensures { result ≡ has_no (map (λ n. n.now) names.now) (members_view members.now.entries) }
 {
     names.iter().all(|name| !has(members, name))
 }
 
-pub(crate) fn is_in(names: &[&str], name: &str) -> bool
+/// Whether a name is one of these.
+pub fn is_in(names: &[&str], name: &str) -> bool
     ensures { result ≡ is_in (map (λ n. n.now) names.now) name.now }
 {
     names.iter().any(|known| *known == name)
@@ -75,27 +64,6 @@ pub(crate) fn has_only(members: &Map<String, Value>, names: &[&str]) -> bool
         }
     }
     true
-}
-
-pub(crate) fn text_at<'a>(members: &'a Map<String, Value>, name: &str) -> Option<&'a str>
-    ensures { option_map (λ s. s.now) result ≡ text_at name.now (members_view members.now.entries) }
-{
-    member(members, name).and_then(Value::as_str)
-}
-
-pub(crate) fn members_at<'a>(
-    members: &'a Map<String, Value>,
-    name: &str,
-) -> Option<&'a Map<String, Value>>
-    ensures { option_map (λ m. members_view m.now.entries) result ≡ members_at name.now (members_view members.now.entries) }
-{
-    member(members, name).and_then(Value::as_object)
-}
-
-pub(crate) fn items_at<'a>(members: &'a Map<String, Value>, name: &str) -> Option<&'a Vec<Value>>
-    ensures { option_map (λ v. items_view v.now.items) result ≡ items_at name.now (members_view members.now.entries) }
-{
-    member(members, name).and_then(Value::as_array)
 }
 
 pub(crate) fn is_object_or_absent(members: &Map<String, Value>, name: &str) -> bool

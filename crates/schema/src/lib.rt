@@ -2,7 +2,7 @@
 //!
 //! Promises: a types file reads as exactly the types that it declares, or as its first fault;
 //! a schema gives each path at most one place.
-//! Stands on `fieldpath` for elements, on `names` for names and on `serde_json` for the file.
+//! Stands on `fieldpath` for elements, on `names` for names, on `serde_json` and `json_values` for the file.
 #![tactic(auto)]
 
 mod fault;
@@ -19,6 +19,7 @@ mod type_names;
 mod types;
 
 pub use fault::TypesFault;
+pub use keywords::is_in;
 pub use place::Place;
 pub use schema::{ListKind, Schema};
 pub use served::Served;

@@ -2,7 +2,7 @@
 ghost use Rattle.std.specs.Prelude.{◌≡◌, ◌≤◌, ◌+◌, IfOk, codes};
 ghost use Rattle.serde_json.specs.View.{view, members_view};
 ghost use Rattle.schema.specs.Shape.{shape, fields_in};
-ghost use Rattle.schema.specs.Keywords.{has};
+ghost use Rattle.json_values.specs.Members.{has};
 ghost use Rattle.schema.specs.Forms.{object_form};
 ghost use Rattle.schema.specs.TypesFile.{shape_in, schema_at, properties_in, fields_at, shape_of_form};
 ghost use Rattle.schema.specs.Seen.{Gives};
@@ -10,8 +10,8 @@ ghost use Rattle.schema.specs.Depths.{KeepsAt, AreFieldsAt};
 
 use crate::fault::TypesFault;
 use crate::forms::{Form, own_form};
-use crate::keywords::has;
 use crate::schema::Schema;
+use json_values::has;
 use serde_json::{Map, Value};
 use std::alloc::Global;
 

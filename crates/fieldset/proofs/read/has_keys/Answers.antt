@@ -1,7 +1,7 @@
 use Rattle.std.proofs.Common.{map, string_bytes, sym}
 use Rattle.serde_json.specs.View.{members_view}
 use Rattle.fieldpath.specs.Elements.{name_text}
-use Rattle.schema.specs.Keywords.{has}
+use Rattle.json_values.specs.Members.{has}
 use Rattle.schema.proofs.KeyNames.{list_all-sorted}
 use Rattle.fieldset.proofs.read.has_keys.Goals as goal
 

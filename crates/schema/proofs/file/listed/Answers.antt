@@ -4,7 +4,8 @@ use Rattle.serde_json.specs.Data.{Data, Items, Members}
 use Rattle.serde_json.specs.Find.{as_object}
 use Rattle.serde_json.specs.View.{view, items_view, members_view}
 use Rattle.serde_json.specs.declared.value.Value.{Value}
-use Rattle.schema.specs.Keywords.{has_only, items_at}
+use Rattle.json_values.specs.Members.{items_at}
+use Rattle.schema.specs.Keywords.{has_only}
 use Rattle.schema.specs.Refusals.{not_the_form}
 use Rattle.schema.specs.TypesFile.{listed, few, length_of, max_types}
 use Rattle.schema.proofs.file.listed.Goals as goal

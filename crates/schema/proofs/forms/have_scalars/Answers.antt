@@ -3,7 +3,8 @@ use Rattle.std.proofs.lemmas.Iterator.{YieldsList-from_slice}
 use Rattle.std.proofs.lemmas.Iterator.Search.{all_from_yields_List}
 use Rattle.std.proofs.lemmas.List.Folds.{list_all-map}
 use Rattle.serde_json.specs.View.{members_view}
-use Rattle.schema.specs.Keywords.{is_scalar_schema, members_at}
+use Rattle.json_values.specs.Members.{members_at}
+use Rattle.schema.specs.Keywords.{is_scalar_schema}
 use Rattle.schema.proofs.forms.have_scalars.Goals as goal
 
 pub returns : goal.returns

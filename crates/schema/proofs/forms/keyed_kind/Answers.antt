@@ -1,7 +1,8 @@
 use Rattle.std.proofs.Common.{◌≡◌, ℕ, List, Some, None, Ok, true, false, option_and_then, map, string_bytes, codes, ap, sym, ◌∙◌, option_map, refl}
 use Rattle.serde_json.specs.Data.{Members}
 use Rattle.serde_json.specs.View.{members_view}
-use Rattle.schema.specs.Keywords.{items_at, key_names, members_at, is_keyed_struct, keyed_kind, texts_in}
+use Rattle.json_values.specs.Members.{items_at, members_at}
+use Rattle.schema.specs.Keywords.{key_names, is_keyed_struct, keyed_kind, texts_in}
 use Rattle.schema.specs.Refusals.{misfit, some_or}
 use Rattle.schema.specs.Shape.{keyed}
 use Rattle.schema.proofs.Items.{names_fit}
