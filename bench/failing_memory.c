@@ -1,9 +1,11 @@
-// Loaded before a test program by bench/failing_memory.py: refuses its allocations as the environment says.
-//   FAILING_MEMORY_AT     the number of the call that is refused, counted from 1 (0: none is)
-//   FAILING_MEMORY_STAY   1: so is each later one, up to the next mark
-//   FAILING_MEMORY_TOLD   the file descriptor to tell on
-// A call for exactly MARK bytes begins or ends a marked part, and is neither counted nor refused. Each call that is
-// refused is told as "refused NUMBER PART", where PART is 0 outside of every marked part; the end as "calls NUMBER PARTS".
+// Loaded before a program by bench/failing_memory.py: refuses its allocations as the environment says.
+//   FAILING_MEMORY_AT      the number of the call that is refused, counted from 1 (0: none is)
+//   FAILING_MEMORY_STAY    1: so is each later one, up to the next mark or the program's end
+//   FAILING_MEMORY_MARKED  1: the program marks parts of its run
+//   FAILING_MEMORY_TOLD    the file descriptor to tell on
+// In a program that marks, a call for exactly MARK bytes begins or ends a marked part, and is neither counted nor refused.
+// Each call that is refused is told as "refused NUMBER PART", where PART is 0 outside of every marked part; the end as
+// "calls NUMBER PARTS".
 #include <errno.h>
 #include <stdio.h>
 #include <stdlib.h>
@@ -17,7 +19,7 @@ extern void *__libc_calloc(size_t count, size_t size);
 extern void *__libc_realloc(void *old, size_t size);
 extern void *__libc_memalign(size_t alignment, size_t size);
 
-static long at = -1, stays, told, calls, marks, is_out;
+static long at = -1, stays, is_marked, told, calls, marks, is_out;
 
 static long number(const char *name) {
     const char *text = getenv(name);
@@ -34,10 +36,11 @@ static void tell(const char *word, long first, long second) {
 static int is_refused(size_t size) {
     if (at < 0) {
         stays = number("FAILING_MEMORY_STAY");
+        is_marked = number("FAILING_MEMORY_MARKED");
         told = number("FAILING_MEMORY_TOLD");
         at = number("FAILING_MEMORY_AT");
     }
-    if (size == MARK) {
+    if (is_marked && size == MARK) {
         marks++;
         is_out = 0;
         tell(marks % 2 ? "begins" : "ends", calls, (marks + 1) / 2);
