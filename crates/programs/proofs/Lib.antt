@@ -2,7 +2,7 @@ mod CommandParts
 mod FrontLemmas
 mod Kept
 mod PlayRuns
-mod ReplayWords
+mod ReplayArguments
 mod RunLemmas
 mod ScriptLemmas
 mod TypesText

@@ -9,7 +9,7 @@ use Rattle.programs.specs.declared.run_fault.RunFault.TheVariants as fault
 
 -- a refusal of what the text reads as is told of the text
 pub tells_of_text : (path text : List ℕ) (d : Data) (r : RunFault) → read_json text ≡ Some d → IsRefusal path (declared_types d) r → Tells path text (Err r)
-tells_of_text path text d (fault.Words e) reads is = absurd is
+tells_of_text path text d (fault.Arguments e) reads is = absurd is
 tells_of_text path text d fault.NotText reads is = absurd is
 tells_of_text path text d (fault.TypesFile named e) reads is = absurd is
 tells_of_text path text d (fault.TypesText named e) reads is = absurd is

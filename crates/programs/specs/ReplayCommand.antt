@@ -1,4 +1,4 @@
--- The words that `ssa-replay` takes (its command, as `clap` reads it): `--types FILE` and `--script FILE`, both required.
+-- The arguments that `ssa-replay` takes (its command, as `clap` reads it): `--types FILE` and `--script FILE`, both required.
 use Rattle.std.specs.Prelude.{◌≡◌, true, codes, is_some}
 use Rattle.clap.specs.Built.{IsParsedFrom}
 use Rattle.clap.specs.Words.{App, app_of, first_value, found_of, with_rule}

@@ -17,10 +17,10 @@ status_of_kind kind.DisplayHelp = 0
 status_of_kind kind.DisplayVersion = 0
 status_of_kind _ = 2
 
--- the exit status: 2 for the words, 3 for a file or the types, 4 for a line of the script, 5 for memory or the store;
+-- the exit status: 2 for the arguments, 3 for a file or the types, 4 for a line of the script, 5 for memory or the store;
 -- 1 where the replies cannot be written, 0 where help or the version was asked for
 abbrev pub status_of : RunFault → ℕ
-status_of (fault.Words e) = status_of_kind (kind_of e)
+status_of (fault.Arguments e) = status_of_kind (kind_of e)
 status_of fault.NotText = 2
 status_of (fault.TypesFile path e) = 3
 status_of (fault.TypesText path e) = 3

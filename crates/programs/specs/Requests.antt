@@ -4,6 +4,7 @@ use Rattle.form_urlencoded.specs.Form.{append_pair}
 use Rattle.serde_json.specs.Data.{Data, depth}
 use Rattle.serde_json.specs.Read.{max_depth, read}
 use Rattle.serde_json.specs.Written.{compact_text, has_float}
+use Rattle.verbs.specs.Admit.{apply_type}
 use Rattle.wireclient.specs.Request.{request}
 use Rattle.programs.specs.Script.{Apply}
 
@@ -19,9 +20,6 @@ query_of a = with_force a.force (append_pair [] (codes "fieldManager") a.manager
 abbrev pub request_target_of : Apply → List ℕ
 request_target_of a = a.target ++ (63 ∷ query_of a)
 
-abbrev pub media_type : List ℕ
-media_type = codes "application/apply-patch+yaml"
-
 -- the text is JSON of the value: its compact text where no number has a point or an exponent, and it reads back as the value
 pub record IsBodyText (d : Data) (text : List ℕ) : Type 0 where
   pub compact : has_float d ≡ false → text ≡ compact_text d
@@ -29,4 +27,4 @@ pub record IsBodyText (d : Data) (text : List ℕ) : Type 0 where
 
 -- these bytes are the request of the apply
 abbrev pub IsRequestOf : Apply → List ℕ → Type 0
-IsRequestOf a bytes = (text : List ℕ) × IsBodyText a.body text × (bytes ≡ request (codes "PATCH") (request_target_of a) (Some (media_type, text)))
+IsRequestOf a bytes = (text : List ℕ) × IsBodyText a.body text × (bytes ≡ request (codes "PATCH") (request_target_of a) (Some (apply_type, text)))

@@ -14,7 +14,13 @@ const ABOUT: &str =
 const NOTES: &str = "Example:
   ssa-replay --types crates/ssa_replay/data/types.json --script crates/ssa_replay/data/script.jsonl
 
-Exit status: 0 done, 1 output failed, 2 wrong usage, 3 bad types file or unreadable file, 4 bad line of the script, 5 out of memory or the store failed";
+Exit status:
+  0  done
+  1  the standard output can't be written
+  2  wrong usage
+  3  the types file is bad, or a file can't be read
+  4  bad line of the script
+  5  out of memory, or the store failed";
 
 const TYPES_HELP: &str = "The types to serve, one JSON object {\"types\":[..]}";
 
@@ -40,12 +46,12 @@ fn replay_command<'a>(alloc: Global) -> Result<Command<'a>, AllocError>
 }
 
 /// Reads the arguments of `ssa-replay`, the program's name first: `--types FILE --script FILE`.
-pub fn options<'a, S: AsStr>(alloc: Global, words: &'a [S]) -> Result<ReplayOptions<'a>, Error>
-    ensures types { IfOk result (λ o. first_of (codes "types") (matches_of ssa_replay (map S.text words.entry.now)) ≡ Some o.types.now) }
-    ensures script { IfOk result (λ o. first_of (codes "script") (matches_of ssa_replay (map S.text words.entry.now)) ≡ Some o.script.now) }
-    ensures refused { FailsBy (fault_of ssa_replay (map S.text words.entry.now)) result }
+pub fn options<'a, S: AsStr>(alloc: Global, arguments: &'a [S]) -> Result<ReplayOptions<'a>, Error>
+    ensures types { IfOk result (λ o. first_of (codes "types") (matches_of ssa_replay (map S.text arguments.entry.now)) ≡ Some o.types.now) }
+    ensures script { IfOk result (λ o. first_of (codes "script") (matches_of ssa_replay (map S.text arguments.entry.now)) ≡ Some o.script.now) }
+    ensures refused { FailsBy (fault_of ssa_replay (map S.text arguments.entry.now)) result }
 {
-    let matches = replay_command(alloc)?.try_get_matches_from(words)?;
+    let matches = replay_command(alloc)?.try_get_matches_from(arguments)?;
     Ok(ReplayOptions {
         types: matches.get_str("types").unwrap(),
         script: matches.get_str("script").unwrap(),

@@ -37,18 +37,21 @@ fn print_replies<P: Print>(
     Ok(done?)
 }
 
-fn run<R: Files + Print + AllocGlobal>(rt: &R, words: &[String]) -> Result<(), RunFault> {
+fn run<R: Files + Print + AllocGlobal>(rt: &R, arguments: &[String]) -> Result<(), RunFault> {
     let alloc = rt.alloc();
-    let options = options(alloc, words)?;
+    let options = options(alloc, arguments)?;
     let types = read_types(rt, options.types)?;
     let events = read_events(rt, options.script)?;
     print_replies(alloc, rt, types, &events)
 }
 
-/// Runs `ssa-replay` on its words, the program's name first: reads both files, runs the script's lines and prints their
-/// replies. Answers the exit status; a fault is printed on the standard error.
-pub fn ssa_replay<R: Files + Print + Eprint + AllocGlobal>(rt: &R, words: &[String]) -> ExitCode {
-    match run(rt, words) {
+/// Runs `ssa-replay` on its arguments, the program's name first: reads both files, runs the script's lines and prints
+/// their replies. Answers the exit status; a fault is printed on the standard error.
+pub fn ssa_replay<R: Files + Print + Eprint + AllocGlobal>(
+    rt: &R,
+    arguments: &[String],
+) -> ExitCode {
+    match run(rt, arguments) {
         Ok(()) => ExitCode::SUCCESS,
         Err(fault) => end_with(rt, &fault),
     }

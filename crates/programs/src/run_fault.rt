@@ -15,10 +15,10 @@ use thiserror::Error;
 /// Why a run of a program did not end well. A fault of a file has its path.
 #[derive(Debug, Drop, Error)]
 pub enum RunFault {
-    /// The words are not those of the program, or ask for its help or its version.
+    /// The arguments are not those of the program, or ask for its help or its version.
     #[error("{0}")]
-    Words(clap::Error),
-    /// One of the words is no UTF-8 text.
+    Arguments(clap::Error),
+    /// One of the arguments is no UTF-8 text.
     #[error("an argument is not UTF-8")]
     NotText,
     /// The types file cannot be read.
@@ -49,14 +49,14 @@ pub enum RunFault {
 
 impl RunFault {
     /// The exit status that tells the fault: 0 where help or the version was asked for, 1 for the output, 2 for other
-    /// words, 3 for a file or the types, 4 for a line of the script, 5 for memory or the store.
+    /// arguments, 3 for a file or the types, 4 for a line of the script, 5 for memory or the store.
     pub fn status(&self) -> u8
         ensures { result ≡ status_of self.now }
     {
         match self {
-            RunFault::Words(error) if !error.use_stderr() => 0,
+            RunFault::Arguments(error) if !error.use_stderr() => 0,
             RunFault::Output(_) => 1,
-            RunFault::Words(_) => 2,
+            RunFault::Arguments(_) => 2,
             RunFault::NotText => 2,
             RunFault::TypesFile(..)
             | RunFault::TypesText(..)
@@ -78,7 +78,7 @@ impl From<clap::Error> for RunFault {
     fn from(error: clap::Error) -> RunFault {
         match error.kind() {
             ErrorKind::OutOfMemory => RunFault::Memory,
-            _ => RunFault::Words(error),
+            _ => RunFault::Arguments(error),
         }
     }
 }
@@ -121,7 +121,7 @@ pub fn end_with<R: Print + Eprint>(rt: &R, fault: &RunFault) -> ExitCode
 {
     // Where nothing can be printed, the status still tells the fault.
     let _ = match fault {
-        RunFault::Words(error) => error.print(rt),
+        RunFault::Arguments(error) => error.print(rt),
         _ => rt.eprintln(fault),
     };
     ExitCode::from(fault.status())

@@ -140,7 +140,7 @@ fn only_member(members: Map<String, Value>) -> Option<(String, Value)>
     Some(member)
 }
 
-/// The next item's value.
+/// The next item's value. Its clause says what `next` does in the words of the definition, for both functions below.
 fn next_item(items: &mut vec::IntoIter<Value>) -> Option<Value>
     ensures { option_map (λ v. (view v, items_view (into_iter_items items.new))) result ≡ next_item (items_view (into_iter_items items.old)) }
 {

@@ -4,7 +4,7 @@
 //! |---|---|
 //! | `# NAME` | nothing |
 //! | `types TEXT`, `script TEXT` | the file is written |
-//! | `run WORDS`, `play` | the program runs on these words, or on those that name both files |
+//! | `run ARGUMENTS`, `play` | the program runs on these arguments, its name first, or on those that name both files |
 //! | `full` | as `play`, but nothing can be printed on the standard output |
 //! | `bad LINE` | as `play`, with a script whose third line is this one, between good ones: it is refused |
 //!
@@ -23,21 +23,21 @@ const TYPES: &str = "replayed-types.json";
 
 const SCRIPT: &str = "replayed-script.jsonl";
 
-/// The words that name both files.
-const WORDS: &str = "ssa-replay --types replayed-types.json --script replayed-script.jsonl";
+/// The arguments that name both files, after the program's name.
+const ARGUMENTS: &str = "ssa-replay --types replayed-types.json --script replayed-script.jsonl";
 
 /// A line that applies a body.
 const GOOD: &str = r#"{"apply":{"body":null,"force":false,"manager":"alice","target":"/x"}}"#;
 
-fn push_word(alloc: Global, all: &mut Vec<String>, word: &str) -> Result<(), AllocError> {
-    Ok(all.push(String::from_str(alloc, word)?)?)
+fn push_argument(alloc: Global, all: &mut Vec<String>, argument: &str) -> Result<(), AllocError> {
+    Ok(all.push(String::from_str(alloc, argument)?)?)
 }
 
-/// The words as a program gets them.
-fn owned(alloc: Global, words: &str) -> Result<Vec<String>, AllocError> {
+/// The arguments as a program gets them.
+fn owned(alloc: Global, arguments: &str) -> Result<Vec<String>, AllocError> {
     let mut all = Vec::new(alloc);
-    for word in words.split(' ') {
-        push_word(alloc, &mut all, word)?;
+    for argument in arguments.split(' ') {
+        push_argument(alloc, &mut all, argument)?;
     }
     Ok(all)
 }
@@ -51,17 +51,17 @@ fn is_printed(printed: &[u8], wanted: &[u8]) -> bool {
 }
 
 /// Runs the program. The test fails unless it ends and prints as wanted, and shows what it prints.
-fn expect_run(rt: &HostRuntime, is_full: bool, words: &str, wanted: &str) -> Result<(), Fail> {
+fn expect_run(rt: &HostRuntime, is_full: bool, arguments: &str, wanted: &str) -> Result<(), Fail> {
     let (status, wanted) = wanted.split_once(' ').ok_or("no status")?;
     let status = ExitCode::from(status.parse::<u8>().ok().ok_or("no number")?);
     let recording = Recording::new(rt, is_full);
-    let is_right = ssa_replay(&recording, &owned(rt.alloc(), words)?) == status;
+    let is_right = ssa_replay(&recording, &owned(rt.alloc(), arguments)?) == status;
     let printed = recording.printed()?;
     if is_right && is_printed(&printed, &bytes_of(rt.alloc(), wanted)?) {
         return Ok(());
     }
     let text = str::from_utf8(&printed)?;
-    Err(Fail::new(format!(in rt.alloc(); "{words} => {text}")?))
+    Err(Fail::new(format!(in rt.alloc(); "{arguments} => {text}")?))
 }
 
 fn write(rt: &HostRuntime, path: &str, text: &str) -> Result<(), Fail> {
@@ -78,17 +78,17 @@ fn play(rt: &HostRuntime, row: &str) -> Result<(), Fail> {
         "bad" => {
             let script = format!(in rt.alloc(); "{GOOD}$${rest}${GOOD}")?;
             write(rt, SCRIPT, script.as_str())?;
-            expect_run(rt, false, WORDS, "4 !line 3: bad event$")
+            expect_run(rt, false, ARGUMENTS, "4 !line 3: bad event$")
         }
         "run" => expect_run(rt, false, rest, wanted),
-        _ => expect_run(rt, word == "full", WORDS, wanted),
+        _ => expect_run(rt, word == "full", ARGUMENTS, wanted),
     }
 }
 
 const ROWS: &str = r#"# help_and_version_are_printed
-run ssa-replay --help => 0 Plays a script of events over an API server in memory and prints what it answers$$Usage: ssa-replay --types <FILE> --script <FILE>$$Options:$      --types <FILE>   The types to serve, one JSON object {"types":[..]}$      --script <FILE>  The events to play, one JSON object a line, like {"open":1}$  -h, --help           Print help$  -V, --version        Print version$$Example:$  ssa-replay --types crates/ssa_replay/data/types.json --script crates/ssa_replay/data/script.jsonl$$Exit status: 0 done, 1 output failed, 2 wrong usage, 3 bad types file or unreadable file, 4 bad line of the script, 5 out of memory or the store failed$
+run ssa-replay --help => 0 Plays a script of events over an API server in memory and prints what it answers$$Usage: ssa-replay --types <FILE> --script <FILE>$$Options:$      --types <FILE>   The types to serve, one JSON object {"types":[..]}$      --script <FILE>  The events to play, one JSON object a line, like {"open":1}$  -h, --help           Print help$  -V, --version        Print version$$Example:$  ssa-replay --types crates/ssa_replay/data/types.json --script crates/ssa_replay/data/script.jsonl$$Exit status:$  0  done$  1  the standard output can't be written$  2  wrong usage$  3  the types file is bad, or a file can't be read$  4  bad line of the script$  5  out of memory, or the store failed$
 run ssa-replay --version => 0 ssa-replay 0.1.0$
-# words_are_told_first
+# arguments_are_told_first
 run ssa-replay --types no-file => 2 ..
 # faults_are_told_in_order
 play => 3 !types file replayed-types.json: No such file or directory (os error 2)$

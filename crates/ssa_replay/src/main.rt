@@ -1,12 +1,12 @@
 //! `ssa-replay --types FILE --script FILE` plays a script over the API and prints the replies.
 #![tactic(auto)]
 
-use programs::{end_with, ssa_replay, words};
+use programs::{end_with, read_arguments, ssa_replay};
 use std::process::ExitCode;
 
 fn main(rt: HostRuntime) -> ExitCode {
-    match words(&rt) {
-        Ok(words) => ssa_replay(&rt, &words),
+    match read_arguments(&rt) {
+        Ok(arguments) => ssa_replay(&rt, &arguments),
         Err(fault) => end_with(&rt, &fault),
     }
 }

@@ -1,1 +1,1 @@
-mod ServerWords
+mod ServerArguments

@@ -1,8 +1,11 @@
--- The words that `ssa-server` takes (its command, as `clap` reads it): `--types FILE`, which is required, numbers, and a flag.
-use Rattle.std.specs.Prelude.{◌≡◌, ℕ, ◌==◌, if◌then◌else◌, Bool, Option, Some, None, Result, Ok, true, false, codes}
+-- The arguments that `ssa-server` takes (its command, as `clap` reads it): `--types FILE`, which is required, numbers, and a flag.
+use Rattle.std.specs.Prelude.{◌≡◌, ℕ, ◌==◌, if◌then◌else◌, Bool, Option, Some, None, Result, Ok, true, false, codes, is_some}
 use Rattle.std.specs.Str.Parse.{ParsesUnsigned}
-use Rattle.clap.specs.Words.{App, Rule, Text, new_rule, with_rule}
+use Rattle.clap.specs.Built.{IsParsedFrom}
+use Rattle.clap.specs.Words.{App, Rule, Text, app_of, first_value, found_of, new_rule, with_rule}
 use Rattle.clap.specs.declared.builder.action.ArgAction.TheVariants.{Set, SetTrue}
+use Rattle.clap.specs.declared.builder.command.Command.{Command}
+use Rattle.clap.specs.declared.parser.matches.ArgMatches.{ArgMatches}
 use Rattle.programs.specs.Commands.{file_option, program}
 
 abbrev pub number_option : Text → Rule
@@ -17,6 +20,11 @@ with_numbers app = with_rule (with_rule (with_rule (with_rule app (number_option
 abbrev pub ssa_server : App
 ssa_server =
     with_rule (with_rule (with_numbers (with_rule (program (codes "ssa-server")) (file_option (codes "types")))) (flag_option (codes "concurrent"))) (number_option (codes "patience"))
+
+-- a command as above, of which each parse has the path of the types file
+pub record IsServerCommand (command : Command) : Type 0 where
+  pub app : app_of command ≡ ssa_server
+  pub types : (m : ArgMatches) → IsParsedFrom command m → is_some (first_value (found_of m) (codes "types")) ≡ true
 
 abbrev parsed : ℕ → Result ℕ ℕ
 parsed n = Ok n

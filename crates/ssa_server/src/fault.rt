@@ -12,19 +12,23 @@ use verbs::Fault;
 /// Why a run of the program did not end well.
 #[derive(Debug, Drop, Error)]
 pub enum ServerFault {
-    /// A fault of the words, the types file, the output or the memory.
+    /// A fault of the arguments, the types file, the output, the memory or the store.
     #[error("{0}")]
     Run(RunFault),
-    /// The option of this name has no number that it may have.
+    /// The value of the option of this name is no number that it may have.
     #[error("bad number: --{0}")]
     Number(&'static str),
-    /// The port cannot be listened on.
+    /// The port cannot be listened on, or the system cannot say which sockets are ready.
     #[error("socket: {0}")]
     Socket(io::Error),
+    /// The clock cannot be read.
+    #[error("clock: {0}")]
+    Clock(io::Error),
 }
 
 impl ServerFault {
-    /// The exit status that tells the fault: 2 for a bad number, 6 for the socket, else that of the run's fault.
+    /// The exit status that tells the fault: 2 for a bad number, 6 for the socket or the clock, else that of the run's
+    /// fault.
     pub fn status(&self) -> u8
         ensures { result ≡ status_of self.now }
     {
@@ -32,6 +36,7 @@ impl ServerFault {
             ServerFault::Run(fault) => fault.status(),
             ServerFault::Number(_) => 2,
             ServerFault::Socket(_) => 6,
+            ServerFault::Clock(_) => 6,
         }
     }
 }

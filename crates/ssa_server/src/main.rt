@@ -2,19 +2,19 @@
 //! of a file on loopback, one connection after another or many at once.
 //!
 //! Stands on `serving` and `polling` for the turns of connections, on `programs` for the types file, on `clap` for the
-//! words.
+//! arguments.
 #![tactic(auto)]
 
+mod arguments;
 mod fault;
 mod running;
-mod words;
 
-use programs::{end_with, words};
+use programs::{end_with, read_arguments};
 use std::process::ExitCode;
 
 fn main(rt: HostRuntime) -> ExitCode {
-    match words(&rt) {
-        Ok(words) => running::ssa_server(&rt, &words),
+    match read_arguments(&rt) {
+        Ok(arguments) => running::ssa_server(&rt, &arguments),
         Err(fault) => end_with(&rt, &fault),
     }
 }

@@ -1,11 +1,13 @@
 //! The run of the program.
 
+use crate::arguments::{ServerOptions, options};
 use crate::fault::ServerFault;
-use crate::words::{ServerOptions, options};
 use programs::{RunFault, end_with, read_types};
 use serving::{Limits, Server, serve_all};
+use std::io;
 use std::net::{Ipv4Addr, SocketAddr, TcpListener, TcpStream};
 use std::process::ExitCode;
+use std::time::Instant;
 use verbs::Api;
 
 /// Tells the port that is listened on.
@@ -22,7 +24,8 @@ fn serve_in_turn(
     let listener = TcpListener::bind(rt, SocketAddr::from((Ipv4Addr::LOCALHOST, options.port)))?;
     let port = listener.local_addr()?.port();
     tell_port(rt, port)?;
-    Ok(serve_all(rt, &listener, server, options.serve)?)
+    // It fails where the clock can't be read, and nowhere else.
+    serve_all(rt, &listener, server, options.serve).map_err(ServerFault::Clock)
 }
 
 fn run_in_turn(rt: &HostRuntime, api: Api, options: &ServerOptions<'_>) -> Result<(), ServerFault> {
@@ -34,6 +37,15 @@ fn run_in_turn(rt: &HostRuntime, api: Api, options: &ServerOptions<'_>) -> Resul
     serve_in_turn(rt, &mut server, options)
 }
 
+/// The fault of an error while many connections are served at once: the clock's, where the clock can't be read, or else
+/// the socket's.
+fn fault_at_once(rt: &HostRuntime, error: io::Error) -> ServerFault {
+    match Instant::now(rt) {
+        Ok(_) => ServerFault::from(error),
+        Err(error) => ServerFault::Clock(error),
+    }
+}
+
 /// Serves many connections at once.
 fn serve_at_once(
     rt: &HostRuntime,
@@ -42,7 +54,9 @@ fn serve_at_once(
 ) -> Result<(), ServerFault> {
     let port = server.port()?;
     tell_port(rt, port)?;
-    Ok(server.serve(rt, most)?)
+    server
+        .serve(rt, most)
+        .map_err(|error| fault_at_once(rt, error))
 }
 
 fn run_at_once(rt: &HostRuntime, api: Api, options: &ServerOptions<'_>) -> Result<(), ServerFault> {
@@ -52,12 +66,14 @@ fn run_at_once(rt: &HostRuntime, api: Api, options: &ServerOptions<'_>) -> Resul
         lines: options.pump,
         patience: options.patience,
     };
-    let mut server = polling::Server::listen(rt, api, asked)?;
+    let mut server = polling::Server::listen(rt, api, asked).map_err(|error| fault_at_once(
+        rt, error,
+    ))?;
     serve_at_once(rt, &mut server, options.serve)
 }
 
-fn run(rt: &HostRuntime, words: &[String]) -> Result<(), ServerFault> {
-    let options = options(rt.alloc(), words)?;
+fn run(rt: &HostRuntime, arguments: &[String]) -> Result<(), ServerFault> {
+    let options = options(rt.alloc(), arguments)?;
     let types = read_types(rt, options.types)?;
     let api = Api::new(rt.alloc(), types)?;
     if options.concurrent {
@@ -67,10 +83,10 @@ fn run(rt: &HostRuntime, words: &[String]) -> Result<(), ServerFault> {
     }
 }
 
-/// Runs `ssa-server` on its words, the program's name first. Answers the exit status; a fault is printed on the
+/// Runs `ssa-server` on its arguments, the program's name first. Answers the exit status; a fault is printed on the
 /// standard error.
-pub fn ssa_server(rt: &HostRuntime, words: &[String]) -> ExitCode {
-    match run(rt, words) {
+pub fn ssa_server(rt: &HostRuntime, arguments: &[String]) -> ExitCode {
+    match run(rt, arguments) {
         Ok(()) => ExitCode::SUCCESS,
         Err(ServerFault::Run(fault)) => end_with(rt, &fault),
         Err(fault) => {

@@ -1,7 +1,7 @@
 use Rattle.std.proofs.Common.{codes, Ok}
 use Rattle.std.specs.Prelude.{⊤}
 use Rattle.clap.proofs.CallerLemmas.{some_of_text}
-use Rattle.programs.proofs.ReplayWords.{fails_by, fails_on, value_is}
+use Rattle.programs.proofs.ReplayArguments.{fails_by, fails_on, value_is}
 use Rattle.programs.proofs.replay_options.options.Goals as goal
 
 pub returns-in_err-matches-clause-refused : goal.returns-in_err-matches-clause-refused

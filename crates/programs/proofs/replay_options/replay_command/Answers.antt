@@ -1,7 +1,7 @@
 use Rattle.std.proofs.Common.{refl}
 use Rattle.std.proofs.lemmas.Result.{IfOk-weaker}
 use Rattle.programs.specs.ReplayCommand.{IsReplayCommand}
-use Rattle.programs.proofs.ReplayWords.{command_is}
+use Rattle.programs.proofs.ReplayArguments.{command_is}
 use Rattle.programs.proofs.replay_options.replay_command.Goals as goal
 
 pub returns : goal.returns

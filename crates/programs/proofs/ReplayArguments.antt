@@ -96,17 +96,17 @@ handed_on kinds (Err x) e same has = subst (HasKind kinds) (sym same) has
 
 module _ (cmd : Command) (is : IsReplayCommand cmd) where
   -- the text at an id is that of the exact matches
-  pub value_is : (m : ArgMatches) (words : List Text) → HasMatchesOf (app_of cmd) words m → (id : Text) (o : Option (Bor Text)) (r : Bor Text)
-      → option_map (λ s. s.now) o ≡ first_value (found_of m) id → o ≡ Some r → first_of id (matches_of ssa_replay words) ≡ Some r.now
-  value_is m words exact id o r read some =
-      ap (λ a. first_of id (matches_of a words)) (sym is.app) ∙ ap (first_of id) (sym (exact (ap is_simple is.app ∙ is_plain)).0)
+  pub value_is : (m : ArgMatches) (arguments : List Text) → HasMatchesOf (app_of cmd) arguments m → (id : Text) (o : Option (Bor Text)) (r : Bor Text)
+      → option_map (λ s. s.now) o ≡ first_value (found_of m) id → o ≡ Some r → first_of id (matches_of ssa_replay arguments) ≡ Some r.now
+  value_is m arguments exact id o r read some =
+      ap (λ a. first_of id (matches_of a arguments)) (sym is.app) ∙ ap (first_of id) (sym (exact (ap is_simple is.app ∙ is_plain)).0)
       ∙ sym (first_value-rows (found_of m) id) ∙ sym read ∙ ap (option_map (λ (s : Bor Text). s.now)) some
 
   -- the kinds of the faults are those of the definition
-  pub fails_by : {T : Type 0} (words : List Text) (r : Result T Error) → (is_simple_and_free (app_of cmd) ≡ true → FailsBy (fault_of (app_of cmd) words) r)
-      → FailsBy (fault_of ssa_replay words) r
-  fails_by words r known = subst (λ a. FailsBy (fault_of a words) r) is.app (known (ap is_simple_and_free is.app ∙ is_free))
+  pub fails_by : {T : Type 0} (arguments : List Text) (r : Result T Error) → (is_simple_and_free (app_of cmd) ≡ true → FailsBy (fault_of (app_of cmd) arguments) r)
+      → FailsBy (fault_of ssa_replay arguments) r
+  fails_by arguments r known = subst (λ a. FailsBy (fault_of a arguments) r) is.app (known (ap is_simple_and_free is.app ∙ is_free))
 
-  pub fails_on : {T : Type 0} (words : List Text) (r : Result T Error) (e : Error) → IsErrAnd r (λ x. x ≡ e)
-      → (is_simple_and_free (app_of cmd) ≡ true → HasKind (fault_of (app_of cmd) words) e) → FailsBy (fault_of ssa_replay words) r
-  fails_on words r e same known = handed_on _ r e same (fails_by {T = ⊤} words (Err e) known)
+  pub fails_on : {T : Type 0} (arguments : List Text) (r : Result T Error) (e : Error) → IsErrAnd r (λ x. x ≡ e)
+      → (is_simple_and_free (app_of cmd) ≡ true → HasKind (fault_of (app_of cmd) arguments) e) → FailsBy (fault_of ssa_replay arguments) r
+  fails_on arguments r e same known = handed_on _ r e same (fails_by {T = ⊤} arguments (Err e) known)

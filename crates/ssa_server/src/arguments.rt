@@ -3,8 +3,8 @@
 ghost use Rattle.std.specs.Prelude.{◌≡◌, [], IfOk, Some, codes, map};
 ghost use Rattle.clap.specs.Built.{FitsChain, IsAuto};
 ghost use Rattle.clap.specs.Matches.{first_value, found_of};
-ghost use Rattle.clap.specs.Words.{app_of, first_of, matches_of, one_of, rule_of};
-ghost use Rattle.ssa_server.specs.ServerCommand.{IsCount, IsFlag, IsNumberOr, count_of, flag_option, number_option, ssa_server};
+ghost use Rattle.clap.specs.Words.{first_of, matches_of, one_of, rule_of};
+ghost use Rattle.ssa_server.specs.ServerCommand.{IsCount, IsFlag, IsNumberOr, IsServerCommand, count_of, flag_option, number_option, ssa_server};
 
 use crate::fault::ServerFault;
 use clap::{Arg, ArgAction, ArgMatches, Command};
@@ -17,24 +17,28 @@ const ABOUT: &str = "Serves the types of a file on loopback, with objects in mem
 const NOTES: &str = "Example:
   ssa-server --types crates/ssa_replay/data/types.json --port 8001
 
-Exit status: 0 so many connections were served, 1 output failed, 2 wrong usage, 3 bad types file or unreadable file, 5 out of memory or the store failed, 6 the port can't be listened on, the clock can't be read, or, with --concurrent, what is ready";
+Exit status:
+  0  as many connections as --serve says were served
+  1  the standard output can't be written
+  2  wrong usage
+  3  the types file is bad or can't be read
+  5  out of memory, or the store failed
+  6  the port can't be listened on, the clock can't be read, or the system can't say which sockets are ready";
 
 const TYPES_HELP: &str = "The types to serve, one JSON object {\"types\":[..]}";
 
-const PORT_HELP: &str = "The port to listen on; 0, as where it isn't given, picks a free one";
+const PORT_HELP: &str = "The port to listen on; 0 (default): a free port";
 
-const KEEP_HELP: &str =
-    "How many revisions before the current one are kept, 1000 where it isn't given";
+const KEEP_HELP: &str = "How many revisions before the current one are kept (default: 1000)";
 
-const PUMP_HELP: &str = "How many lines a watch gets at a time at most, 500 where it isn't given";
+const PUMP_HELP: &str = "How many lines a watch gets at a time at most (default: 500)";
 
-const SERVE_HELP: &str =
-    "After how many connections to end; 0, as where it isn't given, is the highest number";
+const SERVE_HELP: &str = "After how many connections to end; 0 (default): no limit";
 
 const CONCURRENT_HELP: &str = "Serve many connections at once, not one after another";
 
 const PATIENCE_HELP: &str =
-    "With --concurrent: how many milliseconds to wait for a peer that sends or takes nothing, 30000 where it isn't given";
+    "With --concurrent: how many milliseconds to wait for a peer that sends or takes nothing (default: 30000)";
 
 /// What the arguments of `ssa-server` name.
 #[derive(Clone, Copy, Debug)]
@@ -81,7 +85,7 @@ fn flag_option<'a>(alloc: Global, name: &'a str, help: &'a str) -> Arg<'a>
 }
 
 fn server_command<'a>(alloc: Global) -> Result<Command<'a>, AllocError>
-    ensures { IfOk result (λ c. app_of c ≡ ssa_server) }
+    ensures { IfOk result IsServerCommand }
 {
     program(alloc, "ssa-server", ABOUT, NOTES)
         .arg(file_option(alloc, "types", TYPES_HELP))?
@@ -129,20 +133,17 @@ fn count_of(number: u64) -> u64
 /// Reads the arguments of `ssa-server`, the program's name first.
 pub fn options<'a, S: AsStr>(
     alloc: Global,
-    words: &'a [S],
+    arguments: &'a [S],
 ) -> Result<ServerOptions<'a>, ServerFault>
-    ensures types { IfOk result (λ o. first_of (codes "types") (matches_of ssa_server (map S.text words.entry.now)) ≡ Some o.types.now) }
-    ensures port { IfOk result (λ o. IsNumberOr 0 (first_of (codes "port") (matches_of ssa_server (map S.text words.entry.now))) o.port) }
-    ensures keep { IfOk result (λ o. IsNumberOr 1000 (first_of (codes "keep") (matches_of ssa_server (map S.text words.entry.now))) o.keep) }
-    ensures pump { IfOk result (λ o. IsNumberOr 500 (first_of (codes "pump") (matches_of ssa_server (map S.text words.entry.now))) o.pump) }
-    ensures serve { IfOk result (λ o. IsCount (first_of (codes "serve") (matches_of ssa_server (map S.text words.entry.now))) o.serve) }
-    ensures concurrent { IfOk result (λ o. IsFlag (one_of (codes "concurrent") (matches_of ssa_server (map S.text words.entry.now))) o.concurrent) }
-    ensures patience { IfOk result (λ o. IsNumberOr 30000 (first_of (codes "patience") (matches_of ssa_server (map S.text words.entry.now))) o.patience) }
+    ensures types { IfOk result (λ o. first_of (codes "types") (matches_of ssa_server (map S.text arguments.entry.now)) ≡ Some o.types.now) }
+    ensures port { IfOk result (λ o. IsNumberOr 0 (first_of (codes "port") (matches_of ssa_server (map S.text arguments.entry.now))) o.port) }
+    ensures keep { IfOk result (λ o. IsNumberOr 1000 (first_of (codes "keep") (matches_of ssa_server (map S.text arguments.entry.now))) o.keep) }
+    ensures pump { IfOk result (λ o. IsNumberOr 500 (first_of (codes "pump") (matches_of ssa_server (map S.text arguments.entry.now))) o.pump) }
+    ensures serve { IfOk result (λ o. IsCount (first_of (codes "serve") (matches_of ssa_server (map S.text arguments.entry.now))) o.serve) }
+    ensures concurrent { IfOk result (λ o. IsFlag (one_of (codes "concurrent") (matches_of ssa_server (map S.text arguments.entry.now))) o.concurrent) }
+    ensures patience { IfOk result (λ o. IsNumberOr 30000 (first_of (codes "patience") (matches_of ssa_server (map S.text arguments.entry.now))) o.patience) }
 {
-    let matches = server_command(alloc)?.try_get_matches_from(words)?;
-    let Some(types) = matches.get_str("types") else {
-        return Err(ServerFault::Number("types"));
-    };
+    let matches = server_command(alloc)?.try_get_matches_from(arguments)?;
     let port = number(&matches, "port", 0)?;
     let port = port_of(port)?;
     let keep = number(&matches, "keep", 1000)?;
@@ -151,7 +152,7 @@ pub fn options<'a, S: AsStr>(
     let concurrent = matches.get_flag("concurrent");
     let patience = positive(&matches, "patience", 30000)?;
     Ok(ServerOptions {
-        types,
+        types: matches.get_str("types").unwrap(),
         port,
         keep,
         pump,
