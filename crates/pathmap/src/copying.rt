@@ -39,27 +39,21 @@ pub(crate) fn push_copies(
     ensures { OnOk result (contents_in all.new.items ≡ contents_in all.old.items ++ contents_in below.now) }
 {
     for (name, inner) in below {
-        let made = copy(inner, alloc)?;
+        let made = inner.try_copy(alloc)?;
         push_made(all, name, made)?;
     }
     Ok(())
 }
 
-#[cycle(copies)]
-fn copy(map: &PathMap, alloc: Global) -> Result<PathMap, AllocError>
-    ensures { IfOk result (λ n. content n ≡ content map.now) }
-{
-    let held = copy_held(&map.held)?;
-    let mut below = Vec::with_capacity(alloc, map.below.len())?;
-    push_copies(&map.below, alloc, &mut below)?;
-    Ok(PathMap { held, below })
-}
-
 impl PathMap {
     /// A copy with texts of its own.
+    #[cycle(copies)]
     pub fn try_copy(&self, alloc: Global) -> Result<PathMap, AllocError>
         ensures { IfOk result (λ n. content n ≡ content self.now) }
     {
-        copy(self, alloc)
+        let held = copy_held(&self.held)?;
+        let mut below = Vec::with_capacity(alloc, self.below.len())?;
+        push_copies(&self.below, alloc, &mut below)?;
+        Ok(PathMap { held, below })
     }
 }

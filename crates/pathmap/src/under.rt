@@ -61,6 +61,7 @@ fn fill_below(
     Ok(all)
 }
 
+/// `put_under` with `mine` in front: the recursion goes down the first argument, and so it is proved to end.
 #[cycle(fill)]
 fn fill(mine: PathMap, alloc: Global, theirs: &PathMap) -> Result<PathMap, AllocError>
     ensures { IfOk result (λ n. content n ≡ over (content mine) (content theirs.now)) }
