@@ -1,16 +1,16 @@
 //! Server-Side Apply: conflicts, what force takes over, and the object afterwards.
 
-ghost use Rattle.std.specs.Prelude.{◌≡◌, ◌++◌, IfOk, OnOk, false, filter, map, not};
+ghost use Rattle.std.specs.Prelude.{◌≡◌, ◌++◌, IfOk, OnOk, false, map};
 ghost use Rattle.std.specs.FinSet as set;
 ghost use Rattle.schema.specs.Shape.{Shape};
 ghost use Rattle.pathmap.specs.Beside.{changed as changed_paths};
 ghost use Rattle.pathmap.specs.Contents.{Content, dom, in_order};
 ghost use Rattle.typed.specs.Fitting.{IsContent};
-ghost use Rattle.objects.specs.Owners.{WroteByNone, apply_operation, is_same, manager_of, others};
+ghost use Rattle.objects.specs.Owners.{WroteByNone, apply_operation, manager_of, others};
 ghost use Rattle.ownership.specs.Apply.{applied, clear_of_all, conflicts_with, dropped, is_refused};
 ghost use Rattle.ownership.specs.Keeping.{HasPlaces, IsSettled, LeavesOwned, OthersKeep};
 ghost use Rattle.objects.specs.Placed.{IsPlacedState, OwnedStand};
-ghost use Rattle.objects.specs.Managers.{manager_view, pairs};
+ghost use Rattle.objects.specs.Managers.{manager_view};
 ghost use Rattle.ownership.specs.Results.{Applies, conflict_of};
 ghost use Rattle.objects.specs.Views.{state_of};
 
@@ -19,24 +19,6 @@ use fieldset::FieldSet;
 use objects::{Entry, Manager, Managers, Operation, Owned};
 use std::alloc::{AllocError, Global};
 use typed::Tree;
-
-/// The paths at or below which no entry but the manager's has one.
-fn clear_of_entries(
-    entries: &[Entry],
-    alloc: Global,
-    manager: &Manager,
-    paths: FieldSet,
-) -> Result<FieldSet, AllocError>
-    ensures { IfOk result (λ s. s ≡ clear_of_all paths (filter (λ e. not (is_same (manager_view manager.now) e.0)) (pairs entries.now))) }
-{
-    let mut clear = paths;
-    for entry in entries {
-        if !manager.is_same(&entry.manager) {
-            clear = clear.clear_of(alloc, &entry.paths)?;
-        }
-    }
-    Ok(clear)
-}
 
 /// The paths at or below which no other manager owns one.
 fn clear_of_others(
@@ -47,7 +29,14 @@ fn clear_of_others(
 ) -> Result<FieldSet, AllocError>
     ensures { IfOk result (λ s. s ≡ clear_of_all paths (others managers.now (manager_view manager.now))) }
 {
-    clear_of_entries(managers.entries(), alloc, manager, paths)
+    let entries = managers.entries();
+    let mut clear = paths;
+    for entry in entries {
+        if !manager.is_same(&entry.manager) {
+            clear = clear.clear_of(alloc, &entry.paths)?;
+        }
+    }
+    Ok(clear)
 }
 
 /// Adds a conflict for each of these paths that the entry's manager owns.
@@ -69,24 +58,6 @@ fn add_conflicts(
     Ok(())
 }
 
-/// The paths of a set that other managers own.
-fn conflicts_with_entries(
-    entries: &[Entry],
-    alloc: Global,
-    manager: &Manager,
-    changed: &FieldSet,
-) -> Result<Vec<Conflict>, AllocError>
-    ensures { IfOk result (λ v. map conflict_of v.items ≡ conflicts_with changed.now (filter (λ e. not (is_same (manager_view manager.now) e.0)) (pairs entries.now))) }
-{
-    let mut all = Vec::new(alloc);
-    for entry in entries {
-        if !manager.is_same(&entry.manager) {
-            add_conflicts(&mut all, alloc, entry, changed)?;
-        }
-    }
-    Ok(all)
-}
-
 /// The paths of a set that other managers own, each with its manager, in order.
 fn conflicts_with_others(
     managers: &Managers,
@@ -96,7 +67,14 @@ fn conflicts_with_others(
 ) -> Result<Vec<Conflict>, AllocError>
     ensures { IfOk result (λ v. map conflict_of v.items ≡ conflicts_with changed.now (others managers.now (manager_view manager.now))) }
 {
-    conflicts_with_entries(managers.entries(), alloc, manager, changed)
+    let entries = managers.entries();
+    let mut all = Vec::new(alloc);
+    for entry in entries {
+        if !manager.is_same(&entry.manager) {
+            add_conflicts(&mut all, alloc, entry, changed)?;
+        }
+    }
+    Ok(all)
 }
 
 /// The paths that the manager owned, at or below which neither another manager nor the body has one.
