@@ -209,7 +209,7 @@ impl<I: IndexBy> Indexer<I> {
     pub fn len(&self) -> usize
         ensures { result ≡ fin.len (held_of self.now) }
     {
-        kept::count(&self.objects)
+        self.objects.len()
     }
 
     /// The keys of the objects that have a key in the index of this name; None where none has it, or no index

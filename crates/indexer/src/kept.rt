@@ -97,13 +97,6 @@ pub(crate) fn object_at<'a>(
     }
 }
 
-/// How many objects there are.
-pub(crate) fn count(objects: &BTreeMap<ObjectKey, Entry>) -> usize
-    ensures { result ≡ fin.len (held_in objects.now) }
-{
-    objects.len()
-}
-
 /// The objects, each beside its key, in order of keys.
 pub(crate) fn all_of(
     alloc: Global,

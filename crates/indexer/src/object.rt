@@ -26,6 +26,7 @@ pub struct Object {
     pub text: String,
 }
 
+/// A copy of the labels. `clone` says of each entry that it is the same, and this says it of all labels together.
 fn copy_labels(labels: &BTreeMap<String, String>) -> Result<BTreeMap<String, String>, AllocError>
     ensures { IfOk result (λ m. labels_of m ≡ labels_of labels.now) }
 {

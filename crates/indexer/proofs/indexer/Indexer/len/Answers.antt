@@ -1,0 +1,6 @@
+use Rattle.std.proofs.Common.{◌∙◌}
+use Rattle.indexer.proofs.Held.{held_len}
+use Rattle.indexer.proofs.indexer.Indexer.len.Goals as goal
+
+pub returns : goal.returns
+returns g c = c.len.ensures.len ∙ held_len c.args.self.now.objects c.len.ensures.ordered
