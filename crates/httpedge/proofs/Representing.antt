@@ -31,7 +31,8 @@ use Rattle.httpedge.specs.Connections.{Connection, Connections, Standing, waitin
 use Rattle.requests.specs.Decision.{undecided, refused, accepted}
 use Rattle.httpedge.specs.Held.{BecomesAt, DiesAt, Holds, HoldsAt, Lists, PutAt, ReceivedAt, ReceivedBy, Represents, count_after, has_ended_in, is_above, is_open_in, is_waiting_in, is_watching_in, left, out_in, waiting_for}
 use Rattle.httpedge.specs.Faults.{hub_fault_of}
-use Rattle.httpedge.specs.HubSeen.{Happened, IsIn, found_none, refusal_number}
+use Rattle.httpedge.specs.declared.event.Event as events
+use Rattle.httpedge.specs.HubSeen.{Happened, IsIn, event_of, found_none, refusal_number}
 use Rattle.httpedge.specs.declared.hub.Hub.{Hub}
 use Rattle.requests.specs.Refusals.{as_denied, too_many_connections}
 use Rattle.httpedge.specs.Runs.{Follows, Happening, happens, starves, Runs, Starves, Steps}
@@ -497,6 +498,21 @@ follows In s e old new (Err Store) is ok denied same memory =
 pub goes_on : {A H : Type 0} (In : H → State → Type 0) (r s : State) (before : List Happening) (e : Event) (result : Result A HubFault) (new : H) → Runs r before s → FollowsIn In s e result new
     → (h : Happening) × (t : State) × Happened e result h × Runs r (before ++ h ∷ []) t × In new t
 goes_on In r s before e result new ran (h, t, happened, follows, is) = (h, t, happened, runs_on r s t before h ran follows, is)
+
+-- ---- what an event does to a hub, in whatever state it is
+
+abbrev pub CarriesOut : {A : Type 0} → Hub → Event → Result A HubFault → Hub → Type 0
+CarriesOut old e result new = (s : State) → IsIn old s → FollowsIn IsIn s e result new
+
+pub carries_out : {A : Type 0} (old new : Hub) (taken : events.Event) (e : Event) (result : Result A HubFault) → event_of taken ≡ e
+    → ((s : State) → IsIn old s → OnOk result ((t : State) × Steps s e t × IsIn new t)) → ((s : State) → IsIn old s → refusal_number result ≡ refusal s e)
+    → (refusal_number result ≢ None → new ≡ old) → ((s : State) → IsIn old s → found_none result ≡ true → StarvesIn IsIn s e new) → CarriesOut old (event_of taken) result new
+carries_out old new taken e result is_of ok denied same memory =
+    subst (λ (x : Event). CarriesOut old x result new) (sym is_of) (λ s is. follows IsIn s e old new result is (ok s is) (denied s is) same (memory s is))
+
+pub runs_out : {A : Type 0} (old new : Hub) (e : Event) (result : Result A HubFault) → CarriesOut old e result new → (r s : State) (before : List Happening) → Runs r before s → IsIn old s
+    → (h : Happening) × (t : State) × Happened e result h × Runs r (before ++ h ∷ []) t × IsIn new t
+runs_out old new e result carries r s before ran is = goes_on IsIn r s before e result new ran (carries s is)
 
 -- ---- what the hub's calls find
 

@@ -196,23 +196,6 @@ impl Hub {
         }
     }
 
-    fn step(&mut self, event: &Event) -> Result<(), HubFault>
-        ensures ok { (s : State) → IsIn self.old s → OnOk result ((t : State) × Steps s (event_of event.now) t × IsIn self.new t) }
-        ensures refused { (s : State) → IsIn self.old s → refusal_number result ≡ refusal s (event_of event.now) }
-        ensures unchanged { refusal_number result ≢ None → self.new ≡ self.old }
-        ensures memory { (s : State) → IsIn self.old s → found_none result ≡ true → (which : ℕ → Bool) × (t : State) × Starves s (event_of event.now) which t × IsIn self.new t }
-        ensures store { asks_store (event_of event.now) ≡ false → result ≢ Err HubFault.Store }
-    {
-        match event {
-            Event::Open(id) => self.open(*id),
-            Event::In(id, bytes) => self.receive(*id, bytes),
-            Event::Gone(id) => self.go(*id),
-            Event::Pump(id, max) => self.pump(*id, *max),
-            Event::Tick(ms) => self.tick(*ms),
-            Event::Compact(revision) => self.compact(*revision),
-        }
-    }
-
     /// Handles an event: in the event that decides what the bytes of a connection ask, the reply is written and the
     /// connection has ended, or watches. Refused, an event changes nothing; without memory an opening changes nothing,
     /// and a connection that waits is dead where bytes come on it, a watch where it is pumped. At a tick each watch has
@@ -226,7 +209,14 @@ impl Hub {
         ensures unchanged { refusal_number result ≢ None → self.new ≡ self.old }
         ensures store { asks_store (event_of event.now) ≡ false → result ≢ Err HubFault.Store }
     {
-        self.step(event)
+        match event {
+            Event::Open(id) => self.open(*id),
+            Event::In(id, bytes) => self.receive(*id, bytes),
+            Event::Gone(id) => self.go(*id),
+            Event::Pump(id, max) => self.pump(*id, *max),
+            Event::Tick(ms) => self.tick(*ms),
+            Event::Compact(revision) => self.compact(*revision),
+        }
     }
 
     /// Takes the first n bytes of what is out on a connection, at most all; nothing for an unknown id. Once all the bytes

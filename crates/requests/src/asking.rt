@@ -37,18 +37,17 @@ pub enum Progress {
     Call(Call),
 }
 
-/// More bytes of the body.
-fn ask_more(alloc: Global, pending: Pending, bytes: &[u8]) -> Result<Progress, AllocError>
-    ensures asks { IfOk result (λ a. asked_of a ≡ pending_call pending (pending.body.items ++ bytes.now)) }
-    ensures carries { IfOk result (Carries (pending_call pending) (pending.body.items ++ bytes.now)) }
+/// What a request asks whose body has so many bytes, of which these have come.
+fn ask_body(
+    alloc: Global,
+    target: Target,
+    query: Vec<u8>,
+    length: usize,
+    body: Vec<u8>,
+) -> Result<Progress, AllocError>
+    ensures asks { IfOk result (λ a. asked_of a ≡ sized_call (target_of target) query.items length body.items) }
+    ensures carries { IfOk result (Carries (sized_call (target_of target) query.items length) body.items) }
 {
-    let Pending {
-        target,
-        query,
-        length,
-        mut body,
-    } = pending;
-    body.extend_from_slice(bytes)?;
     match body_of(alloc, length, &body)? {
         Decision::Undecided => Ok(Progress::Pending(Pending {
             target,
@@ -70,7 +69,14 @@ fn ask_more(alloc: Global, pending: Pending, bytes: &[u8]) -> Result<Progress, A
 pub fn ask_on(alloc: Global, pending: Pending, bytes: &[u8]) -> Result<Progress, AllocError>
     ensures { (types : List ServedShape) (front : List ℕ) → Awaits types front pending → IfOk result (Finds types (front ++ bytes.now)) }
 {
-    let asked = ask_more(alloc, pending, bytes)?;
+    let Pending {
+        target,
+        query,
+        length,
+        mut body,
+    } = pending;
+    body.extend_from_slice(bytes)?;
+    let asked = ask_body(alloc, target, query, length, body)?;
     Ok(asked)
 }
 

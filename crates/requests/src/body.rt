@@ -116,19 +116,13 @@ fn declared_body(
     }
 }
 
-fn body_in(alloc: Global, head: &Head<'_>) -> Result<Decision<Option<Body>>, AllocError>
-    ensures { IfOk result (λ f. decision_of data_of f ≡ body_in (request_in head.now) head.now.rest.now) }
-{
-    match declared_length(head) {
-        Ok(length) => declared_body(alloc, length, head.rest),
-        Err(denied) => Ok(Decision::Refused(denied)),
-    }
-}
-
 /// The body of a request, by its head and the bytes that came after it, however they were cut.
 pub fn read_body(alloc: Global, head: &Head<'_>) -> Result<Decision<Option<Body>>, AllocError>
     ensures says { IfOk result (λ f. decision_of data_of f ≡ body_in (request_in head.now) head.now.rest.now) }
     ensures stays { (more : List ℕ) → IfOk result (λ f. decision_of data_of f ≢ undecided → body_in (request_in head.now) (head.now.rest.now ++ more) ≡ decision_of data_of f) }
 {
-    body_in(alloc, head)
+    match declared_length(head) {
+        Ok(length) => declared_body(alloc, length, head.rest),
+        Err(denied) => Ok(Decision::Refused(denied)),
+    }
 }

@@ -1,12 +1,15 @@
-use Rattle.std.proofs.Common.{◌∙◌, sym, subst, ◌≢◌}
-use Rattle.std.proofs.lemmas.Result.{IfOk-weaker}
-use Rattle.requests.specs.Decision.{undecided}
-use Rattle.requests.specs.Views.{request_in}
-use Rattle.requests.proofs.BodyCuts.{Body, body_more}
+use Rattle.std.proofs.Common.{rules, ◌≡◌}
+use Rattle.std.specs.Prelude.{IfOk}
+use Rattle.requests.specs.Bodies.{body_in}
+use Rattle.requests.specs.Views.{data_of, decision_of, request_in}
+use Rattle.requests.proofs.BodyCuts.{stays_said}
 use Rattle.requests.proofs.body.read_body.Goals as goal
 
-pub returns-clause-stays : goal.returns-clause-stays
-returns-clause-stays c = λ more.
+pub returns-in-Ok-clause-stays : goal.returns-in-Ok-clause-stays
+returns-in-Ok-clause-stays c =
     let head = c.args.head.now in
-    IfOk-weaker c.body_in.result _ _ (λ f e. λ decided.
-    body_more (request_in head) head.rest.now more (subst (λ (b : Body). b ≢ undecided) e decided) ∙ sym e) c.body_in.ensures
+    let says : IfOk c.declared_body.result (λ f. decision_of data_of f ≡ body_in (request_in head) head.rest.now) = search rules in
+    stays_said (decision_of data_of) (request_in head) head.rest.now c.declared_body.result says
+
+pub returns-in-Err-clause-stays : goal.returns-in-Err-clause-stays
+returns-in-Err-clause-stays c = λ more decided. search rules
