@@ -8,12 +8,9 @@ ghost use Rattle.revtable.specs.Read.{change_of, entry_of, object_of};
 ghost use Rattle.history.specs.View.{IsView, compacted_in, state_in, view, written_in};
 
 use crate::fault::{ChangesFault, CompactFault, ListFault, WriteFault};
-use history::Key;
+use history::{Key, LAST_REVISION};
 use revtable::{Change, Entry, Fault, Object, Table};
 use std::marker::Model;
-
-/// The highest revision.
-const LAST_REVISION: u64 = i64::MAX as u64;
 
 /// The objects of all types, by key, and their changes.
 pub struct Store {

@@ -22,8 +22,8 @@ use sqlite::types::ValueRef;
 use std::alloc::Global;
 use std::marker::Model;
 
-/// The highest revision, and the most rows that a statement is asked for.
-const LAST_REVISION: u64 = i64::MAX as u64;
+/// The most rows that a statement is asked for.
+const MOST_ROWS: u64 = i64::MAX as u64;
 
 /// A table of changes in memory. A contract sees it as a history of which only the kept changes are left.
 pub struct Table {
@@ -141,7 +141,7 @@ impl Table {
         ensures same { self.new ≡ self.old }
     {
         let revision = revision.min(self.current);
-        let max = max.min(LAST_REVISION);
+        let max = max.min(MOST_ROWS);
         let alloc = self.alloc;
         let rows = paging::listed(alloc, self, kind, namespace, revision, after, max)?;
         read_entries(alloc, &rows)
@@ -162,7 +162,7 @@ impl Table {
     {
         let from = from.min(self.current);
         let to = to.min(self.current);
-        let max = max.min(LAST_REVISION);
+        let max = max.min(MOST_ROWS);
         let rows = self.spanned(kind, namespace, from, to, max)?;
         read_changes(self.alloc, &rows)
     }

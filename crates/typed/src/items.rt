@@ -15,6 +15,7 @@ ghost use Rattle.typed.specs.Steps.{AddsItem, AreSeen, IsFree, Joins, item_view,
 
 use crate::fault::{Cause, ReadFault, wrong};
 use fieldpath::ElemText;
+use json_values::member;
 use pathmap::PathMap;
 use schema::is_key;
 use serde_json::{Map, Value};
@@ -47,13 +48,6 @@ pub(crate) fn array_of(alloc: Global, value: &Value) -> Result<&Vec<Value>, Read
     }
 }
 
-/// The member of this name.
-pub(crate) fn find<'a>(members: &'a Map<String, Value>, name: &str) -> Option<&'a Value>
-    ensures { option_map (λ v. view v.now) result ≡ get_member name.now (members_view members.now.entries) }
-{
-    members.get(name)
-}
-
 fn is_there(value: Option<&Value>) -> bool
     ensures { result ≡ is_there (option_map (λ v. view v.now) value.entry) }
 {
@@ -67,7 +61,7 @@ fn has_keys(names: &[String], members: &Map<String, Value>) -> bool
     ensures { result ≡ have_keys (names_in names.now) (members_view members.now.entries) }
 {
     for name in names {
-        if !is_there(find(members, name.as_str())) {
+        if !is_there(member(members, name.as_str())) {
             return false;
         }
     }
@@ -122,7 +116,7 @@ fn put_key(
     ensures { OnOk result (members_view keys.new.entries
         ≡ put_some (string_bytes name.now) (get_member (string_bytes name.now) (members_view members.now.entries)) (members_view keys.old.entries)) }
 {
-    match find(members, name.as_str()) {
+    match member(members, name.as_str()) {
         Some(value) => {
             drop(keys.insert(name.clone()?, value.clone()?)?);
             Ok(())

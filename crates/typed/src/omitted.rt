@@ -6,6 +6,7 @@ ghost use Rattle.schema.specs.Keywords.{is_in};
 ghost use Rattle.typed.specs.Reading.{is_null};
 ghost use Rattle.typed.specs.Without.{but, kept, members_kept, omitted_of, without};
 
+use schema::is_in;
 use serde_json::{Map, Value};
 use std::alloc::{AllocError, Global};
 
@@ -19,18 +20,11 @@ pub struct Omitted<'a> {
     pub inner: &'a [&'a str],
 }
 
-/// Whether the name is one of these.
-fn is_among(name: &str, names: &[&str]) -> bool
-    ensures { result ≡ is_in (map (λ n. n.now) names.now) name.now }
-{
-    names.iter().any(|known| *known == name)
-}
-
 /// Whether a member counts for nothing: it is left out, or null.
 pub(crate) fn is_absent(name: &str, member: &Value, names: &[&str]) -> bool
     ensures { result ≡ (is_in (map (λ n. n.now) names.now) name.now || is_null (view member.now)) }
 {
-    is_among(name, names) || member.is_null()
+    is_in(names, name) || member.is_null()
 }
 
 fn copy_members_but(
@@ -43,7 +37,7 @@ fn copy_members_but(
     let mut left = Map::new(alloc);
     for (name, member) in members.iter() {
         let text = name.as_str();
-        if !is_among(text, names) {
+        if !is_in(names, text) {
             serde_json::put(&mut left, alloc, text, member.clone()?)?;
         }
     }
@@ -85,7 +79,7 @@ fn copy_members(
     let mut left = Map::new(alloc);
     for (name, member) in members.iter() {
         let text = name.as_str();
-        if !is_among(text, omitted.names) {
+        if !is_in(omitted.names, text) {
             let copy = copy_kept(alloc, text, member, omitted)?;
             serde_json::put(&mut left, alloc, text, copy)?;
         }

@@ -15,7 +15,7 @@ pub loop-name-preserved : goal.loop-name-preserved
 loop-name-preserved c =
     let o = omitted_of c.args.omitted in
     copy_passes (is_in o.names) (kept o) (members_view c.args.members.now.entries) (members_view c.loop-name.left.entries) c.loop-name.name-iterator (c.in-Some.name.now, c.in-Some.member.now) c.next.new.self c.in-Some.ensures.steps c.loop-name.invariant
-    c.as_str-text.result.now c.as_str-text.ensures.value (sym c.is_among.ensures ∙ c.if-not-is_among.false)
+    c.as_str-text.result.now c.as_str-text.ensures.value (sym c.is_in.ensures ∙ c.if-not-is_in.false)
 
 pub returns : goal.returns
 returns c =
@@ -26,4 +26,4 @@ pub loop-name-preserved-in-Continue-branch-2 : goal.loop-name-preserved-in-Conti
 loop-name-preserved-in-Continue-branch-2 c =
     let o = omitted_of c.args.omitted in
     copy_adds (is_in o.names) (kept o) (members_view c.args.members.now.entries) (members_view c.loop-name.left.entries) c.loop-name.name-iterator (c.in-Some.name.now, c.in-Some.member.now) c.next.new.self c.in-Some.ensures.steps c.loop-name.invariant
-    c.as_str-text.result.now c.as_str-text.ensures.value (sym c.is_among.ensures ∙ c.if-not-is_among.true) (members_view c.put.new.map.entries) (search rules)
+    c.as_str-text.result.now c.as_str-text.ensures.value (sym c.is_in.ensures ∙ c.if-not-is_in.true) (members_view c.put.new.map.entries) (search rules)

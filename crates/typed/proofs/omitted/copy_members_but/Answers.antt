@@ -12,7 +12,7 @@ loop-name-init c =
 pub loop-name-preserved : goal.loop-name-preserved
 loop-name-preserved c =
     copy_passes (is_in (map (λ n. n.now) c.args.names.now)) (λ k d. d) (members_view c.args.members.now.entries) (members_view c.loop-name.left.entries) c.loop-name.name-iterator (c.in-Some.name.now, c.in-Some.member.now) c.next.new.self c.in-Some.ensures.steps c.loop-name.invariant
-    c.as_str-text.result.now c.as_str-text.ensures.value (sym c.is_among.ensures ∙ c.if-not-is_among.false)
+    c.as_str-text.result.now c.as_str-text.ensures.value (sym c.is_in.ensures ∙ c.if-not-is_in.false)
 
 pub returns : goal.returns
 returns c = copy_ends (is_in (map (λ n. n.now) c.args.names.now)) (λ k d. d) (members_view c.args.members.now.entries) (members_view c.loop-name.left.entries) c.loop-name.name-iterator c.in-None.ensures.steps.0 c.loop-name.invariant
@@ -20,4 +20,4 @@ returns c = copy_ends (is_in (map (λ n. n.now) c.args.names.now)) (λ k d. d) (
 pub loop-name-preserved-in_ok-put : goal.loop-name-preserved-in_ok-put
 loop-name-preserved-in_ok-put c =
     copy_adds (is_in (map (λ n. n.now) c.args.names.now)) (λ k d. d) (members_view c.args.members.now.entries) (members_view c.loop-name.left.entries) c.loop-name.name-iterator (c.in-Some.name.now, c.in-Some.member.now) c.next.new.self c.in-Some.ensures.steps c.loop-name.invariant
-    c.as_str-text.result.now c.as_str-text.ensures.value (sym c.is_among.ensures ∙ c.if-not-is_among.true) (members_view c.put.new.map.entries) (search rules)
+    c.as_str-text.result.now c.as_str-text.ensures.value (sym c.is_in.ensures ∙ c.if-not-is_in.true) (members_view c.put.new.map.entries) (search rules)
