@@ -1,4 +1,4 @@
-//! Lists in pages, and what doesn't fit them.
+//! Lists in pages, and replies that don't fit them. Watches stand in `watches`.
 
 use crate::rows::expect_rows;
 use std::test::Fail;

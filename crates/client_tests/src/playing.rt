@@ -1,4 +1,4 @@
-//! An informer and a summary, played by questions.
+//! An informer and a summary that answer the questions of rows; the replies that they are fed are made in `replies`.
 
 use crate::replies::{replies, reply};
 use crate::rows::{expect_text, first_word};
@@ -29,7 +29,7 @@ impl IndexBy for Namespace {
     }
 }
 
-/// Widgets of all namespaces, by twos.
+/// Widgets of all namespaces, two in a page.
 pub fn settings(alloc: Global, selector: &str) -> Result<Settings, AllocError> {
     Ok(Settings {
         wanted: Wanted {

@@ -1,4 +1,4 @@
-//! Replies as a server writes them, by words.
+//! Replies as a server writes them, each made from a few words of a row; what is asked after them stands in `playing`.
 
 use crate::rows::first_word;
 use std::alloc::{AllocError, Global};
@@ -7,7 +7,7 @@ use std::test::Fail;
 const WATCH: &str =
     "HTTP/1.1 200 OK\r\nContent-Type: application/json\r\nTransfer-Encoding: chunked\r\nConnection: close\r\n\r\n";
 
-/// The bytes for which a word stands.
+/// The bytes that a word stands for.
 pub fn reply(alloc: Global, words: &str) -> Result<String, Fail> {
     let (word, rest) = first_word(words);
     match word {
@@ -24,7 +24,7 @@ pub fn reply(alloc: Global, words: &str) -> Result<String, Fail> {
     }
 }
 
-/// The replies for which these words stand, one behind the other.
+/// The replies that these words stand for, one after another.
 pub fn replies(alloc: Global, words: &str) -> Result<String, Fail> {
     let mut text = String::new(alloc);
     for word in words.split(';') {

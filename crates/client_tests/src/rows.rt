@@ -1,4 +1,4 @@
-//! Tables of questions to an informer and their answers, as lines of one text.
+//! Tables of questions to an informer and their answers, as lines of one text; what a question means stands in `playing`.
 
 use crate::playing::Play;
 use std::alloc::{AllocError, Global};

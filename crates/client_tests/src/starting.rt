@@ -1,4 +1,5 @@
-//! What an informer is made of, and what it refuses.
+//! The settings that an informer is made with: its first request, or why it is refused. Replies are played in `lists` and
+//! `watches`.
 
 use crate::playing::{ask, indexer, settings};
 use crate::rows::expect_text;
@@ -6,7 +7,7 @@ use reflector::{Informer, Settings};
 use std::alloc::Global;
 use std::test::Fail;
 
-/// Settings with this page and namespace.
+/// Settings with this page size and namespace.
 fn of(alloc: Global, page: u32, namespace: &str) -> Result<Settings, Fail> {
     let mut made = settings(alloc, "a=b,c!=d")?;
     made.page = page;

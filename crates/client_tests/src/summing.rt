@@ -1,4 +1,4 @@
-//! Summaries by an informer's notices.
+//! Summaries that count an informer's notices; the informer alone is tested in `lists` and `watches`.
 
 use crate::rows::expect_rows;
 use std::test::Fail;

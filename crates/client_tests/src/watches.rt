@@ -1,4 +1,4 @@
-//! Watches, and what doesn't fit them.
+//! Watches, and replies that don't fit them. Lists stand in `lists`.
 
 use crate::rows::expect_rows;
 use std::test::Fail;
@@ -78,7 +78,7 @@ fn watches_cut_at_every_byte(rt: HostRuntime) -> Result<(), Fail> {
     expect_rows(rt.alloc(), "", rows)
 }
 
-/// Where memory is refused, a list tells what the watch would have told.
+/// Out of memory, a list tells what the watch would have told.
 #[test]
 fn a_piece_that_is_refused_memory_is_given_up(rt: HostRuntime) -> Result<(), Fail> {
     let rows = "ask => /widgets?limit=2\n\

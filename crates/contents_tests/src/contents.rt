@@ -1,4 +1,5 @@
-//! What is asked of contents and their texts under a schema.
+//! Questions about contents and their texts under a schema; the examples stand in `readings`, `object_texts`, `fields_v1`
+//! and `key_names`.
 //!
 //! | question | answer |
 //! |---|---|
@@ -80,7 +81,7 @@ fn fields_v1(alloc: Global, schema: &Schema, call: &str, text: &str) -> Result<S
     }
 }
 
-/// What is written of a set, the same as a value and straight into bytes.
+/// What is written of a set, the same as a value and directly into bytes.
 pub fn written(alloc: Global, schema: &Schema, set: &FieldSet) -> Result<String, Fail> {
     let mut bytes = Vec::new(alloc);
     set.push_fields_v1(&mut bytes, alloc, schema)?;

@@ -1,6 +1,6 @@
-//! Worked rows as far as owners go, each public call with ample memory, and applies that find none.
+//! Worked rows as far as owners go, each public call with ample memory, and applies that run out of it.
 //!
-//! Each example begins from nothing.
+//! Each example begins without an object.
 //!
 //! | question | answer |
 //! |---|---|
@@ -38,7 +38,7 @@ impl Answers for Live {
     }
 }
 
-/// Plays examples with blank lines between them, each from nothing.
+/// Plays examples with blank lines between them, each from no object.
 fn play_each(alloc: Global, examples: &str) -> Result<(), Fail> {
     for example in examples.split("\n\n") {
         let mut live = Live {
@@ -184,7 +184,7 @@ fn answer_or_again(
     }
 }
 
-/// What a write answers; refused memory, it leaves what stands as it was, and answers anew.
+/// What a write answers; out of memory, it leaves what stands as it was, and is answered when it is called again.
 fn answer_anew(alloc: Global, schema: &Schema, live: &Owned, line: &str) -> Result<String, Fail> {
     let (name, spec) = first_word(line);
     let content = body(alloc, schema, spec)?;

@@ -1,4 +1,4 @@
-//! A types file of two types, and each refusal.
+//! A types file of two types, and each refusal of a types file; contents under a schema stand in `readings`.
 //!
 //! | question | answer |
 //! |---|---|

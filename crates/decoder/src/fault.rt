@@ -1,16 +1,16 @@
-//! Why nothing was read.
+//! Why a reply was not read: it is malformed, or out of memory. What may be malformed stands in `malformed`.
 
 use crate::malformed::Malformed;
 use std::alloc::{AllocError, AllocFailed};
 use thiserror::Error;
 
-/// Why nothing was read.
+/// Why a reply was not read.
 #[derive(Clone, Copy, Debug, PartialEq, Eq, Error)]
 pub enum DecodeFault {
     /// The reply is malformed, for this reason.
     #[error("malformed reply: {0}")]
     Malformed(Malformed),
-    /// A growth of memory was refused.
+    /// Out of memory.
     #[error("out of memory")]
     Memory,
 }

@@ -1,4 +1,4 @@
-//! Of which type an object or a list is.
+//! Checks that an object or a list in a reply is of the wanted type; an object's name and namespace are read in `object`.
 
 ghost use Rattle.std.specs.Prelude.{◌≡◌, ◌++◌, codes};
 ghost use Rattle.serde_json.specs.View.{members_view};
@@ -38,7 +38,7 @@ fn has_list_kind(wanted: &Wanted, top: &Map<String, Value>) -> bool
     }
 }
 
-/// That it is of the wanted type.
+/// Checks that it is of the wanted type.
 pub(crate) fn is_wanted(wanted: &Wanted, top: &Map<String, Value>) -> Result<(), Malformed>
     ensures { Says (λ u. u) result (is_of (api_version_of (wanted_of wanted.now)) (wanted_of wanted.now).kind (members_view top.now.entries)) }
 {
@@ -51,7 +51,7 @@ pub(crate) fn is_wanted(wanted: &Wanted, top: &Map<String, Value>) -> Result<(),
     Ok(())
 }
 
-/// That it is a list of the wanted type.
+/// Checks that it is a list of the wanted type.
 pub(crate) fn is_wanted_list(wanted: &Wanted, top: &Map<String, Value>) -> Result<(), Malformed>
     ensures { Says (λ u. u) result (is_of (api_version_of (wanted_of wanted.now)) ((wanted_of wanted.now).kind ++ codes "List") (members_view top.now.entries)) }
 {

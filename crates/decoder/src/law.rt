@@ -1,4 +1,4 @@
-//! What is kept of an object, wherever it was shown.
+//! Law: an object that is kept is what its own text says, whether a page or a line showed it. It is read in `object`.
 
 ghost use Rattle.std.specs.Prelude.{◌≡◌, ℕ, List, Ok};
 ghost use Rattle.indexer.specs.Objects.{Stored};

@@ -1,4 +1,5 @@
-//! A line of a watch.
+//! Reads a line of a watch: a change, a bookmark or an error. The object in it is read in `object`, the body of a list in
+//! `page`.
 
 ghost use Rattle.std.specs.Prelude.{◌≡◌, option_map};
 ghost use Rattle.serde_json.specs.View.{members_view, view};

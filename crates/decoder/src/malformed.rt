@@ -1,4 +1,4 @@
-//! The errors of a malformed reply.
+//! What may be malformed in a reply; `fault` adds being out of memory.
 
 use thiserror::Error;
 

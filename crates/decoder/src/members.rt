@@ -1,4 +1,4 @@
-//! The members of the JSON objects that a reply consists of.
+//! The members of a reply's JSON objects, by name; which members there have to be stands in `page`, `line` and `object`.
 
 ghost use Rattle.std.specs.Prelude.{◌≡◌, option_map};
 ghost use Rattle.serde_json.specs.Find.{get_member};

@@ -1,4 +1,4 @@
-//! An object, as a list's item or in a watch's line.
+//! Reads an object, as a list's item or in a watch's line; its type is checked in `kinds`.
 
 ghost use Rattle.std.specs.Prelude.{◌≡◌, OnOk, map, option_map, string_bytes};
 ghost use Rattle.std.specs.Ordering.{nat_cmp};
@@ -83,7 +83,7 @@ fn labels_of(alloc: Global, value: Option<&Value>) -> Result<BTreeMap<String, St
     texts_in(alloc, members)
 }
 
-/// The compact JSON of a value without floats, in no more room than it takes, as many are kept.
+/// The compact JSON of a value without floats, in no more room than it takes, since many are kept.
 fn text_of(alloc: Global, value: &Value) -> Result<String, DecodeFault>
     ensures { Gives (λ s. string_bytes s) result (text_of (view value.now)) }
 {

@@ -1,4 +1,5 @@
-//! The body of a list's answer.
+//! Reads the body of a list's answer: revision, token and objects. An object is read in `object`, a watch's line in
+//! `line`.
 
 ghost use Rattle.std.specs.Prelude.{◌≡◌, IfOk, map, option_map, string_bytes};
 ghost use Rattle.serde_json.specs.View.{items_view, members_view, view};

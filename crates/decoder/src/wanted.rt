@@ -1,4 +1,4 @@
-//! What is asked for.
+//! Which objects a client asks for: their type and namespace. A reply is checked against these in `kinds` and `object`.
 
 ghost use Rattle.std.specs.Prelude.{◌≡◌, ◌++◌, codes, option_map};
 ghost use Rattle.std.specs.Str.{bytes_eq};

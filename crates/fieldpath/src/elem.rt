@@ -1,4 +1,5 @@
-//! Elements of paths, printed as their texts and read from them.
+//! Elements of paths, printed as their texts and read from them; an element's text as a type of its own stands in
+//! `elem_text`.
 ghost use Rattle.std.specs.Prelude.{◌≡◌, ◌++◌, Some, None, IfOk, OnOk, length, take, drop, if◌then◌else◌, option_map, string_bytes};
 ghost use Rattle.std.specs.Str.{bytes_eq};
 ghost use Rattle.serde_json.specs.Read.{read};
@@ -35,7 +36,7 @@ pub enum ElemFault {
     /// 3: another text than the one that the element is printed as, or JSON that no element has.
     #[error("not canonical")]
     NotCanonical,
-    /// Memory ran out.
+    /// Out of memory.
     #[error("out of memory")]
     Memory,
 }

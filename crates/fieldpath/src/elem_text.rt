@@ -1,4 +1,5 @@
-//! The text of an element as a type of its own, so that paths can be compared without reading them.
+//! The text of an element as a type of its own, so that paths can be compared without reading them. What an element says
+//! stands in `elem`.
 ghost use Rattle.std.specs.Prelude.{◌≡◌, ◌∷◌, IfOk, Ok, is_some, option_map, refl, string_bytes, true};
 ghost use Rattle.std.specs.Cmp.{eq_by_cmp_equiv, partial_equiv_from_equiv, partial_order_from_total};
 ghost use Rattle.std.specs.Ordering.{as_partial_cmp, eq_by_cmp};

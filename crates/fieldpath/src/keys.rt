@@ -1,4 +1,4 @@
-//! The key fields by which an item of a map list is named.
+//! The key fields by which an item of a map list is named; the element that has them stands in `elem`.
 ghost use Rattle.std.specs.Prelude.{◌≡◌, ◌++◌, Ok, Err, IfOk, OnOk, IfSome, is_some, map, option_map, if◌then◌else◌, string_bytes, true};
 ghost use Rattle.serde_json.specs.Data.{object};
 ghost use Rattle.serde_json.specs.View.{members_view, view};

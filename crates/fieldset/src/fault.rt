@@ -1,9 +1,9 @@
-//! Why a value is no FieldsV1 value of a set of paths.
+//! Why a value is no FieldsV1 value of a set of paths. Such values are read in `read`.
 
 use std::alloc::{AllocError, AllocFailed};
 use thiserror::Error;
 
-/// Why a value is no FieldsV1 value of a set of paths under a schema: the first fault, or memory ran out.
+/// Why a value is no FieldsV1 value of a set of paths under a schema: the first fault, or out of memory.
 #[derive(Clone, Copy, Debug, PartialEq, Eq, Error)]
 pub enum FieldsV1Fault {
     /// 1: not an object where one is due.
@@ -12,13 +12,13 @@ pub enum FieldsV1Fault {
     /// 2: a name other than `.` that is no element's text.
     #[error("not the text of an element")]
     BadKey,
-    /// 3: an empty object where members are due, or a `.` or key fields that aren't as they are written.
+    /// 3: an empty object where members are due, or `.` or key fields that differ from those that are written.
     #[error("not as FieldsV1 is written")]
     NotCanonical,
     /// 4: an element that the schema has no place for.
     #[error("no place in the schema")]
     OffSchema,
-    /// Memory ran out.
+    /// Out of memory.
     #[error("out of memory")]
     Memory,
 }

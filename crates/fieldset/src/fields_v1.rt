@@ -1,4 +1,5 @@
-//! FieldsV1, printed: a set of paths as a JSON value under a schema. `read` reads it.
+//! FieldsV1, printed: a set of paths as a JSON value under a schema. `read` reads it, `write` prints its text without the
+//! value.
 
 ghost use Rattle.std.specs.Prelude.{◌≡◌, List, ℕ, map, codes, IfOk, OnOk, option_and_then, string_bytes};
 ghost use Rattle.std.specs.Option.{option_map};

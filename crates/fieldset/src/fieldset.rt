@@ -1,4 +1,5 @@
-//! Finite sets of paths, and their equations.
+//! Finite sets of paths, and what each call makes of them. FieldsV1 is printed in `fields_v1` and `write`, and read in
+//! `read`.
 
 ghost use Rattle.std.specs.Prelude.{◌≡◌, ◌++◌, IfOk, OnOk, OnErr, IsTrue, ◌↔◌};
 ghost use Rattle.std.specs.FinSet as set;

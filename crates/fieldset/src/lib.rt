@@ -1,6 +1,7 @@
-//! Sets of field paths: what a manager owns.
+//! Sets of field paths: what a manager owns. The managers stand in the crate `objects`.
 //!
-//! Promises: each call is its equation on sets of paths; a FieldsV1 value reads as the one set that it is written of, or as its first fault.
+//! Promises: each call is its equation on sets of paths; a FieldsV1 value reads as the one set that it is written of, or
+//! as its first fault.
 //! Stands on `pathmap` for the trie that holds a set, and on `fieldpath` for paths and their order.
 #![tactic(auto)]
 

@@ -1,4 +1,4 @@
-//! JSON texts, appended piece by piece. Where memory is refused, what is left of a text says nothing: `push_string` and
+//! JSON texts, appended piece by piece. Out of memory, what is left of a text says nothing: `push_string` and
 //! `push_name` leave it empty.
 ghost use Rattle.std.specs.Prelude.{◌≡◌, ◌∷◌, ◌++◌, [], false, OnOk};
 ghost use Rattle.json.specs.Print.{quoted};

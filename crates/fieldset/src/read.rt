@@ -1,4 +1,4 @@
-//! Reads FieldsV1 values.
+//! Reads FieldsV1 values as sets of paths; they are printed in `fields_v1` as values, and in `write` as texts.
 ghost use Rattle.std.specs.Prelude.{◌≡◌, IfOk, string_bytes};
 ghost use Rattle.serde_json.specs.View.{members_view, view};
 ghost use Rattle.fieldpath.specs.Elements.{read_element};

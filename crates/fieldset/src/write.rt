@@ -1,4 +1,4 @@
-//! FieldsV1 written as text, with no value in between but for items that are in the set.
+//! FieldsV1 written as text, with no value in between but for items that are in the set. The value stands in `fields_v1`.
 ghost use Rattle.std.specs.Prelude.{◌≡◌, ◌++◌, false, option_map, string_bytes, OnOk};
 ghost use Rattle.serde_json.specs.Data.{Members, object};
 ghost use Rattle.serde_json.specs.Written.{compact_text};

@@ -1,4 +1,5 @@
-//! The key of an object. Which names are lawful is no matter of this crate.
+//! The key of an object: the number of its type, its namespace and its name. Which names are valid is decided in the
+//! crate `names`.
 
 /// What names an object: the number of its type, its namespace and its name.
 #[derive(Debug, Drop)]

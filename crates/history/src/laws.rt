@@ -1,4 +1,5 @@
-//! Laws of histories, which crates above build on. Each function does nothing; what it promises is the law.
+//! Laws of histories, which crates above build on; those of pages stand in `page_laws`, those of lists and watches in
+//! `seen_laws`. Each function does nothing; what it promises is the law.
 
 ghost use Rattle.std.specs.Prelude.{◌≡◌, ℕ, suc, ◌≤◌, true, List, Option, None};
 ghost use Rattle.std.specs.FinMap as fin;
@@ -23,7 +24,7 @@ pub fn view_of_calls()
     ensures compacts { (h : History) (c : ℕ) → IsHistory h → h.compacted ≤ c → view (compacted_to c h) ≡ compacted_in c (view h) }
 {}
 
-/// What a prune forgets is never missed: the kept changes are enough to go on from.
+/// What a compaction forgets is never missed: the kept changes are enough to go on from.
 pub fn kept_is_enough()
     ensures fresh { (h : History) → IsHistory h → IsPruned (pruned h.compacted h) }
     ensures writes { (h : History) (k : Key) (body : Option (List ℕ)) → IsHistory h → pruned h.compacted (written h k body) ≡ written (pruned h.compacted h) k body }

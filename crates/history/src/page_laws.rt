@@ -1,4 +1,4 @@
-//! Laws of pages. Each function does nothing; what it promises is the law.
+//! Laws of pages; what a watch sees stands in `seen_laws`. Each function does nothing; what it promises is the law.
 
 ghost use Rattle.std.specs.Prelude.{◌≡◌, ◌++◌, ◌&&◌, ℕ, ◌<◌, List, None, Option, Some, T, filter, length, take};
 ghost use Rattle.std.specs.FinMap as fin;

@@ -1,4 +1,5 @@
-//! Laws of what a list and a watch see. Each function does nothing; what it promises is the law.
+//! Laws of what a list and a watch see; pages stand in `page_laws`. Each function does nothing; what it promises is the
+//! law.
 
 ghost use Rattle.std.specs.Prelude.{◌≡◌, [], ◌∷◌, ◌++◌, ◌&&◌, true, ℕ, ◌-◌, ◌≤◌, Bool, List, Option, cond, drop, filter, take};
 ghost use Rattle.std.specs.FinMap as fin;
@@ -8,7 +9,7 @@ ghost use Rattle.history.specs.Kept.{pruned};
 ghost use Rattle.history.specs.Seen.{IsNextSeen, SeenChange, Selection, all_added, put_all_seen, reached, seen_among, seen_at, seen_changes, seen_in, seen_of, selected};
 ghost use Rattle.history.specs.View.{IsView, View, state_in, view};
 
-/// What is seen of changes makes of the selected objects before them the selected objects after them. So whoever
+/// What is seen of changes, put over the selected objects before them, gives the selected objects after them. So whoever
 /// has the list of a revision and puts what is seen after it has the list of each later revision; where nothing is
 /// seen the list stays. One step of it is the next seen change, and so is any front of what is seen: the others are
 /// what is seen after the front's last revision. What a watch without a version begins with makes the list itself.

@@ -1,4 +1,5 @@
-//! One connection, and what bytes make of it.
+//! One connection: its state, and how the bytes that come change it. Its watch stands in `watching`, all connections in
+//! `connections`.
 
 ghost use Rattle.std.specs.Prelude.{◌≡◌, ◌++◌, ◌+◌, ◌&&◌, ℕ, List, true, cond, nat_lt, IfOk, OnOk, OnErr, option_map};
 ghost use Rattle.schema.specs.TypesFile.{ServedShape};
@@ -206,7 +207,7 @@ fn receive(
     }
 }
 
-/// Bytes come on a connection; without memory it is dead. One that waits for no bytes needs no memory.
+/// Bytes come on a connection; out of memory, it is dead. One that waits for no bytes needs no memory.
 pub(crate) fn receive_on(
     alloc: Global,
     api: &mut Api,

@@ -1,4 +1,4 @@
-//! Connections by their ids.
+//! The connections of the hub, found by their ids; how one of them changes stands in `connection` and `turns`.
 
 ghost use Rattle.std.specs.Prelude.{◌≡◌, [], ℕ, List, Some, None, unwrap_or, option_map, OnOk, OnErr};
 ghost use Rattle.std.specs.BTreeMap.{get};

@@ -1,6 +1,6 @@
-//! What happens to the hub.
+//! The events that the hub handles; what each of them changes stands in `hub`, why one is refused in `fault`.
 
-/// An event; the hub handles them in the order in which they are handed in.
+/// An event; the hub handles them in the order in which they come.
 #[derive(Debug, Drop)]
 pub enum Event {
     /// A connection is opened; its id is above all earlier ones.

@@ -1,4 +1,4 @@
-//! Why an event is refused, or what failed.
+//! Why an event is refused, or what failed. Refusals of requests stand in the crate `requests`.
 
 use std::alloc::{AllocError, AllocFailed};
 use thiserror::Error;
@@ -21,7 +21,7 @@ pub enum HubFault {
     /// A compaction below the compacted number, or past the current revision.
     #[error("the revision is compacted already, or still to come")]
     CompactionRefused,
-    /// A growth of memory was refused.
+    /// Out of memory.
     #[error("out of memory")]
     Memory,
     /// The store refused a statement for memory or size, or what is stored is no object's text.

@@ -1,4 +1,4 @@
-//! The hub: connections over one API.
+//! The hub: an API and its connections, which events change. A single connection stands in `connection`.
 
 ghost use Rattle.std.specs.Prelude.{◌≡◌, ◌≢◌, ◌++◌, ◌∷◌, [], ℕ, Bool, List, None, true, false, Err, Ok, OnOk};
 ghost use Rattle.schema.specs.TypesFile.{ServedShape};
@@ -197,9 +197,9 @@ impl Hub {
     }
 
     /// Handles an event: in the event that decides what the bytes of a connection ask, the reply is written and the
-    /// connection has ended, or watches. Refused, an event changes nothing; without memory an opening changes nothing,
+    /// connection has ended, or watches. Refused, an event changes nothing; out of memory, an opening changes nothing,
     /// and a connection that waits is dead where bytes come on it, a watch where it is pumped. At a tick each watch has
-    /// its turn, and only one that found no memory for what it writes is dead. Bytes on one that has ended need no
+    /// its turn, and only one that was out of memory for what it writes is dead. Bytes on one that has ended need no
     /// memory. A compaction that fails changes nothing. The store is asked where bytes come, at a pump and at a
     /// compaction: no other event fails by it.
     pub fn on(&mut self, event: &Event) -> Result<(), HubFault>

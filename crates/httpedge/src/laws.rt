@@ -1,4 +1,4 @@
-//! Laws of what a hub does, which crates above build on. Each function does nothing of use; what it promises is the law.
+//! Laws of what a hub does, which crates above build on. Each function does nothing useful; what it promises is the law.
 
 ghost use Rattle.std.specs.Prelude.{◌≡◌, ◌++◌, ℕ, Bool, true, false, List, [], Some, None, drop, option_map, take};
 ghost use Rattle.std.specs.FinMap as fin;
@@ -17,7 +17,7 @@ pub fn pieces()
     ensures { (s mid t : State) (id : ℕ) (first second : List ℕ) → Steps s (comes id first) mid → Steps mid (comes id second) t → Steps s (comes id (first ++ second)) t }
 {}
 
-/// Events in turn, and those that found no memory among them, lead to one state.
+/// Events in turn, and those of them that were out of memory, lead to one state.
 pub fn one_outcome()
     ensures { (s t u : State) (hs : List Happening) → Runs s hs t → Runs s hs u → t ≡ u }
 {}
@@ -56,7 +56,7 @@ pub fn gone_stays()
     ensures silent { (all : Connections) (id : ℕ) → gone_on all id ≡ true → out_on all id ≡ [] }
 {}
 
-/// A tick changes watches alone, also where some of them find no memory.
+/// A tick changes watches alone, also where some of them are out of memory.
 pub fn ticks_are_for_watches()
     ensures with_memory { (s t : State) (ms id : ℕ) → watching_on s.connections id ≡ false → Steps s (ticks ms) t → fin.get t.connections id ≡ fin.get s.connections id }
     ensures without_memory { (s t : State) (ms id : ℕ) (found_none : ℕ → Bool) → watching_on s.connections id ≡ false → Starves s (ticks ms) found_none t → fin.get t.connections id ≡ fin.get s.connections id }
@@ -79,7 +79,8 @@ pub fn written_stays()
     ensures parts { (all : Connections) (id : ℕ) (c : Connection) → fin.get all id ≡ Some c → has_gone c.standing ≡ false → written_on all id ≡ take c.taken c.written ++ out_on all id }
 {}
 
-/// The machine stays one, whatever happens to the hub: calls, compactions, events that are refused or find no memory.
+/// The machine stays a machine, whatever happens to the hub: calls, compactions, events that are refused or out of
+/// memory.
 pub fn machines_last()
     ensures { (s t : State) (hs : List Happening) → IsMachine s.types s.machine → Runs s hs t → IsMachine t.types t.machine }
 {}

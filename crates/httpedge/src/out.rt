@@ -1,4 +1,4 @@
-//! What was written on a connection and not yet taken.
+//! What was written on a connection and not yet taken. The connection stands in `connection`.
 
 ghost use Rattle.std.specs.Prelude.{◌≤◌, length};
 

@@ -1,4 +1,4 @@
-//! All connections at a tick.
+//! A tick of all connections: each watch has its turn. The turn of one connection stands in `turns`.
 
 ghost use Rattle.std.specs.Prelude.{◌≡◌, List};
 ghost use Rattle.std.specs.List.{filter};
@@ -19,7 +19,7 @@ use std::alloc::Global;
 use std::collections::{BTreeMap, BTreeSet};
 use verbs::Api;
 
-/// The connection of an id has its turn; whether it found no memory.
+/// The connection of an id has its turn; whether it was out of memory.
 fn tick_at(alloc: Global, api: &Api, all: &mut BTreeMap<u64, Connection>, id: u64, ms: u64) -> bool
     ensures { (types : List ServedShape) (m : History) (before : Connections) → Stands api.now types m → HoldsAll types all.old before → TicksAt types ms id before all.new result }
 {
@@ -46,8 +46,8 @@ fn tick_one(
     (open_count(count, was_open, all, id), found_none)
 }
 
-/// Each connection has its turn, where each that is open is among these ids; how many are open then, and whether one
-/// found no memory.
+/// Each connection has its turn, where each that is open is among these ids; how many are open then, and whether one was
+/// out of memory.
 pub(crate) fn tick_all(
     alloc: Global,
     api: &Api,

@@ -1,4 +1,4 @@
-//! The turns of connections: what watches write at a pump or a tick.
+//! The turns of connections: what watches write at a pump or a tick. The watch itself stands in `watching`.
 
 ghost use Rattle.std.specs.Prelude.{◌≡◌, List, true, OnOk, OnErr};
 ghost use Rattle.schema.specs.TypesFile.{ServedShape};
@@ -61,7 +61,7 @@ fn pump(
     }
 }
 
-/// A connection at a pump; without memory a watch is dead. Any other stays as it is.
+/// A connection at a pump; out of memory, a watch is dead. Any other stays as it is.
 pub(crate) fn pump_on(
     alloc: Global,
     api: &mut Api,
@@ -81,7 +81,7 @@ pub(crate) fn pump_on(
     pumped
 }
 
-/// A watch at a tick: what becomes of it, and whether it found no memory.
+/// A watch at a tick: what becomes of it, and whether it was out of memory.
 fn tick_watch(alloc: Global, api: &Api, watch: Watch, out: Out, ms: u64) -> (Connection, bool)
     ensures ticks { (types : List ServedShape) (m : History) (c : model.Connection) → Stands api.now types m → Holds types (conn.Watch watch out) c
         → Holds types result.0 (dead_or_ticked types ms result.1 c) }
@@ -110,7 +110,7 @@ fn tick(alloc: Global, api: &Api, connection: Connection, ms: u64) -> (Connectio
     }
 }
 
-/// A connection at a tick; whether it found no memory: it is dead then. One that doesn't watch stays as it is.
+/// A connection at a tick; whether it was out of memory: then it is dead. One that doesn't watch stays as it is.
 pub(crate) fn tick_on(alloc: Global, api: &Api, connection: &mut Connection, ms: u64) -> bool
     ensures ticks { (types : List ServedShape) (m : History) (c : model.Connection) → Stands api.now types m → Holds types connection.old c
         → Holds types connection.new (dead_or_ticked types ms result c) }

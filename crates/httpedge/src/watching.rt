@@ -1,4 +1,5 @@
-//! A watch, and what it writes at its turn.
+//! A watch on a connection: what it writes at its turn, and when it ends. What becomes of the connection then stands in
+//! `turns`.
 
 ghost use Rattle.std.specs.Prelude.{◌≡◌, ◌*◌, List, true, IfOk, OnErr, nat_le, option_map, string_bytes};
 ghost use Rattle.schema.specs.TypesFile.{ServedShape};
@@ -64,7 +65,7 @@ impl Watch {
         self.timeout > 0 && has_passed(self.timeout, ms.saturating_sub(self.opened))
     }
 
-    /// Its turn at a pump; whether it has ended. Without memory nothing more is out.
+    /// Its turn at a pump; whether it has ended. Out of memory, it writes nothing more.
     pub(crate) fn pump(
         &mut self,
         alloc: Global,
@@ -83,7 +84,8 @@ impl Watch {
         Ok(pumped.ended)
     }
 
-    /// Its turn at a tick; whether it has ended. Without memory nothing more is out; where nothing is due it needs none.
+    /// Its turn at a tick; whether it has ended. Out of memory, it writes nothing more; where nothing is due it needs no
+    /// memory.
     pub(crate) fn tick(
         &mut self,
         alloc: Global,

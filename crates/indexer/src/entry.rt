@@ -1,4 +1,4 @@
-//! What is kept of an object.
+//! What the indexer keeps of an object: the object, and its keys in each index. The object alone stands in `object`.
 
 use crate::object::Object;
 use crate::texts::Texts;

@@ -1,4 +1,4 @@
-//! The functions by which objects are indexed.
+//! The functions by which objects are indexed; what an index holds stands in `postings`.
 
 ghost use Rattle.std.specs.Prelude.{◌≡◌, List, ℕ, map, IfOk, string_bytes};
 ghost use Rattle.indexer.specs.Names.{are_distinct};

@@ -1,4 +1,5 @@
-//! The objects that the client keeps, and indexes over them.
+//! The indexer: the objects that the client keeps, indexes over them, and the calls on both. How both change together
+//! stands in `kept`.
 
 ghost use Rattle.std.specs.Prelude.{◌≡◌, List, map, IfOk, OnOk, string_bytes, true, false};
 ghost use Rattle.std.specs.FinMap as fin;
@@ -34,7 +35,7 @@ pub struct Indexer<I: Drop> {
 pub enum NewError {
     /// Two indexes have one name.
     SameName,
-    /// There was no memory.
+    /// Out of memory.
     Memory,
 }
 
@@ -122,7 +123,7 @@ impl<I: IndexBy> Indexer<I> {
         })
     }
 
-    /// Keeps just these objects, put one after the other; those that were kept are handed out, in order of keys.
+    /// Keeps just these objects, put one after the other; those that were kept are returned, in order of keys.
     /// Refused, it changes nothing.
     pub fn replace(&mut self, objects: Vec<Object>) -> Result<Vec<Object>, AllocError>
         ensures ok { OnOk result (held_of self.new ≡ put_all (λ o. map (λ b. I.keys b o) (indexes_of self.old)) (map stored_of objects.items) fin.empty) }
@@ -139,7 +140,7 @@ impl<I: IndexBy> Indexer<I> {
         Ok(kept::handed_out(was, room))
     }
 
-    /// Keeps the object where it stands, in place of the one that was there, which is handed out, and in every
+    /// Keeps the object where it stands, in place of the one that was there, which is returned, and in every
     /// index under its keys alone. Refused, it changes nothing.
     pub fn put(&mut self, object: Object) -> Result<Option<Object>, AllocError>
         ensures ok { OnOk result (held_of self.new ≡ fin.insert (held_of self.old) (place_of_object object) (stored_of object, map (λ b. I.keys b (stored_of object)) (indexes_of self.old))) }
@@ -161,7 +162,7 @@ impl<I: IndexBy> Indexer<I> {
         }
     }
 
-    /// Keeps no object at the key, nor in any index; the one that was there is handed out.
+    /// Keeps no object at the key, nor in any index; the one that was there is returned.
     pub fn remove(&mut self, key: &ObjectKey) -> Option<Object>
         ensures removed { held_of self.new ≡ fin.remove (held_of self.old) (place_of key.now) }
         ensures was { option_map stored_of result ≡ option_map (λ h. h.0) (fin.get (held_of self.old) (place_of key.now)) }

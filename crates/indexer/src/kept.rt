@@ -1,4 +1,4 @@
-//! The objects and the postings of every index, changed together.
+//! The objects and the postings of every index, changed together. One index stands in `postings`.
 
 ghost use Rattle.std.specs.Prelude.{◌≡◌, ◌+◌, ◌≤◌, true, ℕ, List, [], cond, length, map, IfOk, OnOk, OnErr, option_map, vec_capacity, vec_len};
 ghost use Rattle.std.specs.BTreeMap.{get};
@@ -35,7 +35,7 @@ fn move_to(
     Ok(())
 }
 
-/// Keeps the object under these keys, in place of what was kept where it stands, which is handed out.
+/// Keeps the object under these keys, in place of what was kept where it stands, which is returned.
 pub(crate) fn put(
     alloc: Global,
     objects: &mut BTreeMap<ObjectKey, Entry>,
@@ -66,7 +66,7 @@ pub(crate) fn put(
     }
 }
 
-/// Keeps no object at the key; what was kept is handed out.
+/// Keeps no object at the key; what was kept is returned.
 pub(crate) fn remove(
     objects: &mut BTreeMap<ObjectKey, Entry>,
     postings: &mut Vec<Postings>,

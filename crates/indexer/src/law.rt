@@ -1,4 +1,4 @@
-//! What holds after any list of calls.
+//! Law: what holds of objects and indexes after any list of calls. The calls stand in `indexer`.
 
 ghost use Rattle.std.specs.Prelude.{List, ℕ};
 ghost use Rattle.std.specs.FinMap.{empty};

@@ -1,4 +1,4 @@
-//! Objects and their keys.
+//! Objects, and the keys under which they are kept (namespace and name); their keys in an index stand in `texts`.
 
 ghost use Rattle.std.specs.Prelude.{◌≡◌, IfOk, string_bytes};
 ghost use Rattle.indexer.specs.Objects.{labels_of};

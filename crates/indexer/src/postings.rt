@@ -1,4 +1,4 @@
-//! One index: its keys, and the objects under each.
+//! One index: its keys, and the objects under each. All indexes and the objects change together in `kept`.
 
 ghost use Rattle.std.specs.Prelude.{◌≡◌, ◌↔◌, IfOk, true, ℕ, Bool, List, ◌&&◌, ◌||◌, not, map, length, ◌<◌, ◌≤◌, string_bytes, OnOk, OnErr, IfSome, option_copied};
 ghost use Rattle.std.specs.Rc.{rc_str_bytes};
@@ -45,7 +45,7 @@ pub(crate) fn add(
     Ok(())
 }
 
-/// Takes the object from one key of the index; a key without objects goes.
+/// Removes the object from one key of the index; a key that then has no objects is removed.
 pub(crate) fn remove(postings: &mut Postings, text: &str, key: &ObjectKey)
     ensures { (k : List ℕ) (q : ObjectKey) → under postings.new k q ≡ (under postings.old k q && not (bytes_eq text.now k && is_same key.now q)) }
 {
@@ -78,7 +78,7 @@ pub(crate) fn add_each(
     Ok(())
 }
 
-/// Takes the object from each of these keys that isn't one of those to keep.
+/// Removes the object from each of these keys that isn't one of those to keep.
 pub(crate) fn remove_each(postings: &mut Postings, texts: &[RcStr], kept: &[RcStr], key: &ObjectKey)
     ensures { (k : List ℕ) (q : ObjectKey) → under postings.new k q ≡ (under postings.old k q && not ((is_among (map rc_str_bytes texts.now) k && not (is_among (map rc_str_bytes kept.now) k)) && is_same key.now q)) }
 {
@@ -136,7 +136,7 @@ pub(crate) fn add_all(
     Ok(())
 }
 
-/// Takes the object from its keys in each index, but for those to keep.
+/// Removes the object from its keys in each index, but for those to keep.
 pub(crate) fn remove_all(
     postings: &mut Vec<Postings>,
     keys: &[Texts],

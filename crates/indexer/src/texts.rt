@@ -1,4 +1,4 @@
-//! The keys of an object in one index, as they are kept.
+//! The keys of an object in one index, as they are kept. Which objects a key has stands in `postings`.
 
 ghost use Rattle.std.specs.Prelude.{◌≡◌, IfOk, map, string_bytes};
 ghost use Rattle.std.specs.Rc.{rc_str_bytes};

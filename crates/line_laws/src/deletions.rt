@@ -1,4 +1,4 @@
-//! What a deletion's line shows.
+//! Law: the line of a deletion shows the object that the answer to the DELETE shows. Other lines stand in `lines`.
 
 ghost use Rattle.std.specs.Prelude.{◌≡◌, ◌≤◌, ℕ, List};
 ghost use Rattle.schema.specs.ObjectShape.{IsObjectShape};

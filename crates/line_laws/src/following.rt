@@ -1,4 +1,4 @@
-//! What a watch tells over a history that goes on.
+//! Laws of a watch over a history that goes on: it tells all changes. What a single line says stands in `lines`.
 
 ghost use Rattle.std.specs.Prelude.{◌≡◌, ◌++◌, List, map, true};
 ghost use Rattle.history.specs.History.{History, IsHistory};

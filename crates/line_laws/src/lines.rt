@@ -1,4 +1,4 @@
-//! What the server prints of a watch, the client reads.
+//! Laws: the client reads each line of a watch as what the server printed. Pages of lists stand in `page_laws`.
 
 ghost use Rattle.std.specs.Prelude.{◌≡◌, ◌≤◌, ℕ, List, [], ◌∷◌, ◌++◌, IsUtf8, Ok, decimal, false};
 ghost use Rattle.std.specs.List.{list_any};

@@ -1,4 +1,4 @@
-//! What the server prints of a list, the client reads.
+//! Law: the client reads a page of a list as what the server printed. Lines of watches stand in `lines`.
 
 ghost use Rattle.std.specs.Prelude.{◌≡◌, ◌≤◌, ℕ, List, IsUtf8, Ok};
 ghost use Rattle.objects.specs.ReadBack.{max_version};

@@ -1,4 +1,4 @@
-//! Which objects a list is of.
+//! The objects that a list is of, by type and namespace; which of these a selector takes stands in `labels`.
 
 /// The objects of a type, in one namespace or in all.
 #[derive(Clone, Copy, Debug)]

@@ -1,4 +1,4 @@
-//! Why there is no list. Nothing has changed.
+//! Why there is no list: a refusal, as `refusal` tells it, or what failed. Nothing has changed.
 
 use crate::refusal::Refusal;
 use revtable::Fault;
@@ -10,7 +10,7 @@ use thiserror::Error;
 pub enum ListFault {
     #[error("{0}")]
     Refused(Refusal),
-    /// Memory ran out, or the store refused a statement.
+    /// Out of memory, or the store refused a statement.
     #[error("{0}")]
     Failed(Fault),
 }

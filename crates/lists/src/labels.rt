@@ -1,4 +1,4 @@
-//! The labels that an object's text gives.
+//! The labels that an object's text gives, and whether they are selected. Label selectors stand in the crate `selector`.
 
 ghost use Rattle.std.specs.Prelude.{◌≡◌, IfOk, OnOk, option_map};
 ghost use Rattle.std.specs.Ordering.{nat_cmp};

@@ -1,4 +1,5 @@
-//! Laws of lists. The function does nothing; what it promises is the law.
+//! The law of a list's text; tokens and next pages stand in `token_laws`. The function does nothing; what it promises is
+//! the law.
 
 ghost use Rattle.std.specs.Prelude.{◌≡◌};
 ghost use Rattle.serde_json.specs.Data.{Data, Items};

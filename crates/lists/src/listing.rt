@@ -1,4 +1,4 @@
-//! A list as it is asked for: its parameters judged, its page and its text.
+//! A list, from its parameters to its text: its revision is found in `revision`, its page in `page`, its text in `text`.
 ghost use Rattle.std.specs.Prelude.{◌≡◌, string_bytes};
 ghost use Rattle.history.specs.View.{state_in};
 ghost use Rattle.params.specs.Views.{values_of};

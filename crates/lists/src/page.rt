@@ -1,5 +1,5 @@
-//! The page that is asked for: rows of the store are read in batches, each twice as large as the one before up to
-//! 501, until the page is full of selected objects or no row is left.
+//! The page that is asked for: rows of the store are read in batches, each twice as large as the one before up to 501,
+//! until the page is full of selected objects or no row is left. The rows are read in `rows`.
 
 ghost use Rattle.std.specs.Prelude.{◌≡◌, ◌<◌, ◌≤◌, ◌++◌, IfOk, Some, map, option_map};
 ghost use Rattle.history.specs.Page.{listed};

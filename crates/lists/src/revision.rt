@@ -1,4 +1,4 @@
-//! Which revision a list is of.
+//! The revision that a list is of, by what is asked and what the store still has; the rows at it are read in `rows`.
 
 ghost use Rattle.std.specs.Prelude.{◌≡◌, option_map};
 ghost use Rattle.params.specs.Views.{token_view, values_of};

@@ -1,4 +1,4 @@
-//! The rows of a list, a few at a time.
+//! The rows of a list, a few at a time. A page is made of them in `page`.
 
 ghost use Rattle.std.specs.Prelude.{◌≡◌, ◌<◌, ◌≤◌, ◌++◌, [], ◌∷◌, IfOk, OnOk, map, option_map};
 ghost use Rattle.history.specs.Page.{last_key, listed, page};

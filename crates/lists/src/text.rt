@@ -1,4 +1,4 @@
-//! The text of a list, put together of its items' texts.
+//! The text of a list, put together from the texts of its items; which items these are stands in `page`.
 
 ghost use Rattle.std.specs.Prelude.{◌≡◌, ◌++◌, [], ◌∷◌, IfOk, OnOk, None, Some, flat_map, map, option_map, string_bytes};
 ghost use Rattle.serde_json.specs.Data.{string};

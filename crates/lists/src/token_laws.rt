@@ -1,4 +1,5 @@
-//! Laws of tokens. Each function does nothing; what it promises is the law.
+//! Laws of tokens and of the pages that they lead to; the text of a list stands in `laws`. Each function does nothing;
+//! what it promises is the law.
 
 ghost use Rattle.std.specs.Prelude.{◌≡◌, [], ◌++◌, ◌<◌, ◌≤◌, ℕ, List, None, Option, Some, length};
 ghost use Rattle.std.specs.List.{All};

@@ -1,4 +1,5 @@
-//! What stands round an object's fields, taken apart.
+//! The envelope of an object (`apiVersion`, `kind`, `metadata`), separated from its fields. It is printed in `object` and
+//! `metadata`.
 ghost use Rattle.std.specs.Prelude.{◌≡◌, codes, IfOk, OnOk, option_map};
 ghost use Rattle.serde_json.specs.Find.{as_object, as_str, get_member};
 ghost use Rattle.serde_json.specs.View.{members_view, view};
@@ -8,7 +9,7 @@ use names::version_of;
 use serde_json::{Map, Value};
 use std::alloc::{AllocError, Global};
 
-/// Takes the member of this name out.
+/// Removes and returns the member of this name.
 pub(crate) fn take(members: &mut Map<String, Value>, name: &str) -> Option<Value>
     ensures value { option_map view result ≡ get_member name.now (members_view members.old.entries) }
     ensures left { members_view members.new.entries ≡ less name.now (members_view members.old.entries) }
@@ -25,7 +26,7 @@ pub(crate) fn into_object(value: Value) -> Option<Map<String, Value>>
     }
 }
 
-/// The members but for those that name what the object is of.
+/// The members without those that name the object's type.
 fn own_members(members: Map<String, Value>) -> Map<String, Value>
     ensures { members_view result.entries ≡ own_members (members_view members.entries) }
 {
@@ -35,7 +36,7 @@ fn own_members(members: Map<String, Value>) -> Map<String, Value>
     own
 }
 
-/// The members but for `metadata`, and those of `metadata`.
+/// The members without `metadata`, and those of `metadata`.
 fn in_two(members: Map<String, Value>) -> Option<(Map<String, Value>, Map<String, Value>)>
     ensures { option_map (λ p. (members_view p.0.entries, members_view p.1.entries)) result ≡ in_two (members_view members.entries) }
 {
@@ -49,7 +50,7 @@ fn in_two(members: Map<String, Value>) -> Option<(Map<String, Value>, Map<String
     Some((others, metadata))
 }
 
-/// The members but for the envelope's, and those of `metadata`, if it is there.
+/// The members without the envelope's, and those of `metadata`, if it is there.
 pub(crate) fn split(value: Value) -> Option<(Map<String, Value>, Map<String, Value>)>
     ensures { option_map (λ p. (members_view p.0.entries, members_view p.1.entries)) result ≡ split (view value) }
 {
@@ -92,7 +93,7 @@ pub(crate) fn version_in(metadata: &Map<String, Value>) -> Option<u64>
     }
 }
 
-/// `metadata` less the envelope's part: labels and annotations; and its `managedFields`.
+/// `metadata` without the envelope's part: labels and annotations; and its `managedFields`.
 fn labels_left(metadata: Map<String, Value>) -> (Map<String, Value>, Option<Value>)
     ensures labels { members_view result.0.entries ≡ labels_left (members_view metadata.entries) }
     ensures listed { option_map view result.1 ≡ get_member (codes "managedFields") (members_view metadata.entries) }

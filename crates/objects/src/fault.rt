@@ -1,4 +1,4 @@
-//! Why a text is not read back as an object.
+//! Why a text is not read back as an object. Texts are read in `read_back`.
 
 use std::alloc::{AllocError, AllocFailed};
 use thiserror::Error;
@@ -9,7 +9,7 @@ pub enum ObjectFault {
     /// It is not the text of an object of this type and key.
     #[error("not an object's canonical text")]
     NotCanonical,
-    /// A growth of memory was refused.
+    /// Out of memory.
     #[error("out of memory")]
     Memory,
 }

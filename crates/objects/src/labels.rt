@@ -1,4 +1,4 @@
-//! How many labels an object has.
+//! How many labels an object is printed with; their limit stands in `size` of the crate `verbs`.
 ghost use Rattle.std.specs.Prelude.{◌≡◌, ℕ, true, codes, IfOk, option_and_then, option_map};
 ghost use Rattle.schema.specs.Lawful.{is_lawful};
 ghost use Rattle.schema.specs.Shape.{shape};

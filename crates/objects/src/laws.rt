@@ -1,4 +1,4 @@
-//! Laws of the texts of objects.
+//! Law: no two objects have the same text. The text is printed in `object` and read in `read_back`.
 
 ghost use Rattle.objects.specs.ReadBack.{OneForOne};
 

@@ -1,5 +1,5 @@
 //! The entries of `managedFields`, read. With them comes their text, made of the FieldsV1 values that were read: of a
-//! text they are those that the sets have, so FieldsV1 isn't made again.
+//! text they are those that the sets have, so FieldsV1 isn't made again. They are written in `managed_text`.
 ghost use Rattle.std.specs.Prelude.{◌≡◌, ◌++◌, true, codes, IfOk, Some, option_map, option_and_then};
 ghost use Rattle.std.specs.FinMap as fin;
 ghost use Rattle.serde_json.specs.Data.{Data, array};

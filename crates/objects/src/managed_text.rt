@@ -1,4 +1,4 @@
-//! `managedFields` written as text, entry after entry.
+//! `managedFields` written as text, entry after entry. It is read in `managed_fields`.
 ghost use Rattle.std.specs.Prelude.{◌≡◌, ◌++◌, false, true, IfOk, OnOk};
 ghost use Rattle.serde_json.specs.Data.{Data, Members, array, member, no_members, object, string};
 ghost use Rattle.serde_json.specs.View.{view};

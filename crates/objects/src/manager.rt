@@ -1,4 +1,4 @@
-//! Who writes: a name, an operation and a subresource.
+//! Who writes: a name, an operation and a subresource. What managers own stands in `managers`.
 
 ghost use Rattle.std.specs.Prelude.{◌≡◌, IfOk};
 ghost use Rattle.objects.specs.Owners.{is_same, manager_cmp, manager_of, operation_text};

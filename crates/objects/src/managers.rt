@@ -1,4 +1,4 @@
-//! Who owns which paths, over all managers of an object.
+//! Who owns which paths, over all managers of an object. One manager stands in `manager`.
 
 ghost use Rattle.std.specs.Prelude.{◌≡◌, IfOk, IfSome, filter, not, option_map};
 ghost use Rattle.std.specs.List.{insert};
@@ -76,7 +76,7 @@ fn have_paths(entries: &[Entry]) -> bool
     true
 }
 
-/// All entries but the manager's, each less some paths; what is empty then vanishes.
+/// All entries but the manager's, each without some paths; one that is then empty is removed.
 fn less_others(
     entries: &[Entry],
     alloc: Global,

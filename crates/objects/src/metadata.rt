@@ -1,4 +1,4 @@
-//! `metadata` as text, put together of its members' texts.
+//! The text of `metadata`, put together from the texts of its members. The text of the whole object stands in `object`.
 ghost use Rattle.std.specs.Prelude.{◌≡◌, List, ℕ, codes, decimal, false, IfOk, OnOk};
 ghost use Rattle.std.specs.FinMap as fin;
 ghost use Rattle.serde_json.specs.Data.{Members, array, object, string};

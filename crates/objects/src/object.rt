@@ -1,4 +1,4 @@
-//! An object's text, both ways: its version, its content and who owns what.
+//! An object, printed as a value or a text: its version, its content and who owns what. It is read in `read_back`.
 
 ghost use Rattle.std.specs.Prelude.{◌≡◌, true, false, IfOk, OnOk, option_map, option_and_then, string_bytes};
 ghost use Rattle.std.specs.FinMap as fin;
@@ -21,7 +21,7 @@ use schema::Schema;
 use serde_json::{Map, Value};
 use std::alloc::{AllocError, Global};
 
-/// What an object is of, and its key (Kubernetes API conventions, "Types (Kinds)", "Metadata").
+/// The type of an object, and its key (Kubernetes API conventions, "Types (Kinds)", "Metadata").
 #[derive(Clone, Copy, Debug)]
 pub struct Identity<'a> {
     /// `group/version`.

@@ -1,4 +1,4 @@
-//! Objects read back from their texts.
+//! Objects read back from their texts, which are printed in `object`. The envelope is separated in `envelope`.
 ghost use Rattle.std.specs.Prelude.{◌≡◌, ℕ, true, IfOk};
 ghost use Rattle.std.specs.FinMap as fin;
 ghost use Rattle.serde_json.specs.Data.{array};

@@ -1,4 +1,4 @@
-//! Server-Side Apply: conflicts, what force takes over, and the object afterwards.
+//! Server-Side Apply: conflicts, what force takes over, and the object afterwards. Updates stand in `updating`.
 
 ghost use Rattle.std.specs.Prelude.{◌≡◌, ◌++◌, IfOk, OnOk, false, map};
 ghost use Rattle.std.specs.FinSet as set;

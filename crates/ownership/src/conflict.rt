@@ -1,4 +1,4 @@
-//! What an apply is refused for.
+//! Conflicts of an apply, and why an apply is refused; conflicts are found in `applying`.
 
 use fieldpath::Path;
 use objects::Manager;
@@ -19,7 +19,7 @@ pub enum ApplyFault {
     /// All conflicts, by manager, operation and path.
     #[error("the body changes paths that other managers own")]
     Conflicts(Vec<Conflict>),
-    /// A growth of memory was refused.
+    /// Out of memory.
     #[error("out of memory")]
     Memory,
 }

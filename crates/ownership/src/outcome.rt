@@ -1,4 +1,5 @@
-//! What a write does to the object under its key.
+//! Whether a write creates the object under its key, changes it or leaves it. What the write does stands in `applying`
+//! and `updating`.
 
 ghost use Rattle.std.specs.Prelude.{◌≡◌, IfOk, option_map};
 ghost use Rattle.ownership.specs.Outcomes.{written_over};

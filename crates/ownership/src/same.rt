@@ -1,4 +1,4 @@
-//! Whether two objects have the same content and the same owners.
+//! Whether two objects have the same content and the same owners. What a write does by that stands in `outcome`.
 
 ghost use Rattle.std.specs.Prelude.{◌≡◌, ◌↔◌, IfOk, IsTrue};
 ghost use Rattle.objects.specs.Managers.{pair, pairs};

@@ -1,4 +1,4 @@
-//! Updates (POST and PUT): the new content, and who owns what afterwards.
+//! Updates (POST and PUT): the new content, and who owns what afterwards. Applies stand in `applying`.
 
 ghost use Rattle.std.specs.Prelude.{◌≡◌, IfOk};
 ghost use Rattle.std.specs.FinSet as set;
@@ -56,7 +56,7 @@ fn owners_then(
 
 /// Replaces the content (Server-Side Apply, "Field management"): `live` is the object before, empty where there is none,
 /// `manager` the name of who updates, `new` the whole content. Who updates owns what it changed, and keeps what it owned
-/// and still stands; the others lose what was changed or went. An update has no conflict.
+/// and still stands; the others lose what was changed or removed. An update has no conflict.
 pub fn update(alloc: Global, live: &Owned, manager: &str, new: Tree) -> Result<Owned, AllocError>
     ensures updates { IfOk result (λ o. state_of o ≡ updated (state_of live.now) new (manager_of manager.now update_operation)) }
     ensures stand { OwnedStand (state_of live.now) → IfOk result (λ o. OwnedStand (state_of o)) }

@@ -1,4 +1,4 @@
-//! Why a query's parameters were refused.
+//! Why a query's parameters were refused; the parameters are checked in `params` and `query`.
 
 ghost use Rattle.std.specs.Prelude.{◌≡◌};
 ghost use Rattle.params.specs.declared.fault.ParamsFault.TheVariants.{Memory};
@@ -13,7 +13,7 @@ use std::fmt;
 pub enum ParamsFault {
     /// The first parameter at fault.
     Bad(Parameter),
-    /// There was no memory.
+    /// Out of memory.
     Memory,
 }
 

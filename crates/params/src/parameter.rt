@@ -1,4 +1,4 @@
-//! The parameters that some verb knows.
+//! The names of all parameters; which of them a verb knows stands in `params`.
 
 ghost use Rattle.std.specs.Prelude.{◌≡◌};
 ghost use Rattle.params.specs.Parameters.{name_of};

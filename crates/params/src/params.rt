@@ -1,4 +1,5 @@
-//! The parameters of a request, whole.
+//! All parameters of a request: which of them its verb knows, and whether they go together. Single ones are read in
+//! `query`.
 
 ghost use Rattle.std.specs.Prelude.{◌≡◌, IfOk, option_map, string_bytes};
 ghost use Rattle.params.specs.Query.{pairs_in};

@@ -1,4 +1,4 @@
-//! The pairs of a query, and what single parameters say.
+//! The pairs of a query, and what single parameters say. Which go together stands in `params`.
 
 ghost use Rattle.std.specs.Prelude.{◌≡◌, IfOk, ⊤, option_map, string_bytes};
 ghost use Rattle.params.specs.Query.{first_at, pairs_in, value_of};

@@ -1,4 +1,5 @@
-//! The texts of parameters.
+//! What the text of a single parameter says: a truth value, a match, a manager's name or a token. Parameters are found in
+//! `query`.
 
 ghost use Rattle.std.specs.Prelude.{◌≡◌, option_map};
 ghost use Rattle.std.specs.List.{list_all};

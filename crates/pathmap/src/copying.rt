@@ -1,4 +1,4 @@
-//! Copies of a map.
+//! Copies of a whole map; parts of a map are copied in `pick` and `without`.
 
 ghost use Rattle.std.specs.Prelude.{◌≡◌, ◌++◌, ◌∷◌, [], IfOk, OnOk, string_bytes};
 ghost use Rattle.pathmap.specs.Maps.{at_top, content, contents_in};

@@ -1,4 +1,4 @@
-//! What stands at a path, and at or below it.
+//! What stands at a path, and at or below it. All paths are listed in `paths`.
 
 ghost use Rattle.std.specs.Prelude.{◌≡◌, ◌++◌, map, string_bytes, IfSome, IsTrue, ◌↔◌, true};
 ghost use Rattle.std.specs.Option.{option_map};

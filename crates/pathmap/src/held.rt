@@ -1,4 +1,4 @@
-//! What stands at one path.
+//! What stands at one path: a value or a mark. The map of the paths stands in `pathmap`.
 
 ghost use Rattle.std.specs.Prelude.{◌≡◌, IfOk};
 ghost use Rattle.pathmap.specs.Beside.{same_standing};

@@ -1,4 +1,4 @@
-//! One more path, or all paths of a map below an element.
+//! Puts one more path, or all paths of a map below an element. Two maps are put together in `under`.
 
 ghost use Rattle.std.specs.Prelude.{◌≡◌, map, not, if◌then◌else◌, IfOk, OnOk, OnErr, string_bytes};
 ghost use Rattle.std.specs.FinMap as fin;

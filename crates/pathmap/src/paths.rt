@@ -1,4 +1,4 @@
-//! The paths of a map, in order.
+//! Lists the paths of a map in order; what stands at one of them is found in `find`.
 
 ghost use Rattle.std.specs.Prelude.{◌≡◌, [], ◌∷◌, ◌++◌, map, is_some, if◌then◌else◌, IfOk, OnOk};
 ghost use Rattle.pathmap.specs.Contents.{dom, gather, in_order};

@@ -1,4 +1,4 @@
-//! One map put under another: it gives what the other lacks.
+//! One map put under another: it gives what the other lacks. Paths of one map are picked in `pick`.
 
 ghost use Rattle.std.specs.Prelude.{◌≡◌, ◌++◌, ◌∷◌, [], IfOk, OnOk, string_bytes};
 ghost use Rattle.pathmap.specs.Contents.{over};

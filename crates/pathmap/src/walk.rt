@@ -1,4 +1,5 @@
-//! Children walked in order beside a name.
+//! Steps over children in order, beside a name, for walks over two maps (`under`, `pick`). A search by halves stands in
+//! `place`.
 
 ghost use Rattle.std.specs.Prelude.{◌≡◌, ◌++◌, ◌≤◌, length, IfOk, OnOk, string_bytes};
 ghost use Rattle.std.specs.Option.{option_map};

@@ -1,4 +1,4 @@
-//! A map without the paths of a set.
+//! A map without the paths at or below those of a set; single paths are picked in `pick`.
 
 ghost use Rattle.std.specs.Prelude.{◌≡◌, string_bytes};
 ghost use Rattle.pathmap.specs.Beside.{without};
@@ -17,7 +17,7 @@ fn is_full(child: &(ElemText, PathMap)) -> bool
     !child.1.is_bare()
 }
 
-/// Leaves those that have a path.
+/// Keeps those that have a path.
 fn keep_full(below: &mut Vec<(ElemText, PathMap)>)
     ensures { contents_in below.new.items ≡ full_in (contents_in below.old.items) }
 {

@@ -1,4 +1,4 @@
-//! Single events, handed to the hub.
+//! Hands single events to the hub. Bytes are read from a stream in `reading`, and written to it in `writing`.
 
 ghost use Rattle.polling.specs.Happens.{Hears, Leads, LeadsOn};
 

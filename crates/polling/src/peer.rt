@@ -1,4 +1,4 @@
-//! One connection: what its peer keeps the server waiting for, and its turns.
+//! One connection: what its peer keeps the server waiting for, and its turns. All connections stand in `peers`.
 
 ghost use Rattle.std.specs.Prelude.{◌≡◌, [], false};
 ghost use Rattle.httpedge.specs.Connections.{out_on, waiting_on};

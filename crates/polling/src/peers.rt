@@ -1,4 +1,5 @@
-//! The connections of a listener, by their ids, which are also the tokens of what the system reports.
+//! The connections of a listener, by their ids, which are also the tokens of what the system reports. One connection
+//! stands in `peer`.
 
 ghost use Rattle.std.specs.Prelude.{◌≡◌};
 ghost use Rattle.polling.specs.Happens.{Leads};
@@ -69,7 +70,7 @@ pub(crate) struct Peers {
     has_lines: bool,
     /// Connections may wait to be accepted.
     accepts: bool,
-    /// One couldn't be accepted: the listener isn't reported again for it, so a close or a tick tries anew.
+    /// One couldn't be accepted: the listener isn't reported again for it, so a close or a tick tries again.
     is_starved: bool,
     /// The highest id so far.
     highest: u64,
@@ -232,7 +233,7 @@ impl Peers {
         }
     }
 
-    /// A connection has its first turn. Where memory is refused there is none, and the peer sees it closed.
+    /// A connection has its first turn. Out of memory, it has none, and the peer sees it closed.
     fn open(&mut self, stream: TcpStream, now: Instant)
         ensures { Leads self.old.hub self.new.hub }
     {
@@ -363,7 +364,7 @@ impl Peers {
         done.is_ok()
     }
 
-    /// The connections whose peers are silent; where memory is short, some of them.
+    /// The connections whose peers are silent; out of memory, only some of them.
     fn silent(&self, now: Instant) -> Vec<u64> {
         let mut silent = Vec::new(self.alloc);
         for (id, entry) in &self.entries {

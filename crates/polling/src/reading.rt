@@ -1,4 +1,4 @@
-//! What a peer sent is handed to the hub.
+//! Reads what a peer sent and hands it to the hub. What is out on the connection is written in `writing`.
 
 ghost use Rattle.std.specs.Prelude.{List, MatchResult, [], ℕ};
 ghost use Rattle.std.specs.Io.KnownBytes.{Consumes};
@@ -27,7 +27,7 @@ pub enum Readout {
     Closed,
 }
 
-/// Some of the bytes that a reader has next; none where its peer sends no more. The room is taken first, so that no byte
+/// Some of the bytes that a reader has next; none where its peer sends no more. Room is made first, so that no byte
 /// leaves the reader for which there is none.
 fn read_piece<R: Read>(alloc: Global, reader: &mut R) -> io::Result<Vec<u8>>
     ensures { MatchResult result (λ piece. Consumes (R.remaining reader.old) (R.remaining reader.new) piece.items) (λ _. Consumes (R.remaining reader.old) (R.remaining reader.new) []) }

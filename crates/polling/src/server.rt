@@ -1,4 +1,4 @@
-//! The server: a listener on loopback, and the loop over what the system reports.
+//! The server: a listener on loopback, and the loop over what the system reports. The connections stand in `peers`.
 
 ghost use Rattle.std.specs.Prelude.{IfOk, List};
 ghost use Rattle.schema.specs.TypesFile.{ServedShape};

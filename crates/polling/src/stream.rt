@@ -1,4 +1,4 @@
-//! What a connection's stream must do beside reading and writing.
+//! What a connection's stream must do beside reading and writing. It is read in `reading` and written in `writing`.
 
 use mio::net::TcpStream;
 use std::io;

@@ -1,4 +1,4 @@
-//! What is out on a connection is written to its peer.
+//! Writes to a peer what is out on its connection. What the peer sends is read in `reading`.
 
 ghost use Rattle.std.specs.Prelude.{◌≡◌, IfOk, List, [], ℕ};
 ghost use Rattle.std.specs.Io.KnownBytes.{Appends};

@@ -1,4 +1,4 @@
-//! The arguments that a program was started with.
+//! The arguments that a program was started with, as texts. What those of `ssa-replay` say is read in `replay_options`.
 
 use crate::run_fault::RunFault;
 use std::env;

@@ -1,4 +1,5 @@
-//! What the command lines of all programs share: the version, the help, and an option that names a file.
+//! What the command lines of all programs share: the version, the help, and an option that names a file. The options of
+//! `ssa-replay` stand in `replay_options`.
 ghost use Rattle.std.specs.Prelude.{◌≡◌, [], false};
 ghost use Rattle.clap.specs.Built.{FitsChain, IsAuto, TakesValue};
 ghost use Rattle.clap.specs.Words.{app_of, args_of, groups_of, rule_of};

@@ -1,4 +1,5 @@
-//! Laws of what a script's play is, which crates above build on. Each function does nothing of use; what it promises is the law.
+//! Laws of what the play of a script is, which crates above build on. Each function does nothing useful; what it promises
+//! is the law.
 ghost use Rattle.std.specs.Prelude.{ℕ, List, map};
 ghost use Rattle.httpedge.specs.Runs as runs;
 ghost use Rattle.httpedge.specs.Steps as edge;

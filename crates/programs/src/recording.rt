@@ -63,7 +63,7 @@ impl Recorder {
         }
     }
 
-    /// Hands the hub an event that isn't that a peer goes: whether it was taken.
+    /// Hands the hub an event, other than that a peer goes: whether it was taken.
     pub(crate) fn on(&mut self, event: &Event) -> Result<bool, ReplayFault>
         ensures { (s : State) → Records self.old s → peer_goes (event_of event.now) ≡ false → IfOk result (λ taken. (taken ≡ is_none (refusal s (event_of event.now))) × ((t : State) × Steps s (event_of event.now) t × Records self.new t)) }
     {

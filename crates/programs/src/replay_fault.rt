@@ -1,4 +1,4 @@
-//! Why a play of a script ends before its last event.
+//! Why a play of a script ends before its last event. Faults of a whole program stand in `run_fault`.
 
 use std::alloc::{AllocError, AllocFailed};
 use std::io;
@@ -8,7 +8,7 @@ use verbs::Fault;
 /// Why a play ended before its last event.
 #[derive(Debug, Drop, Error)]
 pub enum ReplayFault {
-    /// A growth of memory was refused.
+    /// Out of memory.
     #[error("out of memory")]
     Memory,
     /// The store refused a statement, for memory or for size.

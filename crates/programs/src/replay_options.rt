@@ -1,4 +1,4 @@
-//! The command line of `ssa-replay`.
+//! The command line of `ssa-replay`: its options and its help. What the programs share stands in `commands`.
 ghost use Rattle.std.specs.Prelude.{◌≡◌, IfOk, Some, codes, map};
 ghost use Rattle.clap.specs.Words.{FailsBy, fault_of, first_of, matches_of};
 ghost use Rattle.programs.specs.ReplayCommand.{IsReplayCommand, ssa_replay};

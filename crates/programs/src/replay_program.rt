@@ -1,4 +1,4 @@
-//! The program `ssa-replay`.
+//! The program `ssa-replay`, from its arguments to its exit status. The play of a script stands in `replaying`.
 
 use crate::replay_options::options;
 use crate::replaying::replay;

@@ -1,4 +1,4 @@
-//! Plays scripts.
+//! Plays the events of a script over a hub, and prints the replies. The script's text is read in `script`.
 ghost use Rattle.std.specs.Prelude.{◌≡◌, ◌++◌, ℕ, [], List, false, IfOk, IsErrAnd, OnOk, map, take, string_bytes};
 ghost use Rattle.std.specs.Io.KnownBytes.{Appends};
 ghost use Rattle.std.specs.List.{flat_map};
@@ -171,7 +171,7 @@ impl Run {
         Ok(())
     }
 
-    /// Hands the hub an event that prints nothing, and isn't that a peer goes.
+    /// Hands the hub an event that prints nothing, other than that a peer goes.
     fn hand(&mut self, event: &httpedge::Event) -> Result<Vec<u8>, ReplayFault>
         ensures { (r : replays.Run) → RunStands self.old r → peer_goes (event_of event.now) ≡ false → IfOk result (λ v. (q : replays.Run) × Leads r (event_of event.now) v.items q × RunStands self.new q) }
     {
@@ -249,7 +249,7 @@ fn write_connections<W: Write>(
 /// Plays the events in order over a hub without connections and an API without objects. Writes the line of the reply
 /// to each apply, `<status> <body>`, and at the end what was written on each other connection, also where its peer has
 /// gone, in the order of their ids, under a line `connection <id> <bytes>`. An event that the hub refuses changes
-/// nothing; an apply for which no id is left does nothing. Without memory, a front of what the first events write is
+/// nothing; an apply for which no id is left does nothing. Out of memory, a front of what the first events write is
 /// written.
 pub fn replay<W: Write>(
     alloc: Global,

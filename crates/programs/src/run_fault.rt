@@ -1,4 +1,5 @@
-//! Why a program's run ends before it is done, the exit status that tells it, and where it is printed.
+//! Why a program's run ends before it is done, the exit status that tells it, and where it is printed. Faults of a play
+//! stand in `replay_fault`.
 ghost use Rattle.std.specs.Prelude.{◌≡◌};
 ghost use Rattle.std.specs.Process.{exit_status};
 ghost use Rattle.programs.specs.ReplayProgram.{status_of};
@@ -12,7 +13,7 @@ use std::io;
 use std::process::ExitCode;
 use thiserror::Error;
 
-/// Why a run of a program did not end well. A fault of a file has its path.
+/// Why a run of a program ended before it was done. A fault of a file has its path.
 #[derive(Debug, Drop, Error)]
 pub enum RunFault {
     /// The arguments are not those of the program, or ask for its help or its version.
@@ -39,7 +40,7 @@ pub enum RunFault {
     /// The replies cannot be written.
     #[error("standard output: {0}")]
     Output(io::Error),
-    /// A growth of memory was refused.
+    /// Out of memory.
     #[error("out of memory")]
     Memory,
     /// The store refused a statement, for memory or for size.

@@ -1,4 +1,4 @@
-//! Scripts: the events of a text, one JSON object a line.
+//! Scripts: the events of a text, one JSON object a line. They are played in `replaying`.
 ghost use Rattle.std.specs.Prelude.{◌≡◌, ℕ, IfOk, IsErrOf, map, option_and_then, option_map, string_bytes};
 ghost use Rattle.std.specs.Vec.Iter.{into_iter_items};
 ghost use Rattle.serde_json.specs.View.{items_view, members_view, view};
@@ -111,7 +111,7 @@ fn is_target(target: &str) -> bool
 fn apply_in(members: Map<String, Value>) -> Option<ApplyLine>
     ensures { option_map apply_of result ≡ apply_in (members_view members.entries) }
 {
-    // A map hands out its members in byte order of their names.
+    // A map gives its members in byte order of their names.
     let mut members = members.into_iter();
     let body = next_named(&mut members, "body")?;
     let force = next_truth(&mut members, "force")?;
@@ -239,7 +239,7 @@ pub enum ScriptFault {
     /// The first bad line, counted from 1.
     #[error("line {0}: bad event")]
     BadEvent(usize),
-    /// A growth of memory was refused.
+    /// Out of memory.
     #[error("out of memory")]
     Memory,
 }

@@ -1,4 +1,4 @@
-//! Types files: the types that a file declares, or the fault that names the file.
+//! Types files: the types that a file declares, or the fault that names the file. Its text is read in the crate `schema`.
 ghost use Rattle.std.specs.Prelude.{◌≡◌, ℕ, List, Result, None, Err, string_bytes};
 ghost use Rattle.schema.specs.Refusals.{Refusal};
 ghost use Rattle.schema.specs.Seen.{Fails};

@@ -1,4 +1,4 @@
-//! What is set aside of a list until its last page.
+//! What is set aside of a list until its last page. A page is taken in `pages`.
 
 ghost use Rattle.std.specs.Prelude.{◌≡◌, ◌++◌, ◌&&◌, true, map, OnOk, vec_len};
 ghost use Rattle.std.specs.FinMap as fin;

@@ -1,4 +1,4 @@
-//! What is asked for next, or now.
+//! What an informer asks for, now or next: a page of a list, or a watch. The bytes of the request stand in `requests`.
 
 use crate::aside::Aside;
 

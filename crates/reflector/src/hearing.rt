@@ -1,4 +1,5 @@
-//! What the items of a reply make of what is kept, and of what is asked.
+//! Takes the items of a reply, which change what is kept and what is asked. Pages are taken in `pages`, lines in
+//! `taking`.
 
 ghost use Rattle.std.specs.Prelude.{◌≡◌, [], map, true, false, IfOk, OnErr};
 ghost use Rattle.indexer.specs.Indexer.{indexes_of, names_of};
@@ -28,7 +29,7 @@ pub(crate) struct Turn {
     pub(crate) is_asking: bool,
 }
 
-/// Asks this, when it is time.
+/// What is asked next, once the caller sends it.
 fn later(asks: Asks) -> Turn
     ensures asks { result.asks ≡ asks }
     ensures asking { result.is_asking ≡ false }
@@ -39,7 +40,7 @@ fn later(asks: Asks) -> Turn
     }
 }
 
-/// Goes on asking this.
+/// What is still asked.
 fn still(asks: Asks) -> Turn
     ensures asks { result.asks ≡ asks }
     ensures asking { result.is_asking ≡ true }

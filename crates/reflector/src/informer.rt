@@ -1,4 +1,5 @@
-//! A client that mirrors a server's objects.
+//! The informer: a client that mirrors a server's objects, and the calls on it. How a reply changes it stands in
+//! `replying` and `hearing`.
 
 ghost use Rattle.std.specs.Prelude.{◌≡◌};
 ghost use Rattle.indexer.specs.Indexer.{indexes_of, names_of};
@@ -177,7 +178,7 @@ impl<I: IndexBy> Informer<I> {
         self.mirror.revision
     }
 
-    /// The notices that wait, which then wait no more.
+    /// Returns the notices that wait, each of them once.
     pub fn take_notices(&mut self) -> Vec<Notice>
         ensures notices { (c : Client) (bytes : List ℕ) (told : List Told) → Runs (λ b s. I.keys b s) self.old c bytes told → map notice_seen result.items ≡ c.notices }
         ensures taken { (c : Client) (bytes : List ℕ) (told : List Told) → Runs (λ b s. I.keys b s) self.old c bytes told → Runs (λ b s. I.keys b s) self.new (taken c) bytes told }

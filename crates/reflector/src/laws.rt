@@ -29,8 +29,8 @@ pub fn follows_the_server()
     ensures reached { (server : Server) (wanted : Wanted) (m : ℕ) (c : Client) (xs : List Told) (p : ℕ) → Follows server wanted m c xs p → c.asks ≡ follow → (hears_all wanted c xs).is_asking ≡ true → kept (hears_all wanted c xs).cache ≡ server.at p }
 {}
 
-/// Over any run of events, where the server answers what is asked and keeps what it had (requests, items heard, more of
-/// a watch, cuts, refused memory, restarts, notices taken, a server that changes): after each of them what the client
+/// Over any run of events, where the server answers what is asked and keeps what it had (requests, items received, more
+/// of a watch, cuts, refused memory, restarts, notices taken, a server that changes): after each of them what the client
 /// keeps is the server's objects at the revision that it reports, which the server has, and which is not below any that
 /// it reported before, also over restarts.
 pub fn mirrors_the_server()

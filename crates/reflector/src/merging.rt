@@ -1,4 +1,4 @@
-//! What differs between two lists of objects, both in the order of places.
+//! What differs between two lists of objects, both in the order of places. The notices are kept in `noting`.
 
 ghost use Rattle.std.specs.Prelude.{◌≡◌, ◌++◌, true, IfOk, OnOk, Some, None, map};
 ghost use Rattle.std.specs.FinMap as fin;
@@ -20,7 +20,7 @@ fn order_of(key: &ObjectKey, object: &Object) -> Ordering
         .then(key.name.cmp(&object.name))
 }
 
-/// What there is to tell where both stand at one place.
+/// The notice where both stand at one place.
 fn update(was: &Object, now: &Object) -> Result<Option<Notice>, AllocError>
     ensures { IfOk result (λ n. told_of n ≡ notice_of (Some (stored_of was.now)) (Some (stored_of now.now))) }
 {
@@ -30,7 +30,7 @@ fn update(was: &Object, now: &Object) -> Result<Option<Notice>, AllocError>
     Ok(Some(Notice::Updated(was.try_copy()?, now.try_copy()?)))
 }
 
-/// What there is to tell of the first place of both.
+/// The notice of the first place of both.
 fn first_notice(order: Ordering, was: &Object, now: &Object) -> Result<Option<Notice>, AllocError>
     ensures { IfOk result (λ n. told_of n ≡ first_notice order (stored_of was.now) (stored_of now.now)) }
 {
@@ -50,7 +50,7 @@ fn push(told: &mut Vec<Notice>, notice: Option<Notice>) -> Result<(), AllocError
     Ok(())
 }
 
-/// Tells of the first place of both what there is to tell; answers how the two places are ordered.
+/// Adds the notice of the first place of both; answers how the two places are ordered.
 fn tell_first(
     held: &(&ObjectKey, &Object),
     now: &Object,
@@ -82,7 +82,7 @@ fn tell_added(new: &[Object], told: &mut Vec<Notice>) -> Result<(), AllocError>
     Ok(())
 }
 
-/// What there is to tell where the objects of the second list stand in place of those of the first.
+/// The notices where the objects of the second list replace those of the first.
 pub(crate) fn differences(
     alloc: Global,
     old: &[(&ObjectKey, &Object)],

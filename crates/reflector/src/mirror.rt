@@ -1,4 +1,4 @@
-//! What is kept of the server's objects.
+//! What an informer keeps: the server's objects, their revision, and the notices that wait. It is changed in `noting`.
 
 use crate::notice::Notice;
 use indexer::Indexer;

@@ -1,4 +1,4 @@
-//! What an item of a reply says to a client that asks a list or a watch.
+//! What an item of a reply says to a client that asks a list or a watch. What it changes stands in `hearing`.
 
 ghost use Rattle.std.specs.Prelude.{◌≡◌, IfOk};
 ghost use Rattle.wireclient.specs.Views.{told_of};

@@ -1,4 +1,4 @@
-//! What happened to an object.
+//! A notice: what happened to an object. Notices are kept in `noting`; those of two lists are found in `merging`.
 
 ghost use Rattle.std.specs.Prelude.{◌≡◌, Some, None, option_map};
 ghost use Rattle.indexer.specs.Objects.{stored_of};
@@ -18,7 +18,7 @@ pub enum Notice {
     Deleted(Object),
 }
 
-/// What there is to tell where this object stands in place of what was there; of the same text nothing.
+/// The notice where this object replaces what was there; none where the text is the same.
 pub(crate) fn put_notice(was: Option<Object>, now: Object) -> Option<Notice>
     ensures { told_of result ≡ notice_of (option_map stored_of was) (Some (stored_of now)) }
 {
@@ -34,7 +34,7 @@ pub(crate) fn put_notice(was: Option<Object>, now: Object) -> Option<Notice>
     }
 }
 
-/// What there is to tell where what was there is gone.
+/// The notice where what was there is removed; none where nothing was there.
 pub(crate) fn removed_notice(was: Option<Object>) -> Option<Notice>
     ensures { told_of result ≡ notice_of (option_map stored_of was) None }
 {

@@ -1,4 +1,4 @@
-//! Changes of the cache, each with its notice.
+//! Changes of the cache, each with its notice. What a notice says stands in `notice`.
 
 ghost use Rattle.std.specs.Prelude.{◌≡◌, ◌++◌, ◌<◌, None, Some, IfOk, OnOk, OnErr, map, option_map, vec_capacity, vec_len};
 ghost use Rattle.std.specs.FinMap as fin;
@@ -17,7 +17,7 @@ use crate::notice::{Notice, put_notice, removed_notice};
 use indexer::{IndexBy, Indexer, Object, ObjectKey};
 use std::alloc::{AllocError, Global};
 
-/// Tells what there is to tell, for which there is room.
+/// Adds the notice, if there is one, for which there is room.
 fn tell(notices: &mut Vec<Notice>, notice: Option<Notice>)
     requires { vec_len notices.old < vec_capacity notices.old }
     ensures { map notice_seen notices.new.items ≡ map notice_seen notices.old.items ++ told_of notice }
@@ -65,7 +65,7 @@ pub(crate) fn remove_noted<I: IndexBy>(
     Ok(())
 }
 
-/// What there is to tell where just these objects are kept.
+/// The notices where just these objects are kept.
 fn differences_to<I: IndexBy>(
     alloc: Global,
     indexer: &Indexer<I>,

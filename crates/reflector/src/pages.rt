@@ -1,4 +1,4 @@
-//! What a list's page makes of what is kept.
+//! Takes a page of a list: its objects are set aside, or kept with the last page. Lines of a watch are taken in `taking`.
 
 ghost use Rattle.std.specs.Prelude.{◌≡◌, false, map, option_map, string_bytes, IfOk, OnErr, OnOk};
 ghost use Rattle.std.specs.FinMap as fin;

@@ -1,4 +1,4 @@
-//! What a piece of an open reply makes of what is kept, and of what is asked.
+//! Takes a piece of an open reply, whose items change what is kept and what is asked. One item is taken in `hearing`.
 
 ghost use Rattle.std.specs.Prelude.{◌≡◌, ℕ, List, ◌++◌, Some, true, is_some, map, IfOk, OnErr};
 ghost use Rattle.indexer.specs.Indexer.{indexes_of, names_of};
@@ -19,8 +19,8 @@ use indexer::IndexBy;
 use std::alloc::{AllocError, Global};
 use wireclient::{Item, ReplyReader};
 
-/// The items that a piece of the reply completes. A reader that has told a malformed reply isn't asked again, so what
-/// fails is memory.
+/// The items that a piece of the reply completes. A reader that has told a malformed reply isn't fed again, so this fails
+/// only out of memory.
 fn read(reader: &mut ReplyReader, piece: &[u8]) -> Result<Vec<Item>, AllocError>
     ensures { (bytes : List ℕ) (told : List Told) → IsRead (Some reader.old) bytes told → IfOk result (λ items. IsRead (Some reader.new) (bytes ++ piece.now) (told ++ map told_of items.items)) }
 {

@@ -1,4 +1,4 @@
-//! The requests of a client.
+//! The bytes of an informer's requests, for pages of a list and for watches. Which is due stands in `asks`.
 
 ghost use Rattle.std.specs.Prelude.{◌≡◌, ◌++◌, ◌∷◌, [], None, codes, decimal, IfOk, OnOk, option_map, string_bytes};
 ghost use Rattle.form_urlencoded.specs.Form.{append_pair};
@@ -131,7 +131,7 @@ fn query_of(
     }
 }
 
-/// The bytes that ask this.
+/// The bytes of the request that asks this.
 pub(crate) fn request_of(
     alloc: Global,
     settings: &Settings,

@@ -1,4 +1,4 @@
-//! What is mirrored, and how.
+//! The settings of an informer: which objects it mirrors, and how many a page has. The informer stands in `informer`.
 
 ghost use Rattle.std.specs.Prelude.{◌≡◌, option_map, string_bytes};
 ghost use Rattle.names.specs.Names.{is_dns_label};

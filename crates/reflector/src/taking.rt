@@ -1,4 +1,4 @@
-//! What a watch's line makes of what is kept.
+//! Takes a line of a watch: a change or a bookmark. Pages of a list are taken in `pages`.
 
 ghost use Rattle.std.specs.Prelude.{◌≡◌, ◌+◌, ◌&&◌, None, Some, IfOk, OnErr, cond, nat_le, nat_lt};
 ghost use Rattle.indexer.specs.Indexer.{held_of, indexes_of, names_of};

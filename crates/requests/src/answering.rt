@@ -1,4 +1,4 @@
-//! What is written on a connection of a refusal and of a call's answer.
+//! What is written on a connection for a refusal and for a call's answer. The bytes of a reply stand in `reply`.
 
 ghost use Rattle.std.specs.Prelude.{◌≡◌, List, IfOk, OnErr, option_map};
 ghost use Rattle.schema.specs.TypesFile.{ServedShape};

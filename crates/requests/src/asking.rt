@@ -1,4 +1,4 @@
-//! What a connection asks, by all the bytes that came on it.
+//! What a connection asks, by all the bytes that came on it. The head is read in `head`, the body in `body`.
 
 ghost use Rattle.std.specs.Prelude.{◌≡◌, ◌++◌, ℕ, List, IfOk, take};
 ghost use Rattle.schema.specs.TypesFile.{ServedShape};

@@ -1,4 +1,4 @@
-//! The body of a request.
+//! The body of a request: whether there may be one, how long it is, and its JSON. The head stands in `head`.
 
 ghost use Rattle.std.specs.Prelude.{◌≡◌, ◌≢◌, ◌++◌, ℕ, List, IfOk};
 ghost use Rattle.wire.specs.Lengths.{decimal_value};

@@ -1,8 +1,8 @@
-//! What the bytes that came on a connection come to.
+//! What the bytes that came on a connection decide. It is decided in `head`, `body` and `asking`.
 
 use verbs::Denied;
 
-/// What the bytes that came on a connection come to.
+/// What the bytes that came on a connection decide.
 #[derive(Debug, Drop)]
 pub enum Decision<A> {
     /// More bytes are needed.

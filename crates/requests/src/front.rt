@@ -1,4 +1,4 @@
-//! The bytes of a request whose head hasn't come whole.
+//! The bytes of a request whose head hasn't come whole. The search for the head's end stands in `head_end`.
 
 ghost use Rattle.std.specs.Prelude.{take};
 ghost use Rattle.wire.specs.Heads.{max_head};

@@ -1,4 +1,4 @@
-//! What the head of a request says, and when it has come.
+//! What the head of a request says, and when it has come. The search for its end stands in `head_end`.
 
 ghost use Rattle.std.specs.Prelude.{◌≡◌, ◌≢◌, ◌≤◌, ◌<◌, ◌++◌, ℕ, List, true, Some, None, [], length, take, drop, map, option_map, IfSome, IsUtf8};
 ghost use Rattle.std.specs.List.{All, filter};

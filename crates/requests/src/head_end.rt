@@ -1,4 +1,5 @@
-//! Where the head of a request ends: at its first empty line, searched for once however its bytes come.
+//! Where the head of a request ends: at its first empty line, searched for once however its bytes come. What the head
+//! says stands in `head`.
 
 ghost use Rattle.std.specs.Prelude.{◌≡◌, ◌≤◌, ◌++◌, ℕ, List, length, take, drop};
 ghost use Rattle.wire.specs.Heads.{end_from, head_end, max_head};

@@ -1,4 +1,4 @@
-//! The law of what bytes ask, which crates above build on. The function does nothing of use; what it promises is the law.
+//! The law of what bytes ask, which crates above build on. The function does nothing useful; what it promises is the law.
 
 ghost use Rattle.std.specs.Prelude.{◌≡◌, ◌≢◌, ◌++◌, ℕ, List};
 ghost use Rattle.schema.specs.TypesFile.{ServedShape};

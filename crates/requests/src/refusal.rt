@@ -1,4 +1,4 @@
-//! Requests that are refused before a call is made of them.
+//! Requests that are refused before a call is made of them. Refusals of calls stand in the crate `verbs`.
 
 ghost use Rattle.std.specs.Prelude.{◌≡◌};
 ghost use Rattle.requests.specs.Refusals.{as_denied, reason_of, message_of};

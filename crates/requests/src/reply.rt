@@ -1,4 +1,4 @@
-//! The bytes of a reply.
+//! The bytes of a reply, and those that a watch begins with. The chunks of a watch stand in `watch_chunks`.
 
 ghost use Rattle.std.specs.Prelude.{◌≡◌, [], IfOk, option_map, unwrap_or, string_bytes};
 ghost use Rattle.http.specs.StatusCode.{reason_phrase};

@@ -1,4 +1,5 @@
-//! The request target, and the media type of its body.
+//! The path and the query of a request target, and the media type that is checked with them. The head that has them
+//! stands in `head`.
 
 ghost use Rattle.std.specs.Prelude.{◌≡◌, option_map};
 ghost use Rattle.requests.specs.Bodies.{has_length, checked_media, path_of, query_of};

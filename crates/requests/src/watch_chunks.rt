@@ -1,4 +1,4 @@
-//! The chunks of a watch (RFC 9112, section 7.1).
+//! The chunks of a watch (RFC 9112, section 7.1). The bytes before them stand in `reply`.
 
 ghost use Rattle.std.specs.Prelude.{◌≡◌, ◌++◌, IfOk, OnOk, string_bytes};
 ghost use Rattle.watchline.specs.Views.{lines_in};

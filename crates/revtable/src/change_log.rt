@@ -1,5 +1,5 @@
-//! The changes in the rows of a database. Its store is any that never lost a page (`IsAlwaysClean`): the proofs say
-//! what they need of it, and the prover is done sooner than where it has a name. `memory` has the one that a table stands on.
+//! The changes in the rows of a database. Its store is any that never lost a page (`IsAlwaysClean`): the proofs say what
+//! they need of it, and the prover is faster than where the store is named. `memory` has the one that a table stands on.
 
 ghost use Rattle.std.specs.Prelude.{◌≡◌, [], ◌∷◌, ◌++◌, ℕ, ◌^◌, ◌<◌, ◌≤◌, IfOk, OnOk, OnErr, option_map, false};
 ghost use Rattle.history.specs.History.{IsRising};

@@ -33,7 +33,7 @@ fn changed_at<S: Alter>(deleting: &mut Transaction<'_, S>, revision: u64) -> Res
     )
 }
 
-/// Takes out what a change superseded: the older change of its key, and itself if it is a deletion.
+/// Deletes what a change superseded: the older change of its key, and itself if it is a deletion.
 fn delete_superseded<S: Alter>(
     deleting: &mut Transaction<'_, S>,
     key: &Key,

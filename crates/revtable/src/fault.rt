@@ -1,4 +1,4 @@
-//! Why a call on the table fails.
+//! Why a call on the table fails. Refusals of the store's calls stand in the crate `revstore`.
 
 use sqlite::{Error, ErrorCode};
 use std::alloc::{AllocError, AllocFailed};
@@ -7,7 +7,7 @@ use thiserror::Error;
 /// Why a call on the table gave no answer. It has changed nothing.
 #[derive(Debug, Drop, Error)]
 pub enum Fault {
-    /// A growth was refused.
+    /// Out of memory.
     #[error("out of memory")]
     Memory,
     /// SQLite refused a statement, for memory or for size.

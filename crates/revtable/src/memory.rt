@@ -1,4 +1,4 @@
-//! The changes in a database over two files in memory. Here alone its store has a name.
+//! The changes in a database over two files in memory. Only here is its store named; the calls stand in `change_log`.
 
 ghost use Rattle.std.specs.Prelude.{◌≡◌, [], IfOk};
 ghost use Rattle.sqlite.specs.Files.{file_state};

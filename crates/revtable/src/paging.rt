@@ -1,4 +1,5 @@
-//! Pages of objects: what is left of one namespace, and then what the namespaces after it have.
+//! Pages of objects: what is left of one namespace, and then what the namespaces after it have. The statements stand in
+//! `statements`.
 
 ghost use Rattle.std.specs.Prelude.{◌≡◌, [], ◌∷◌, ◌++◌, ℕ, ◌^◌, ◌<◌, List, Option, map, take, IfOk, option_map, string_bytes};
 ghost use Rattle.revtable.specs.Asked.{as_change, begins as place_of, in_later, in_one, low_of};

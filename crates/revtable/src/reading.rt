@@ -1,4 +1,4 @@
-//! Rows, read as what they show.
+//! Reads rows as changes and objects. The statements that give the rows stand in `statements`.
 
 ghost use Rattle.std.specs.Prelude.{◌≡◌, IfOk, map, option_map};
 ghost use Rattle.revtable.specs.Decoded.{key_shown, change_shown, entry_shown};

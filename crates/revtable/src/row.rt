@@ -1,4 +1,4 @@
-//! What the table is asked for and hands out.
+//! What the table's calls return: changes, objects and its two numbers. They are read from rows in `reading`.
 
 use history::Key;
 

@@ -1,4 +1,4 @@
-//! What the table asks of its rows.
+//! The SELECT statements over the table's rows. What they give is read in `reading`; `compaction` deletes rows.
 
 ghost use Rattle.std.specs.Prelude.{◌≡◌, [], ◌∷◌, ℕ, ◌^◌, ◌<◌, List, Option, pos, min, length, map, take, IfOk, option_map};
 ghost use Rattle.history.specs.Read.{key_of};

@@ -1,4 +1,4 @@
-//! Why a types file is refused.
+//! Why a types file is refused. The file is read in `file`, a schema in `read`.
 
 use std::alloc::{AllocError, AllocFailed};
 use thiserror::Error;
@@ -25,7 +25,7 @@ pub enum TypesFault {
     /// The file or a type has another form, a name that isn't one, or there are too many types.
     #[error("not the form of a types file")]
     NotTheForm,
-    /// A growth of memory was refused.
+    /// Out of memory.
     #[error("out of memory")]
     Memory,
 }

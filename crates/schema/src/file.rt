@@ -1,4 +1,4 @@
-//! Reads the types of a types file.
+//! Reads a types file: its form, its types and their names. The schema of a type is read in `read`.
 ghost use Rattle.std.specs.Prelude.{◌≡◌, ℕ, List, true, false, IfOk, OnOk, string_bytes, codes, map, length, vec_len, ◌≤◌};
 ghost use Rattle.serde_json.specs.Find.{as_object};
 ghost use Rattle.serde_json.specs.View.{view, items_view, members_view};

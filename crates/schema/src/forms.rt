@@ -1,4 +1,4 @@
-//! What a schema's own keywords say.
+//! What a schema's own keywords say: its form, without its parts. The parts are read in `read`.
 ghost use Rattle.std.specs.Prelude.{◌≡◌, ◌≤◌, map, option_map, string_bytes, OnOk};
 ghost use Rattle.serde_json.specs.View.{items_view, members_view};
 ghost use Rattle.fieldpath.specs.Scalars.{ascend};

@@ -1,4 +1,4 @@
-//! The keywords of a schema, and what stands at them.
+//! The keywords of a schema, and what stands at them. What they say together stands in `forms`.
 ghost use Rattle.std.specs.Prelude.{◌≡◌, map, option_map, length};
 ghost use Rattle.std.specs.List.{list_all};
 ghost use Rattle.serde_json.specs.Find.{get_member};

@@ -1,4 +1,4 @@
-//! Which schemas keep the rules of a types file.
+//! Which schemas keep the rules of a types file. The file itself is read in `file` and `read`.
 ghost use Rattle.std.specs.Prelude.{◌≡◌, ◌&&◌, nat_le};
 ghost use Rattle.fieldpath.specs.Scalars.{ascend};
 ghost use Rattle.schema.specs.KeyNames.{names_in};
@@ -126,7 +126,7 @@ impl Schema {
         }
     }
 
-    /// A type's schema is a granular struct; what is none can only be a part of one.
+    /// A type's schema is a granular struct; any other can only be a part of one.
     fn depth_limit(&self) -> usize
         ensures { result ≡ depth_limit (shape self.now) }
     {
@@ -137,7 +137,8 @@ impl Schema {
     }
 
     /// Whether the schema keeps the rules of a types file, as a type's schema or as a part of one:
-    /// fields in byte order of their names, items as their list's kind wants them, at most 16 deep; 15 where it can only be a part.
+    /// fields in byte order of their names, items as their list's kind requires, at most 16 deep; 15 where it can only be
+    /// a part.
     pub fn lawful(&self) -> bool
         ensures { result ≡ is_lawful (shape self.now) }
     {

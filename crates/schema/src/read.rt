@@ -1,4 +1,4 @@
-//! Reads schemas.
+//! Reads a schema and its parts. What a single level says stands in `forms`; the types file is read in `file`.
 ghost use Rattle.std.specs.Prelude.{◌≡◌, ◌≤◌, ◌+◌, IfOk, codes};
 ghost use Rattle.serde_json.specs.View.{view, members_view};
 ghost use Rattle.schema.specs.Shape.{shape, fields_in};

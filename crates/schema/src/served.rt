@@ -1,4 +1,4 @@
-//! One type that is served, and whether types have the same names.
+//! One type that is served, and whether types have the same names. All types stand in `types`.
 ghost use Rattle.std.specs.Prelude.{◌≡◌, map};
 ghost use Rattle.std.specs.List.{list_any};
 ghost use Rattle.schema.specs.Served.{served};

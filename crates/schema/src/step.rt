@@ -1,4 +1,5 @@
-//! One step down a schema and what it looks at, and the place of a path, which is the fold of its steps.
+//! One step down a schema and what it looks at, and the place of a path, which is the fold of its steps. What stands at a
+//! place is named in `place`.
 ghost use Rattle.std.specs.Prelude.{◌≡◌, false, IfSome, None, Some, map, option_map, string_bytes};
 ghost use Rattle.std.specs.List.{list_all, list_any};
 ghost use Rattle.std.specs.Str.{bytes_eq};

@@ -1,4 +1,4 @@
-//! The names of a type (Kubernetes docs, "Object Names and IDs").
+//! The names of a type (Kubernetes docs, "Object Names and IDs"). Names of objects stand in the crate `names`.
 ghost use Rattle.std.specs.Prelude.{◌≡◌};
 ghost use Rattle.std.specs.Char.{is_ascii_alphanumeric};
 ghost use Rattle.std.specs.List.{list_all};

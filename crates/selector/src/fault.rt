@@ -1,4 +1,4 @@
-//! Why a text is no selector.
+//! Why a text is no selector. The text is read in `selector`, a part of it in `requirement`.
 
 ghost use Rattle.std.specs.Prelude.{◌≡◌};
 ghost use Rattle.selector.specs.declared.fault.ReadError.TheVariants.{Memory};
@@ -26,7 +26,7 @@ pub enum Fault {
 pub enum ReadError {
     /// The text is no selector.
     Fault(Fault),
-    /// There was no memory.
+    /// Out of memory.
     Memory,
 }
 

@@ -1,4 +1,4 @@
-//! One requirement on an object's labels.
+//! One requirement on an object's labels: how it is read, and when it is met. A whole selector stands in `selector`.
 
 ghost use Rattle.std.specs.Prelude.{◌≡◌, [], map, option_map, string_bytes};
 ghost use Rattle.selector.specs.Grammar.{Gives, required, key_of, value_of, values_of, outside_of, among_of, worded, set_of, equal, different, signed, plain_of, part_of, parts_of};
@@ -169,7 +169,7 @@ fn plain_of(alloc: Global, part: &str) -> Result<Requirement, ReadError>
     }
 }
 
-/// A part, without the blanks round it.
+/// A part; blanks at its ends are ignored.
 pub(crate) fn part_of(alloc: Global, part: &str) -> Result<Requirement, ReadError>
     ensures { Gives requirement_of result (part_of part.now) }
 {

@@ -1,4 +1,4 @@
-//! A list of requirements, all of which have to be met.
+//! A list of requirements, all of which have to be met. One requirement stands in `requirement`.
 
 ghost use Rattle.std.specs.Prelude.{◌≡◌, ◌↔◌, [], true};
 ghost use Rattle.selector.specs.Grammar.{Gives, parse_selector};
@@ -39,8 +39,8 @@ impl Selector {
         }
     }
 
-    /// Reads `tier in (web, db),!old` and the like. The empty text selects every object; blanks round a part
-    /// and round its signs have no meaning (Kubernetes documentation, "Labels and Selectors").
+    /// Reads `tier in (web, db),!old` and the like. The empty text selects every object; blanks around a part and around
+    /// its signs are ignored (Kubernetes documentation, "Labels and Selectors").
     ///
     /// Refused with its first fault: a bracket that isn't paired anywhere; then the parts from the left, of
     /// each its form, its key and its values in turn.

@@ -1,4 +1,4 @@
-//! Cutting the text of a selector.
+//! Cuts the text of a selector at the commas outside of brackets. What a part says is read in `requirement`.
 
 ghost use Rattle.std.specs.Prelude.{◌≡◌, ◌<◌, Bool, List, length, option_map, IfSome, true, false};
 ghost use Rattle.selector.specs.Grammar.{trimmed, without_trailing_blanks, are_paired, first_part, cut_at_sign, Sign};

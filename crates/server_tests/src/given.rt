@@ -1,4 +1,4 @@
-//! What tests are given: types files of widgets.
+//! The types files that tests are given. The rows of tests over them are played in `hub_rows`.
 
 /// One type, whose objects have an image, replicas and settings by name.
 pub const WIDGET_TYPES: &str =

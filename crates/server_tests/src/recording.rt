@@ -1,4 +1,4 @@
-//! A runtime that keeps what a program prints.
+//! A runtime that keeps what a program prints. The programs are run in `replays`.
 
 use std::alloc::{Allocator, Global};
 use std::cell::RefCell;

@@ -1,4 +1,4 @@
-//! The turn of one connection.
+//! The turn of one connection, and of its watch: reading, the hub, writing. All connections stand in `server`.
 
 ghost use Rattle.std.specs.Prelude.{◌≡◌, [], List, MatchResult, ℕ, OnOk};
 ghost use Rattle.std.specs.Io.KnownBytes.{Appends, Consumes};

@@ -1,4 +1,5 @@
-//! Connections of a listener, one after another.
+//! Accepts the connections of a listener, one after another, and ends them. What is served on one stands in `server` and
+//! `conversing`.
 
 ghost use Rattle.std.specs.Prelude.{◌≡◌, OnOk};
 ghost use Rattle.serving.specs.ServerSeen.{hub_of, limits_of};
@@ -11,7 +12,7 @@ use std::rt::Clock;
 use std::time::{Duration, Instant};
 use std::{io, thread};
 
-/// How many milliseconds a listener rests that could not accept, as where no descriptors are left.
+/// How many milliseconds a listener waits after it could not accept, as where no descriptors are left.
 const PAUSE: u64 = 10;
 
 /// For how many milliseconds a peer may send nothing before its connection is closed.
@@ -45,7 +46,7 @@ fn end<C: Clock, S: Read + OpenStream>(clock: &C, stream: &mut S, is_kept: bool)
     }
 }
 
-/// The next connection of the listener, which rests where it can't accept one.
+/// The next connection of the listener, which waits after it could not accept one.
 fn accept<C: Clock, L: OpenListener>(clock: &C, listener: &L) -> io::Result<L::Stream> {
     match listener.accept() {
         Ok((stream, _)) => Ok(stream),
@@ -66,7 +67,7 @@ where
     ensures served { ServesOne (hub_of server.old) (hub_of server.new) }
 {
     let stream = accept(clock, listener)?;
-    // Where it fails, a line of a watch only comes later.
+    // If this fails, lines of a watch only come later.
     let _ = stream.set_nodelay(true);
     let mut reader = stream.try_clone()?;
     let is_kept = server.serve(&mut reader, stream);

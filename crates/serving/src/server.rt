@@ -1,4 +1,5 @@
-//! The server: one connection after another, and the streams of its watches.
+//! The server: one connection after another, and the streams of its watches. The turn of one connection stands in
+//! `conversing`.
 
 ghost use Rattle.std.specs.Prelude.{◌≡◌, ◌+◌, ◌++◌, ◌∷◌, [], List, map, true};
 ghost use Rattle.schema.specs.TypesFile.{ServedShape};
@@ -118,8 +119,7 @@ impl<W: Write + Drop> Server<W> {
         }
     }
 
-    /// Keeps the stream of a watch that goes on, and answers whether it does; without memory for that its peer is sent
-    /// away.
+    /// Keeps the stream of a watch that goes on, and answers whether it does; out of memory, the connection ends.
     fn settle(&mut self, id: u64, writer: W, done: io::Result<()>) -> bool
         requires { are_rising (watches_of self.old ++ id ∷ next_of self.old ∷ []) ≡ true }
         ensures limits { limits_of self.new ≡ limits_of self.old }

@@ -1,4 +1,5 @@
-//! The arguments of `ssa-server`.
+//! The command line of `ssa-server`: its options, their numbers and its help. What the programs share stands in the crate
+//! `programs`.
 
 ghost use Rattle.std.specs.Prelude.{◌≡◌, [], IfOk, Some, codes, map};
 ghost use Rattle.clap.specs.Built.{FitsChain, IsAuto};

@@ -1,4 +1,4 @@
-//! Why a run of the program ended.
+//! Why a run of `ssa-server` ended. The faults of all programs stand in the crate `programs`.
 
 ghost use Rattle.std.specs.Prelude.{◌≡◌};
 ghost use Rattle.ssa_server.specs.Statuses.{status_of};
@@ -9,10 +9,10 @@ use std::io::{self, ErrorKind};
 use thiserror::Error;
 use verbs::Fault;
 
-/// Why a run of the program did not end well.
+/// Why a run of the program ended before it was done.
 #[derive(Debug, Drop, Error)]
 pub enum ServerFault {
-    /// A fault of the arguments, the types file, the output, the memory or the store.
+    /// A fault of the arguments, the types file, the output or the store, or out of memory.
     #[error("{0}")]
     Run(RunFault),
     /// The value of the option of this name is no number that it may have.

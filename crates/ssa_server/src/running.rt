@@ -1,4 +1,5 @@
-//! The run of the program.
+//! Runs `ssa-server`: the types file is read, the port is told, connections are served. Turns of connections stand in
+//! `serving` and `polling`.
 
 use crate::arguments::{ServerOptions, options};
 use crate::fault::ServerFault;
@@ -83,7 +84,7 @@ fn run(rt: &HostRuntime, arguments: &[String]) -> Result<(), ServerFault> {
     }
 }
 
-/// Runs `ssa-server` on its arguments, the program's name first. Answers the exit status; a fault is printed on the
+/// Runs `ssa-server` with its arguments, the program's name first. Answers the exit status; a fault is printed on the
 /// standard error.
 pub fn ssa_server(rt: &HostRuntime, arguments: &[String]) -> ExitCode {
     match run(rt, arguments) {

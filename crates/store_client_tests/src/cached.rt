@@ -191,7 +191,7 @@ fn is_put_refused(
     Ok(is_refused)
 }
 
-/// A put; refused memory, the objects and both indexes are as before, and it is done when called again.
+/// A put; out of memory, the objects and both indexes are as before, and it is done when called again.
 fn put_anew(alloc: Global, indexer: &mut Indexer<By>, object: Object) -> Result<bool, AllocError> {
     let place = ObjectKey::of(&object)?;
     let again = object.try_copy()?;

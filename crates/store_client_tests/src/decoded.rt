@@ -1,4 +1,4 @@
-//! What lists and watch lines say, and each thing that may be wrong with them.
+//! What lists and watch lines say, and each thing that may be wrong with them. The bytes of replies stand in `replies`.
 //!
 //! `line` is a line of a watch, `any` one of any namespace, `object` an object that is added, and `page` a list's body. The
 //! answer is what it says, or what is wrong with it.

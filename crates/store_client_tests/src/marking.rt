@@ -1,4 +1,4 @@
-//! The marks between which memory is refused.
+//! The marks between which memory is refused. The calls between them stand in `cached`, `stores` and `tables`.
 
 use std::alloc::{AllocError, Global};
 

@@ -1,4 +1,4 @@
-//! Requests, and replies cut at every place.
+//! A client's requests, and replies cut at every place. What lists and lines in them say stands in `decoded`.
 //!
 //! A reply stands in one line: `#` is a head up to its body's length, `§` a head of chunks, `¶` the end of a line, and `␍` and
 //! `␊` are its two bytes. `FRONT~COUNT PIECE~BACK` is a reply with the piece so many times.

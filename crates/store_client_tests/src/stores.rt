@@ -1,4 +1,5 @@
-//! A store over a table: that the calls succeed where memory is ample, and what refused memory leaves.
+//! A store over a table: that the calls succeed where memory is ample, and what refused memory leaves. The table alone is
+//! tested in `tables`.
 //!
 //! Each example is played on a store of its own; its first line is `NAME at REVISION`, where the store begins.
 //!
@@ -109,7 +110,7 @@ fn answer_at(alloc: Global, store: &mut Store, call: &str, revision: u64) -> Res
     }
 }
 
-/// All that there is to be seen: the numbers, what stood at the first and at the last of the two, and the changes
+/// All that can be seen: the numbers, what stood at the first and at the last of the two, and the changes
 /// between them.
 fn seen_of_store(store: &mut Store, alloc: Global) -> Result<String, Fail> {
     let (current, compacted) = numbers(store);
@@ -133,7 +134,7 @@ fn is_write_refused(
     Ok(is_refused)
 }
 
-/// A write; refused memory, the store shows what it did, and the write is done when it is called again.
+/// A write; out of memory, the store shows what it showed before, and the write is done when it is called again.
 fn write_anew(store: &mut Store, alloc: Global, key: &Key, body: &str) -> Result<bool, Fail> {
     let before = seen_of_store(store, alloc)?;
     if !is_write_refused(store, alloc, key, body)? {
@@ -155,7 +156,7 @@ fn is_compaction_refused(
     Ok(is_refused)
 }
 
-/// A compaction; refused memory, the store shows what it did, and it is done when it is called again.
+/// A compaction; out of memory, the store shows what it showed before, and it is done when it is called again.
 fn compact_anew(store: &mut Store, alloc: Global, revision: u64) -> Result<bool, Fail> {
     let before = seen_of_store(store, alloc)?;
     if !is_compaction_refused(store, alloc, revision)? {

@@ -1,4 +1,5 @@
-//! Histories of objects in a table: that the calls succeed where memory is ample, and what refused memory leaves.
+//! Histories of objects in a table: that the calls succeed where memory is ample, and what refused memory leaves. The
+//! store over it is tested in `stores`.
 //!
 //! Each example is played on a table of its own; its first line is `NAME at REVISION`, where the table begins.
 //!
@@ -223,7 +224,7 @@ pub fn push_changes(
     Ok(())
 }
 
-/// All that there is to be seen: the numbers, the rows, what stood at the first and at the last of the two, and the
+/// All that can be seen: the numbers, the rows, what stood at the first and at the last of the two, and the
 /// changes between them.
 fn seen_of_table(table: &mut Table, alloc: Global) -> Result<String, Fault> {
     let (current, compacted) = marks(table);
@@ -252,7 +253,7 @@ fn is_put_refused(
     Ok(is_refused)
 }
 
-/// A put; refused memory, the table shows what it did, and the put is done when it is called again.
+/// A put; out of memory, the table shows what it showed before, and the put is done when it is called again.
 fn put_anew(table: &mut Table, alloc: Global, key: &Key, body: &str) -> Result<bool, Fault> {
     let before = seen_of_table(table, alloc)?;
     if !is_put_refused(table, alloc, key, body)? {
@@ -270,7 +271,7 @@ fn is_prune_refused(table: &mut Table, alloc: Global, revision: u64) -> Result<b
     Ok(is_refused)
 }
 
-/// A prune; refused memory, the table shows what it did, and the prune is done when it is called again.
+/// A prune; out of memory, the table shows what it showed before, and the prune is done when it is called again.
 fn prune_anew(table: &mut Table, alloc: Global, revision: u64) -> Result<bool, Fault> {
     let before = seen_of_table(table, alloc)?;
     if !is_prune_refused(table, alloc, revision)? {

@@ -1,4 +1,4 @@
-//! The apply by which a summary is written.
+//! The request that applies a summary as an object. The counts stand in `summary`.
 
 ghost use Rattle.std.specs.Prelude.{◌≡◌, IfOk, string_bytes};
 ghost use Rattle.std.specs.FinMap as fin;

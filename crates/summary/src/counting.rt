@@ -1,4 +1,4 @@
-//! Counts by value, one more or one less.
+//! Counts by value, one more or one less. What a notice adds and takes away stands in `summary`.
 
 ghost use Rattle.std.specs.Prelude.{◌≡◌, OnErr, OnOk, option_map};
 ghost use Rattle.indexer.specs.Objects.{stored_of};
@@ -38,7 +38,7 @@ pub(crate) fn add_one(
     Ok(())
 }
 
-/// Counts one less; a value that no object has goes.
+/// Counts one less; a value that no object has is removed.
 pub(crate) fn take_one(counts: &mut BTreeMap<String, u64>, value: &str)
     ensures { counts_in counts.new ≡ with_one_less (counts_in counts.old) value.now }
 {

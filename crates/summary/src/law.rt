@@ -1,4 +1,4 @@
-//! What notices make of the counts.
+//! Laws: what notices make of the counts. The calls that count them stand in `summary`.
 
 ghost use Rattle.std.specs.Prelude.{◌≡◌, ℕ, Bool, List};
 ghost use Rattle.std.specs.FinMap as fin;

@@ -1,4 +1,4 @@
-//! The counts themselves, and the calls that take notices.
+//! The counts themselves, and the calls that take notices. A single count is changed in `counting`.
 
 ghost use Rattle.std.specs.Prelude.{◌≡◌};
 

@@ -71,7 +71,7 @@ impl Tree {
         })
     }
 
-    /// This content less every path at or below one of the set.
+    /// This content without every path at or below one of the set.
     pub fn without(self, set: &FieldSet) -> Tree
         ensures { result ≡ without self set.now }
     {

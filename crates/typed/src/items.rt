@@ -1,4 +1,4 @@
-//! The items of sets and of map lists: which element each is.
+//! The items of sets and of map lists: which element each is. Their values are read in `read`.
 
 ghost use Rattle.std.specs.Prelude.{◌≡◌, ℕ, List, [], Err, Ok, IfOk, OnOk, if◌then◌else◌, option_map, string_bytes};
 ghost use Rattle.fieldpath.specs.Elements.{list_item_text, name_text, set_item_text};
@@ -157,7 +157,7 @@ pub(crate) fn list_item(
     }
 }
 
-/// Takes what was read of an item; an earlier one with its element is a fault of the list.
+/// Adds what was read of an item; an earlier one with its element is a fault of the list.
 pub(crate) fn add_item(
     alloc: Global,
     map: &mut PathMap,

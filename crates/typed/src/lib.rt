@@ -1,4 +1,4 @@
-//! Contents of objects, as trees under a schema.
+//! Contents of objects, as trees under a schema. Schemas stand in the crate `schema`, whole objects in `objects`.
 //!
 //! Promises: a value is read as exactly the content that it spells, or as the first fault in its shape with its path;
 //! one content is put over another path by path.

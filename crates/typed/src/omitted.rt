@@ -1,4 +1,4 @@
-//! What is left out of an object, and copies of objects without it.
+//! What is left out of an object, and copies of objects without it. A content is read without it in `without`.
 
 ghost use Rattle.std.specs.Prelude.{◌≡◌, ◌||◌, IfOk, map};
 ghost use Rattle.serde_json.specs.View.{members_view, view};

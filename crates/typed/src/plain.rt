@@ -1,4 +1,4 @@
-//! Atomic values: their JSON without what counts as absent.
+//! Atomic values: their JSON without what counts as absent. Other values are read in `read`.
 
 ghost use Rattle.std.specs.Prelude.{◌≡◌, [], Err, Ok, IfErr, OnOk, if◌then◌else◌, map};
 ghost use Rattle.serde_json.specs.Data.{Data, object};

@@ -1,4 +1,5 @@
-//! The JSON value of a content, under its schema.
+//! The JSON value of a content, under its schema. Its text is written in `write`; what stands at one path is printed in
+//! `print_parts`.
 
 ghost use Rattle.std.specs.Prelude.{◌≡◌, IfOk, OnOk, option_and_then, option_map, string_bytes};
 ghost use Rattle.serde_json.specs.Data.{object};

@@ -1,4 +1,4 @@
-//! The JSON values of what stands at one path.
+//! The JSON values of what stands at one path. A whole content is printed in `print`.
 
 ghost use Rattle.std.specs.Prelude.{◌≡◌, ◌++◌, IfOk, OnOk, option_map, option_to_list, string_bytes};
 ghost use Rattle.serde_json.specs.Read.{read};

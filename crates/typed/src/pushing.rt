@@ -1,4 +1,4 @@
-//! JSON texts of what stands at a path, appended.
+//! JSON texts of what stands at a path, appended. A whole content is written in `write`.
 ghost use Rattle.std.specs.Prelude.{◌≡◌, ◌++◌, [], OnOk, Some, option_map};
 ghost use Rattle.std.specs.FinMap as fin;
 ghost use Rattle.pathmap.specs.Maps.{content, standing};
@@ -26,7 +26,8 @@ pub(crate) fn push_some(
     }
 }
 
-/// Appends what is held: an atomic value as it is kept, since that is compact JSON; a number or a truth value by a JSON value.
+/// Appends what is held: an atomic value as it is kept, since that is compact JSON; of a number or a truth value a JSON
+/// value is made first.
 fn push_held(out: &mut Vec<u8>, alloc: Global, held: &Held) -> Result<(), AllocError>
     ensures { IsWritable (Some (standing held.now)) → OnOk result (out.new.items ≡ out.old.items ++ text_or_none (value_of (standing held.now))) }
 {

@@ -1,4 +1,5 @@
-//! The content that a JSON value spells under a schema, or its first fault.
+//! The content that a JSON value spells under a schema, or its first fault. Items are told apart in `items`, atomic
+//! values are read in `plain`.
 
 ghost use Rattle.std.specs.Prelude.{◌≡◌, []};
 ghost use Rattle.serde_json.specs.View.{items_view, members_view, view};

@@ -1,4 +1,4 @@
-//! Objects put together of their members' texts.
+//! The text of a JSON object, put together from the texts of its members. Contents are written with it in `write`.
 ghost use Rattle.std.specs.Prelude.{◌≡◌, ◌++◌, false, IfOk, OnOk, string_bytes};
 ghost use Rattle.serde_json.specs.Data.{string};
 ghost use Rattle.serde_json.specs.View.{view};
@@ -68,7 +68,7 @@ fn push_members(out: &mut Vec<u8>, alloc: Global, texts: &Texts) -> Result<(), A
     Ok(out.push(b'}')?)
 }
 
-/// The text of bytes that are one, as all that is written here are; the other arm isn't met.
+/// The text of these bytes. All that is written here is a text, so the other case never occurs.
 fn text_of(bytes: Vec<u8>) -> Result<String, AllocError>
     ensures { IfOk result (λ t. string_bytes t ≡ bytes.items) }
 {

@@ -1,4 +1,4 @@
-//! Contents of objects. Reading and printing stand in modules of their own.
+//! Contents of objects, and the calls on them. They are read in `read`, printed in `print` and written in `write`.
 
 ghost use Rattle.std.specs.Prelude.{◌≡◌, true, false, IfOk, option_and_then, option_map};
 ghost use Rattle.fieldpath.specs.Elements.{name_text};
@@ -49,8 +49,8 @@ impl Model for Tree {
 }
 
 impl Tree {
-    /// The content of a value under a schema, or the first fault in its shape: depth first, members in byte order, items by their place.
-    /// A null member is absent, and so are an empty object and an empty list.
+    /// The content of a value under a schema, or the first fault in its shape: depth first, members in byte order, items
+    /// by their place. A null member is absent, and so are an empty object and an empty list.
     pub fn read(schema: &Schema, alloc: Global, value: &Value) -> Result<Tree, ReadFault>
         ensures { Gives (λ t. t) result (content_of (shape schema.now) (view value.now)) }
     {

@@ -1,5 +1,5 @@
-//! Contents written as JSON texts, straight but for numbers, truth values and map lists of several key fields, which go by a
-//! JSON value.
+//! Contents written as JSON texts. Of numbers, truth values and map lists of several key fields a JSON value is made first
+//! (`print`); all else is written directly.
 ghost use Rattle.std.specs.Prelude.{◌≡◌, [], ◌∷◌, ◌++◌, false, IfOk, OnOk};
 ghost use Rattle.pathmap.specs.Insides.{heads, inside};
 ghost use Rattle.pathmap.specs.Maps.{content};

@@ -1,4 +1,5 @@
-//! The checks before a body is read: route, method, media type.
+//! The checks before a body is read: route, method, media type. What stands in a body is checked in `envelope` and
+//! `naming`.
 
 ghost use Rattle.std.specs.Prelude.{◌≡◌, IfOk, Err, option_map, string_bytes};
 ghost use Rattle.verbs.specs.Admit.{not_admitted, method_served, place_admitted, target_at};

@@ -1,4 +1,4 @@
-//! What the writes share: their body, their refusals and the text that is stored.
+//! What the plans of all calls share: the body of a write, and the plan of a refusal. Its Status is made in `status`.
 
 ghost use Rattle.std.specs.Prelude.{◌≡◌, ◌≢◌, Err, IfOk, codes};
 ghost use Rattle.serde_json.specs.View.{view};
@@ -27,14 +27,14 @@ pub fn body_of(alloc: Global, call: &Call) -> Result<&Value, CallError>
     }
 }
 
-/// A path that leads nowhere.
+/// The refusal of a path that leads nowhere.
 pub fn no_path(alloc: Global) -> CallError
     ensures { RefusesFor result NotFound (codes "no such path") }
 {
     CallError::refused_for(alloc, Reason::NotFound, "no such path")
 }
 
-/// A method that the path does not serve.
+/// The refusal of a method that the path does not serve.
 pub fn not_served(alloc: Global) -> CallError
     ensures { RefusesFor result MethodNotAllowed (codes "method not served here") }
 {

@@ -1,4 +1,4 @@
-//! The API over the store. What each method does stands in modules of its own.
+//! The API over the store. Calls are planned in `plans`, and changes are written in `writing`.
 
 ghost use Rattle.std.specs.Prelude.{◌≡◌, ◌≢◌, ◌≤◌, Err, IfOk};
 ghost use Rattle.history.specs.History.{fresh, last_revision};
@@ -99,7 +99,7 @@ impl Api {
         admitted(self.alloc, place, method, media)
     }
 
-    /// What a call comes to: its answer, and the change that it makes, if any. It changes nothing.
+    /// The plan of a call: its answer, and the change that it makes, if any. It changes nothing.
     pub fn plan(&mut self, call: &Call) -> Result<Plan, Fault>
         ensures planned { (types : List ServedShape) (m : History) → Stands self.old types m
             → IfOk result (λ p. plan_of p ≡ planned types m (call_of call.now)) }

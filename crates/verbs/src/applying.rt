@@ -1,4 +1,5 @@
-//! Applies (Kubernetes docs, "Server-Side Apply").
+//! Applies (Kubernetes docs, "Server-Side Apply"): their checks and their plan. Conflicts stand in `conflicts`, updates
+//! in `updating`.
 
 ghost use Rattle.std.specs.Prelude.{◌≡◌, ◌≤◌, IfOk, option_map};
 ghost use Rattle.serde_json.specs.View.{view};
@@ -29,7 +30,7 @@ use schema::Served;
 use serde_json::Value;
 use std::alloc::Global;
 
-/// Version, ownership, size.
+/// Checks, in order: version, ownership, size.
 fn applied_over(
     alloc: Global,
     served: &Served,

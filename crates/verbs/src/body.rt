@@ -1,4 +1,4 @@
-//! Bodies of requests.
+//! The body of a request, as JSON. Its envelope is checked in `envelope`, its content is read in `reading`.
 
 ghost use Rattle.serde_json.specs.View.{view};
 ghost use Rattle.verbs.specs.Json.{IsJson, IsJson-prop};

@@ -1,4 +1,5 @@
-//! Why a call is refused.
+//! A refusal of a call: its reason, its message and its conflicts. The reasons stand in `reason`, its Status is made in
+//! `status`.
 
 ghost use Rattle.std.specs.Prelude.{◌≡◌, false};
 ghost use Rattle.serde_json.specs.View.{items_view};

@@ -1,4 +1,4 @@
-//! Requests and answers as data.
+//! Calls, answers and plans as data. How a call is planned stands in `plans`.
 
 use crate::body::Body;
 use crate::change::Change;
@@ -36,7 +36,7 @@ pub struct Answer {
     pub watch: Option<WatchFrom>,
 }
 
-/// What a call comes to: the answer, and the change that it makes, if any.
+/// The result of a call: the answer, and the change that it makes, if any.
 #[derive(Drop)]
 pub struct Plan {
     pub answer: Answer,

@@ -1,5 +1,5 @@
-//! The types that are served, and of some of their objects the states that their texts say. What these states are good for
-//! is time alone: a write that finds none reads the object's text, and comes to the same.
+//! The types that are served, and of some of their objects the states that their texts say. These states only save time:
+//! a write that finds none reads the object's text, with the same result. They are kept in the slots of `slot`.
 
 use crate::calls::{Plan, Target};
 use crate::remembered::Remembered;
@@ -75,7 +75,7 @@ impl Catalog {
         &self.types
     }
 
-    /// What the slot of the object that a call names holds, if it is of the same type: it is handed out, and no longer kept
+    /// What the slot of the object that a call names holds, if it is of the same type: it is returned, and no longer kept
     /// here. It may be of another object of the type; whoever takes it compares the text.
     pub(crate) fn take(&mut self, target: &Target) -> Option<Remembered>
         ensures right { IfSome result (IsRightAt self.old target.now.kind) }
@@ -85,7 +85,7 @@ impl Catalog {
         taken_from(&mut self.slots, at, target.kind)
     }
 
-    /// Keeps what is to be remembered after a call that came to this plan. Where that is nothing, the slot stays as `take` left
+    /// Keeps what is to be remembered after a call with this plan. Where that is nothing, the slot stays as `take` left
     /// it.
     pub(crate) fn keep(&mut self, target: &Target, plan: &Plan, remembered: Option<Remembered>)
         requires { IfSome remembered (IsRightAt self.old target.now.kind) }

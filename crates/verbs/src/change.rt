@@ -1,4 +1,4 @@
-//! What a call does to the objects.
+//! The change that a call makes to the objects. It is made in the store by `writing`.
 
 ghost use Rattle.std.specs.Prelude.{◌≤◌};
 ghost use Rattle.history.specs.History.{last_revision};

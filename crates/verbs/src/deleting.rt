@@ -1,4 +1,4 @@
-//! Deletions (Kubernetes docs, "Kubernetes API Concepts", "Resource deletion").
+//! Deletions (Kubernetes docs, "Kubernetes API Concepts", "Resource deletion"). The body of one is read in `options`.
 
 ghost use Rattle.std.specs.Prelude.{◌≡◌, ◌<◌, ◌≤◌, IfOk, option_map};
 ghost use Rattle.schema.specs.Served as types;
@@ -59,7 +59,7 @@ fn deleted(
     })
 }
 
-/// Object there or not, version; nothing is stored, so no size is validated.
+/// Checks, in order: whether the object is there, version. Nothing is stored, so no size is validated.
 fn deleted_over(
     alloc: Global,
     served: &Served,
@@ -81,7 +81,7 @@ fn deleted_over(
     Ok(deleted(alloc, served, current, key, stored, &live.state)?)
 }
 
-/// The body's options, parameters.
+/// Checks, in order: the body's options, parameters.
 pub(crate) fn validate_delete(
     alloc: Global,
     served: &Served,

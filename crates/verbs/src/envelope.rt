@@ -1,4 +1,5 @@
-//! What stands round an object's fields: `apiVersion`, `kind`, `metadata`.
+//! Checks the envelope of a body: `apiVersion`, `kind`, `metadata`. Names, labels and annotations are checked in
+//! `naming`.
 
 ghost use Rattle.std.specs.Prelude.{◌≡◌, ◌++◌, IfOk, Some, codes, string_bytes, option_map};
 ghost use Rattle.serde_json.specs.Data.{Members};
@@ -36,7 +37,7 @@ pub struct Expected<'a> {
 /// Members of a body that are no fields.
 const TOP: [&str; 2] = ["apiVersion", "kind"];
 
-/// Members of `metadata` that are no fields; the last four are read past.
+/// Members of `metadata` that are no fields; the last four are ignored.
 const METADATA: [&str; 8] = [
     "name",
     "namespace",
@@ -48,7 +49,7 @@ const METADATA: [&str; 8] = [
     "selfLink",
 ];
 
-/// What of a body is no field.
+/// The parts of a body that are no fields.
 pub fn left_out() -> Omitted<'static>
     ensures { omitted_of result ≡ left_out }
 {
@@ -84,7 +85,7 @@ fn if_filled(text: &str) -> Option<&str>
     if text.is_empty() { None } else { Some(text) }
 }
 
-/// The member of this name below a path is of a wrong type.
+/// The refusal of a member of a wrong type: the path above it, and its name.
 fn wrong_type(alloc: Global, path: &str, name: &str) -> CallError
     ensures { RefusesFor result BadRequest ((path.now ++ name.now) ++ codes ": wrong type") }
 {

@@ -1,4 +1,4 @@
-//! Gets (Kubernetes docs, "Kubernetes API Concepts", "Resource versions", "Get").
+//! Gets (Kubernetes docs, "Kubernetes API Concepts", "Resource versions", "Get"). Lists are refused in `listing`.
 
 ghost use Rattle.std.specs.Prelude.{◌≡◌, IfOk, option_map, string_bytes};
 ghost use Rattle.schema.specs.Served as types;
@@ -48,7 +48,7 @@ fn check_come(alloc: Global, version: Option<u64>, current: u64) -> Result<(), C
     Err(CallError::refused_for(alloc, Reason::Timeout, message.as_str()))
 }
 
-/// Parameters, object there or not, version.
+/// Checks, in order: parameters, whether the object is there, version.
 pub(crate) fn validate_get(
     alloc: Global,
     served: &Served,

@@ -1,4 +1,4 @@
-//! What an object is of.
+//! The identity of an object, by its type and key: what its text names. What a body has to name stands in `envelope`.
 
 ghost use Rattle.std.specs.Prelude.{◌≡◌};
 ghost use Rattle.schema.specs.Served as types;
@@ -11,7 +11,7 @@ use history::Key;
 use ownership::Identity;
 use schema::Served;
 
-/// What an object of the type and the key is of; the text of its `group/version` is given.
+/// The identity of an object of the type and the key; the text of its `group/version` is given.
 pub fn identity_of<'a>(served: &'a Served, key: &'a Key, api_version: &'a str) -> Identity<'a>
     ensures { api_version.now ≡ api_version_of (types.served served.now) → objects.identity_of result ≡ identity_of (types.served served.now) (key_of key.now) }
 {

@@ -1,4 +1,4 @@
-//! What a write intends, as its body and its parameters say.
+//! What a write intends, as its body and its parameters say. What stands before the write is found in `live`.
 
 ghost use Rattle.std.specs.Prelude.{◌≡◌};
 ghost use Rattle.serde_json.specs.View.{view};
@@ -49,7 +49,7 @@ pub fn at_path<'a>(served: &'a Served, key: &'a Key, method: Method) -> Expected
     }
 }
 
-/// Envelope, shape, parameters.
+/// Checks, in order: envelope, shape, parameters.
 pub fn intent_of<'a>(
     alloc: Global,
     expected: Expected<'_>,

@@ -1,4 +1,5 @@
-//! Laws of the step. Each function does nothing; what it promises is the law.
+//! Laws of calls (the step of a machine); paths stand in `route_laws`. Each function does nothing; what it promises is
+//! the law.
 
 ghost use Rattle.verbs.specs.Promise.{AppliesKeepOthers, BodiesSayStates, CallsChangeOneObject, CallsKeepMachines, CompactionsKeepMachines, ErrorsAreRefusals, GetsChangeNothing, MachinesBegin, PlansByViews, PlansComeNext, RefusalsChangeNothing, StepsKeepMachines, TextsSayStates, UpdatesTakeChanges};
 
@@ -12,7 +13,7 @@ pub fn machines_stay()
     ensures compacts { CompactionsKeepMachines }
 {}
 
-/// What a call comes to depends on the view of the history alone.
+/// The plan of a call depends on the view of the history alone.
 pub fn plans_by_views()
     ensures { PlansByViews }
 {}

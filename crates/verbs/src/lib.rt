@@ -1,9 +1,11 @@
-//! Calls on objects and their answers.
+//! Calls on objects and their answers. The bytes of requests and replies stand in the crate `requests`.
 //!
 //! Promises: what a call answers and changes is the step of the machine, with its checks in their order;
 //! a refused call changes nothing. The machine is a history whose bodies are texts of objects. A watch tells what is
 //! seen of the machine.
-//! Stands on `history` for changes, `revstore` for what stands, `lists` for lists, `watchline` for watches, `objects` for objects and their texts, `ownership` for apply, `typed` for reading, `schema` for types, `params` and `names` for parameters and names.
+//! Stands on `history` for changes, `revstore` for what stands, `lists` for lists, `watchline` for watches, `objects` for
+//! objects and their texts, `ownership` for apply, `typed` for reading, `schema` for types, `params` and `names` for
+//! parameters and names.
 #![tactic(auto)]
 
 mod admitting;

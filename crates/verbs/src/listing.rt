@@ -1,5 +1,5 @@
 //! Refusals of lists and watches (Kubernetes docs, "Kubernetes API Concepts", "Retrieving large results sets in chunks",
-//! "410 Gone responses").
+//! "410 Gone responses"). Lists are planned in `plans`.
 
 ghost use Rattle.lists.specs.declared.refusal.Refusal.TheVariants.{Expired, TooLarge};
 ghost use Rattle.verbs.specs.Seen.{Refuses};

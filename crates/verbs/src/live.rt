@@ -1,4 +1,5 @@
-//! What a write starts from: the object that stands, and the state that its text says.
+//! What a write starts from: the object that stands, and the state that its text says. What is remembered stands in
+//! `remembered`.
 
 ghost use Rattle.std.specs.Prelude.{◌≡◌, ◌≢◌, Err, IfOk, IfSome, Some, option_map};
 ghost use Rattle.schema.specs.Served as types;

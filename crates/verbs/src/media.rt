@@ -1,4 +1,4 @@
-//! Media types of bodies.
+//! Which media types a method's body may have. The check stands in `admitting`.
 
 ghost use Rattle.std.specs.Prelude.{◌≡◌, ◌==◌, option_map};
 ghost use Rattle.std.specs.List.{before_first};
@@ -46,7 +46,7 @@ fn without_trailing(field: &[u8]) -> &[u8]
     }
 }
 
-/// What stands before the parameters, without the blanks round it (RFC 9110, section 8.3.1).
+/// What stands before the parameters, without blanks at its ends (RFC 9110, section 8.3.1).
 fn media_type(field: &[u8]) -> &[u8]
     ensures { result.now ≡ media_type field.now }
 {
@@ -72,7 +72,7 @@ fn is_json(field: Option<&[u8]>) -> bool
     }
 }
 
-/// Whether a body of this media type is taken.
+/// Whether a body of this media type is accepted.
 pub fn accepts_media(method: Method, field: Option<&[u8]>) -> bool
     ensures { result ≡ accepts_media method (option_map (λ b. b.now) field.entry) }
 {

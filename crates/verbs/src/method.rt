@@ -1,4 +1,4 @@
-//! The methods that are served.
+//! The methods of requests. Which of them a path serves stands in `resource`.
 
 ghost use Rattle.std.specs.Prelude.{◌≡◌};
 ghost use Rattle.verbs.specs.Admit.{method_named};

@@ -1,4 +1,4 @@
-//! The checks of names and metadata, in paths and bodies.
+//! The checks of names and metadata, in paths and bodies. The rest of an envelope is checked in `envelope`.
 
 ghost use Rattle.std.specs.Prelude.{◌≡◌, codes, option_map};
 ghost use Rattle.serde_json.specs.View.{members_view, view};
@@ -13,7 +13,7 @@ use names::{is_dns_label, is_dns_subdomain, is_label_key, is_label_value};
 use serde_json::{Map, Value};
 use std::alloc::Global;
 
-/// Nothing to refuse, where the test holds.
+/// A refusal, unless the test holds.
 pub fn require(alloc: Global, is_good: bool, message: &str) -> Result<(), CallError>
     ensures { Gives (λ u. u) result (require is_good Invalid message.now) }
 {

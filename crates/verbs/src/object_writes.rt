@@ -32,7 +32,7 @@ use revtable::Object;
 use schema::Served;
 use std::alloc::Global;
 
-/// An update by the call's body, which is judged first.
+/// An update by the call's body, which is checked first.
 fn validate_put(
     alloc: Global,
     served: &Served,
@@ -53,7 +53,7 @@ fn validate_put(
     validate_update(alloc, served, current, live, key, &call.query, body)
 }
 
-/// An apply of the call's body, which is judged first.
+/// An apply of the call's body, which is checked first.
 fn validate_patch(
     alloc: Global,
     served: &Served,

@@ -1,4 +1,5 @@
-//! The body of a deletion (Kubernetes API reference, "DeleteOptions", "Preconditions").
+//! The body of a deletion (Kubernetes API reference, "DeleteOptions", "Preconditions"). The deletion stands in
+//! `deleting`.
 
 ghost use Rattle.std.specs.Prelude.{◌≡◌, codes, option_map};
 ghost use Rattle.serde_json.specs.View.{items_view, members_view, view};

@@ -1,4 +1,4 @@
-//! The parameters of a call, and the refusal of a bad one.
+//! The parameters of a call, and the refusal of a bad one. They are read in the crate `params`.
 
 ghost use Rattle.std.specs.Prelude.{◌≡◌, ◌++◌, IfOk, codes, string_bytes};
 ghost use Rattle.params.specs.Parameters.{name_of};

@@ -1,4 +1,4 @@
-//! The place in the routes that a path leads to.
+//! The place in the routes that a path leads to. The routes stand in `route`.
 
 ghost use Rattle.std.specs.Prelude.{◌≡◌, option_map};
 ghost use Rattle.matchit.specs.Params.{AllText, named};

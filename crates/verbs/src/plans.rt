@@ -1,4 +1,4 @@
-//! What a call comes to, by what stands in the store.
+//! The plan of a call, by its method and what stands in the store. Writes of one object are planned in `object_writes`.
 
 ghost use Rattle.std.specs.Prelude.{◌≡◌, ◌≢◌, ◌≤◌, Err, IfOk, IfSome, List, None, Some, option_map, slice_get, string_bytes};
 ghost use Rattle.std.specs.declared.result.Result.{Result};
@@ -382,7 +382,7 @@ fn planned_in(
     planned_object(alloc, served, store, key, call, known)
 }
 
-/// What a call comes to, where this is remembered of the object that it is of.
+/// The plan of a call, where this is remembered of the object that it is of.
 fn planned_over(
     alloc: Global,
     all: &Types,
@@ -402,7 +402,7 @@ fn planned_over(
     planned_in(alloc, served, store, call, known)
 }
 
-/// What a call comes to.
+/// The plan of a call.
 pub(crate) fn planned(
     alloc: Global,
     catalog: &mut Catalog,

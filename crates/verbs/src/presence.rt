@@ -1,4 +1,4 @@
-//! Objects that are there, and that are not.
+//! Refuses a call whose object isn't there, or is there already. What stands is read in `live`.
 
 ghost use Rattle.std.specs.Prelude.{◌≡◌, IfOk, option_map, string_bytes};
 ghost use Rattle.schema.specs.Served as types;
@@ -24,7 +24,7 @@ fn object_named(alloc: Global, served: &Served, name: &str) -> Result<String, Al
     Ok(text)
 }
 
-/// The object that is there.
+/// The object that is there, or the refusal that there is none.
 pub fn there<'a>(
     alloc: Global,
     served: &Served,
@@ -41,7 +41,7 @@ pub fn there<'a>(
     Ok(stored)
 }
 
-/// Nothing is there.
+/// The refusal of a call whose object is there already, if one is.
 pub fn not_there(
     alloc: Global,
     served: &Served,

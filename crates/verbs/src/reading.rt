@@ -1,4 +1,4 @@
-//! A body as an object's content, and the refusal of one that is none.
+//! A body as an object's content, and the refusal of one that is none. The envelope is checked in `envelope`.
 
 ghost use Rattle.std.specs.Prelude.{◌≡◌, ◌++◌, IfOk, codes, string_bytes};
 ghost use Rattle.serde_json.specs.View.{view};

@@ -1,4 +1,4 @@
-//! The reasons of refusals, their status codes and texts.
+//! The reasons of refusals, their status codes and texts. A whole refusal stands in `call_refusal`.
 
 ghost use Rattle.std.specs.Prelude.{◌≡◌};
 ghost use Rattle.verbs.specs.Reasons.{code_of, reason_text};

@@ -1,4 +1,4 @@
-//! What is remembered of an object's text: the state that it says.
+//! What is remembered of an object's text: the state that it says. It is kept in the slots of `slot`.
 
 ghost use Rattle.std.specs.Prelude.{◌≡◌, IfSome, string_bytes};
 ghost use Rattle.schema.specs.TypesFile.{ServedShape};
@@ -14,7 +14,7 @@ pub struct Remembered {
     pub state: Owned,
 }
 
-/// The state under the text that says it; nothing where there is no memory for the text's copy.
+/// The state under the text that says it; nothing if there is no room in memory for the text's copy.
 pub(crate) fn remember(text: &String, state: Owned) -> Option<Remembered>
     ensures { (t : ServedShape) → IsSaidBy t (string_bytes text.now) (state_of state) → IfSome result (IsRight t) }
 {

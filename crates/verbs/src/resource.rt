@@ -1,4 +1,4 @@
-//! What a path leads to: one object, or those of a type.
+//! What a path leads to, one object or those of a type, and the methods that it serves. The paths stand in `route`.
 
 ghost use Rattle.std.specs.Prelude.{◌≡◌};
 ghost use Rattle.verbs.specs.Admit.{allowed, serves};

@@ -1,4 +1,4 @@
-//! The paths of a type and its objects.
+//! The paths of a type and its objects, as routes. What a path leads to stands in `place` and `resource`.
 
 ghost use Rattle.std.specs.Prelude.{◌≡◌};
 ghost use Rattle.verbs.specs.Admit.{routes};

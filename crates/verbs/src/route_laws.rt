@@ -1,4 +1,4 @@
-//! Laws of routes. The function does nothing; what it promises is the law.
+//! The law of paths; calls stand in `laws`. The function does nothing; what it promises is the law.
 
 ghost use Rattle.verbs.specs.Routes.{PathsOfAll, PathsOfCollections, PathsOfObjects};
 

@@ -1,4 +1,5 @@
-//! What is too large to be stored.
+//! The limits of an object that is stored: its labels and the bytes of its text. The limit of a body stands in the crate
+//! `requests`.
 
 ghost use Rattle.std.specs.Prelude.{◌≡◌, codes};
 ghost use Rattle.serde_json.specs.Data.{Data};

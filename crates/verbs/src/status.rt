@@ -1,4 +1,4 @@
-//! Status objects: the JSON bodies of replies that refuse a request.
+//! Status objects: the JSON bodies of replies that refuse a request. Their reasons stand in `reason`.
 
 ghost use Rattle.std.specs.Prelude.{◌≡◌, IfOk};
 ghost use Rattle.serde_json.specs.Data.{object};

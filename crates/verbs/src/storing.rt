@@ -1,4 +1,4 @@
-//! What is stored: versions, limits, and the object as it is printed.
+//! What is stored: versions, limits, and the object as it is printed. The store is written in `writing`.
 
 ghost use Rattle.std.specs.Prelude.{◌≡◌, ◌≤◌, ◌<◌, codes, OnOk, IfOk, option_map, string_bytes};
 ghost use Rattle.serde_json.specs.Data.{Data};
@@ -196,7 +196,7 @@ pub fn as_it_stands(live: &Object) -> Result<Plan, AllocError>
     })
 }
 
-/// What stands is neither changed nor remembered anew.
+/// What stands is neither changed nor remembered again.
 fn unchanged(live: &Object) -> Result<Written, AllocError>
     ensures plan { IfOk result (λ w. written_plan w ≡ as_it_stands (object_of live.now)) }
     ensures right { (t : ServedShape) → IfOk result (RemembersRight t) }

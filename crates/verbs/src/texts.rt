@@ -1,4 +1,4 @@
-//! Two texts put together, for messages.
+//! Joins two texts to a message. What a message says stands with each check.
 
 ghost use Rattle.std.specs.Prelude.{◌≡◌, ◌++◌, IfOk, string_bytes};
 

@@ -1,4 +1,5 @@
-//! Creations and updates (Kubernetes docs, "Server-Side Apply", "Comparison with Client-Side Apply").
+//! Creations and updates (Kubernetes docs, "Server-Side Apply", "Comparison with Client-Side Apply"). Applies stand in
+//! `applying`.
 
 ghost use Rattle.std.specs.Prelude.{◌≡◌, ◌≤◌, IfOk, option_map};
 ghost use Rattle.serde_json.specs.View.{view};
@@ -108,7 +109,7 @@ pub(crate) fn validate_creation<'a>(
     Ok(Creation { key, intent })
 }
 
-/// Object there or not, version, size.
+/// Checks, in order: whether the object is there, version, size.
 fn updated_over(
     alloc: Global,
     served: &Served,

@@ -1,4 +1,5 @@
-//! Watches of served types (Kubernetes docs, "Kubernetes API Concepts", "Efficient detection of changes").
+//! Watches of served types (Kubernetes docs, "Kubernetes API Concepts", "Efficient detection of changes"). A watch's
+//! position stands in the crate `watchline`.
 
 ghost use Rattle.std.specs.Prelude.{◌≡◌, ◌≢◌, Err, IfOk, None, Ok, OnErr, false};
 ghost use Rattle.schema.specs.Served.{types_view};

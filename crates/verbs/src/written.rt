@@ -1,4 +1,4 @@
-//! A write's plan, and what is remembered of it.
+//! A write's plan, and what is remembered of it. The slots for it stand in `slot`.
 
 use crate::calls::Plan;
 use crate::remembered::Remembered;

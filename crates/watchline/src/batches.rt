@@ -1,4 +1,4 @@
-//! The changes after a revision, a few at a time.
+//! The changes after a revision, a few at a time. What a watch sees of one stands in `seen`.
 
 ghost use Rattle.std.specs.Prelude.{◌≡◌, ◌<◌, ◌≤◌, ◌++◌, IfOk, map, option_map, take};
 ghost use Rattle.std.specs.Prelude as prelude;

@@ -1,4 +1,4 @@
-//! Where a watch stands.
+//! The cursor of a watch: its selection and its position, and the calls on it. What a pump tells stands in `telling`.
 
 ghost use Rattle.std.specs.Prelude.{◌≡◌, false, IfOk, None, Ok, OnErr, Some, option_map, string_bytes};
 ghost use Rattle.watchline.specs.Opening.{begun, left_of, told_of};

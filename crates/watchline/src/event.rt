@@ -1,4 +1,4 @@
-//! What a line of a watch tells: the event's type.
+//! What a line of a watch tells: the event's type. A whole line stands in `lines`.
 
 ghost use Rattle.std.specs.Prelude.{◌≡◌};
 ghost use Rattle.watchline.specs.Lines.{type_text};

@@ -1,4 +1,4 @@
-//! The lines of a watch.
+//! The bytes of a watch's lines. Which lines are due stands in `telling`, their types in `event`.
 
 ghost use Rattle.std.specs.Prelude.{◌≡◌, IfOk, string_bytes};
 ghost use Rattle.serde_json.specs.View.{view};

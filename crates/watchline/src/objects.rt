@@ -1,4 +1,4 @@
-//! The objects that stood when a watch was opened and are still to be told.
+//! The objects that stood when a watch was opened and are still to be told. Changes are read in `batches`.
 
 ghost use Rattle.std.specs.Prelude.{◌≡◌, ◌≤◌, IfOk, Some, map, take};
 ghost use Rattle.history.specs.View.{IsView};

@@ -1,4 +1,4 @@
-//! What a watch begins from.
+//! Opens a watch: from which revision, and what it tells first. Its position from then on stands in `cursor`.
 
 ghost use Rattle.std.specs.Prelude.{◌≡◌, IfOk, option_map, string_bytes};
 ghost use Rattle.lists.specs.Views.{Gives, collection_of};

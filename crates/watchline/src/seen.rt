@@ -1,4 +1,4 @@
-//! What a watch sees of a change.
+//! What a watch sees of a change: an object added, modified or deleted, or nothing. Changes are read in `batches`.
 
 ghost use Rattle.std.specs.Prelude.{◌≡◌, ◌-◌, ◌<◌, ◌≤◌, ◌++◌, IfOk, OnOk, map, option_map, string_bytes};
 ghost use Rattle.history.specs.Read.{key_of};

@@ -1,4 +1,5 @@
-//! The Status that ends a watch (Kubernetes API conventions, "Response Status Kind").
+//! The Status that ends a watch (Kubernetes API conventions, "Response Status Kind"). Refusals of calls stand in the
+//! crate `verbs`.
 
 ghost use Rattle.std.specs.Prelude.{◌≡◌, IfOk, string_bytes};
 ghost use Rattle.serde_json.specs.View.{view};

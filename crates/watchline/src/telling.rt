@@ -1,4 +1,4 @@
-//! What a watch tells at a pump.
+//! What a watch tells at a pump, and where it stands then. The bytes of the lines stand in `lines`.
 
 ghost use Rattle.std.specs.Prelude.{◌≡◌, ◌≤◌, ◌++◌, [], ◌∷◌, true, IfOk, OnOk, map};
 ghost use Rattle.history.specs.Seen.{reached};

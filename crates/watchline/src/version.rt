@@ -1,4 +1,4 @@
-//! An object's text at another version.
+//! Prints an object's text again with another version, as the line of a deletion shows it. The line stands in `lines`.
 
 ghost use Rattle.std.specs.Prelude.{◌≡◌, IfOk, option_and_then, option_map, string_bytes};
 ghost use Rattle.serde_json.specs.Find.{as_object, get_member};
@@ -11,7 +11,7 @@ use revtable::Fault;
 use serde_json::{Map, Value};
 use std::alloc::{AllocError, Global};
 
-/// Takes the member of this name out.
+/// Removes and returns the member of this name.
 fn take(members: &mut Map<String, Value>, name: &str) -> Option<Value>
     ensures value { option_map view result ≡ get_member name.now (members_view members.old.entries) }
     ensures left { members_view members.new.entries ≡ without name.now (members_view members.old.entries) }
@@ -28,7 +28,7 @@ fn into_object(value: Value) -> Option<Map<String, Value>>
     }
 }
 
-/// The members but for `metadata`, and those of `metadata`.
+/// The members without `metadata`, and those of `metadata`.
 fn in_two(members: Map<String, Value>) -> Option<(Map<String, Value>, Map<String, Value>)>
     ensures { option_map (λ p. (members_view p.0.entries, members_view p.1.entries)) result ≡ in_two (members_view members.entries) }
 {
@@ -107,7 +107,7 @@ fn printed_at(alloc: Global, text: &str, revision: u64) -> Result<Option<String>
     Ok(text_of(alloc, &value)?)
 }
 
-/// The object's text at a version: printed anew with it; a text that is no object's stays as it is.
+/// The object's text at a version: printed again with it; a text that is no object's stays as it is.
 pub(crate) fn text_at_version(alloc: Global, text: &str, revision: u64) -> Result<String, Fault>
     ensures { IfOk result (λ s. string_bytes s ≡ text_at_version revision text.now) }
 {

@@ -1,4 +1,4 @@
-//! The fields of a head.
+//! The fields of a head: how many there may be, and their names. Lengths stand in `length`.
 
 ghost use Rattle.std.specs.Prelude.{◌≡◌, length};
 ghost use Rattle.httparse.specs.Spans.{header_bytes, IsHeaderWithin};

@@ -1,4 +1,4 @@
-//! Where a head ends: at its first empty line.
+//! Where a head ends: at its first empty line. Where a byte stands before that is named in `place`.
 
 ghost use Rattle.std.specs.Prelude.{◌≡◌};
 ghost use Rattle.wire.specs.Heads.{place_after};

@@ -1,4 +1,4 @@
-//! Where the bytes of a head stand.
+//! Where the bytes of a head stand, line by line. How a byte changes it stands in `head_end`.
 
 /// Where the bytes of a head stand, while more of it is to come.
 #[derive(Clone, Copy, Debug, PartialEq, Eq)]

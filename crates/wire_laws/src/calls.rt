@@ -1,4 +1,4 @@
-//! What the client prints, the server reads.
+//! Laws: the server reads the requests that the client prints. Replies stand in `replies`.
 
 ghost use Rattle.std.specs.Prelude.{◌≡◌, ◌≤◌, ℕ, List, [], ◌∷◌, ◌++◌, length, true, false, Option, Some, None};
 ghost use Rattle.std.specs.List.{All, list_any};

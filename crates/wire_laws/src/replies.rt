@@ -1,4 +1,4 @@
-//! What the server prints, the client reads.
+//! Laws: the client reads the replies that the server prints. Watches stand in `watches`.
 
 ghost use Rattle.std.specs.Prelude.{◌≡◌, ◌≤◌, ℕ, List, [], ◌∷◌, length, IsUtf8, None, Ok, Option, Some, slice_get};
 ghost use Rattle.http.specs.StatusCode.{IsStatusCode};

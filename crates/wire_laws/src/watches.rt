@@ -1,4 +1,4 @@
-//! What the server writes of a watch, the client reads.
+//! Laws: the client reads what the server writes of a watch. Other replies stand in `replies`.
 
 ghost use Rattle.std.specs.Prelude.{◌+◌, ◌≤◌, length, ◌≡◌, ◌++◌, ℕ, Bool, true, false, List, map, Some, nat_lt, ◌==◌};
 ghost use Rattle.std.specs.FinMap as fin;

@@ -1,4 +1,4 @@
-//! What the head of a reply says.
+//! The head of a reply: its status, and how its body is framed. The body is read in `state`.
 
 ghost use Rattle.std.specs.Prelude.{◌≡◌, map, length, option_map};
 ghost use Rattle.std.specs.List.{All};

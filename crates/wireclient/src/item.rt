@@ -1,4 +1,4 @@
-//! What a reply consists of.
+//! The items of a reply, in the order in which they come. What their bytes say is read in the crate `decoder`.
 
 /// A part of a reply, in the order in which they come.
 #[derive(Debug, Drop, PartialEq, Eq)]
@@ -9,7 +9,7 @@ pub enum Item {
     Body(Vec<u8>),
     /// A line of a chunked reply, without its line feed.
     Line(Vec<u8>),
-    /// The end of the reply; what comes after it is read past.
+    /// The end of the reply; what comes after it is ignored.
     End,
     /// The next byte broke a rule, and nothing more is told.
     Malformed,

@@ -1,4 +1,4 @@
-//! A reader of replies.
+//! A reader of replies, fed in pieces. What a single byte changes stands in `state`.
 
 ghost use Rattle.std.specs.Prelude.{◌≡◌, IfOk, map};
 ghost use Rattle.wireclient.specs.Reads.{Leads};
@@ -19,12 +19,12 @@ pub enum ReadFault {
     /// The reply broke a rule, as was told.
     #[error("malformed reply")]
     Malformed,
-    /// There was no memory.
+    /// Out of memory.
     #[error("out of memory")]
     Memory,
 }
 
-/// A reader of replies, fed in pieces. Contracts see what has come of the reply, or none once there was no
+/// A reader of replies, fed in pieces. Contracts see what has come of the reply, or none once the reader was out of
 /// memory.
 #[derive(Debug, Drop)]
 pub struct ReplyReader {
@@ -84,8 +84,8 @@ impl ReplyReader {
         }
     }
 
-    /// Takes the next piece and tells what it completes. After `Malformed` was told, or without memory, every
-    /// later call is refused the same.
+    /// Takes the next piece and tells what it completes. After `Malformed` was told, or once out of memory, it refuses
+    /// every later call in the same way.
     pub fn feed(&mut self, piece: &[u8]) -> Result<Vec<Item>, ReadFault>
         ensures stands { (bytes : List ℕ) → Stands self.old bytes → IfOk result (λ _. Stands self.new (bytes ++ piece.now)) }
         ensures told { (bytes : List ℕ) (before : List Told) → Stands self.old bytes → Items bytes before → IfOk result (λ out. Items (bytes ++ piece.now) (before ++ map told_of out.items)) }

@@ -1,4 +1,4 @@
-//! The bytes of a request.
+//! The bytes of a request. Replies are read in `reader`.
 
 ghost use Rattle.std.specs.Prelude.{◌≡◌, ◌++◌, Some, None, IfOk, option_map, string_bytes};
 ghost use Rattle.wireclient.specs.Request.{request};

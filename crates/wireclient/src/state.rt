@@ -1,4 +1,4 @@
-//! What has come of a reply, and what a byte more makes of it.
+//! What has come of a reply, and how a further byte changes it. Bytes that only lengthen what is kept stand in `taking`.
 
 ghost use Rattle.std.specs.Prelude.{◌≡◌, ◌++◌, [], ◌∷◌, None, map, IfOk, OnOk, ◌==◌, if◌then◌else◌};
 ghost use Rattle.wireclient.specs.Reads.{Steps};
