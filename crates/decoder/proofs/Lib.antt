@@ -1,5 +1,4 @@
 pub mod Joined
 pub mod Texts
-pub mod Labels
 pub mod Listed
 pub mod OwnTexts

@@ -1,12 +1,13 @@
 -- The members of the JSON objects that a reply consists of (Kubernetes API conventions, "Types (Kinds)" and "Metadata").
 -- A member that is null is absent, and an empty text is no text.
-use Rattle.std.specs.Prelude.{ℕ, Bool, false, if◌then◌else◌, List, [], ◌∷◌, Option, Some, None, option_and_then, is_some, codes, ⊤}
+use Rattle.std.specs.Prelude.{ℕ, Bool, false, if◌then◌else◌, List, Option, Some, None, option_and_then, is_some, codes, ⊤}
 use Rattle.std.specs.declared.result.Result.{Result}
 use Rattle.std.specs.declared.result.Result.TheVariants.{Ok, Err}
 use Rattle.std.specs.Str.{bytes_eq, is_utf8}
 use Rattle.serde_json.specs.Data.{Data, Members}
 use Rattle.serde_json.specs.Find.{get_member, as_null, as_str, as_object}
 use Rattle.serde_json.specs.Read.{read}
+use Rattle.json_values.specs.Texts.{unless_empty}
 use Rattle.names.specs.Decimals.{version_of}
 use Rattle.decoder.specs.declared.malformed.Malformed.{Malformed}
 use Rattle.decoder.specs.declared.malformed.Malformed.TheVariants.{Json, Object, ApiVersion, Kind, Metadata, Version}
@@ -41,10 +42,6 @@ unless_null d = if is_some (as_null d) then None else Some d
 
 abbrev pub at : List ℕ → Members → Option Data
 at k ms = option_and_then unless_null (get_member k ms)
-
-abbrev pub unless_empty : List ℕ → Option (List ℕ)
-unless_empty [] = None
-unless_empty (b ∷ bs) = Some (b ∷ bs)
 
 abbrev pub text_at : List ℕ → Members → Option (List ℕ)
 text_at k ms = option_and_then unless_empty (option_and_then as_str (at k ms))

@@ -1,9 +1,10 @@
 -- An object, as a list's item or in a watch's line (Kubernetes API conventions, "Metadata").
-use Rattle.std.specs.Prelude.{ℕ, if◌then◌else◌, List, [], ◌∷◌, Option, Some, None, option_map, option_and_then, codes}
+use Rattle.std.specs.Prelude.{ℕ, if◌then◌else◌, List, [], Option, Some, None, option_and_then, codes}
 use Rattle.std.specs.declared.result.Result.TheVariants.{Ok, Err}
-use Rattle.serde_json.specs.Data.{Data, Members, no_members, member}
-use Rattle.serde_json.specs.Find.{as_str, as_object}
+use Rattle.serde_json.specs.Data.{Data, Members}
+use Rattle.serde_json.specs.Find.{as_object}
 use Rattle.serde_json.specs.Written.{has_float, compact_text}
+use Rattle.json_values.specs.Texts.{texts_of}
 use Rattle.indexer.specs.Objects.{Stored}
 use Rattle.decoder.specs.declared.malformed.Malformed.TheVariants.{Name, Namespace, Labels, Number}
 use Rattle.decoder.specs.Wanted.{Wanted, api_version_of, is_in}
@@ -11,11 +12,6 @@ use Rattle.decoder.specs.Members.{Read, ◌>>=◌, or_malformed, unless, members
 
 abbrev pub namespace_in : Option (List ℕ) → Members → Read (List ℕ)
 namespace_in asked metadata = or_malformed Namespace (text_at (codes "namespace") metadata) >>= λ namespace. unless (is_in asked namespace) Namespace >>= λ u. Ok namespace
-
--- names and texts, where each member is a text
-abbrev pub texts_of : Members → Option (List (List ℕ × List ℕ))
-texts_of no_members = Some []
-texts_of (member k d ms) = option_and_then (λ v. option_map (λ more. (k, v) ∷ more) (texts_of ms)) (as_str d)
 
 abbrev pub labels_of : Option Data → Read (List (List ℕ × List ℕ))
 labels_of None = Ok []

@@ -7,7 +7,8 @@ use Rattle.indexer.specs.Objects.{Stored}
 use Rattle.decoder.specs.declared.malformed.Malformed.TheVariants.{Token}
 use Rattle.decoder.specs.declared.malformed.Malformed.TheVariants as malformed
 use Rattle.decoder.specs.Wanted.{Wanted, api_version_of}
-use Rattle.decoder.specs.Members.{Read, ◌>>=◌, or_malformed, value_in, members_of, at, unless_empty, is_of, metadata_in, version_in}
+use Rattle.json_values.specs.Texts.{unless_empty}
+use Rattle.decoder.specs.Members.{Read, ◌>>=◌, or_malformed, value_in, members_of, at, is_of, metadata_in, version_in}
 use Rattle.decoder.specs.Objects.{object_of}
 
 -- the revision that the list is of, its objects, and where it goes on, if some are left

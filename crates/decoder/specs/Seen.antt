@@ -1,7 +1,5 @@
 -- What the crate's values say, and what its calls return beside what is to be read.
-use Rattle.std.specs.Prelude.{◌≡◌, ℕ, List, map, option_map, option_and_then, String, string_bytes, codes, ⊤}
-use Rattle.std.specs.BTreeMap.{BTreeMap}
-use Rattle.std.specs.declared.alloc.Global.{Global}
+use Rattle.std.specs.Prelude.{◌≡◌, ℕ, List, map, option_map, option_and_then, string_bytes, codes, ⊤}
 use Rattle.std.specs.declared.result.Result.{Result}
 use Rattle.std.specs.declared.result.Result.TheVariants.{Ok, Err}
 use Rattle.serde_json.specs.Data.{Data, Members, Items}
@@ -44,9 +42,6 @@ Gives view (Err (fault.Malformed m)) read = read ≡ Err m
 Gives view (Err fault.Memory) read = ⊤
 
 -- ---- for private clauses: parts of the definitions
-
-abbrev pub labels_in : BTreeMap (String Global) (String Global) → List (List ℕ × List ℕ)
-labels_in labels = map (λ e. (string_bytes e.0, string_bytes e.1)) labels.entries
 
 abbrev pub name_in : Members → Read (List ℕ)
 name_in metadata = or_malformed malformed.Name (text_at (codes "name") metadata)

@@ -5,12 +5,11 @@
 //!
 //! What is kept of an object is what its own text says.
 //!
-//! Stands on `serde_json` for JSON, `names` for versions, `indexer` for objects; its law on `fieldpath` for texts that
+//! Stands on `serde_json` and `json_values` for JSON, `names` for versions, `indexer` for objects; its law on `fieldpath` for texts that
 //! read back.
 #![tactic(auto)]
 
 mod fault;
-mod floats;
 mod kinds;
 mod law;
 mod line;

@@ -1,13 +1,13 @@
 //! The members of a reply's JSON objects, by name; which members there have to be stands in `page`, `line` and `object`.
 
 ghost use Rattle.std.specs.Prelude.{◌≡◌, option_map};
-ghost use Rattle.serde_json.specs.Find.{get_member};
 ghost use Rattle.serde_json.specs.View.{members_view, view};
-ghost use Rattle.decoder.specs.Members.{at, members_of, metadata_in, text_at, unless_empty, unless_null, value_in, version_in};
+ghost use Rattle.decoder.specs.Members.{at, members_of, metadata_in, text_at, unless_null, value_in, version_in};
 ghost use Rattle.decoder.specs.Seen.{Gives, Says};
 
 use crate::fault::DecodeFault;
 use crate::malformed::Malformed;
+use json_values::{member, unless_empty};
 use names::version_of;
 use serde_json::{Map, Value};
 use std::alloc::Global;
@@ -35,13 +35,6 @@ fn unless_null(value: &Value) -> Option<&Value>
     if value.is_null() { None } else { Some(value) }
 }
 
-/// The member of this name, null or not.
-fn member<'a>(members: &'a Map<String, Value>, name: &str) -> Option<&'a Value>
-    ensures { option_map (λ v. view v.now) result ≡ get_member name.now (members_view members.now.entries) }
-{
-    members.get(name)
-}
-
 /// The member of this name; one that is null is absent.
 pub(crate) fn at<'a>(members: &'a Map<String, Value>, name: &str) -> Option<&'a Value>
     ensures { option_map (λ v. view v.now) result ≡ at name.now (members_view members.now.entries) }
@@ -50,12 +43,6 @@ pub(crate) fn at<'a>(members: &'a Map<String, Value>, name: &str) -> Option<&'a 
         Some(value) => unless_null(value),
         None => None,
     }
-}
-
-pub(crate) fn unless_empty(text: &str) -> Option<&str>
-    ensures { option_map (λ s. s.now) result ≡ unless_empty text.now }
-{
-    if text.is_empty() { None } else { Some(text) }
 }
 
 /// The text of a member; an empty one is none.

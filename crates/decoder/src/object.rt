@@ -1,26 +1,23 @@
 //! Reads an object, as a list's item or in a watch's line; its type is checked in `kinds`.
 
-ghost use Rattle.std.specs.Prelude.{◌≡◌, OnOk, map, option_map, string_bytes};
-ghost use Rattle.std.specs.Ordering.{nat_cmp};
-ghost use Rattle.std.specs.Cmp.Lexicographic.{slice_cmp};
-ghost use Rattle.std.specs.BTreeMap.{insert_entry};
+ghost use Rattle.std.specs.Prelude.{◌≡◌, option_map, string_bytes};
 ghost use Rattle.serde_json.specs.View.{members_view, view};
-ghost use Rattle.serde_json.specs.Find.{as_str};
+ghost use Rattle.json_values.specs.Texts.{named_texts, texts_of};
 ghost use Rattle.indexer.specs.Objects.{stored_of};
 ghost use Rattle.decoder.specs.declared.malformed.Malformed.TheVariants as malformed;
 ghost use Rattle.decoder.specs.Members.{or_malformed};
-ghost use Rattle.decoder.specs.Objects.{labels_of, namespace_in, object_of, text_of, texts_of};
-ghost use Rattle.decoder.specs.Seen.{Gives, Says, labels_in, name_in, wanted_of};
+ghost use Rattle.decoder.specs.Objects.{labels_of, namespace_in, object_of, text_of};
+ghost use Rattle.decoder.specs.Seen.{Gives, Says, name_in, wanted_of};
 
 use crate::fault::DecodeFault;
-use crate::floats::has_float;
 use crate::kinds::is_wanted;
 use crate::malformed::Malformed;
 use crate::members::{at, members_of, metadata_in, text_at, version_in};
 use crate::wanted::{Wanted, is_in};
 use indexer::Object;
+use json_values::{has_float, texts_of};
 use serde_json::{Map, Value};
-use std::alloc::{AllocError, Global};
+use std::alloc::Global;
 use std::collections::BTreeMap;
 
 fn name_in(metadata: &Map<String, Value>) -> Result<&str, Malformed>
@@ -38,43 +35,20 @@ fn namespace_in<'a>(wanted: &Wanted, metadata: &'a Map<String, Value>) -> Result
     }
 }
 
-fn text_in(value: &Value) -> Result<&str, Malformed>
-    ensures { Says (λ s. s.now) result (or_malformed malformed.Labels (as_str (view value.now))) }
-{
-    value.as_str().ok_or(Malformed::Labels)
-}
-
-fn put_label(
-    alloc: Global,
-    labels: &mut BTreeMap<String, String>,
-    name: &str,
-    text: &str,
-) -> Result<(), AllocError>
-    ensures { OnOk result (labels_in labels.new ≡ insert_entry (slice_cmp nat_cmp) (labels_in labels.old) name.now text.now) }
-{
-    labels.insert(
-        String::from_str(alloc, name)?,
-        String::from_str(alloc, text)?,
-    )?;
-    Ok(())
-}
-
 fn texts_in(
     alloc: Global,
     members: &Map<String, Value>,
 ) -> Result<BTreeMap<String, String>, DecodeFault>
-    ensures { Gives labels_in result (or_malformed malformed.Labels (texts_of (members_view members.now.entries))) }
+    ensures { Gives named_texts result (or_malformed malformed.Labels (texts_of (members_view members.now.entries))) }
 {
-    let mut labels = BTreeMap::new(alloc);
-    for (name, value) in members.iter() {
-        let text = text_in(value)?;
-        put_label(alloc, &mut labels, name.as_str(), text)?;
+    match texts_of(alloc, members)? {
+        Some(labels) => Ok(labels),
+        None => Err(DecodeFault::Malformed(Malformed::Labels)),
     }
-    Ok(labels)
 }
 
 fn labels_of(alloc: Global, value: Option<&Value>) -> Result<BTreeMap<String, String>, DecodeFault>
-    ensures { Gives labels_in result (labels_of (option_map (λ v. view v.now) value.entry)) }
+    ensures { Gives named_texts result (labels_of (option_map (λ v. view v.now) value.entry)) }
 {
     let Some(value) = value else {
         return Ok(BTreeMap::new(alloc));

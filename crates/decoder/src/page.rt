@@ -1,7 +1,7 @@
 //! Reads the body of a list's answer: revision, token and objects. An object is read in `object`, a watch's line in
 //! `line`.
 
-ghost use Rattle.std.specs.Prelude.{◌≡◌, IfOk, map, option_map, string_bytes};
+ghost use Rattle.std.specs.Prelude.{◌≡◌, map, option_map};
 ghost use Rattle.serde_json.specs.View.{items_view, members_view, view};
 ghost use Rattle.indexer.specs.Objects.{stored_of};
 ghost use Rattle.decoder.specs.Pages.{objects_of, page_in, page_of, token_of};
@@ -10,12 +10,13 @@ ghost use Rattle.decoder.specs.Seen.{Gives, Says, items_in, page_seen, wanted_of
 use crate::fault::DecodeFault;
 use crate::kinds::is_wanted_list;
 use crate::malformed::Malformed;
-use crate::members::{at, members_of, metadata_in, unless_empty, value_in, version_in};
+use crate::members::{at, members_of, metadata_in, value_in, version_in};
 use crate::object::object_of;
 use crate::wanted::Wanted;
 use indexer::Object;
+use json_values::{copied, unless_empty};
 use serde_json::{Map, Value};
-use std::alloc::{AllocError, Global};
+use std::alloc::Global;
 
 /// A list, or the part of it that one answer has.
 #[derive(Debug, Drop)]
@@ -57,15 +58,6 @@ fn objects_of(alloc: Global, wanted: &Wanted, items: &[Value]) -> Result<Vec<Obj
         objects.push(object_of(alloc, wanted, item)?)?;
     }
     Ok(objects)
-}
-
-fn copied(alloc: Global, text: Option<&str>) -> Result<Option<String>, AllocError>
-    ensures { IfOk result (λ o. option_map string_bytes o ≡ option_map (λ s. s.now) text.entry) }
-{
-    match text {
-        Some(text) => Ok(Some(String::from_str(alloc, text)?)),
-        None => Ok(None),
-    }
 }
 
 fn page_of(alloc: Global, wanted: &Wanted, value: &Value) -> Result<Page, DecodeFault>

@@ -1,8 +1,8 @@
 -- The two readers of labels agree.
-use Rattle.std.proofs.Common.{◌≡◌, ℕ, Bool, true, false, List, [], ◌∷◌, Option, Some, None, Ok, Err, is_some, refl, sym, ap, ◌∙◌, true≢false}
-use Rattle.std.specs.Prelude.{codes, option_map, option_and_then, unwrap_or}
-use Rattle.serde_json.specs.Data.{Data, null, boolean, number, string, array, object, Members, no_members, member}
-use Rattle.serde_json.specs.Find.{as_object, as_str, get, get_member}
+use Rattle.std.proofs.Common.{◌≡◌, ℕ, Bool, true, false, List, [], Option, Some, None, Ok, Err, is_some, refl, sym, ap, ◌∙◌, true≢false}
+use Rattle.std.specs.Prelude.{codes, option_and_then, unwrap_or}
+use Rattle.serde_json.specs.Data.{Data, null, boolean, number, string, array, object, Members}
+use Rattle.serde_json.specs.Find.{as_object, get, get_member}
 use Rattle.selector.specs.Labels.{Labels}
 use Rattle.indexer.specs.Objects.{Stored}
 use Rattle.decoder.specs.declared.malformed.Malformed.{Malformed}
@@ -10,7 +10,8 @@ use Rattle.decoder.specs.declared.malformed.Malformed.TheVariants as malformed
 use Rattle.decoder.specs.Members.{Read, ◌>>=◌, at, is_of, members_of, metadata_in, or_malformed, text_at, unless_null, version_in}
 use Rattle.decoder.specs.Objects as client
 use Rattle.decoder.specs.Wanted.{api_version_of}
-use Rattle.lists.specs.Labels.{label_members, texts_of}
+use Rattle.json_values.specs.Texts.{texts_of}
+use Rattle.lists.specs.Labels.{label_members}
 use Rattle.label_laws.specs.Readers.{ReadersAgree}
 
 abbrev is_ok : {A : Type 0} → Read A → Bool
@@ -38,10 +39,6 @@ given m (Some x) y e = ap Some (same_ok x y e)
 no_some : {A P : Type 0} (y : A) → ◌≡◌ {A = Option A} None (Some y) → P
 no_some y e = absurd (true≢false (sym (ap is_some e)))
 
-texts_same : (ms : Members) → client.texts_of ms ≡ texts_of ms
-texts_same no_members = refl
-texts_same (member k d ms) = ap (λ o. option_and_then (λ v. option_map (λ more. (k, v) ∷ more) o) (as_str d)) (texts_same ms)
-
 get_of : (k : List ℕ) (d : Data) → get k d ≡ option_and_then (get_member k) (as_object d)
 get_of k null = refl
 get_of k (boolean b) = refl
@@ -67,7 +64,7 @@ labels_agree (Some (boolean b)) ls e = fails malformed.Labels ls e
 labels_agree (Some (number n)) ls e = fails malformed.Labels ls e
 labels_agree (Some (string s)) ls e = fails malformed.Labels ls e
 labels_agree (Some (array ds)) ls e = fails malformed.Labels ls e
-labels_agree (Some (object ms)) ls e = sym (ap (λ o. unwrap_or o []) (sym (texts_same ms) ∙ given malformed.Labels (client.texts_of ms) ls e))
+labels_agree (Some (object ms)) ls e = sym (ap (λ o. unwrap_or o []) (given malformed.Labels (texts_of ms) ls e))
 
 pub readers_agree : ReadersAgree
 readers_agree wanted text d x is e =

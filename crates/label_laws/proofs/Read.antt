@@ -18,7 +18,8 @@ use Rattle.pathmap.proofs.Insides.{get-inside}
 use Rattle.schema.specs.Lawful.{are_well_formed, is_lawful, is_well_formed, names_of}
 use Rattle.schema.specs.Shape.{Shape, text, whole, truth, struct_of, map_of, list_of, Fields, no_fields, field, shape_at}
 use Rattle.schema.specs.TypesFile.{metadata}
-use Rattle.lists.specs.Labels.{label_members, labels_of, texts_of}
+use Rattle.json_values.specs.Texts.{texts_of}
+use Rattle.lists.specs.Labels.{label_members, labels_of}
 use Rattle.typed.specs.Placed.{ArePlaced, IsPlaced}
 use Rattle.typed.specs.Printing.{object_or_none, print, print_fields, with_member}
 use Rattle.typed.proofs.Fitting.{content_placed}

@@ -11,7 +11,7 @@ use Rattle.serde_json.specs.Find.{as_str, get_member}
 use Rattle.serde_json.proofs.Views.{get_member-put}
 use Rattle.selector.specs.Labels.{Labels, value_at}
 use Rattle.fieldpath.specs.Elements.{field_name, has_prefix, name_text}
-use Rattle.lists.specs.Labels.{texts_of}
+use Rattle.json_values.specs.Texts.{texts_of}
 use Rattle.typed.specs.Printing.{each_member, with_member, with_named}
 use Rattle.typed.proofs.Putting.{with_other}
 use Rattle.typed.proofs.RoundTrip.{prefix_name}

@@ -14,7 +14,8 @@ use Rattle.std.specs.Fmt.{digits}
 use Rattle.objects.specs.ReadBack.{max_version}
 use Rattle.objects.proofs.Taken.{same_some}
 use Rattle.watchline.specs.Lines.{expired_message, expired_value}
-use Rattle.watchline.specs.Versions.{metadata_at, value_at, value_of, without}
+use Rattle.json_values.specs.Members.{less}
+use Rattle.watchline.specs.Versions.{metadata_at, value_at, value_of}
 
 -- ---- strings
 
@@ -99,22 +100,22 @@ put_long b k d (member l e ms) = by_order (slice_cmp nat_cmp k l) (put_long true
         let was = long_is b l e ms in
         omega (arith, is, was, later)
 
-without_long : (b : Bool) (k : List ℕ) (ms : Members) → Long b (without k ms) ≤ Long b ms
-without_long b k no_members = omega arith
-without_long b k (member l e ms) = by_order (slice_cmp nat_cmp k l) (without_long true k ms)
+less_long : (b : Bool) (k : List ℕ) (ms : Members) → Long b (less k ms) ≤ Long b ms
+less_long b k no_members = omega arith
+less_long b k (member l e ms) = by_order (slice_cmp nat_cmp k l) (less_long true k ms)
   where
-    kept : Long true (without k ms) ≤ Long true ms → Long b (member l e (without k ms)) ≤ Long b (member l e ms)
+    kept : Long true (less k ms) ≤ Long true ms → Long b (member l e (less k ms)) ≤ Long b (member l e ms)
     kept later =
-        let is = long_is b l e (without k ms) in
+        let is = long_is b l e (less k ms) in
         let was = long_is b l e ms in
         omega (arith, is, was, later)
 
-    by_order : (o : Ordering) → Long true (without k ms) ≤ Long true ms → Long b (match_ordering o (member l e (without k ms)) ms (member l e (without k ms))) ≤ Long b (member l e ms)
+    by_order : (o : Ordering) → Long true (less k ms) ≤ Long true ms → Long b (match_ordering o (member l e (less k ms)) ms (member l e (less k ms))) ≤ Long b (member l e ms)
     by_order Less later = kept later
     by_order Equal later =
         let was = long_is b l e ms in
-        let less = (with_comma b ms).0 in
-        omega (arith, was, less)
+        let comma = (with_comma b ms).0 in
+        omega (arith, was, comma)
     by_order Greater later = kept later
 
 found_long : (b : Bool) (k : List ℕ) (ms : Members) (d : Data) → get_member k ms ≡ Some d → length (compact_text d) ≤ Long b ms
@@ -154,7 +155,7 @@ value_long r others metadata low =
     omega (arith, version, text, own, name, own_is, name_is, inside, around, whole)
 
 abbrev numbered : ℕ → Members → Option Data → Option Data
-numbered r ms o = option_map (λ (p : Members × Members). value_of r p.0 p.1) (option_map (λ (m : Members). (without (codes "metadata") ms, m)) (option_and_then as_object o))
+numbered r ms o = option_map (λ (p : Members × Members). value_of r p.0 p.1) (option_map (λ (m : Members). (less (codes "metadata") ms, m)) (option_and_then as_object o))
 
 -- with another version a text is at most twice as long, and a little
 pub renumbered_long : (r : ℕ) (d e : Data) → r ≤ max_version → value_at r d ≡ Some e → length (compact_text e) ≤ 2 * length (compact_text d) + 270
@@ -173,9 +174,9 @@ renumbered_long r (object ms) e low is = by_member (get_member (codes "metadata"
     by_member (Some (string s)) found has = absurd cc
     by_member (Some (array ds)) found has = absurd cc
     by_member (Some (object m)) found has =
-        let same : length (compact_text (value_of r (without (codes "metadata") ms) m)) ≡ length (compact_text e) = ap (λ x. length (compact_text x)) (same_some (value_of r (without (codes "metadata") ms) m) e has) in
-        let whole : length (compact_text (value_of r (without (codes "metadata") ms) m)) ≤ Long false (without (codes "metadata") ms) + (Long false m + 270) = value_long r (without (codes "metadata") ms) m low in
-        let others : Long false (without (codes "metadata") ms) ≤ Long false ms = without_long false (codes "metadata") ms in
+        let same : length (compact_text (value_of r (less (codes "metadata") ms) m)) ≡ length (compact_text e) = ap (λ x. length (compact_text x)) (same_some (value_of r (less (codes "metadata") ms) m) e has) in
+        let whole : length (compact_text (value_of r (less (codes "metadata") ms) m)) ≤ Long false (less (codes "metadata") ms) + (Long false m + 270) = value_long r (less (codes "metadata") ms) m low in
+        let others : Long false (less (codes "metadata") ms) ≤ Long false ms = less_long false (codes "metadata") ms in
         let inside : suc (Long false m) ≤ Long false ms = found_long false (codes "metadata") ms (object m) found in
         let all : length (compact_text (object ms)) ≡ suc (Long false ms) = refl in
         omega (arith, same, whole, others, inside, all)

@@ -35,8 +35,9 @@ use Rattle.objects.proofs.Taken.{apart, cmp}
 use Rattle.objects.proofs.Textual.{value_textual}
 use Rattle.indexer.specs.Objects.{Stored}
 use Rattle.decoder.specs.declared.malformed.Malformed.TheVariants.{ApiVersion, Kind, Labels, Metadata, Name, Namespace, Number, Version}
-use Rattle.decoder.specs.Members.{Read, ◌>>=◌, is_text, or_malformed, unless, unless_empty, unless_null}
-use Rattle.decoder.specs.Objects.{labels_of, object_of, texts_of}
+use Rattle.json_values.specs.Texts.{unless_empty, texts_of}
+use Rattle.decoder.specs.Members.{Read, ◌>>=◌, is_text, or_malformed, unless, unless_null}
+use Rattle.decoder.specs.Objects.{labels_of, object_of}
 use Rattle.decoder.specs.Wanted.{Wanted, api_version_of, is_in}
 use Rattle.line_laws.specs.Shown.{HasPlace, IsStored}
 use Rattle.line_laws.proofs.Renumbered.{enveloped, metadata_there, text_is}

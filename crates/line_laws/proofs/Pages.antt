@@ -17,7 +17,8 @@ use Rattle.objects.specs.ReadBack.{max_version}
 use Rattle.objects.proofs.Back.{text_read}
 use Rattle.indexer.specs.Objects.{Stored}
 use Rattle.decoder.specs.declared.malformed.Malformed.TheVariants.{ApiVersion, Json, Kind, Version}
-use Rattle.decoder.specs.Members.{Read, ◌>>=◌, is_text, or_malformed, unless, unless_empty}
+use Rattle.json_values.specs.Texts.{unless_empty}
+use Rattle.decoder.specs.Members.{Read, ◌>>=◌, is_text, or_malformed, unless}
 use Rattle.decoder.specs.Objects.{object_of}
 use Rattle.decoder.specs.Pages.{Page, objects_of, page_of}
 use Rattle.decoder.specs.Wanted.{Wanted, api_version_of, is_in}

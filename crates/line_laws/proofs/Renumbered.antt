@@ -28,12 +28,12 @@ use Rattle.typed.proofs.Spelling.{lawful_depth}
 use Rattle.objects.specs.State.{State}
 use Rattle.objects.specs.ObjectText.{Identity, entry_items, entry_members, entry_value, members_printed, metadata_members, metadata_of, object_text, object_value, put_entries, put_filled}
 use Rattle.objects.specs.Owners.{Manager, Owners, operation_text}
-use Rattle.objects.specs.Parts.{less}
+use Rattle.json_values.specs.Members.{less}
 use Rattle.objects.specs.ReadBack.{IsObjectText, max_version}
 use Rattle.objects.proofs.Back.{text_read}
 use Rattle.objects.proofs.Taken.{apart, cmp, found_depth, put_back, same_text}
 use Rattle.objects.proofs.Textual.{value_textual}
-use Rattle.watchline.specs.Versions.{text_at_version, text_of, value_at, value_of, without}
+use Rattle.watchline.specs.Versions.{text_at_version, text_of, value_at, value_of}
 use Rattle.line_laws.specs.Shown.{IsShown}
 
 -- ---- members, put twice and taken out
@@ -51,10 +51,6 @@ put_again k d e (member l f ms) = by_order (cmp k l) refl (put_again k d e ms)
     by_order Equal is later = ap (λ o. match_ordering o (member k d (member l e ms)) (member l d ms) (member l e (put k d ms))) is
     by_order Greater is later =
         ap (λ o. match_ordering o (member k d (member l f (put k e ms))) (member l d (put k e ms)) (member l f (put k d (put k e ms)))) is ∙ ap (member l f) later
-
-same_less : (k : List ℕ) (ms : Members) → without k ms ≡ less k ms
-same_less k no_members = refl
-same_less k (member l d ms) = ap (λ x. match_ordering (cmp k l) (member l d x) ms (member l d x)) (same_less k ms)
 
 -- ---- another version
 
@@ -88,9 +84,9 @@ value_over : (revision : ℕ) (api_version kind : Data) (meta new base : Members
     → value_at revision (object (enveloped api_version kind (object meta) base)) ≡ Some (object (enveloped api_version kind (object new) base))
 value_over revision api_version kind meta new base is up =
     let old = enveloped api_version kind (object meta) base in
-    ap (λ o. option_map (λ (p : Members × Members). value_of revision p.0 p.1) (option_map (λ (m : Members). (without (codes "metadata") old, m)) (option_and_then as_object o))) (metadata_there api_version kind (object meta) base)
+    ap (λ o. option_map (λ (p : Members × Members). value_of revision p.0 p.1) (option_map (λ (m : Members). (less (codes "metadata") old, m)) (option_and_then as_object o))) (metadata_there api_version kind (object meta) base)
     ∙ ap (λ o. Some (object o)) (
-    ap₂ (λ m others. put (codes "metadata") (object m) others) is (same_less (codes "metadata") old ∙ ap (less (codes "metadata")) (sym (metadata_over api_version kind (object meta) (object new) base)))
+    ap₂ (λ m others. put (codes "metadata") (object m) others) is (ap (less (codes "metadata")) (sym (metadata_over api_version kind (object meta) (object new) base)))
     ∙ put_back (codes "metadata") (object meta) (object new) (enveloped api_version kind (object new) base) up (metadata_there api_version kind (object new) base)
     )
 

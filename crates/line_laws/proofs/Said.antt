@@ -21,7 +21,8 @@ use Rattle.indexer.specs.Objects.{Stored}
 use Rattle.decoder.specs.declared.malformed.Malformed.TheVariants.{ApiVersion, Kind, Version}
 use Rattle.decoder.specs.Lines as reads
 use Rattle.decoder.specs.Lines.{bookmark_of, line_in, line_of}
-use Rattle.decoder.specs.Members.{Read, ◌>>=◌, is_text, or_malformed, unless, unless_empty}
+use Rattle.json_values.specs.Texts.{unless_empty}
+use Rattle.decoder.specs.Members.{Read, ◌>>=◌, is_text, or_malformed, unless}
 use Rattle.decoder.specs.Objects.{object_of}
 use Rattle.decoder.specs.Wanted.{Wanted, api_version_of}
 use Rattle.watchline.specs.declared.event.EventType.{EventType}

@@ -16,7 +16,8 @@ use Rattle.serde_json.specs.Written.{comma_if, compact_text, items_text, members
 use Rattle.fieldpath.specs.Spelled.{IsSpelledNumber, IsSpelled, AreSpelled, MembersAreSpelled}
 use Rattle.objects.specs.ReadBack.{max_version}
 use Rattle.objects.proofs.Taken.{same_some}
-use Rattle.watchline.specs.Versions.{metadata_at, value_at, value_of, without}
+use Rattle.json_values.specs.Members.{less}
+use Rattle.watchline.specs.Versions.{metadata_at, value_at, value_of}
 
 -- ---- of texts that are UTF-8
 
@@ -186,11 +187,11 @@ put_texts k d (member l e ms) name value texts = by_order (slice_cmp nat_cmp k l
     by_order Equal later = (texts.0, (value, texts.1.1))
     by_order Greater later = (texts.0, (texts.1.0, later))
 
-texts_without : (k : List ℕ) (ms : Members) → MembersHaveTexts ms → MembersHaveTexts (without k ms)
-texts_without k no_members texts = tt
-texts_without k (member l e ms) texts = by_order (slice_cmp nat_cmp k l) (texts_without k ms texts.1.1)
+texts_less : (k : List ℕ) (ms : Members) → MembersHaveTexts ms → MembersHaveTexts (less k ms)
+texts_less k no_members texts = tt
+texts_less k (member l e ms) texts = by_order (slice_cmp nat_cmp k l) (texts_less k ms texts.1.1)
   where
-    by_order : (o : Ordering) → MembersHaveTexts (without k ms) → MembersHaveTexts (match_ordering o (member l e (without k ms)) ms (member l e (without k ms)))
+    by_order : (o : Ordering) → MembersHaveTexts (less k ms) → MembersHaveTexts (match_ordering o (member l e (less k ms)) ms (member l e (less k ms)))
     by_order Less later = (texts.0, (texts.1.0, later))
     by_order Equal later = texts.1.1
     by_order Greater later = (texts.0, (texts.1.0, later))
@@ -213,7 +214,7 @@ value_texts r others metadata low texts marks =
     (put_texts (codes "resourceVersion") (string (decimal r)) metadata (IsUtf8-are_ascii (codes "resourceVersion") refl) (decimal_utf8 r low) marks) texts
 
 abbrev numbered : ℕ → Members → Option Data → Option Data
-numbered r ms o = option_map (λ (p : Members × Members). value_of r p.0 p.1) (option_map (λ (m : Members). (without (codes "metadata") ms, m)) (option_and_then as_object o))
+numbered r ms o = option_map (λ (p : Members × Members). value_of r p.0 p.1) (option_map (λ (m : Members). (less (codes "metadata") ms, m)) (option_and_then as_object o))
 
 -- with another version there stand the same texts and that version
 pub renumbered_texts : (r : ℕ) (d e : Data) → r ≤ max_version → HasTexts d → value_at r d ≡ Some e → HasTexts e
@@ -232,5 +233,5 @@ renumbered_texts r (object ms) e low texts is = by_member (get_member (codes "me
     by_member (Some (string s)) found has = absurd cc
     by_member (Some (array ds)) found has = absurd cc
     by_member (Some (object m)) found has =
-        subst HasTexts (same_some (value_of r (without (codes "metadata") ms) m) e has)
-        (value_texts r (without (codes "metadata") ms) m low (texts_without (codes "metadata") ms texts) (texts_at (codes "metadata") ms (object m) texts found))
+        subst HasTexts (same_some (value_of r (less (codes "metadata") ms) m) e has)
+        (value_texts r (less (codes "metadata") ms) m low (texts_less (codes "metadata") ms texts) (texts_at (codes "metadata") ms (object m) texts found))

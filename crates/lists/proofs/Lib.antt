@@ -1,6 +1,5 @@
 pub mod Bounds
 pub mod Joining
-pub mod Labelled
 pub mod NextPages
 pub mod Reading
 pub mod Tokens

@@ -1,8 +1,9 @@
 -- The labels that an object's text gives, and which objects a list is of by them (Kubernetes documentation, "Labels and Selectors").
-use Rattle.std.specs.Prelude.{ℕ, ◌&&◌, codes, List, [], ◌∷◌, Option, Some, option_map, option_and_then, unwrap_or}
-use Rattle.serde_json.specs.Data.{Data, Members, no_members, member}
-use Rattle.serde_json.specs.Find.{as_object, as_str, get}
+use Rattle.std.specs.Prelude.{ℕ, ◌&&◌, codes, List, [], Option, option_and_then, unwrap_or}
+use Rattle.serde_json.specs.Data.{Data, Members}
+use Rattle.serde_json.specs.Find.{as_object, get}
 use Rattle.serde_json.specs.Read.{read}
+use Rattle.json_values.specs.Texts.{texts_of}
 use Rattle.selector.specs.Labels.{Labels}
 use Rattle.selector.specs.Requirement.{Requirement, selects}
 use Rattle.history.specs.Page.{is_within}
@@ -11,11 +12,6 @@ use Rattle.history.specs.Seen.{Selection}
 -- the members of `metadata.labels`
 abbrev pub label_members : Data → Option Members
 label_members d = option_and_then as_object (option_and_then (get (codes "labels")) (get (codes "metadata") d))
-
--- names and texts, where each member is a text
-abbrev pub texts_of : Members → Option Labels
-texts_of no_members = Some []
-texts_of (member k d ms) = option_and_then (λ v. option_map (λ more. (k, v) ∷ more) (texts_of ms)) (as_str d)
 
 -- without such members there are no labels
 abbrev pub labels_of : List ℕ → Labels

@@ -1,15 +1,13 @@
 //! The labels that an object's text gives, and whether they are selected. Label selectors stand in the crate `selector`.
 
-ghost use Rattle.std.specs.Prelude.{◌≡◌, IfOk, OnOk, option_map};
-ghost use Rattle.std.specs.Ordering.{nat_cmp};
-ghost use Rattle.std.specs.Cmp.Lexicographic.{slice_cmp};
-ghost use Rattle.std.specs.BTreeMap.{insert_entry};
+ghost use Rattle.std.specs.Prelude.{◌≡◌, IfOk, option_map};
 ghost use Rattle.serde_json.specs.Read.{read};
 ghost use Rattle.serde_json.specs.View.{members_view, view};
 ghost use Rattle.selector.specs.Requirement.{selects};
 ghost use Rattle.selector.specs.Views as selector;
-ghost use Rattle.lists.specs.Labels.{label_members, labels_of, texts_of};
+ghost use Rattle.lists.specs.Labels.{label_members, labels_of};
 
+use json_values::texts_of;
 use revtable::Fault;
 use selector::Selector;
 use serde_json::{Map, Value};
@@ -20,38 +18,6 @@ fn label_members(value: &Value) -> Option<&Map<String, Value>>
     ensures { option_map (λ m. members_view m.now.entries) result ≡ label_members (view value.now) }
 {
     value.get("metadata")?.get("labels")?.as_object()
-}
-
-fn put_label(
-    alloc: Global,
-    labels: &mut BTreeMap<String, String>,
-    name: &str,
-    text: &str,
-) -> Result<(), AllocError>
-    ensures { OnOk result (selector.labels_of labels.new ≡ insert_entry (slice_cmp nat_cmp) (selector.labels_of labels.old) name.now text.now) }
-{
-    labels.insert(
-        String::from_str(alloc, name)?,
-        String::from_str(alloc, text)?,
-    )?;
-    Ok(())
-}
-
-/// The texts among these members, by their names; none where one is no text.
-fn texts_of(
-    alloc: Global,
-    members: &Map<String, Value>,
-) -> Result<Option<BTreeMap<String, String>>, AllocError>
-    ensures { IfOk result (λ o. option_map selector.labels_of o ≡ texts_of (members_view members.now.entries)) }
-{
-    let mut labels = BTreeMap::new(alloc);
-    for (name, value) in members.iter() {
-        let Some(text) = value.as_str() else {
-            return Ok(None);
-        };
-        put_label(alloc, &mut labels, name.as_str(), text)?;
-    }
-    Ok(Some(labels))
 }
 
 /// The JSON value that a text is, if it is one.

@@ -5,8 +5,8 @@
 //! revision, in the order of keys, those after a key, as many as a page holds; it names a next page exactly where
 //! an object that is seen is left. Refused is exactly a revision that is compacted or past the current one.
 //!
-//! Stands on `history` for what is seen, `revstore` for the rows, `selector` and `params` for what is asked, and
-//! `form_urlencoded` for the queries of its laws.
+//! Stands on `history` for what is seen, `revstore` for the rows, `selector` and `params` for what is asked,
+//! `json_values` for labels, and `form_urlencoded` for the queries of its laws.
 #![tactic(auto)]
 
 mod collection;

@@ -24,7 +24,7 @@ use std::alloc::{AllocError, Global};
 const MAX_PAGE: u64 = 500;
 
 /// How many rows are read at once at most: those of the largest page, and one to tell whether more are left.
-const MAX_ROWS: u64 = 501;
+const MAX_ROWS: u64 = MAX_PAGE + 1;
 
 /// A page of a list.
 #[derive(Debug, Drop)]

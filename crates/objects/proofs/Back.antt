@@ -36,7 +36,8 @@ use Rattle.fieldset.specs.BothWays.{HavePlaces}
 use Rattle.objects.specs.Placed.{IsPlacedState}
 use Rattle.objects.specs.ObjectText.{Identity, members_printed, metadata_members, metadata_of, entry_items, object_value, object_text}
 use Rattle.objects.specs.Owners.{Manager, Owners, HavePaths, WroteByNone, manager_of}
-use Rattle.objects.specs.Parts.{if_read, less, own_members, in_two, split, version_in, labels_left, put_labels, text_at, operation_named, manager_in, set_in, entry_of, entry_in, entries_in, items_or_none, owners_of, owners_in, fields_of, state_with, parts_of, parts_in}
+use Rattle.json_values.specs.Members.{less, text_at, split_off}
+use Rattle.objects.specs.Parts.{if_read, own_members, split, version_in, labels_left, put_labels, operation_named, manager_in, set_in, entry_of, entry_in, entries_in, items_or_none, owners_of, owners_in, fields_of, state_with, parts_of, parts_in}
 use Rattle.objects.specs.Ranks.{have_paths, rising}
 use Rattle.objects.specs.ReadBack.{IsObjectText, OneForOne, max_version}
 use Rattle.objects.proofs.Entered.{AllPlaced, entries_there, items_put, owners_back}
@@ -189,7 +190,7 @@ labels_kept : (n : ℕ) (labels ms : Members) (m : ℕ) → suc m ≤ n → Kept
 labels_kept n no_members ms m low l h = h
 labels_kept n (member k d labels) ms m low l h = put_kept n (codes "metadata") (object (member k d labels)) ms (l.0, l.1) (at_most (members_depth (member k d labels)) m n (one_deeper (members_depth (member k d labels)) m l.2) low) h
 
-fields_kept : (ms others envelope : Members) → Kept (members_depth ms) ms → in_two (own_members ms) ≡ Some (others, envelope) → Kept (members_depth ms) (put_labels (labels_left envelope) others)
+fields_kept : (ms others envelope : Members) → Kept (members_depth ms) ms → split_off (codes "metadata") (own_members ms) ≡ Some (others, envelope) → Kept (members_depth ms) (put_labels (labels_left envelope) others)
 fields_kept ms others envelope kept is =
     let n = members_depth ms in
     let own = less_kept n (codes "kind") (less (codes "apiVersion") ms) (less_kept n (codes "apiVersion") ms kept) in
@@ -243,7 +244,7 @@ entries_by_none s (item d ds) es is =
 pub parts_content : (s : Shape) (d : Data) (state : State) (v : ℕ) → is_well_formed s ≡ true → IsSpelled d → depth d ≤ max_depth → parts_in s d ≡ Some (state, v) → IsContent s state.content × HavePaths state.owners × WroteByNone state.owners × (v ≤ max_version)
 parts_content s d state v formed spelled deep is =
     let two = then_some (parts_of s) (split d) (state, v) is in
-    let top = then_some (λ ms. in_two (own_members ms)) (as_object d) two.0 two.1 in
+    let top = then_some (λ ms. split_off (codes "metadata") (own_members ms)) (as_object d) two.0 two.1 in
     let same = object_is d top.0 top.1 in
     let spelled_object = subst IsSpelled same spelled in
     let deep_object : suc (members_depth top.0) ≤ 127 = subst (λ x. depth x ≤ max_depth) same deep in

@@ -19,7 +19,8 @@ use Rattle.typed.specs.Placed.{ReadsBack}
 use Rattle.typed.specs.Printing.{object_or_none, with_member, print, print_fields}
 use Rattle.typed.specs.Reading.{content_of}
 use Rattle.objects.specs.ObjectText.{members_printed, put_entries}
-use Rattle.objects.specs.Parts.{less, own_members, in_two, split, labels_left, put_labels, fields_of}
+use Rattle.json_values.specs.Members.{less, split_off}
+use Rattle.objects.specs.Parts.{own_members, split, labels_left, put_labels, fields_of}
 use Rattle.objects.proofs.Taken.{no_some, same_some, apart, below_apart, first_below, rest_above, further, ascend_rest, less_absent, less_put, put_back}
 
 -- ---- the fields of what is printed
@@ -176,7 +177,7 @@ module _ (api_version kind : List ℕ) (meta base : Members) (no_version : get_m
 
   pub whole_split : split (object whole) ≡ Some (less (codes "metadata") with_metadata, meta)
   whole_split =
-      ap in_two own_back ∙ ap (λ o. option_map (λ m. (less (codes "metadata") with_metadata, m)) (option_and_then as_object o)) (get_member-put (codes "metadata") (object meta) base)
+      ap (split_off (codes "metadata")) own_back ∙ ap (λ o. option_map (λ m. (less (codes "metadata") with_metadata, m)) (option_and_then as_object o)) (get_member-put (codes "metadata") (object meta) base)
 
   -- the fields as they were printed
   pub fields_back : (labels : Members) → ascend (member_names base) ≡ true → get_member (codes "metadata") base ≡ object_or_none labels → labels_left meta ≡ labels

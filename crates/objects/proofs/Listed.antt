@@ -16,7 +16,8 @@ use Rattle.schema.specs.Lawful.{is_type_shape}
 use Rattle.schema.specs.Shape.{Shape}
 use Rattle.objects.specs.Owners.{Manager}
 use Rattle.objects.specs.Parts as parts
-use Rattle.objects.specs.Parts.{entries_in, entry_in, if_ok, in_two, items_or_none, less, own_members, split}
+use Rattle.json_values.specs.Members.{less, split_off}
+use Rattle.objects.specs.Parts.{entries_in, entry_in, if_ok, items_or_none, own_members, split}
 use Rattle.objects.proofs.Entries.{Pairs}
 use Rattle.objects.proofs.Taken.{no_some, same_some, found_spelled, cmp, less_spelled, tied, apart}
 
@@ -66,8 +67,8 @@ listed_spelled None ds spelled e = subst AreSpelled (sym (same_some ds no_items 
 listed_spelled (Some d) ds spelled e = array_spelled d ds e (spelled d refl)
 
 -- `metadata` of a spelled object, of what `split` gives
-in_two_spelled : (ms : Members) (p : Members × Members) → MembersAreSpelled ms → Some p ≡ in_two ms → MembersAreSpelled p.1
-in_two_spelled ms p spelled e = by_member (get_member (codes "metadata") ms) refl e
+metadata_spelled : (ms : Members) (p : Members × Members) → MembersAreSpelled ms → Some p ≡ split_off (codes "metadata") ms → MembersAreSpelled p.1
+metadata_spelled ms p spelled e = by_member (get_member (codes "metadata") ms) refl e
   where
     by_object : (d : Data) → IsSpelled d → (o : Option Members) → as_object d ≡ o → Some p ≡ option_map (λ metadata. (less (codes "metadata") ms, metadata)) o → MembersAreSpelled p.1
     by_object d h None is there = no_some p there
@@ -80,10 +81,10 @@ in_two_spelled ms p spelled e = by_member (get_member (codes "metadata") ms) ref
 pub split_spelled : (d : Data) (p : Members × Members) → IsSpelled d → Some p ≡ split d → MembersAreSpelled p.1
 split_spelled d p spelled e = by_object (as_object d) refl e
   where
-    by_object : (o : Option Members) → as_object d ≡ o → Some p ≡ option_and_then (λ ms. in_two (own_members ms)) o → MembersAreSpelled p.1
+    by_object : (o : Option Members) → as_object d ≡ o → Some p ≡ option_and_then (λ ms. split_off (codes "metadata") (own_members ms)) o → MembersAreSpelled p.1
     by_object None is there = no_some p there
     by_object (Some ms) is there =
-        in_two_spelled (own_members ms) p (less_spelled (codes "kind") (less (codes "apiVersion") ms) (less_spelled (codes "apiVersion") ms (object_spelled d ms (sym is) spelled))) there
+        metadata_spelled (own_members ms) p (less_spelled (codes "kind") (less (codes "apiVersion") ms) (less_spelled (codes "apiVersion") ms (object_spelled d ms (sym is) spelled))) there
 
 -- ---- a name taken out leaves the others
 

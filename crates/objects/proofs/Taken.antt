@@ -1,21 +1,17 @@
 -- Members of an object, one taken out and put back.
-use Rattle.std.proofs.Common.{◌≡◌, ◌≤◌, ℕ, Bool, true, false, cond, string_bytes, max, List, [], ◌∷◌, Some, None, is_some, Ordering, Less, Equal, Greater, nat_cmp, is_eq, refl, sym, ap, ◌∙◌, true≢false, subst, arith}
+use Rattle.std.proofs.Common.{◌≡◌, ◌≤◌, ℕ, Bool, true, false, max, List, [], ◌∷◌, Some, None, is_some, Ordering, Less, Equal, Greater, nat_cmp, is_eq, refl, sym, ap, ◌∙◌, true≢false, subst, arith}
 use Rattle.std.specs.Cmp.{tied_itself}
 use Rattle.std.specs.Cmp.Lexicographic.{slice_cmp, bytes_decides}
 use Rattle.std.specs.FinMap.{nat_cmp-IsAntisymmetric, slice_cmp-IsAntisymmetric}
-use Rattle.std.specs.BTreeMap.{is_at}
-use Rattle.std.specs.Map.{remove_entry}
 use Rattle.std.specs.Option.{unwrap_or}
 use Rattle.std.specs.Ordering.{is_lt, match_ordering}
 use Rattle.std.specs.Str.{bytes_eq}
 use Rattle.std.proofs.lemmas.Cmp.{nat_list_cmp_total}
 use Rattle.serde_json.specs.Data.{Data, Members, no_members, member, put, depth, members_depth}
 use Rattle.serde_json.specs.Find.{get_member}
-use Rattle.serde_json.specs.View.{view, members_view}
-use Rattle.serde_json.proofs.Views.{Entry}
 use Rattle.fieldpath.specs.Scalars.{ascend, ascend_from}
 use Rattle.fieldpath.specs.Spelled.{IsSpelled, MembersAreSpelled, member_names}
-use Rattle.objects.specs.Parts.{less}
+use Rattle.json_values.specs.Members.{less}
 use Rattle.objects.proofs.Within.{left_true, right_true, both_true}
 
 pub no_some : {A P : Type 0} (x : A) → Some x ≡ None → P
@@ -200,16 +196,3 @@ found_depth n k d (member l e ms) deep h = by_order (cmp k l) (found_depth n k d
     by_order Less later there = later there
     by_order Equal later there = subst (λ x. depth x ≤ n) (same_some e d there) (left_deep (depth e) (members_depth ms) n deep)
     by_order Greater later there = later there
-
--- ---- taken out of a map
-
-pub members-remove : (name : List ℕ) (es : List Entry) → members_view (remove_entry (is_at (λ k. slice_cmp nat_cmp name (string_bytes k))) es) ≡ less name (members_view es)
-members-remove name [] = refl
-members-remove name (e ∷ es) = by_order (cmp name (string_bytes e.0)) (members-remove name es)
-  where
-    by_order : (o : Ordering) → members_view (remove_entry (is_at (λ k. slice_cmp nat_cmp name (string_bytes k))) es) ≡ less name (members_view es)
-        → members_view (cond (is_eq o) es (e ∷ remove_entry (is_at (λ k. slice_cmp nat_cmp name (string_bytes k))) es))
-        ≡ match_ordering o (member (string_bytes e.0) (view e.1) (less name (members_view es))) (members_view es) (member (string_bytes e.0) (view e.1) (less name (members_view es)))
-    by_order Less later = ap (member (string_bytes e.0) (view e.1)) later
-    by_order Equal later = refl
-    by_order Greater later = ap (member (string_bytes e.0) (view e.1)) later

@@ -4,11 +4,10 @@ use Rattle.std.specs.declared.result.Result.{Result}
 use Rattle.std.specs.declared.result.Result.TheVariants.{Ok, Err}
 use Rattle.std.specs.FinMap as fin
 use Rattle.std.specs.List.{list_all}
-use Rattle.std.specs.Ordering.{nat_cmp, match_ordering}
-use Rattle.std.specs.Cmp.Lexicographic.{slice_cmp}
 use Rattle.std.specs.Str.{bytes_eq}
 use Rattle.serde_json.specs.Data.{Data, object, Items, no_items, item, Members, no_members, member, put}
-use Rattle.serde_json.specs.Find.{get_member, as_object, as_array, as_str}
+use Rattle.serde_json.specs.Find.{get_member, as_object, as_array}
+use Rattle.json_values.specs.Members.{less, split_off, text_at}
 use Rattle.names.specs.Decimals.{version_of}
 use Rattle.pathmap.specs.Contents.{PathSet}
 use Rattle.schema.specs.Shape.{Shape}
@@ -37,27 +36,14 @@ abbrev pub if_ok : {X : Type 0} → Result X Refusal → Option X
 if_ok (Ok x) = Some x
 if_ok (Err e) = None
 
--- ---- members
-
--- the members without the one of this name
-abbrev pub less : List ℕ → Members → Members
-less k no_members = no_members
-less k (member l d ms) = match_ordering (slice_cmp nat_cmp k l) (member l d (less k ms)) ms (member l d (less k ms))
-
-abbrev pub text_at : List ℕ → Members → Option (List ℕ)
-text_at k ms = option_and_then as_str (get_member k ms)
-
 -- ---- the envelope
 
 abbrev pub own_members : Members → Members
 own_members ms = less (codes "kind") (less (codes "apiVersion") ms)
 
 -- the members but for the envelope's, and those of `metadata`
-abbrev pub in_two : Members → Option (Members × Members)
-in_two ms = option_map (λ metadata. (less (codes "metadata") ms, metadata)) (option_and_then as_object (get_member (codes "metadata") ms))
-
 abbrev pub split : Data → Option (Members × Members)
-split d = option_and_then (λ ms. in_two (own_members ms)) (as_object d)
+split d = option_and_then (λ ms. split_off (codes "metadata") (own_members ms)) (as_object d)
 
 abbrev pub version_in : Members → Option ℕ
 version_in metadata = option_and_then version_of (text_at (codes "resourceVersion") metadata)

@@ -1,32 +1,26 @@
 //! How many labels an object is printed with; their limit stands in `size` of the crate `verbs`.
-ghost use Rattle.std.specs.Prelude.{◌≡◌, ℕ, true, codes, IfOk, option_and_then, option_map};
+ghost use Rattle.std.specs.Prelude.{◌≡◌, ℕ, true, codes, IfOk};
 ghost use Rattle.schema.specs.Lawful.{is_lawful};
 ghost use Rattle.schema.specs.Shape.{shape};
-ghost use Rattle.serde_json.specs.Find.{as_object, get_member};
 ghost use Rattle.serde_json.specs.View.{members_view};
+ghost use Rattle.json_values.specs.Members.{members_at};
 ghost use Rattle.typed.specs.Printing.{print};
 ghost use Rattle.objects.specs.Labels.{label_count, size};
 ghost use Rattle.objects.specs.ObjectText as texts;
 ghost use Rattle.objects.specs.ObjectText.{metadata_members, object_value};
 ghost use Rattle.objects.specs.Views.{state_of};
 
-use crate::envelope::member;
 use crate::object::{labels_of, members_of};
 use crate::owned::Owned;
+use json_values::members_at;
 use schema::Schema;
 use serde_json::{Map, Value};
 use std::alloc::{AllocError, Global};
 
-fn labels_in(metadata: &Map<String, Value>) -> Option<&Map<String, Value>>
-    ensures { option_map (λ m. members_view m.now.entries) result ≡ option_and_then as_object (get_member (codes "labels") (members_view metadata.now.entries)) }
-{
-    member(metadata, "labels")?.as_object()
-}
-
 fn count_labels(metadata: &Map<String, Value>) -> usize
-    ensures { result ≡ size (option_and_then as_object (get_member (codes "labels") (members_view metadata.now.entries))) }
+    ensures { result ≡ size (members_at (codes "labels") (members_view metadata.now.entries)) }
 {
-    match labels_in(metadata) {
+    match members_at(metadata, "labels") {
         Some(labels) => labels.len(),
         None => 0,
     }

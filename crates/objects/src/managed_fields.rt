@@ -3,7 +3,6 @@
 ghost use Rattle.std.specs.Prelude.{◌≡◌, ◌++◌, true, codes, IfOk, Some, option_map, option_and_then};
 ghost use Rattle.std.specs.FinMap as fin;
 ghost use Rattle.serde_json.specs.Data.{Data, array};
-ghost use Rattle.serde_json.specs.Find.{as_array};
 ghost use Rattle.serde_json.specs.View.{items_view, members_view, view};
 ghost use Rattle.serde_json.specs.Written.{compact_text};
 ghost use Rattle.fieldpath.specs.Spelled.{AreSpelled, IsSpelled, MembersAreSpelled};
@@ -13,14 +12,15 @@ ghost use Rattle.fieldset.specs.FieldsV1.{fields_v1_of};
 ghost use Rattle.fieldset.specs.Reading.{read_fields_v1};
 ghost use Rattle.objects.specs.Managers.{manager_view, pair, pairs};
 ghost use Rattle.objects.specs.ObjectText.{entry_items, entry_value};
-ghost use Rattle.objects.specs.Parts.{Gives, entries_in, entry_in, if_ok, items_or_none, manager_in, operation_named, owners_listed, set_in, text_at};
+ghost use Rattle.json_values.specs.Members.{text_at};
+ghost use Rattle.objects.specs.Parts.{Gives, entries_in, entry_in, if_ok, items_or_none, manager_in, operation_named, owners_listed, set_in};
 
-use crate::envelope::{into_object, take, text_at};
 use crate::fault::ObjectFault;
 use crate::managed_text::push_entry_with;
 use crate::manager::{Manager, Operation};
 use crate::managers::{Entry, Managers};
 use fieldset::{FieldSet, FieldsV1Fault, push_comma};
+use json_values::{into_array, into_object, take, text_at};
 use schema::Schema;
 use serde_json::{Map, Value};
 use std::alloc::Global;
@@ -122,15 +122,6 @@ fn read_entries(
     }
     text.push(b']')?;
     Ok((entries, text))
-}
-
-fn into_array(value: Value) -> Option<Vec<Value>>
-    ensures { option_map (λ v. items_view v.items) result ≡ as_array (view value) }
-{
-    match value {
-        Value::Array(items) => Some(items),
-        _ => None,
-    }
 }
 
 /// The items of `managedFields`; none where it is absent.

@@ -9,6 +9,9 @@ use decoder::Wanted;
 use names::is_dns_label;
 use thiserror::Error;
 
+/// How many objects a page has at most.
+const MAX_PAGE: u32 = 500;
+
 /// The wanted objects that the selector's text selects, in pages of so many.
 #[derive(Debug, Drop)]
 pub struct Settings {
@@ -33,7 +36,7 @@ pub enum SettingsFault {
 fn is_page(size: u32) -> bool
     ensures { result ≡ is_page size }
 {
-    1 <= size && size <= 500
+    1 <= size && size <= MAX_PAGE
 }
 
 fn is_place(namespace: &Option<String>) -> bool

@@ -1,5 +1,4 @@
 pub mod Batched
 pub mod Coming
 pub mod Onward
-pub mod Printed
 pub mod Putting

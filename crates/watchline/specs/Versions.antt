@@ -1,20 +1,10 @@
 -- An object's text at another version (Kubernetes API conventions, "Metadata"): its JSON, printed anew with the version in `metadata`.
 use Rattle.std.specs.Prelude.{ℕ, List, if◌then◌else◌, Option, Some, None, option_map, option_and_then, unwrap_or, codes, decimal}
-use Rattle.std.specs.Ordering.{nat_cmp, match_ordering}
-use Rattle.std.specs.Cmp.Lexicographic.{slice_cmp}
-use Rattle.serde_json.specs.Data.{Data, string, object, Members, no_members, member, put}
-use Rattle.serde_json.specs.Find.{as_object, get_member}
+use Rattle.serde_json.specs.Data.{Data, string, object, Members, put}
+use Rattle.serde_json.specs.Find.{as_object}
 use Rattle.serde_json.specs.Read.{read}
 use Rattle.serde_json.specs.Written.{compact_text, has_float}
-
--- the members but for the one of this name
-abbrev pub without : List ℕ → Members → Members
-without k no_members = no_members
-without k (member l d ms) = match_ordering (slice_cmp nat_cmp k l) (member l d (without k ms)) ms (member l d (without k ms))
-
--- the members of an object but for `metadata`, and those of `metadata`
-abbrev pub in_two : Members → Option (Members × Members)
-in_two ms = option_map (λ metadata. (without (codes "metadata") ms, metadata)) (option_and_then as_object (get_member (codes "metadata") ms))
+use Rattle.json_values.specs.Members.{split_off}
 
 abbrev pub metadata_at : ℕ → Members → Members
 metadata_at revision metadata = put (codes "resourceVersion") (string (decimal revision)) metadata
@@ -24,7 +14,7 @@ value_of revision others metadata = object (put (codes "metadata") (object (meta
 
 -- none where there is no `metadata`
 abbrev pub value_at : ℕ → Data → Option Data
-value_at revision d = option_map (λ p. value_of revision p.0 p.1) (option_and_then in_two (as_object d))
+value_at revision d = option_map (λ p. value_of revision p.0 p.1) (option_and_then (split_off (codes "metadata")) (as_object d))
 
 -- a number that is no integer has no one text, and no object has one
 abbrev pub text_of : Data → Option (List ℕ)

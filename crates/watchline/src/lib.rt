@@ -6,13 +6,13 @@
 //! position; a watch that has missed forgotten changes ends with an error; a bookmark tells the position alone. A
 //! call that fails leaves the cursor where it stood.
 //!
-//! Stands on `history` for what is seen, `revstore` for the changes, `lists` for the objects and their labels.
+//! Stands on `history` for what is seen, `revstore` for the changes, `lists` for the objects and their labels,
+//! `json_values` for the parts of an object's value.
 #![tactic(auto)]
 
 mod batches;
 mod cursor;
 mod event;
-mod floats;
 mod laws;
 mod lines;
 mod objects;

@@ -1,46 +1,14 @@
 //! Prints an object's text again with another version, as the line of a deletion shows it. The line stands in `lines`.
 
 ghost use Rattle.std.specs.Prelude.{◌≡◌, IfOk, option_and_then, option_map, string_bytes};
-ghost use Rattle.serde_json.specs.Find.{as_object, get_member};
 ghost use Rattle.serde_json.specs.Read.{read};
 ghost use Rattle.serde_json.specs.View.{members_view, view};
-ghost use Rattle.watchline.specs.Versions.{in_two, metadata_at, text_at_version, text_of, value_at, value_of, without};
+ghost use Rattle.watchline.specs.Versions.{metadata_at, text_at_version, text_of, value_at, value_of};
 
-use crate::floats::has_float;
+use json_values::{has_float, into_object, split_off};
 use revtable::Fault;
 use serde_json::{Map, Value};
 use std::alloc::{AllocError, Global};
-
-/// Removes and returns the member of this name.
-fn take(members: &mut Map<String, Value>, name: &str) -> Option<Value>
-    ensures value { option_map view result ≡ get_member name.now (members_view members.old.entries) }
-    ensures left { members_view members.new.entries ≡ without name.now (members_view members.old.entries) }
-{
-    members.remove(name)
-}
-
-fn into_object(value: Value) -> Option<Map<String, Value>>
-    ensures { option_map (λ m. members_view m.entries) result ≡ as_object (view value) }
-{
-    match value {
-        Value::Object(members) => Some(members),
-        _ => None,
-    }
-}
-
-/// The members without `metadata`, and those of `metadata`.
-fn in_two(members: Map<String, Value>) -> Option<(Map<String, Value>, Map<String, Value>)>
-    ensures { option_map (λ p. (members_view p.0.entries, members_view p.1.entries)) result ≡ in_two (members_view members.entries) }
-{
-    let mut others = members;
-    let Some(value) = take(&mut others, "metadata") else {
-        return None;
-    };
-    let Some(metadata) = into_object(value) else {
-        return None;
-    };
-    Some((others, metadata))
-}
 
 fn metadata_at(
     alloc: Global,
@@ -80,7 +48,7 @@ fn value_at(alloc: Global, value: Value, revision: u64) -> Result<Option<Value>,
     let Some(members) = into_object(value) else {
         return Ok(None);
     };
-    let Some((others, metadata)) = in_two(members) else {
+    let Some((others, metadata)) = split_off(members, "metadata") else {
         return Ok(None);
     };
     Ok(Some(value_of(alloc, others, metadata, revision)?))

@@ -1,7 +1,7 @@
 use Rattle.std.proofs.Common.{◌∙◌, ap, codes}
 use Rattle.serde_json.specs.Find.{get_member}
 use Rattle.serde_json.specs.View.{members_view}
-use Rattle.objects.specs.Parts.{less}
+use Rattle.json_values.specs.Members.{less}
 use Rattle.objects.proofs.Listed.{listed_left}
 use Rattle.objects.proofs.envelope.labels_left.Goals as goal
 
