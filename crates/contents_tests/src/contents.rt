@@ -17,13 +17,13 @@
 //! | `compare TEXT and TEXT` | the paths of the first content, those changed from the second, and those added, modified and removed |
 
 use crate::given::{first_schema, path, printed, push_paths, shown_paths, tree, types_of};
-use crate::rows::{Answers, first_word, play_all, told};
 use fieldset::FieldSet;
 use ownership::{Identity, ObjectFault, Owned};
 use schema::{Schema, Types};
 use serde_json::Value;
 use std::alloc::{AllocError, Global};
 use std::test::Fail;
+use test_rows::{Answers, first_word, play_all, told};
 use typed::{Changes, ReadFault, Tree};
 
 /// Contents under the first schema of a types file.

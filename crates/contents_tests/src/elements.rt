@@ -9,10 +9,10 @@
 //! | `last A` | the text of such a path's last element |
 
 use crate::given::push;
-use crate::rows::{Answers, first_word, play_all, told};
 use fieldpath::{Elem, Keys, Path, Scalar};
 use std::alloc::{AllocError, Global};
 use std::test::Fail;
+use test_rows::{Answers, first_word, play_all, told};
 
 #[derive(Drop)]
 struct Elements;

@@ -2,10 +2,10 @@
 //! question as `contents` says.
 
 use crate::contents::answer_under;
-use crate::rows::{Answers, first_word, play_all};
 use schema::{ListKind, Schema};
 use std::alloc::{AllocError, Global};
 use std::test::Fail;
+use test_rows::{Answers, first_word, play_all};
 
 fn push_field(
     fields: &mut Vec<(String, Schema)>,

@@ -1,7 +1,7 @@
 //! Tests of the contents of objects and of their owners, by public calls alone.
 //!
 //! Each call stands in a helper with no clause, so that a test carries few facts. An example is a name and its rows of text
-//! (`rows`), and one test plays the examples of a file: rows cost the prover nothing, and each function some seconds.
+//! (`test_rows`), and one test plays the examples of a file: rows cost the prover nothing, and each function some seconds.
 #![tactic(auto)]
 
 #[cfg(test)]
@@ -20,8 +20,6 @@ mod object_texts;
 mod owners;
 #[cfg(test)]
 mod readings;
-#[cfg(test)]
-mod rows;
 #[cfg(test)]
 mod sets;
 #[cfg(test)]

@@ -11,11 +11,11 @@
 
 use crate::contents::w1;
 use crate::given::{WIDGET_TYPES, first_schema, printed, push_paths, tree, types_of};
-use crate::rows::{Answers, first_word, play, told};
-use ownership::{ApplyFault, Conflict, Manager, Operation, Owned, apply, update};
+use ownership::{ApplyFault, Conflict, Manager, Operation, Owned, apply, is_same, update};
 use schema::{Schema, Types};
 use std::alloc::{AllocError, Global};
 use std::test::Fail;
+use test_rows::{Answers, first_word, mark, play, told};
 use typed::Tree;
 
 /// An object of the first type, as it stands with its owners.
@@ -84,11 +84,6 @@ fn listed(alloc: Global, conflicts: &[Conflict]) -> Result<String, Fail> {
     Ok(text)
 }
 
-/// Whether a write left what stood as it was.
-fn is_as_before(alloc: Global, live: &Owned, owned: &Owned) -> Result<bool, AllocError> {
-    ownership::is_same(alloc, owned, live)
-}
-
 /// What stands then and who owns it, and whether that is as what stood; or the conflicts.
 fn shown_beside(
     alloc: Global,
@@ -99,7 +94,7 @@ fn shown_beside(
     match answer {
         Ok(owned) => {
             let mut text = shown(alloc, schema, owned)?;
-            if is_as_before(alloc, live, owned)? {
+            if is_same(alloc, owned, live)? {
                 text.push_str(" as before")?;
             }
             Ok(text)
@@ -150,12 +145,6 @@ fn compared(alloc: Global, words: &str) -> Result<String, Fail> {
     let one = manager(alloc, one)?;
     let other = manager(alloc, other)?.try_copy()?;
     told(alloc, (one.compare(&other), one.is_same(&other)))
-}
-
-/// Where the calls that `bench/failing_memory.py` refuses memory begin and end.
-fn mark(alloc: Global) -> Result<(), AllocError> {
-    Vec::<u8>::with_capacity(alloc, 1_000_003)?;
-    Ok(())
 }
 
 /// A write between marks.

@@ -15,12 +15,12 @@
 
 use crate::contents::written;
 use crate::given::{WIDGET_TYPES, first_schema, path, shown_paths, types_of};
-use crate::rows::{Answers, first_word, play_all, told};
 use fieldpath::{ElemText, Path};
 use fieldset::FieldSet;
 use pathmap::{Held, PathMap, put_under};
 use std::alloc::{AllocError, Global};
 use std::test::Fail;
+use test_rows::{Answers, first_word, play_all, told};
 
 #[derive(Drop)]
 struct Sets;

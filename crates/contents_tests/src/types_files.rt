@@ -11,11 +11,11 @@
 
 use crate::contents::play_under;
 use crate::given::{WIDGET_TYPES, first_schema, types_of};
-use crate::rows::{Answers, first_word, play_all, told};
 use schema::{Types, TypesFault};
 use serde_json::Value;
 use std::alloc::Global;
 use std::test::Fail;
+use test_rows::{Answers, first_word, play_all, told};
 
 #[derive(Drop)]
 struct TypesFile {

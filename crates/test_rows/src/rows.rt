@@ -1,7 +1,7 @@
-//! Examples, which are rows of text: a line with an example's name, and rows `QUESTION => ANSWER` up to the next blank line.
+//! Examples: a line with an example's name, and rows `QUESTION => ANSWER` up to the next blank line. What a row's words
+//! mean stands in the crate that plays it.
 
 use std::alloc::Global;
-use std::fmt::Debug;
 use std::test::Fail;
 
 /// What answers the questions of an example, one after another.
@@ -28,14 +28,4 @@ pub fn play_all<A: Answers>(alloc: Global, answers: &mut A, examples: &str) -> R
         play(alloc, answers, example)?;
     }
     Ok(())
-}
-
-/// A text up to its first blank, and what is behind it.
-pub fn first_word(text: &str) -> (&str, &str) {
-    text.split_once(' ').unwrap_or((text, ""))
-}
-
-/// An answer as it is shown.
-pub fn told<T: Debug + Drop>(alloc: Global, answer: T) -> Result<String, Fail> {
-    Ok(format!(in alloc; "{answer:?}")?)
 }
