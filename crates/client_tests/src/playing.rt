@@ -1,13 +1,14 @@
 //! An informer and a summary that answer the questions of rows; the replies that they are fed are made in `replies`.
 
 use crate::replies::{replies, reply};
-use crate::rows::{expect_text, first_word};
+use crate::rows::expect_text;
 use decoder::Wanted;
 use indexer::{IndexBy, Indexer, Object};
 use reflector::{Informer, Notice, Settings};
 use std::alloc::{AllocError, Global};
 use std::test::Fail;
 use summary::Summary;
+use test_rows::{first_word, mark};
 
 /// By the object's namespace.
 #[derive(Drop)]
@@ -52,12 +53,6 @@ pub fn indexer(alloc: Global) -> Result<Indexer<Namespace>, Fail> {
 fn informer(alloc: Global, selector: &str) -> Result<Informer<Namespace>, Fail> {
     let made = Informer::new(alloc, settings(alloc, selector)?, indexer(alloc)?);
     Ok(made.map_err(|_| "refused settings")?)
-}
-
-/// Where the calls that `bench/failing_memory.py` refuses memory begin and end.
-fn mark(alloc: Global) -> Result<(), AllocError> {
-    Vec::<u8>::with_capacity(alloc, 1_000_003)?;
-    Ok(())
 }
 
 fn tiers(alloc: Global) -> Result<Summary, AllocError> {

@@ -1,8 +1,8 @@
 //! Replies as a server writes them, each made from a few words of a row; what is asked after them stands in `playing`.
 
-use crate::rows::first_word;
 use std::alloc::{AllocError, Global};
 use std::test::Fail;
+use test_rows::first_word;
 
 const WATCH: &str =
     "HTTP/1.1 200 OK\r\nContent-Type: application/json\r\nTransfer-Encoding: chunked\r\nConnection: close\r\n\r\n";

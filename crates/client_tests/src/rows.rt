@@ -48,8 +48,3 @@ fn push_row(text: &mut String, question: &str, answer: &str) -> Result<(), Alloc
     text.push_str(answer)?;
     text.push_str("\n")
 }
-
-/// A text up to its first blank, and what is behind it.
-pub fn first_word(text: &str) -> (&str, &str) {
-    text.split_once(' ').unwrap_or((text, ""))
-}

@@ -59,7 +59,7 @@ pub(crate) struct Peers {
     alloc: Global,
     options: Options,
     poll: Poll,
-    listener: TcpListener,
+    pub(crate) listener: TcpListener,
     pub(crate) hub: Hub,
     entries: BTreeMap<u64, Entry>,
     /// The watches, in the order in which they opened.
@@ -116,11 +116,6 @@ impl Peers {
     /// How many connections are over.
     pub(crate) fn closed(&self) -> u64 {
         self.closed
-    }
-
-    /// The port that is listened on.
-    pub(crate) fn port(&self) -> io::Result<u16> {
-        Ok(self.listener.local_addr()?.port())
     }
 
     /// Waits until the system reports something, or something else is to be done.

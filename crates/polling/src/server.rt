@@ -63,7 +63,7 @@ impl Server {
 
     /// The port that it listens on.
     pub fn port(&self) -> io::Result<u16> {
-        self.peers.port()
+        Ok(self.peers.listener.local_addr()?.port())
     }
 
     /// Waits until the system reports something, a second at most, and does what is to be done: each connection that is

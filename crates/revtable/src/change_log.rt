@@ -100,7 +100,8 @@ impl<S: Alter> ChangeLog<S> {
         Ok(())
     }
 
-    /// What a SELECT over the table shows.
+    /// What a SELECT over the table shows. Its clause speaks of the changes, where `query_all` speaks of a database; it is
+    /// proved over any store.
     pub(crate) fn ask(&mut self, sql: &str, params: &[ValueRef<'_>]) -> Result<Vec<Row>, Error>
         requires plain { IsPlain (understood change_schema sql.now) }
         requires unlisted { reads_listing change_schema sql.now ≡ false }

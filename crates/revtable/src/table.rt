@@ -191,7 +191,8 @@ impl Table {
         Ok(())
     }
 
-    /// What a SELECT over the kept changes shows.
+    /// What a SELECT over the kept changes shows. Each of `statements` asks here: so it sees a history, and this call alone
+    /// is proved at the store that `memory` names.
     pub(crate) fn ask(&mut self, sql: &str, params: &[ValueRef<'_>]) -> Result<Vec<Row>, Fault>
         requires plain { IsPlain (understood change_schema sql.now) }
         requires unlisted { reads_listing change_schema sql.now ≡ false }

@@ -4,7 +4,7 @@ ghost use Rattle.std.specs.Prelude.{◌≡◌, IfOk, string_bytes};
 ghost use Rattle.std.specs.FinMap as fin;
 ghost use Rattle.serde_json.specs.View.{members_view, view};
 ghost use Rattle.serde_json.specs.Written.{compact_text};
-ghost use Rattle.summary.specs.Apply.{apply_request, count_members, spec_of, summary_of, target_of};
+ghost use Rattle.summary.specs.Apply.{count_members, spec_of, summary_of, target_of};
 ghost use Rattle.summary.specs.Summary.{counts_in, summed};
 
 use crate::summary::Summary;
@@ -76,22 +76,24 @@ fn target_of(alloc: Global, namespace: &str, name: &str) -> Result<String, Alloc
     )
 }
 
-/// The bytes that apply the summary.
-pub(crate) fn apply_request(
-    alloc: Global,
-    summary: &Summary,
-    namespace: &str,
-    name: &str,
-) -> Result<Vec<u8>, AllocError>
-    ensures { IfOk result (λ v. v.items ≡ apply_request (summed summary.now) namespace.now name.now) }
-{
-    let target = target_of(alloc, namespace, name)?;
-    let body = body_of(alloc, summary, namespace, name)?;
-    let media = "application/apply-patch+yaml";
-    request_bytes(
-        alloc,
-        "PATCH",
-        target.as_str(),
-        Some((media, body.as_bytes())),
-    )
+impl Summary {
+    ghost use Rattle.std.specs.Prelude.{◌≡◌, IfOk};
+    ghost use Rattle.summary.specs.Apply.{apply_request};
+    ghost use Rattle.summary.specs.Summary.{summed};
+
+    /// The request that applies the summary as the object of this namespace and name (Kubernetes documentation,
+    /// "Server-Side Apply").
+    pub fn apply_call(&self, namespace: &str, name: &str) -> Result<Vec<u8>, AllocError>
+        ensures { IfOk result (λ v. v.items ≡ apply_request (summed self.now) namespace.now name.now) }
+    {
+        let target = target_of(self.alloc, namespace, name)?;
+        let body = body_of(self.alloc, self, namespace, name)?;
+        let media = "application/apply-patch+yaml";
+        request_bytes(
+            self.alloc,
+            "PATCH",
+            target.as_str(),
+            Some((media, body.as_bytes())),
+        )
+    }
 }

@@ -2,7 +2,6 @@
 
 ghost use Rattle.std.specs.Prelude.{◌≡◌};
 
-use crate::applying::apply_request;
 use crate::counting::{add_one, take_one, value_of};
 use indexer::Object;
 use reflector::Notice;
@@ -15,7 +14,7 @@ pub struct Summary {
     pub(crate) label: String,
     pub(crate) counts: BTreeMap<String, u64>,
     pub(crate) total: u64,
-    alloc: Global,
+    pub(crate) alloc: Global,
 }
 
 impl Summary {
@@ -25,7 +24,6 @@ impl Summary {
     ghost use Rattle.reflector.specs.Client.{Objects};
     ghost use Rattle.reflector.specs.Replays.{AreOld, IsOld, replayed, with_notice};
     ghost use Rattle.reflector.specs.Seen.{notice_seen};
-    ghost use Rattle.summary.specs.Apply.{apply_request};
     ghost use Rattle.summary.specs.Counts.{SumsSome, summed_of};
     ghost use Rattle.summary.specs.Steps.{NotesSome, noted, noted_all, with_object, without_object};
     ghost use Rattle.summary.specs.Summary.{counts_in, summed};
@@ -64,6 +62,8 @@ impl Summary {
         }
     }
 
+    /// What a notice does to the counts alone, whatever they were before. `note` says what that is where they are those
+    /// of some objects.
     fn tell(&mut self, notice: &Notice) -> Result<(), AllocError>
         ensures ok { OnOk result (summed self.new ≡ noted (summed self.old) (notice_seen notice.now)) }
         ensures err { OnErr result (summed self.new ≡ summed self.old) }
@@ -82,6 +82,8 @@ impl Summary {
         }
     }
 
+    /// What notices do to the counts alone, one after the other. `note_all` says what that is where they are those of
+    /// some objects.
     fn tell_all(&mut self, notices: &[Notice]) -> Result<(), AllocError>
         ensures ok { OnOk result (summed self.new ≡ noted_all (summed self.old) (map notice_seen notices.now)) }
         ensures err { OnErr result (NotesSome (summed self.old) (map notice_seen notices.now) (summed self.new)) }
@@ -118,13 +120,5 @@ impl Summary {
         ensures { counts_in result.now ≡ (summed self.now).counts }
     {
         &self.counts
-    }
-
-    /// The request that applies the summary as the object of this namespace and name (Kubernetes documentation,
-    /// "Server-Side Apply").
-    pub fn apply_call(&self, namespace: &str, name: &str) -> Result<Vec<u8>, AllocError>
-        ensures { IfOk result (λ v. v.items ≡ apply_request (summed self.now) namespace.now name.now) }
-    {
-        apply_request(self.alloc, self, namespace, name)
     }
 }
