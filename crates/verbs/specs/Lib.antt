@@ -1,8 +1,10 @@
 pub mod Reasons
 pub mod Status
+pub mod Subject
 pub mod Validated
 pub mod Faults
 pub mod Json
+pub mod Live
 pub mod Machine
 pub mod Calls
 pub mod Admit

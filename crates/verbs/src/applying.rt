@@ -1,18 +1,14 @@
 //! Applies (Kubernetes docs, "Server-Side Apply"): their checks and their plan. Conflicts stand in `conflicts`, updates
 //! in `updating`.
 
-ghost use Rattle.std.specs.Prelude.{◌≡◌, ◌≤◌, IfOk, option_map};
+ghost use Rattle.std.specs.Prelude.{IfOk};
 ghost use Rattle.serde_json.specs.View.{view};
-ghost use Rattle.schema.specs.Served as types;
 ghost use Rattle.typed.specs.Fitting.{IsContent};
-ghost use Rattle.history.specs.History.{last_revision};
-ghost use Rattle.schema.specs.ObjectShape.{IsObjectShape};
-ghost use Rattle.objects.specs.Placed.{IsPlacedState};
-ghost use Rattle.objects.specs.Views.{state_of};
-ghost use Rattle.verbs.specs.Machine.{state_of_live};
+ghost use Rattle.verbs.specs.Live.{IsLive, object_in};
+ghost use Rattle.verbs.specs.Subject.{IsSubject, type_of};
 ghost use Rattle.verbs.specs.Json.{IsJson};
 ghost use Rattle.history.specs.Read.{key_of};
-ghost use Rattle.verbs.specs.Seen.{Gives, intent_seen, object_of};
+ghost use Rattle.verbs.specs.Seen.{Gives, intent_seen};
 ghost use Rattle.verbs.specs.Step.{applied_over, apply_validated};
 ghost use Rattle.verbs.specs.Written.{RemembersRight, written_plan};
 
@@ -23,29 +19,24 @@ use crate::live::Live;
 use crate::method::Method;
 use crate::naming::validate_names;
 use crate::storing::{check_version, stored_over};
+use crate::subject::Subject;
 use crate::written::Written;
-use history::Key;
 use params::Asked;
-use schema::Served;
 use serde_json::Value;
 use std::alloc::Global;
 
 /// Checks, in order: version, ownership, size.
 fn applied_over(
     alloc: Global,
-    served: &Served,
-    current: u64,
-    key: Key,
+    of: Subject<'_>,
     live: &Live,
     intent: Intent<'_>,
 ) -> Result<Written, CallError>
-    requires numbered { current ≤ last_revision }
-    requires shaped { IsObjectShape (types.served served.now).shape }
-    requires content { IsContent (types.served served.now).shape intent.content }
-    requires said { state_of live.now.state ≡ state_of_live (types.served served.now) (option_map object_of live.now.object) }
-    requires placed { IsPlacedState (types.served served.now).shape (state_of live.now.state) }
-    ensures plan { Gives written_plan result (applied_over (types.served served.now) current (key_of key) (option_map object_of live.now.object) (intent_seen intent.entry)) }
-    ensures right { IfOk result (RemembersRight (types.served served.now)) }
+    requires subject { IsSubject of }
+    requires content { IsContent (type_of of).shape intent.content }
+    requires live { IsLive (type_of of) live.now }
+    ensures plan { Gives written_plan result (applied_over (type_of of.entry) of.entry.current (key_of of.entry.key) (object_in live.now) (intent_seen intent.entry)) }
+    ensures right { IfOk result (RemembersRight (type_of of.entry)) }
 {
     check_version(alloc, intent.version, live.object.as_ref())?;
     let Intent {
@@ -56,40 +47,36 @@ fn applied_over(
     } = intent;
     let owned = applied(
         alloc,
-        served,
+        of.served,
         &live.state,
         content,
         manager.as_str(),
         is_forced,
     )?;
-    stored_over(alloc, served, current, key, live, owned)
+    stored_over(alloc, of, live, owned)
 }
 
 /// An apply's body over what stands.
 pub(crate) fn validate_apply(
     alloc: Global,
-    served: &Served,
-    current: u64,
+    of: Subject<'_>,
     live: &Live,
-    key: Key,
     query: &[u8],
     body: &Value,
 ) -> Result<Written, CallError>
-    requires numbered { current ≤ last_revision }
-    requires shaped { IsObjectShape (types.served served.now).shape }
+    requires subject { IsSubject of }
     requires json { IsJson (view body.now) }
-    requires said { state_of live.now.state ≡ state_of_live (types.served served.now) (option_map object_of live.now.object) }
-    requires placed { IsPlacedState (types.served served.now).shape (state_of live.now.state) }
-    ensures plan { Gives written_plan result (apply_validated (types.served served.now) current (option_map object_of live.now.object) (key_of key) query.now (view body.now)) }
-    ensures right { IfOk result (RemembersRight (types.served served.now)) }
+    requires live { IsLive (type_of of) live.now }
+    ensures plan { Gives written_plan result (apply_validated (type_of of.entry) of.entry.current (object_in live.now) (key_of of.entry.key) query.now (view body.now)) }
+    ensures right { IfOk result (RemembersRight (type_of of.entry)) }
 {
-    let expected = at_path(served, &key, Method::Patch);
+    let expected = at_path(of.served, &of.key, Method::Patch);
     let intent = intent_of(alloc, expected, Asked::Apply, query, body)?;
     validate_names(
         alloc,
-        key.namespace.as_str(),
-        key.name.as_str(),
+        of.key.namespace.as_str(),
+        of.key.name.as_str(),
         intent.body,
     )?;
-    applied_over(alloc, served, current, key, live, intent)
+    applied_over(alloc, of, live, intent)
 }

@@ -1,10 +1,10 @@
 //! Gets (Kubernetes docs, "Kubernetes API Concepts", "Resource versions", "Get"). Lists are refused in `listing`.
 
 ghost use Rattle.std.specs.Prelude.{◌≡◌, IfOk, option_map, string_bytes};
-ghost use Rattle.schema.specs.Served as types;
 ghost use Rattle.history.specs.Read.{key_of};
 ghost use Rattle.verbs.specs.Seen.{Gives, object_of, plan_of};
 ghost use Rattle.verbs.specs.Step.{get_validated, too_large_message, version_come};
+ghost use Rattle.verbs.specs.Subject.{type_of};
 
 use crate::calls::Plan;
 use crate::fault::CallError;
@@ -12,11 +12,10 @@ use crate::parameters::read_parameters;
 use crate::presence::there;
 use crate::reason::Reason;
 use crate::storing::as_it_stands;
+use crate::subject::Subject;
 use crate::texts::joined;
-use history::Key;
 use params::Asked;
 use revtable::Object;
-use schema::Served;
 use std::alloc::{AllocError, Global};
 
 pub(crate) fn too_large_message(
@@ -51,16 +50,14 @@ fn check_come(alloc: Global, version: Option<u64>, current: u64) -> Result<(), C
 /// Checks, in order: parameters, whether the object is there, version.
 pub(crate) fn validate_get(
     alloc: Global,
-    served: &Served,
-    current: u64,
+    of: &Subject<'_>,
     live: Option<&Object>,
-    key: &Key,
     query: &[u8],
 ) -> Result<Plan, CallError>
-    ensures { Gives plan_of result (get_validated (types.served served.now) current (option_map (λ o. object_of o.now) live.entry) (key_of key.now) query.now) }
+    ensures { Gives plan_of result (get_validated (type_of of.now) of.now.current (option_map (λ o. object_of o.now) live.entry) (key_of of.now.key) query.now) }
 {
     let params = read_parameters(alloc, Asked::Get, query)?;
-    let stored = there(alloc, served, key.name.as_str(), live)?;
-    check_come(alloc, params.version, current)?;
+    let stored = there(alloc, of.served, of.key.name.as_str(), live)?;
+    check_come(alloc, params.version, of.current)?;
     Ok(as_it_stands(stored)?)
 }

@@ -46,6 +46,7 @@ mod size;
 mod slot;
 mod status;
 mod storing;
+mod subject;
 mod texts;
 mod updating;
 mod watching;

@@ -8,6 +8,7 @@ ghost use Rattle.objects.specs.Views.{state_of};
 ghost use Rattle.schema.specs.ObjectShape.{IsObjectShape};
 ghost use Rattle.schema.specs.TypesFile.{ServedShape};
 ghost use Rattle.history.specs.Read.{key_of};
+ghost use Rattle.verbs.specs.Live.{IsLive};
 ghost use Rattle.verbs.specs.Machine.{IsReadable, state_of_live, state_said};
 ghost use Rattle.verbs.specs.Remembered.{IsRight};
 ghost use Rattle.verbs.specs.Seen.{object_of};
@@ -42,7 +43,7 @@ impl Live {
 
     /// What is to be remembered of the object, where one stands.
     pub(crate) fn into_remembered(self) -> Option<Remembered>
-        ensures { (t : ServedShape) → state_of self.state ≡ state_of_live t (option_map object_of self.object) → IsPlacedState t.shape (state_of self.state) → IfSome result (IsRight t) }
+        ensures { (t : ServedShape) → IsLive t self → IfSome result (IsRight t) }
     {
         let Live { object, state } = self;
         match object {

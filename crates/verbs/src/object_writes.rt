@@ -2,19 +2,16 @@
 //! stands, or else from that text. Afterwards what was stored is remembered; what stands, where nothing was stored; and nothing
 //! of an object that is deleted. What a write does stands in `updating`, `applying` and `deleting`.
 
-ghost use Rattle.std.specs.Prelude.{◌≡◌, ◌≢◌, ◌≤◌, Err, IfOk, IfSome, None, option_map};
-ghost use Rattle.schema.specs.ObjectShape.{IsObjectShape};
-ghost use Rattle.schema.specs.Served as types;
+ghost use Rattle.std.specs.Prelude.{◌≡◌, ◌≢◌, Err, IfOk, IfSome, option_map};
 ghost use Rattle.schema.specs.TypesFile.{ServedShape};
-ghost use Rattle.objects.specs.Placed.{IsPlacedState};
-ghost use Rattle.objects.specs.Views.{state_of};
-ghost use Rattle.history.specs.History.{last_revision};
 ghost use Rattle.history.specs.Read.{key_of};
 ghost use Rattle.verbs.specs.Calls as calls;
-ghost use Rattle.verbs.specs.Machine.{IsReadable, state_of_live};
+ghost use Rattle.verbs.specs.Live.{IsLive, object_in};
+ghost use Rattle.verbs.specs.Machine.{IsReadable};
 ghost use Rattle.verbs.specs.Remembered.{IsRight};
 ghost use Rattle.verbs.specs.Seen.{Gives, call_of, object_of, plan_of};
 ghost use Rattle.verbs.specs.Step.{apply_validated, body_of, delete_validated, plan_for, update_validated};
+ghost use Rattle.verbs.specs.Subject.{IsSubject, type_of};
 ghost use Rattle.verbs.specs.Validated.{Validated, and_then};
 ghost use Rattle.verbs.specs.Written.{RemembersRight, written_plan};
 
@@ -25,53 +22,44 @@ use crate::deleting::validate_delete;
 use crate::fault::{CallError, Fault};
 use crate::live::{Live, live_at};
 use crate::remembered::Remembered;
+use crate::subject::Subject;
 use crate::updating::validate_update;
 use crate::written::Written;
-use history::Key;
 use revtable::Object;
-use schema::Served;
 use std::alloc::Global;
 
 /// An update by the call's body, which is checked first.
 fn validate_put(
     alloc: Global,
-    served: &Served,
-    current: u64,
+    of: Subject<'_>,
     live: &Live,
-    key: Key,
     call: &Call,
 ) -> Result<Written, CallError>
-    requires numbered { current ≤ last_revision }
-    requires shaped { IsObjectShape (types.served served.now).shape }
-    requires said { state_of live.now.state ≡ state_of_live (types.served served.now) (option_map object_of live.now.object) }
-    requires placed { IsPlacedState (types.served served.now).shape (state_of live.now.state) }
+    requires subject { IsSubject of }
+    requires live { IsLive (type_of of) live.now }
     ensures plan { let c = call_of call.now in
-        Gives written_plan result (and_then (body_of c.body) (update_validated (types.served served.now) current (option_map object_of live.now.object) (key_of key) c.query)) }
-    ensures right { IfOk result (RemembersRight (types.served served.now)) }
+        Gives written_plan result (and_then (body_of c.body) (update_validated (type_of of.entry) of.entry.current (object_in live.now) (key_of of.entry.key) c.query)) }
+    ensures right { IfOk result (RemembersRight (type_of of.entry)) }
 {
     let body = body_of(alloc, call)?;
-    validate_update(alloc, served, current, live, key, &call.query, body)
+    validate_update(alloc, of, live, &call.query, body)
 }
 
 /// An apply of the call's body, which is checked first.
 fn validate_patch(
     alloc: Global,
-    served: &Served,
-    current: u64,
+    of: Subject<'_>,
     live: &Live,
-    key: Key,
     call: &Call,
 ) -> Result<Written, CallError>
-    requires numbered { current ≤ last_revision }
-    requires shaped { IsObjectShape (types.served served.now).shape }
-    requires said { state_of live.now.state ≡ state_of_live (types.served served.now) (option_map object_of live.now.object) }
-    requires placed { IsPlacedState (types.served served.now).shape (state_of live.now.state) }
+    requires subject { IsSubject of }
+    requires live { IsLive (type_of of) live.now }
     ensures plan { let c = call_of call.now in
-        Gives written_plan result (and_then (body_of c.body) (apply_validated (types.served served.now) current (option_map object_of live.now.object) (key_of key) c.query)) }
-    ensures right { IfOk result (RemembersRight (types.served served.now)) }
+        Gives written_plan result (and_then (body_of c.body) (apply_validated (type_of of.entry) of.entry.current (object_in live.now) (key_of of.entry.key) c.query)) }
+    ensures right { IfOk result (RemembersRight (type_of of.entry)) }
 {
     let body = body_of(alloc, call)?;
-    validate_apply(alloc, served, current, live, key, &call.query, body)
+    validate_apply(alloc, of, live, &call.query, body)
 }
 
 /// The plan of a write, or of its refusal. What it stores is remembered in place of what was known; where it stores nothing,
@@ -105,8 +93,7 @@ fn plan_over(
 ) -> Result<Plan, Fault>
     ensures plan_for { (answer : Validated calls.Plan) → Gives written_plan written answer → IfOk result (λ p. plan_of p ≡ plan_for answer) }
     ensures readable { result ≢ Err Fault.Unreadable }
-    ensures right { (t : ServedShape) → IfOk written (RemembersRight t) → state_of live.state ≡ state_of_live t (option_map object_of live.object) → IsPlacedState t.shape (state_of live.state)
-        → IfSome known.new (IsRight t) }
+    ensures right { (t : ServedShape) → IfOk written (RemembersRight t) → IsLive t live → IfSome known.new (IsRight t) }
 {
     *known = live.into_remembered();
     plan_written(alloc, written, known)
@@ -121,7 +108,7 @@ fn plan_deleted(
 ) -> Result<Plan, Fault>
     ensures plan_for { (answer : Validated calls.Plan) → Gives plan_of deleted answer → IfOk result (λ p. plan_of p ≡ plan_for answer) }
     ensures readable { result ≢ Err Fault.Unreadable }
-    ensures right { (t : ServedShape) → state_of live.state ≡ state_of_live t (option_map object_of live.object) → IsPlacedState t.shape (state_of live.state) → IfSome known.new (IsRight t) }
+    ensures right { (t : ServedShape) → IsLive t live → IfSome known.new (IsRight t) }
 {
     *known = match &deleted {
         Ok(_) => None,
@@ -133,69 +120,60 @@ fn plan_deleted(
 /// An update of the object under the key.
 pub(crate) fn planned_put(
     alloc: Global,
-    served: &Served,
-    current: u64,
+    of: Subject<'_>,
     object: Option<Object>,
-    key: Key,
     call: &Call,
     known: &mut Option<Remembered>,
 ) -> Result<Plan, Fault>
-    requires numbered { current ≤ last_revision }
-    requires shaped { IsObjectShape (types.served served.now).shape }
-    requires right { IfSome known.old (IsRight (types.served served.now)) }
+    requires subject { IsSubject of }
+    requires right { IfSome known.old (IsRight (type_of of)) }
     ensures planned { let c = call_of call.now in
-        IfOk result (λ p. plan_of p ≡ plan_for (and_then (body_of c.body) (update_validated (types.served served.now) current (option_map object_of object) (key_of key) c.query))) }
-    ensures readable { IsReadable (types.served served.now) (key_of key) (option_map object_of object) → result ≢ Err Fault.Unreadable }
-    ensures right { IfSome known.new (IsRight (types.served served.now)) }
+        IfOk result (λ p. plan_of p ≡ plan_for (and_then (body_of c.body) (update_validated (type_of of.entry) of.entry.current (option_map object_of object) (key_of of.entry.key) c.query))) }
+    ensures readable { IsReadable (type_of of.entry) (key_of of.entry.key) (option_map object_of object) → result ≢ Err Fault.Unreadable }
+    ensures right { IfSome known.new (IsRight (type_of of.entry)) }
 {
-    let live = live_at(alloc, served, &key, object, known.take())?;
-    let updated = validate_put(alloc, served, current, &live, key, call);
+    let live = live_at(alloc, of.served, &of.key, object, known.take())?;
+    let updated = validate_put(alloc, of, &live, call);
     plan_over(alloc, live, updated, known)
 }
 
 /// An apply to the object under the key.
 pub(crate) fn planned_patch(
     alloc: Global,
-    served: &Served,
-    current: u64,
+    of: Subject<'_>,
     object: Option<Object>,
-    key: Key,
     call: &Call,
     known: &mut Option<Remembered>,
 ) -> Result<Plan, Fault>
-    requires numbered { current ≤ last_revision }
-    requires shaped { IsObjectShape (types.served served.now).shape }
-    requires right { IfSome known.old (IsRight (types.served served.now)) }
+    requires subject { IsSubject of }
+    requires right { IfSome known.old (IsRight (type_of of)) }
     ensures planned { let c = call_of call.now in
-        IfOk result (λ p. plan_of p ≡ plan_for (and_then (body_of c.body) (apply_validated (types.served served.now) current (option_map object_of object) (key_of key) c.query))) }
-    ensures readable { IsReadable (types.served served.now) (key_of key) (option_map object_of object) → result ≢ Err Fault.Unreadable }
-    ensures right { IfSome known.new (IsRight (types.served served.now)) }
+        IfOk result (λ p. plan_of p ≡ plan_for (and_then (body_of c.body) (apply_validated (type_of of.entry) of.entry.current (option_map object_of object) (key_of of.entry.key) c.query))) }
+    ensures readable { IsReadable (type_of of.entry) (key_of of.entry.key) (option_map object_of object) → result ≢ Err Fault.Unreadable }
+    ensures right { IfSome known.new (IsRight (type_of of.entry)) }
 {
-    let live = live_at(alloc, served, &key, object, known.take())?;
-    let applied = validate_patch(alloc, served, current, &live, key, call);
+    let live = live_at(alloc, of.served, &of.key, object, known.take())?;
+    let applied = validate_patch(alloc, of, &live, call);
     plan_over(alloc, live, applied, known)
 }
 
 /// The deletion of the object under the key.
 pub(crate) fn planned_deletion(
     alloc: Global,
-    served: &Served,
-    current: u64,
+    of: Subject<'_>,
     object: Option<Object>,
-    key: Key,
     call: &Call,
     known: &mut Option<Remembered>,
 ) -> Result<Plan, Fault>
-    requires numbered { current ≤ last_revision }
-    requires shaped { IsObjectShape (types.served served.now).shape }
-    requires right { IfSome known.old (IsRight (types.served served.now)) }
+    requires subject { IsSubject of }
+    requires right { IfSome known.old (IsRight (type_of of)) }
     ensures planned { let c = call_of call.now in
-        IfOk result (λ p. plan_of p ≡ plan_for (delete_validated (types.served served.now) current (option_map object_of object) (key_of key) c.query c.body)) }
-    ensures readable { IsReadable (types.served served.now) (key_of key) (option_map object_of object) → result ≢ Err Fault.Unreadable }
-    ensures right { IfSome known.new (IsRight (types.served served.now)) }
+        IfOk result (λ p. plan_of p ≡ plan_for (delete_validated (type_of of.entry) of.entry.current (option_map object_of object) (key_of of.entry.key) c.query c.body)) }
+    ensures readable { IsReadable (type_of of.entry) (key_of of.entry.key) (option_map object_of object) → result ≢ Err Fault.Unreadable }
+    ensures right { IfSome known.new (IsRight (type_of of.entry)) }
 {
-    let live = live_at(alloc, served, &key, object, known.take())?;
+    let live = live_at(alloc, of.served, &of.key, object, known.take())?;
     let body = call.body.as_ref();
-    let deleted = validate_delete(alloc, served, current, &live, key, &call.query, body);
+    let deleted = validate_delete(alloc, of, &live, &call.query, body);
     plan_deleted(alloc, live, deleted, known)
 }

@@ -1,6 +1,6 @@
 //! The plan of a call, by its method and what stands in the store. Writes of one object are planned in `object_writes`.
 
-ghost use Rattle.std.specs.Prelude.{◌≡◌, ◌≢◌, ◌≤◌, Err, IfOk, IfSome, List, None, Some, option_map, slice_get, string_bytes};
+ghost use Rattle.std.specs.Prelude.{◌≡◌, ◌≢◌, Err, IfOk, IfSome, List, None, Some, option_map, slice_get, string_bytes};
 ghost use Rattle.std.specs.declared.result.Result.{Result};
 ghost use Rattle.std.specs.FinMap as fin;
 ghost use Rattle.schema.specs.ObjectShape.{IsObjectShape};
@@ -8,7 +8,6 @@ ghost use Rattle.schema.specs.Served as types;
 ghost use Rattle.schema.specs.Served.{types_view};
 ghost use Rattle.schema.specs.TypesFile.{ServedShape};
 ghost use Rattle.typed.specs.Fitting.{IsContent};
-ghost use Rattle.history.specs.History.{last_revision};
 ghost use Rattle.history.specs.Read.{key_of};
 ghost use Rattle.verbs.specs.Calls as calls;
 ghost use Rattle.verbs.specs.Validated.{and_then};
@@ -21,6 +20,7 @@ ghost use Rattle.lists.specs.declared.refusal.Refusal.{Refusal};
 ghost use Rattle.watchline.specs.Views.{watch_from};
 ghost use Rattle.watchline.specs.Watches.{from_view};
 ghost use Rattle.verbs.specs.Step.{all_validated_by, body_of, collection_of, collection_validated_by, create_validated, created_as, creation_validated, list_answered, list_validated, lists_in, object_validated_by, plan_for, planned_over, shown_by, validated_in};
+ghost use Rattle.verbs.specs.Subject.{IsSubject, type_of};
 
 use crate::answering::{body_of, no_path, not_served, plan_for};
 use crate::calls::{Answer, Call, Plan};
@@ -34,6 +34,7 @@ use crate::method::Method;
 use crate::object_writes::{plan_written, planned_deletion, planned_patch, planned_put};
 use crate::parameters::read_parameters;
 use crate::remembered::Remembered;
+use crate::subject::Subject;
 use crate::updating::{created_as, validate_creation};
 use history::Key;
 use lists::{Collection, ListFault, list};
@@ -47,31 +48,27 @@ use watchline::{WatchFrom, start_watch};
 /// By the method, over the object under the key.
 fn planned_by(
     alloc: Global,
-    served: &Served,
-    current: u64,
+    of: Subject<'_>,
     object: Option<Object>,
-    key: Key,
     call: &Call,
     known: &mut Option<Remembered>,
 ) -> Result<Plan, Fault>
-    requires numbered { current ≤ last_revision }
-    requires shaped { IsObjectShape (types.served served.now).shape }
-    requires right { IfSome known.old (IsRight (types.served served.now)) }
+    requires subject { IsSubject of }
+    requires right { IfSome known.old (IsRight (type_of of)) }
     ensures planned { let c = call_of call.now in
-        IfOk result (λ p. plan_of p ≡ plan_for (object_validated_by c.target.method (types.served served.now) current (option_map object_of object) (key_of key) c.query c.body)) }
-    ensures readable { IsReadable (types.served served.now) (key_of key) (option_map object_of object) → result ≢ Err Fault.Unreadable }
-    ensures right { IfSome known.new (IsRight (types.served served.now)) }
+        IfOk result (λ p. plan_of p ≡ plan_for (object_validated_by c.target.method (type_of of.entry) of.entry.current (option_map object_of object) (key_of of.entry.key) c.query c.body)) }
+    ensures readable { IsReadable (type_of of.entry) (key_of of.entry.key) (option_map object_of object) → result ≢ Err Fault.Unreadable }
+    ensures right { IfSome known.new (IsRight (type_of of.entry)) }
 {
-    let query = call.query.as_slice();
     match call.target.method {
         Method::Get => {
-            let read = validate_get(alloc, served, current, object.as_ref(), &key, query);
+            let read = validate_get(alloc, &of, object.as_ref(), &call.query);
             plan_for(alloc, read)
         }
         Method::Post => plan_for(alloc, Err(not_served(alloc))),
-        Method::Put => planned_put(alloc, served, current, object, key, call, known),
-        Method::Patch => planned_patch(alloc, served, current, object, key, call, known),
-        Method::Delete => planned_deletion(alloc, served, current, object, key, call, known),
+        Method::Put => planned_put(alloc, of, object, call, known),
+        Method::Patch => planned_patch(alloc, of, object, call, known),
+        Method::Delete => planned_deletion(alloc, of, object, call, known),
     }
 }
 
@@ -92,8 +89,12 @@ fn planned_object(
     ensures same { store.new ≡ store.old }
 {
     let object = store.get(&key)?;
-    let current = store.current();
-    planned_by(alloc, served, current, object, key, call, known)
+    let of = Subject {
+        served,
+        key,
+        current: store.current(),
+    };
+    planned_by(alloc, of, object, call, known)
 }
 
 /// What a creation's body says.
@@ -137,8 +138,12 @@ fn planned_creation(
 {
     let Creation { key, intent } = creation;
     let standing = store.get(&key)?;
-    let current = store.current();
-    let created = created_as(alloc, served, current, standing.as_ref(), key, intent);
+    let of = Subject {
+        served,
+        key,
+        current: store.current(),
+    };
+    let created = created_as(alloc, of, standing.as_ref(), intent);
     plan_written(alloc, created, known)
 }
 

@@ -10,13 +10,14 @@ ghost use Rattle.typed.specs.Fitting.{IsContent};
 ghost use Rattle.schema.specs.ObjectShape.{IsObjectShape};
 ghost use Rattle.objects.specs.Placed.{IsPlacedState};
 ghost use Rattle.objects.specs.Views.{state_of};
-ghost use Rattle.verbs.specs.Machine.{state_of_live};
+ghost use Rattle.verbs.specs.Live.{IsSaid, object_in};
 ghost use Rattle.history.specs.Read.{key_of};
 ghost use Rattle.verbs.specs.Seen.{Gives, object_of, plan_of};
 ghost use Rattle.verbs.specs.Naming.{metadata_object};
 ghost use Rattle.verbs.specs.Remembered.{IsSaidBy};
 ghost use Rattle.verbs.specs.Size.{count_if_there};
 ghost use Rattle.verbs.specs.Step.{as_it_stands, no_object_message, other_version_message, revisions_left, stored, stored_as, stored_over, text_at, version_checked};
+ghost use Rattle.verbs.specs.Subject.{IsSubject, type_of};
 ghost use Rattle.verbs.specs.Written.{RemembersRight, written_plan};
 
 use crate::calls::{Answer, Plan};
@@ -28,16 +29,14 @@ use crate::live::Live;
 use crate::reason::Reason;
 use crate::remembered::remember;
 use crate::size::validate_size;
+use crate::subject::Subject;
 use crate::texts::joined;
 use crate::written::Written;
-use history::Key;
+use history::{Key, LAST_REVISION};
 use ownership::{Outcome, Owned, written_over};
 use revtable::Object;
 use schema::Served;
 use std::alloc::{AllocError, Global};
-
-/// The highest revision.
-const LAST_REVISION: u64 = 9223372036854775807;
 
 /// The text of the object at the key, as compact JSON.
 pub fn printed_text(
@@ -112,20 +111,19 @@ pub fn check_revisions(alloc: Global, current: u64) -> Result<(), CallError>
 /// The object of this text, which has so many labels, unless it is too large or revisions are used up.
 fn stored_as(
     alloc: Global,
+    of: Subject<'_>,
+    status: u16,
     text: String,
     labels: usize,
-    current: u64,
-    key: Key,
-    status: u16,
 ) -> Result<Plan, CallError>
-    requires numbered { current ≤ last_revision }
+    requires numbered { of.current ≤ last_revision }
     ensures plan { (object : Data) → string_bytes text ≡ compact_text object → labels ≡ count_if_there (metadata_object (codes "labels") object)
-        → Gives plan_of result (stored_as object current (key_of key) status) }
+        → Gives plan_of result (stored_as object of.entry.current (key_of of.entry.key) status) }
     ensures text { IfOk result (λ p. string_bytes p.answer.body ≡ string_bytes text) }
-    ensures left { OnOk result (current < last_revision) }
+    ensures left { OnOk result (of.entry.current < last_revision) }
 {
     validate_size(alloc, labels, text.as_str())?;
-    check_revisions(alloc, current)?;
+    check_revisions(alloc, of.current)?;
     let body = text.clone()?;
     Ok(Plan {
         answer: Answer {
@@ -134,8 +132,8 @@ fn stored_as(
             watch: None,
         },
         change: Some(Change {
-            revision: current + 1,
-            key,
+            revision: of.current + 1,
+            key: of.key,
             body: Some(text),
         }),
     })
@@ -144,39 +142,33 @@ fn stored_as(
 /// The object with the next revision.
 fn stored_plan(
     alloc: Global,
-    served: &Served,
-    current: u64,
-    key: Key,
+    of: Subject<'_>,
     status: u16,
     owned: &Owned,
 ) -> Result<Plan, CallError>
-    requires numbered { current ≤ last_revision }
-    requires shaped { IsObjectShape (types.served served.now).shape }
-    requires placed { IsPlacedState (types.served served.now).shape (state_of owned.now) }
-    ensures plan { Gives plan_of result (stored (types.served served.now) current (key_of key) status (state_of owned.now)) }
-    ensures says { IfOk result (λ p. IsSaidBy (types.served served.now) (string_bytes p.answer.body) (state_of owned.now)) }
+    requires subject { IsSubject of }
+    requires placed { IsPlacedState (type_of of).shape (state_of owned.now) }
+    ensures plan { Gives plan_of result (stored (type_of of.entry) of.entry.current (key_of of.entry.key) status (state_of owned.now)) }
+    ensures says { IfOk result (λ p. IsSaidBy (type_of of.entry) (string_bytes p.answer.body) (state_of owned.now)) }
 {
-    let text = printed_text(alloc, served, &key, current + 1, owned)?;
-    let labels = owned.label_count(alloc, &served.schema)?;
-    stored_as(alloc, text, labels, current, key, status)
+    let text = printed_text(alloc, of.served, &of.key, of.current + 1, owned)?;
+    let labels = owned.label_count(alloc, &of.served.schema)?;
+    stored_as(alloc, of, status, text, labels)
 }
 
 /// The text that is stored of a state, and the state with it, which is remembered.
-pub fn stored(
+pub(crate) fn stored(
     alloc: Global,
-    served: &Served,
-    current: u64,
-    key: Key,
+    of: Subject<'_>,
     status: u16,
     owned: Owned,
 ) -> Result<Written, CallError>
-    requires numbered { current ≤ last_revision }
-    requires shaped { IsObjectShape (types.served served.now).shape }
-    requires placed { IsPlacedState (types.served served.now).shape (state_of owned) }
-    ensures plan { Gives written_plan result (stored (types.served served.now) current (key_of key) status (state_of owned)) }
-    ensures right { IfOk result (RemembersRight (types.served served.now)) }
+    requires subject { IsSubject of }
+    requires placed { IsPlacedState (type_of of).shape (state_of owned) }
+    ensures plan { Gives written_plan result (stored (type_of of.entry) of.entry.current (key_of of.entry.key) status (state_of owned)) }
+    ensures right { IfOk result (RemembersRight (type_of of.entry)) }
 {
-    let plan = stored_plan(alloc, served, current, key, status, &owned)?;
+    let plan = stored_plan(alloc, of, status, &owned)?;
     let remembered = remember(&plan.answer.body, owned);
     Ok(Written { plan, remembered })
 }
@@ -209,24 +201,21 @@ fn unchanged(live: &Object) -> Result<Written, AllocError>
 }
 
 /// A creation, or a change of what stands, unless it changes nothing of the state before.
-pub fn stored_over(
+pub(crate) fn stored_over(
     alloc: Global,
-    served: &Served,
-    current: u64,
-    key: Key,
+    of: Subject<'_>,
     live: &Live,
     owned: Owned,
 ) -> Result<Written, CallError>
-    requires numbered { current ≤ last_revision }
-    requires shaped { IsObjectShape (types.served served.now).shape }
-    requires placed { IsPlacedState (types.served served.now).shape (state_of owned) }
-    requires said { state_of live.now.state ≡ state_of_live (types.served served.now) (option_map object_of live.now.object) }
-    ensures plan { Gives written_plan result (stored_over (types.served served.now) current (key_of key) (option_map object_of live.now.object) (state_of owned)) }
-    ensures right { IfOk result (RemembersRight (types.served served.now)) }
+    requires subject { IsSubject of }
+    requires placed { IsPlacedState (type_of of).shape (state_of owned) }
+    requires said { IsSaid (type_of of) live.now }
+    ensures plan { Gives written_plan result (stored_over (type_of of.entry) of.entry.current (key_of of.entry.key) (object_in live.now) (state_of owned)) }
+    ensures right { IfOk result (RemembersRight (type_of of.entry)) }
 {
     match written_over(alloc, &owned, live.before())? {
-        Outcome::Created => stored(alloc, served, current, key, 201, owned),
-        Outcome::Configured => stored(alloc, served, current, key, 200, owned),
+        Outcome::Created => stored(alloc, of, 201, owned),
+        Outcome::Configured => stored(alloc, of, 200, owned),
         Outcome::Unchanged => match &live.object {
             Some(object) => Ok(unchanged(object)?),
             None => unreachable!(),

@@ -1,16 +1,16 @@
 //! Creations and updates (Kubernetes docs, "Server-Side Apply", "Comparison with Client-Side Apply"). Applies stand in
 //! `applying`.
 
-ghost use Rattle.std.specs.Prelude.{◌≡◌, ◌≤◌, IfOk, option_map};
+ghost use Rattle.std.specs.Prelude.{◌≡◌, IfOk, option_map};
 ghost use Rattle.serde_json.specs.View.{view};
 ghost use Rattle.schema.specs.Served as types;
 ghost use Rattle.schema.specs.Shape.{Shape};
 ghost use Rattle.typed.specs.Fitting.{IsContent};
-ghost use Rattle.history.specs.History.{last_revision};
 ghost use Rattle.schema.specs.ObjectShape.{IsObjectShape};
 ghost use Rattle.objects.specs.Placed.{IsPlacedState};
 ghost use Rattle.objects.specs.Views.{state_of};
-ghost use Rattle.verbs.specs.Machine.{state_of_live};
+ghost use Rattle.verbs.specs.Live.{IsLive, object_in};
+ghost use Rattle.verbs.specs.Subject.{IsSubject, type_of};
 ghost use Rattle.verbs.specs.Json.{IsJson};
 ghost use Rattle.history.specs.Read.{key_of};
 ghost use Rattle.verbs.specs.Seen.{Gives, creation_seen, intent_seen, object_of};
@@ -25,6 +25,7 @@ use crate::method::Method;
 use crate::naming::{require_name, validate_marks, validate_names};
 use crate::presence::{not_there, there};
 use crate::storing::{check_version, stored, stored_over};
+use crate::subject::Subject;
 use crate::written::Written;
 use history::Key;
 use ownership::{Owned, update};
@@ -49,27 +50,24 @@ fn updated_by(alloc: Global, intent: Intent<'_>, live: &Owned) -> Result<Owned, 
 
 pub(crate) fn created_as(
     alloc: Global,
-    served: &Served,
-    current: u64,
+    of: Subject<'_>,
     live: Option<&Object>,
-    key: Key,
     intent: Intent<'_>,
 ) -> Result<Written, CallError>
-    requires numbered { current ≤ last_revision }
-    requires shaped { IsObjectShape (types.served served.now).shape }
-    requires content { IsContent (types.served served.now).shape intent.content }
-    ensures plan { Gives written_plan result (created_as (types.served served.now) current (option_map (λ o. object_of o.now) live.entry) (key_of key) (intent_seen intent.entry)) }
-    ensures right { IfOk result (RemembersRight (types.served served.now)) }
+    requires subject { IsSubject of }
+    requires content { IsContent (type_of of).shape intent.content }
+    ensures plan { Gives written_plan result (created_as (type_of of.entry) of.entry.current (option_map (λ o. object_of o.now) live.entry) (key_of of.entry.key) (intent_seen intent.entry)) }
+    ensures right { IfOk result (RemembersRight (type_of of.entry)) }
 {
     validate_names(
         alloc,
-        key.namespace.as_str(),
-        key.name.as_str(),
+        of.key.namespace.as_str(),
+        of.key.name.as_str(),
         intent.body,
     )?;
-    not_there(alloc, served, key.name.as_str(), live)?;
+    not_there(alloc, of.served, of.key.name.as_str(), live)?;
     let owned = updated_by(alloc, intent, &Owned::empty(alloc))?;
-    stored(alloc, served, current, key, 201, owned)
+    stored(alloc, of, 201, owned)
 }
 
 /// The key of an object that its body names.
@@ -112,47 +110,39 @@ pub(crate) fn validate_creation<'a>(
 /// Checks, in order: whether the object is there, version, size.
 fn updated_over(
     alloc: Global,
-    served: &Served,
-    current: u64,
-    key: Key,
+    of: Subject<'_>,
     live: &Live,
     intent: Intent<'_>,
 ) -> Result<Written, CallError>
-    requires numbered { current ≤ last_revision }
-    requires shaped { IsObjectShape (types.served served.now).shape }
-    requires content { IsContent (types.served served.now).shape intent.content }
-    requires said { state_of live.now.state ≡ state_of_live (types.served served.now) (option_map object_of live.now.object) }
-    requires placed { IsPlacedState (types.served served.now).shape (state_of live.now.state) }
-    ensures plan { Gives written_plan result (updated_over (types.served served.now) current (key_of key) (option_map object_of live.now.object) (intent_seen intent.entry)) }
-    ensures right { IfOk result (RemembersRight (types.served served.now)) }
+    requires subject { IsSubject of }
+    requires content { IsContent (type_of of).shape intent.content }
+    requires live { IsLive (type_of of) live.now }
+    ensures plan { Gives written_plan result (updated_over (type_of of.entry) of.entry.current (key_of of.entry.key) (object_in live.now) (intent_seen intent.entry)) }
+    ensures right { IfOk result (RemembersRight (type_of of.entry)) }
 {
     let object = live.object.as_ref();
-    there(alloc, served, key.name.as_str(), object)?;
+    there(alloc, of.served, of.key.name.as_str(), object)?;
     check_version(alloc, intent.version, object)?;
     let owned = updated_by(alloc, intent, &live.state)?;
-    stored_over(alloc, served, current, key, live, owned)
+    stored_over(alloc, of, live, owned)
 }
 
 /// An update of an object that is there.
 pub(crate) fn validate_update(
     alloc: Global,
-    served: &Served,
-    current: u64,
+    of: Subject<'_>,
     live: &Live,
-    key: Key,
     query: &[u8],
     body: &Value,
 ) -> Result<Written, CallError>
-    requires numbered { current ≤ last_revision }
-    requires shaped { IsObjectShape (types.served served.now).shape }
+    requires subject { IsSubject of }
     requires json { IsJson (view body.now) }
-    requires said { state_of live.now.state ≡ state_of_live (types.served served.now) (option_map object_of live.now.object) }
-    requires placed { IsPlacedState (types.served served.now).shape (state_of live.now.state) }
-    ensures plan { Gives written_plan result (update_validated (types.served served.now) current (option_map object_of live.now.object) (key_of key) query.now (view body.now)) }
-    ensures right { IfOk result (RemembersRight (types.served served.now)) }
+    requires live { IsLive (type_of of) live.now }
+    ensures plan { Gives written_plan result (update_validated (type_of of.entry) of.entry.current (object_in live.now) (key_of of.entry.key) query.now (view body.now)) }
+    ensures right { IfOk result (RemembersRight (type_of of.entry)) }
 {
-    let expected = at_path(served, &key, Method::Put);
+    let expected = at_path(of.served, &of.key, Method::Put);
     let intent = intent_of(alloc, expected, Asked::Put, query, body)?;
     validate_marks(alloc, intent.body)?;
-    updated_over(alloc, served, current, key, live, intent)
+    updated_over(alloc, of, live, intent)
 }

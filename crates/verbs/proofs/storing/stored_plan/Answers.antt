@@ -1,27 +1,27 @@
 use Rattle.std.proofs.Common.{add-one, ap, ◌∙◌, ℕ, suc}
 use Rattle.std.specs.Prelude.{string_bytes}
-use Rattle.schema.specs.Served.{served}
 use Rattle.objects.specs.Views.{state_of}
 use Rattle.history.specs.Read.{key_of}
 use Rattle.verbs.specs.Machine.{identity_of}
 use Rattle.verbs.specs.Step.{printed, text_at}
+use Rattle.verbs.specs.Subject.{type_of}
 use Rattle.verbs.proofs.Counts.{counted}
 use Rattle.verbs.proofs.Recalling.{answer_says}
 use Rattle.verbs.proofs.storing.stored_plan.Goals as goal
 
 pub returns-clause-plan : goal.returns-clause-plan
 returns-clause-plan c =
-    let t = served c.args.served.now in
-    let k = key_of c.args.key in
+    let t = type_of c.args.of in
+    let k = key_of c.args.of.key in
     let s = state_of c.args.owned.now in
-    let object = printed t k (suc c.args.current) s in
-    c.stored_as.ensures.plan object (c.in_ok-text.ensures ∙ ap (λ (n : ℕ). text_at t k n s) (add-one c.args.current))
-    (c.in_ok-labels.ensures c.requires.shaped.1 (identity_of t k) (suc c.args.current) ∙ counted object)
+    let object = printed t k (suc c.args.of.current) s in
+    c.stored_as.ensures.plan object (c.in_ok-text.ensures ∙ ap (λ (n : ℕ). text_at t k n s) (add-one c.args.of.current))
+    (c.in_ok-labels.ensures c.requires.subject.1.1 (identity_of t k) (suc c.args.of.current) ∙ counted object)
 
 pub returns-clause-says : goal.returns-clause-says
 returns-clause-says c =
-    let t = served c.args.served.now in
-    let k = key_of c.args.key in
+    let t = type_of c.args.of in
+    let k = key_of c.args.of.key in
     let s = state_of c.args.owned.now in
-    answer_says t k c.args.current s (string_bytes c.in_ok-text.text) c.stored_as.result c.requires.shaped c.requires.placed
-    (c.in_ok-text.ensures ∙ ap (λ (n : ℕ). text_at t k n s) (add-one c.args.current)) c.stored_as.ensures.left c.stored_as.ensures.text
+    answer_says t k c.args.of.current s (string_bytes c.in_ok-text.text) c.stored_as.result c.requires.subject.1 c.requires.placed
+    (c.in_ok-text.ensures ∙ ap (λ (n : ℕ). text_at t k n s) (add-one c.args.of.current)) c.stored_as.ensures.left c.stored_as.ensures.text

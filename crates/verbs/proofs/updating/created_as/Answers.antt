@@ -1,8 +1,8 @@
-use Rattle.schema.specs.Served.{served}
+use Rattle.verbs.specs.Subject.{type_of}
 use Rattle.verbs.proofs.Said.{empty_placed}
 use Rattle.verbs.proofs.updating.created_as.Goals as goal
 
 pub stored-requires-clause-placed : goal.stored-requires-clause-placed
 stored-requires-clause-placed c =
-    let s = (served c.args.served.now).shape in
+    let s = (type_of c.args.of).shape in
     c.in_ok-owned.ensures.placed s c.requires.content (empty_placed s c.empty.result.tree c.empty.result.managers c.empty.ensures.tree c.empty.ensures.managers)

@@ -1,11 +1,11 @@
 use Rattle.std.proofs.Common.{◌≡◌, Ok, subst}
 use Rattle.params.specs.declared.params.Asked.TheVariants as asked
-use Rattle.schema.specs.Served.{served}
 use Rattle.serde_json.specs.View.{view}
 use Rattle.verbs.specs.declared.method.Method.TheVariants.{Put}
 use Rattle.history.specs.Read.{key_of}
 use Rattle.verbs.specs.Seen.{intent_seen}
 use Rattle.verbs.specs.Step.{at_path, intent_of}
+use Rattle.verbs.specs.Subject.{type_of}
 use Rattle.verbs.proofs.Contents.{intended_content}
 use Rattle.verbs.proofs.updating.validate_update.Goals as goal
 
@@ -14,5 +14,5 @@ updated_over-requires-clause-content c =
     let q = c.args.query.now in
     let d = view c.args.body.now in
     let i = intent_seen c.in_ok-intent.intent in
-    intended_content (at_path (served c.args.served.now) (key_of c.args.key) Put) asked.Put q d i c.requires.shaped c.requires.json
+    intended_content (at_path (type_of c.args.of) (key_of c.args.of.key) Put) asked.Put q d i c.requires.subject.1 c.requires.json
     (subst (λ of. intent_of of asked.Put q d ≡ Ok i) c.at_path-expected.ensures c.in_ok-intent.ensures)
