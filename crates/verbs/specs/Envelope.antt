@@ -5,6 +5,7 @@ use Rattle.std.specs.declared.result.Result.TheVariants.{Ok}
 use Rattle.std.specs.Str.{bytes_eq}
 use Rattle.serde_json.specs.Data.{Data, null, boolean, number, string, array, object, Items, no_items, item, Members, no_members, member, put}
 use Rattle.serde_json.specs.Find.{get, get_member, as_object}
+use Rattle.json_values.specs.Texts.{unless_empty}
 use Rattle.names.specs.Decimals.{version_of}
 use Rattle.schema.specs.Keywords.{is_in}
 use Rattle.schema.specs.TypesFile.{ServedShape}
@@ -38,14 +39,10 @@ not_an_object path = refused_for BadRequest (path ++ codes ": not an object")
 
 -- ---- texts
 
-abbrev pub if_filled : List ℕ → Option (List ℕ)
-if_filled [] = None
-if_filled (b ∷ bs) = Some (b ∷ bs)
-
 -- the text that a value is; null and the empty text are none
 abbrev pub text_of : List ℕ → Data → Validated (Option (List ℕ))
 text_of path null = Ok None
-text_of path (string s) = Ok (if_filled s)
+text_of path (string s) = Ok (unless_empty s)
 text_of path (boolean b) = wrong_type path
 text_of path (number n) = wrong_type path
 text_of path (array ds) = wrong_type path
@@ -195,7 +192,7 @@ envelope_of of body = object_validated of (as_object body)
 -- ---- the name that a body gives
 
 abbrev pub filled_text : Data → Option (List ℕ)
-filled_text (string s) = if_filled s
+filled_text (string s) = unless_empty s
 filled_text null = None
 filled_text (boolean b) = None
 filled_text (number n) = None

@@ -1,7 +1,7 @@
 //! The checks before a body is read: route, method, media type. What stands in a body is checked in `envelope` and
 //! `naming`.
 
-ghost use Rattle.std.specs.Prelude.{◌≡◌, IfOk, Err, option_map, string_bytes};
+ghost use Rattle.std.specs.Prelude.{◌≡◌, IfOk, Err, option_map};
 ghost use Rattle.verbs.specs.Admit.{not_admitted, method_served, place_admitted, target_at};
 ghost use Rattle.verbs.specs.Seen.{Admits, place_seen, target_of};
 
@@ -11,6 +11,7 @@ use crate::method::Method;
 use crate::place::Place;
 use crate::reason::Reason;
 use crate::resource::Resource;
+use json_values::copied;
 use std::alloc::{AllocError, Global};
 use thiserror::Error;
 
@@ -51,15 +52,6 @@ fn refused(reason: Reason, message: &'static str, allow: Option<&'static str>) -
         message,
         allow,
     })
-}
-
-fn copied(alloc: Global, text: Option<&str>) -> Result<Option<String>, AllocError>
-    ensures { IfOk result (λ o. option_map string_bytes o ≡ option_map (λ s. s.now) text.entry) }
-{
-    match text {
-        Some(text) => Ok(Some(String::from_str(alloc, text)?)),
-        None => Ok(None),
-    }
 }
 
 fn target_at(alloc: Global, place: Place<'_>, method: Method) -> Result<Target, AllocError>

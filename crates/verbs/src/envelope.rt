@@ -3,10 +3,9 @@
 
 ghost use Rattle.std.specs.Prelude.{◌≡◌, ◌++◌, IfOk, Some, codes, string_bytes, option_map};
 ghost use Rattle.serde_json.specs.Data.{Members};
-ghost use Rattle.serde_json.specs.Find.{get_member};
 ghost use Rattle.serde_json.specs.View.{items_view, members_view, view};
 ghost use Rattle.schema.specs.Served as types;
-ghost use Rattle.verbs.specs.Envelope.{api_version_of, entries_validated, envelope_of, given_validated, is_text, is_text_or_none, kind_validated, kind_message, left_out, managers_by, managers_validated, must_be, if_filled, filled_text, member_of, name_in, metadata_in, metadata_validated, object_validated, text_in, text_of, version_allowed, version_validated, version_or_fault, version_read, wanted_validated};
+ghost use Rattle.verbs.specs.Envelope.{api_version_of, entries_validated, envelope_of, given_validated, is_text, is_text_or_none, kind_validated, kind_message, left_out, managers_by, managers_validated, must_be, filled_text, member_of, name_in, metadata_in, metadata_validated, object_validated, text_in, text_of, version_allowed, version_validated, version_or_fault, version_read, wanted_validated};
 ghost use Rattle.verbs.specs.declared.reason.Reason.TheVariants.{BadRequest};
 ghost use Rattle.verbs.specs.Validated.{call_refusal, require};
 ghost use Rattle.typed.specs.Without.{omitted_of};
@@ -17,6 +16,7 @@ use crate::fault::CallError;
 use crate::method::Method;
 use crate::reason::Reason;
 use crate::texts::joined;
+use json_values::{member, unless_empty};
 use names::version_of;
 use schema::Served;
 use serde_json::{Map, Value};
@@ -79,12 +79,6 @@ pub fn api_version_of(alloc: Global, served: &Served) -> Result<String, AllocErr
     Ok(text)
 }
 
-fn if_filled(text: &str) -> Option<&str>
-    ensures { option_map (λ s. s.now) result ≡ if_filled text.now }
-{
-    if text.is_empty() { None } else { Some(text) }
-}
-
 /// The refusal of a member of a wrong type: the path above it, and its name.
 fn wrong_type(alloc: Global, path: &str, name: &str) -> CallError
     ensures { RefusesFor result BadRequest ((path.now ++ name.now) ++ codes ": wrong type") }
@@ -106,7 +100,7 @@ fn text_of<'a>(
 {
     match value {
         Value::Null => Ok(None),
-        Value::String(text) => Ok(if_filled(text.as_str())),
+        Value::String(text) => Ok(unless_empty(text.as_str())),
         _ => Err(wrong_type(alloc, path, name)),
     }
 }
@@ -181,13 +175,6 @@ fn metadata_in<'a>(
         Value::Object(members) => Ok(Some(members)),
         _ => Err(fault_at(alloc, ".metadata", ": not an object")),
     }
-}
-
-/// The member of this name.
-pub fn member<'a>(members: &'a Map<String, Value>, name: &str) -> Option<&'a Value>
-    ensures { option_map (λ v. view v.now) result ≡ get_member name.now (members_view members.now.entries) }
-{
-    members.get(name)
 }
 
 /// The member of an object that may be absent.
@@ -362,7 +349,7 @@ fn validate_object(
 pub fn name_in(body: &Value) -> Option<&str>
     ensures { option_map (λ s. s.now) result ≡ name_in (view body.now) }
 {
-    if_filled(body.get("metadata")?.get("name")?.as_str()?)
+    unless_empty(body.get("metadata")?.get("name")?.as_str()?)
 }
 
 /// Validates the envelope of a write's body, in order: the body is an object, `apiVersion` and `kind`,

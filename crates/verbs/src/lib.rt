@@ -5,7 +5,7 @@
 //! seen of the machine.
 //! Stands on `history` for changes, `revstore` for what stands, `lists` for lists, `watchline` for watches, `objects` for
 //! objects and their texts, `ownership` for apply, `typed` for reading, `schema` for types, `params` and `names` for
-//! parameters and names.
+//! parameters and names, `json_values` for the parts of a body.
 #![tactic(auto)]
 
 mod admitting;

@@ -8,9 +8,9 @@ ghost use Rattle.verbs.specs.Options.{is_blank, is_blank_text, is_blank_value, i
 ghost use Rattle.verbs.specs.Seen.{RefusesFor, Gives, body_seen};
 
 use crate::body::Body;
-use crate::envelope::member;
 use crate::fault::CallError;
 use crate::reason::Reason;
+use json_values::member;
 use names::version_of;
 use serde_json::{Map, Value};
 use std::alloc::Global;
