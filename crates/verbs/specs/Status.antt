@@ -1,14 +1,12 @@
 -- The Status object that tells a refusal (Kubernetes API conventions, "Response Status Kind").
 use Rattle.std.specs.Prelude.{ℕ, List, codes}
-use Rattle.serde_json.specs.Data.{Data, number, unsigned, string, array, object, Items, no_items, item, Members, no_members, put}
+use Rattle.serde_json.specs.Data.{Data, array, object, Items, no_items, item, Members, no_members, put}
+use Rattle.watchline.specs.Status as status
 use Rattle.verbs.specs.declared.reason.Reason.{Reason}
 use Rattle.verbs.specs.Reasons.{code_of, reason_text}
 
 abbrev pub status_members : Reason → List ℕ → Members
-status_members r message =
-    put (codes "apiVersion") (string (codes "v1")) (put (codes "code") (number (unsigned (code_of r))) (put (codes "kind") (string (codes "Status"))
-    (put (codes "message") (string message) (put (codes "metadata") (object no_members) (put (codes "reason") (string (reason_text r))
-    (put (codes "status") (string (codes "Failure")) no_members))))))
+status_members r message = status.status_members (code_of r) (reason_text r) message
 
 -- a refusal without causes
 abbrev pub status_value : Reason → List ℕ → Data

@@ -1,5 +1,6 @@
 pub mod Versions
 pub mod Lines
+pub mod Status
 pub mod Watches
 pub mod Turns
 pub mod Opening

@@ -1,12 +1,13 @@
 -- The lines of a watch (WatchEvent v1 meta; Kubernetes docs, "Kubernetes API Concepts", "Efficient detection of changes", "Watch bookmarks",
 -- "410 Gone responses"). What is copied is the text of an object that stands; what is printed anew is an object that was deleted, for its version.
 use Rattle.std.specs.Prelude.{ℕ, List, [], ◌∷◌, ◌++◌, codes, decimal}
-use Rattle.serde_json.specs.Data.{Data, number, unsigned, string, object, no_members, put}
+use Rattle.serde_json.specs.Data.{Data, string, object, no_members, put}
 use Rattle.serde_json.specs.Written.{compact_text}
 use Rattle.history.specs.History.{Key, Object}
 use Rattle.history.specs.Seen.{SeenKind, Added, Modified, Deleted, SeenChange}
 use Rattle.watchline.specs.declared.event.EventType.{EventType}
 use Rattle.watchline.specs.declared.event.EventType.TheVariants as event
+use Rattle.watchline.specs.Status.{status_value}
 use Rattle.watchline.specs.Versions.{text_at_version}
 
 abbrev pub type_text : EventType → List ℕ
@@ -59,12 +60,8 @@ bookmark_line api_version kind revision = line event.Bookmark (compact_text (boo
 abbrev pub expired_message : ℕ → ℕ → List ℕ
 expired_message revision compacted = codes "too old resource version: " ++ decimal revision ++ codes " (" ++ decimal compacted ++ codes ")"
 
--- the Status of code 410 (Kubernetes API conventions, "Response Status Kind")
 abbrev pub expired_value : List ℕ → Data
-expired_value message =
-    object (put (codes "apiVersion") (string (codes "v1")) (put (codes "code") (number (unsigned 410)) (put (codes "kind") (string (codes "Status"))
-    (put (codes "message") (string message) (put (codes "metadata") (object no_members) (put (codes "reason") (string (codes "Expired"))
-    (put (codes "status") (string (codes "Failure")) no_members)))))))
+expired_value message = status_value 410 (codes "Expired") message
 
 -- changes after this revision were forgotten, up to the compacted number
 abbrev pub error_line : ℕ → ℕ → List ℕ

@@ -1,16 +1,37 @@
-//! The Status that ends a watch (Kubernetes API conventions, "Response Status Kind"). Refusals of calls stand in the
-//! crate `verbs`.
+//! A failure's Status, and the one that ends a watch. The refusals of calls, which are told by such a Status too, stand in
+//! the crate `verbs`.
 
 ghost use Rattle.std.specs.Prelude.{◌≡◌, IfOk, string_bytes};
 ghost use Rattle.serde_json.specs.View.{view};
 ghost use Rattle.serde_json.specs.Written.{compact_text};
 ghost use Rattle.watchline.specs.Lines.{expired_message, expired_value};
+ghost use Rattle.watchline.specs.Status.{status_value};
 
 use serde_json::{Value, json};
 use std::alloc::{AllocError, Global};
 
 /// 410 Gone.
 const GONE: u16 = 410;
+
+/// The Status object that tells a failure (Kubernetes API conventions, "Response Status Kind").
+pub fn status_value(
+    alloc: Global,
+    code: u16,
+    reason: &str,
+    message: &str,
+) -> Result<Value, AllocError>
+    ensures { IfOk result (λ v. view v ≡ status_value code reason.now message.now) }
+{
+    json!(in alloc; {
+        "apiVersion": "v1",
+        "code": code,
+        "kind": "Status",
+        "message": message,
+        "metadata": {},
+        "reason": reason,
+        "status": "Failure"
+    })
+}
 
 /// What the Status says: changes after this revision were forgotten, up to the compacted number.
 pub fn expired_message(alloc: Global, revision: u64, compacted: u64) -> Result<String, AllocError>
@@ -26,20 +47,6 @@ pub fn expired_message(alloc: Global, revision: u64, compacted: u64) -> Result<S
     Ok(message)
 }
 
-fn expired_value(alloc: Global, message: &str) -> Result<Value, AllocError>
-    ensures { IfOk result (λ v. view v ≡ expired_value message.now) }
-{
-    json!(in alloc; {
-        "apiVersion": "v1",
-        "code": GONE,
-        "kind": "Status",
-        "message": message,
-        "metadata": {},
-        "reason": "Expired",
-        "status": "Failure"
-    })
-}
-
 /// The text of the Status: changes after this revision were forgotten.
 pub(crate) fn expired_text(
     alloc: Global,
@@ -49,6 +56,6 @@ pub(crate) fn expired_text(
     ensures { IfOk result (λ s. string_bytes s ≡ compact_text (expired_value (expired_message revision compacted))) }
 {
     let message = expired_message(alloc, revision, compacted)?;
-    let status = expired_value(alloc, message.as_str())?;
+    let status = status_value(alloc, GONE, "Expired", message.as_str())?;
     Ok(status.to_string(alloc)?)
 }
