@@ -23,11 +23,8 @@ use form_urlencoded::Serializer;
 use schema::Types;
 use std::alloc::{AllocError, Global};
 use std::io::Write;
-use verbs::{Api, Fault};
+use verbs::{APPLY_TYPE, Api, Fault};
 use wireclient::{Item, ReplyReader, request_bytes};
-
-/// The media type of an apply (Kubernetes docs, "Server-Side Apply", "Serialization").
-const APPLY: &str = "application/apply-patch+yaml";
 
 /// The query of an apply line: its manager, and whether it takes over what others own.
 fn query_of(alloc: Global, line: &ApplyLine) -> Result<String, AllocError>
@@ -59,7 +56,7 @@ fn request_of(alloc: Global, line: &ApplyLine) -> Result<Vec<u8>, AllocError>
         alloc,
         "PATCH",
         request_target.as_str(),
-        Some((APPLY, body.as_bytes())),
+        Some((APPLY_TYPE, body.as_bytes())),
     )
 }
 

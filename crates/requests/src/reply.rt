@@ -6,6 +6,7 @@ ghost use Rattle.requests.specs.ReplyBytes.{phrase_of, allow_field, reply, watch
 
 use http::StatusCode;
 use std::alloc::{AllocError, Global};
+use verbs::JSON_TYPE;
 
 fn standard_phrase(status: StatusCode) -> &'static str
     ensures { result.now ≡ unwrap_or (reason_phrase status) [] }
@@ -46,7 +47,7 @@ pub fn reply_bytes(
     let length = body.len();
     let allow = allow_field(alloc, allow)?;
     let head = format!(in alloc;
-        "HTTP/1.1 {code} {phrase}\r\nContent-Type: application/json\r\nContent-Length: {length}\r\nConnection: close\r\n{allow}\r\n"
+        "HTTP/1.1 {code} {phrase}\r\nContent-Type: {JSON_TYPE}\r\nContent-Length: {length}\r\nConnection: close\r\n{allow}\r\n"
     )?;
     let mut bytes = Vec::from_slice(alloc, head.as_bytes())?;
     bytes.extend_from_slice(body.as_bytes())?;
@@ -60,7 +61,7 @@ pub(crate) fn watch_head(alloc: Global, code: u16) -> Result<Vec<u8>, AllocError
 {
     let phrase = phrase_of(code);
     let head = format!(in alloc;
-        "HTTP/1.1 {code} {phrase}\r\nContent-Type: application/json\r\nTransfer-Encoding: chunked\r\nConnection: close\r\n\r\n"
+        "HTTP/1.1 {code} {phrase}\r\nContent-Type: {JSON_TYPE}\r\nTransfer-Encoding: chunked\r\nConnection: close\r\n\r\n"
     )?;
     Vec::from_slice(alloc, head.as_bytes())
 }

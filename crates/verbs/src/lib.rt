@@ -63,6 +63,7 @@ pub use laws::{
     applies_keep_others, calls_change_one_object, errors_are_refusals, machines_stay,
     plans_by_views, texts_say_states, updates_take_changes,
 };
+pub use media::{APPLY_TYPE, JSON_TYPE};
 pub use method::Method;
 pub use reason::Reason;
 pub use route_laws::paths_lead_by_parts;

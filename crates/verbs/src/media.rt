@@ -7,10 +7,10 @@ ghost use Rattle.verbs.specs.Admit.{is_apply, is_json, media_type, accepts_media
 use crate::method::Method;
 
 /// The media type of an apply (Kubernetes docs, "Server-Side Apply", "Serialization").
-const APPLY: &[u8] = b"application/apply-patch+yaml";
+pub const APPLY_TYPE: &str = "application/apply-patch+yaml";
 
-/// The media type of every other body.
-const JSON: &[u8] = b"application/json";
+/// The media type of every other body, and of each reply.
+pub const JSON_TYPE: &str = "application/json";
 
 fn is_blank(byte: u8) -> bool
     ensures { result ≡ is_blank byte }
@@ -57,7 +57,7 @@ fn is_apply(field: Option<&[u8]>) -> bool
     ensures { result ≡ is_apply (option_map (λ b. b.now) field.entry) }
 {
     match field {
-        Some(field) => media_type(field).eq_ignore_ascii_case(APPLY),
+        Some(field) => media_type(field).eq_ignore_ascii_case(APPLY_TYPE.as_bytes()),
         None => false,
     }
 }
@@ -67,7 +67,7 @@ fn is_json(field: Option<&[u8]>) -> bool
     ensures { result ≡ is_json (option_map (λ b. b.now) field.entry) }
 {
     match field {
-        Some(field) => media_type(field).eq_ignore_ascii_case(JSON),
+        Some(field) => media_type(field).eq_ignore_ascii_case(JSON_TYPE.as_bytes()),
         None => true,
     }
 }
