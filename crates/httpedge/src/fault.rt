@@ -2,6 +2,7 @@
 
 use std::alloc::{AllocError, AllocFailed};
 use thiserror::Error;
+use verbs::STORE_FAILED;
 
 /// Why the hub refuses an event, or what failed in the machine.
 #[derive(Clone, Copy, Debug, PartialEq, Eq, Error)]
@@ -25,7 +26,7 @@ pub enum HubFault {
     #[error("out of memory")]
     Memory,
     /// The store refused a statement for memory or size, or what is stored is no object's text.
-    #[error("the store failed")]
+    #[error("{}", STORE_FAILED)]
     Store,
 }
 

@@ -49,13 +49,16 @@ impl<T: Drop> From<AllocFailed<T>> for CallError {
     }
 }
 
+/// How the faults of this crate and of those above tell that the store failed.
+pub const STORE_FAILED: &str = "the store failed";
+
 /// Why there is no answer: the call changed nothing.
 #[derive(Clone, Copy, Debug, PartialEq, Eq, Error)]
 pub enum Fault {
     #[error("out of memory")]
     Memory,
     /// The store refused a statement, for memory or for size.
-    #[error("the store refused a statement")]
+    #[error("{}", STORE_FAILED)]
     Store,
     /// What is stored is no object's text, which it always is in an API that stands for a machine.
     #[error("what is stored is no object's text")]

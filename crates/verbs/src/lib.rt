@@ -58,7 +58,7 @@ pub use api::Api;
 pub use body::Body;
 pub use calls::{Answer, Call, Plan, Target};
 pub use change::Change;
-pub use fault::Fault;
+pub use fault::{Fault, STORE_FAILED};
 pub use laws::{
     applies_keep_others, calls_change_one_object, errors_are_refusals, machines_stay,
     plans_by_views, texts_say_states, updates_take_changes,
