@@ -5,7 +5,7 @@ ghost use Rattle.requests.specs.Refusals.{as_denied, reason_of, message_of};
 ghost use Rattle.requests.specs.Views.{refusal_seen};
 ghost use Rattle.verbs.specs.Seen.{denied_of};
 
-use verbs::{Denied, Reason};
+use verbs::{Denied, NOT_JSON, Reason};
 
 /// Why a request is refused before a call is made of it.
 #[derive(Clone, Copy, Debug, PartialEq, Eq)]
@@ -53,7 +53,7 @@ impl Refusal {
             Refusal::NoLength => "Content-Length is needed",
             Refusal::BadLength => "bad Content-Length",
             Refusal::BodyTooLarge => "body over 65536 bytes",
-            Refusal::NotJson => "body is not JSON",
+            Refusal::NotJson => NOT_JSON,
             Refusal::TooManyConnections => "too many connections",
         }
     }

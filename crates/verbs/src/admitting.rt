@@ -15,6 +15,12 @@ use json_values::copied;
 use std::alloc::{AllocError, Global};
 use thiserror::Error;
 
+/// The message where a path leads nowhere.
+pub(crate) const NO_PATH: &str = "no such path";
+
+/// The message where a path doesn't serve a method.
+pub(crate) const NOT_SERVED: &str = "method not served here";
+
 /// Why a request is refused by its route, method or media type.
 #[derive(Clone, Copy, Debug, PartialEq, Eq)]
 pub struct Denied {
@@ -84,15 +90,11 @@ pub fn admitted(
     ensures { Admits result (place_admitted (option_map place_seen place.entry) method.now (option_map (λ b. b.now) media.entry)) }
 {
     let Some(place) = place else {
-        return Err(refused(Reason::NotFound, "no such path", None));
+        return Err(refused(Reason::NotFound, NO_PATH, None));
     };
     let Some(method) = method_served(place.resource, Method::named(method)) else {
         let allowed = place.resource.allowed();
-        return Err(refused(
-            Reason::MethodNotAllowed,
-            "method not served here",
-            Some(allowed),
-        ));
+        return Err(refused(Reason::MethodNotAllowed, NOT_SERVED, Some(allowed)));
     };
     if !accepts_media(method, media) {
         return Err(refused(Reason::UnsupportedMediaType, "media type not served", None));

@@ -9,6 +9,8 @@ ghost use Rattle.verbs.specs.Seen.{RefusesFor, Gives, call_of, call_refusal_of, 
 ghost use Rattle.verbs.specs.Step.{body_of, plan_for, refused};
 ghost use Rattle.verbs.specs.Validated.{Validated};
 
+use crate::admitting::{NO_PATH, NOT_SERVED};
+use crate::body::NOT_JSON;
 use crate::call_refusal::CallRefusal;
 use crate::calls::{Answer, Call, Plan};
 use crate::fault::{CallError, Fault};
@@ -23,7 +25,7 @@ pub fn body_of(alloc: Global, call: &Call) -> Result<&Value, CallError>
 {
     match &call.body {
         Some(body) => Ok(&body.value),
-        None => Err(CallError::refused_for(alloc, Reason::BadRequest, "body is not JSON")),
+        None => Err(CallError::refused_for(alloc, Reason::BadRequest, NOT_JSON)),
     }
 }
 
@@ -31,14 +33,14 @@ pub fn body_of(alloc: Global, call: &Call) -> Result<&Value, CallError>
 pub fn no_path(alloc: Global) -> CallError
     ensures { RefusesFor result NotFound (codes "no such path") }
 {
-    CallError::refused_for(alloc, Reason::NotFound, "no such path")
+    CallError::refused_for(alloc, Reason::NotFound, NO_PATH)
 }
 
 /// The refusal of a method that the path does not serve.
 pub fn not_served(alloc: Global) -> CallError
     ensures { RefusesFor result MethodNotAllowed (codes "method not served here") }
 {
-    CallError::refused_for(alloc, Reason::MethodNotAllowed, "method not served here")
+    CallError::refused_for(alloc, Reason::MethodNotAllowed, NOT_SERVED)
 }
 
 /// The answer of a refusal.

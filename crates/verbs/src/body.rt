@@ -6,6 +6,9 @@ ghost use Rattle.verbs.specs.Json.{IsJson, IsJson-prop};
 use serde_json::{Error, Value};
 use std::alloc::Global;
 
+/// The message where a body is no JSON text, or missing though one is needed.
+pub const NOT_JSON: &str = "body is not JSON";
+
 /// The body of a request: the value of a JSON text (RFC 8259).
 #[derive(Debug, Drop)]
 pub struct Body {

@@ -55,7 +55,7 @@ mod written;
 
 pub use admitting::{Denied, Refusal};
 pub use api::Api;
-pub use body::Body;
+pub use body::{Body, NOT_JSON};
 pub use calls::{Answer, Call, Plan, Target};
 pub use change::Change;
 pub use fault::{Fault, STORE_FAILED};
