@@ -49,7 +49,7 @@ pub fn reply_bytes(
     let head = format!(in alloc;
         "HTTP/1.1 {code} {phrase}\r\nContent-Type: {JSON_TYPE}\r\nContent-Length: {length}\r\nConnection: close\r\n{allow}\r\n"
     )?;
-    let mut bytes = Vec::from_slice(alloc, head.as_bytes())?;
+    let mut bytes = head.into_bytes();
     bytes.extend_from_slice(body.as_bytes())?;
     Ok(bytes)
 }
@@ -63,5 +63,5 @@ pub(crate) fn watch_head(alloc: Global, code: u16) -> Result<Vec<u8>, AllocError
     let head = format!(in alloc;
         "HTTP/1.1 {code} {phrase}\r\nContent-Type: {JSON_TYPE}\r\nTransfer-Encoding: chunked\r\nConnection: close\r\n\r\n"
     )?;
-    Vec::from_slice(alloc, head.as_bytes())
+    Ok(head.into_bytes())
 }

@@ -1,4 +1,4 @@
-use Rattle.std.proofs.Common.{List, ℕ, ◌++◌, ◌∙◌, length, ap₂}
+use Rattle.std.proofs.Common.{List, ℕ, ◌++◌, ◌∙◌, length, ap, ap₂}
 use Rattle.std.specs.Prelude.{option_map, string_bytes}
 use Rattle.requests.proofs.Heading.{same_head}
 use Rattle.requests.proofs.reply.reply_bytes.Goals as goal
@@ -7,6 +7,6 @@ pub returns : goal.returns
 returns c =
     c.in_ok-extend_from_slice.ensures.items
     ∙ ap₂ (λ (head body : List ℕ). head ++ body)
-    (c.in_ok-bytes.ensures.items ∙ c.as_bytes.ensures.value ∙ c.in_ok-head.ensures.ok
+    (ap (λ v. v.items) c.into_bytes-bytes.ensures.value ∙ c.in_ok-head.ensures.ok
     ∙ same_head c.args.code (length c.args.body.now) c.phrase_of-phrase.result.now (string_bytes c.in_ok-allow.allow) (option_map (λ m. m.now) c.args.allow) c.phrase_of-phrase.ensures c.in_ok-allow.ensures)
-    c.as_bytes-2.ensures.value
+    c.as_bytes.ensures.value
