@@ -51,13 +51,16 @@ fn check_come(alloc: Global, version: Option<u64>, current: u64) -> Result<(), C
 pub(crate) fn validate_get(
     alloc: Global,
     of: &Subject<'_>,
-    live: Option<&Object>,
+    object: Option<Object>,
     query: &[u8],
 ) -> Result<Plan, CallError>
-    ensures { Gives plan_of result (get_validated (type_of of.now) of.now.current (option_map (λ o. object_of o.now) live.entry) (key_of of.now.key) query.now) }
+    ensures { Gives plan_of result (get_validated (type_of of.now) of.now.current (option_map object_of object) (key_of of.now.key) query.now) }
 {
     let params = read_parameters(alloc, Asked::Get, query)?;
-    let stored = there(alloc, of.served, of.key.name.as_str(), live)?;
+    there(alloc, of.served, of.key.name.as_str(), object.as_ref())?;
     check_come(alloc, params.version, of.current)?;
-    Ok(as_it_stands(stored)?)
+    match object {
+        Some(object) => Ok(as_it_stands(object)),
+        None => unreachable!(),
+    }
 }

@@ -62,7 +62,7 @@ fn planned_by(
 {
     match call.target.method {
         Method::Get => {
-            let read = validate_get(alloc, &of, object.as_ref(), &call.query);
+            let read = validate_get(alloc, &of, object, &call.query);
             plan_for(alloc, read)
         }
         Method::Post => plan_for(alloc, Err(not_served(alloc))),

@@ -174,28 +174,30 @@ pub(crate) fn stored(
 }
 
 /// The object as it stands.
-pub fn as_it_stands(live: &Object) -> Result<Plan, AllocError>
-    ensures { IfOk result (λ p. plan_of p ≡ as_it_stands (object_of live.now)) }
+pub fn as_it_stands(object: Object) -> Plan
+    ensures { plan_of result ≡ as_it_stands (object_of object) }
 {
-    let body = live.body.clone()?;
-    Ok(Plan {
+    Plan {
         answer: Answer {
             status: 200,
-            body,
+            body: object.body,
             watch: None,
         },
         change: None,
-    })
+    }
 }
 
-/// What stands is neither changed nor remembered again.
+/// What stands is neither changed nor remembered again; it is kept beside the answer.
 fn unchanged(live: &Object) -> Result<Written, AllocError>
     ensures plan { IfOk result (λ w. written_plan w ≡ as_it_stands (object_of live.now)) }
     ensures right { (t : ServedShape) → IfOk result (RemembersRight t) }
 {
-    let plan = as_it_stands(live)?;
+    let object = Object {
+        revision: live.revision,
+        body: live.body.clone()?,
+    };
     Ok(Written {
-        plan,
+        plan: as_it_stands(object),
         remembered: None,
     })
 }
