@@ -65,9 +65,9 @@ planned_next types m call is p same =
     (subst (λ (q : Plan). IfSome q.change (IsNext types m)) (sym same) (plans_come_next types m (call_of call) is (bodies_json call.body)))
 
 -- each body that is written is a string
-pub strings_utf8 : (body : Option (String Global)) → IfSome (option_map string_bytes body) IsUtf8
-strings_utf8 None = tt
-strings_utf8 (Some s) = IsUtf8-string_bytes s
+pub strings_utf8 : {A : Type 0} (text : A → String Global) (o : Option A) → IfSome (option_map (λ a. string_bytes (text a)) o) IsUtf8
+strings_utf8 text None = tt
+strings_utf8 text (Some a) = IsUtf8-string_bytes (text a)
 
 pub stands_next : (api new : Api) (types : List ServedShape) (m : History) (c : Change) → Stands api types m → IsNext types m c → IfSome c.body IsUtf8
     → types_of new ≡ types_of api → new.store ≡ written_in api.store c.key c.body → Stands new types (after m (Some c))

@@ -14,6 +14,7 @@ pub mod Parameters
 pub mod Naming
 pub mod Options
 pub mod Size
+pub mod Stored
 pub mod Step
 pub mod Watching
 pub mod Promise

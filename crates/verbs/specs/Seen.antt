@@ -57,7 +57,7 @@ abbrev pub answer_of : TheAnswer → Answer
 answer_of a = record { status = a.status; body = string_bytes a.body; watch = option_map watch_from a.watch }
 
 abbrev pub change_of : TheChange → Change
-change_of c = record { revision = c.revision; key = key_of c.key; body = option_map string_bytes c.body }
+change_of c = record { revision = c.revision; key = key_of c.key; body = option_map (λ s. string_bytes s.value) c.text }
 
 abbrev pub plan_of : ThePlan → Plan
 plan_of p = record { answer = answer_of p.answer; change = option_map change_of p.change }

@@ -123,7 +123,7 @@ impl Api {
         ensures unchanged { OnErr result (self.new ≡ self.old) }
     {
         match &plan.change {
-            Some(change) => written(&mut self.store, change),
+            Some(change) => written(&mut self.store, change, plan.answer.body.as_str()),
             None => Ok(()),
         }
     }

@@ -1,5 +1,8 @@
 //! Calls, answers and plans as data. How a call is planned stands in `plans`.
 
+ghost use Rattle.std.specs.Prelude.{string_bytes};
+ghost use Rattle.verbs.specs.Stored.{IsAnswered, IsAnswered-prop};
+
 use crate::body::Body;
 use crate::change::Change;
 use crate::method::Method;
@@ -36,9 +39,10 @@ pub struct Answer {
     pub watch: Option<WatchFrom>,
 }
 
-/// The result of a call: the answer, and the change that it makes, if any.
+/// The result of a call: the answer, and the change that it makes, if any. The text that a change stores is the answer's body.
 #[derive(Drop)]
 pub struct Plan {
     pub answer: Answer,
     pub change: Option<Change>,
+    ghost answered: { IsAnswered (string_bytes answer.body) change } by { IsAnswered-prop (string_bytes answer.body) change },
 }

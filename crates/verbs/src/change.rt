@@ -4,13 +4,14 @@ ghost use Rattle.std.specs.Prelude.{◌≤◌};
 ghost use Rattle.history.specs.History.{last_revision};
 
 use history::Key;
+use std::snapshot::Snapshot;
 
-/// One change of the objects; without a body it is a deletion.
+/// One change of the objects; without a text it is a deletion.
 #[derive(Drop)]
 pub struct Change {
     pub(crate) revision: u64,
     pub(crate) key: Key,
-    /// The text of the object.
-    pub(crate) body: Option<String>,
+    /// The text of the object. It is there for clauses alone: the plan's answer has it.
+    pub(crate) text: Option<Snapshot<String>>,
     ghost numbered: { revision ≤ last_revision },
 }

@@ -46,7 +46,7 @@ fn deleted(alloc: Global, of: Subject<'_>, live: &Object, state: &Owned) -> Resu
         change: Some(Change {
             revision,
             key: of.key,
-            body: None,
+            text: None,
         }),
     })
 }

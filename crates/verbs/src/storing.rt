@@ -37,6 +37,7 @@ use ownership::{Outcome, Owned, written_over};
 use revtable::Object;
 use schema::Served;
 use std::alloc::{AllocError, Global};
+use std::snapshot::Snapshot;
 
 /// The text of the object at the key, as compact JSON.
 pub fn printed_text(
@@ -124,18 +125,18 @@ fn stored_as(
 {
     validate_size(alloc, labels, text.as_str())?;
     check_revisions(alloc, of.current)?;
-    let body = text.clone()?;
+    let change = Change {
+        revision: of.current + 1,
+        key: of.key,
+        text: Some(Snapshot::of(&text)),
+    };
     Ok(Plan {
         answer: Answer {
             status,
-            body,
+            body: text,
             watch: None,
         },
-        change: Some(Change {
-            revision: of.current + 1,
-            key: of.key,
-            body: Some(text),
-        }),
+        change: Some(change),
     })
 }
 

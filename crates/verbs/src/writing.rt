@@ -7,6 +7,7 @@ ghost use Rattle.history.specs.Read.{key_of};
 ghost use Rattle.history.specs.View.{state_in, written_in};
 ghost use Rattle.verbs.specs.Machine.{ComesAfter};
 ghost use Rattle.verbs.specs.Seen.{change_of};
+ghost use Rattle.verbs.specs.Stored.{Stores};
 
 use crate::change::Change;
 use crate::fault::Fault;
@@ -27,15 +28,16 @@ fn put(store: &mut Store, key: &Key, body: Option<&str>) -> Result<(), Fault>
     }
 }
 
-/// Adds a change that comes next. Refused, it changes nothing.
-pub(crate) fn written(store: &mut Store, change: &Change) -> Result<(), Fault>
-    requires { ComesAfter store.old (change_of change.now) }
+/// Adds a change that comes next, whose text is this. Refused, it changes nothing.
+pub(crate) fn written(store: &mut Store, change: &Change, text: &str) -> Result<(), Fault>
+    requires next { ComesAfter store.old (change_of change.now) }
+    requires text { Stores text.now change.now }
     ensures ok { OnOk result (store.new ≡ written_in store.old (change_of change.now).key (change_of change.now).body) }
     ensures err { OnErr result (store.new ≡ store.old) }
     ensures readable { result ≢ Err Fault.Unreadable }
 {
-    match &change.body {
-        Some(text) => put(store, &change.key, Some(text.as_str())),
+    match &change.text {
+        Some(_) => put(store, &change.key, Some(text)),
         None => put(store, &change.key, None),
     }
 }
