@@ -1,5 +1,4 @@
-use Rattle.std.proofs.Common.{◌≡◌, List, ℕ, ◌++◌, subst}
-use Rattle.verbs.specs.Seen.{target_of}
+use Rattle.std.proofs.Common.{◌≡◌, List, ℕ, subst}
 use Rattle.requests.specs.Pendings.{Carries, asked_of, pending_call}
 use Rattle.requests.proofs.Saying.{finds_more}
 use Rattle.requests.proofs.asking.ask_on.Goals as goal

@@ -1,4 +1,4 @@
-use Rattle.std.proofs.Common.{rules, arith, ap, inr, length}
+use Rattle.std.proofs.Common.{rules, ap, inr}
 use Rattle.requests.specs.Decision.{refused}
 use Rattle.requests.proofs.RequestTargets.{method_text, path_text}
 use Rattle.requests.proofs.Whole.{none_at_all}
