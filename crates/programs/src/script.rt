@@ -2,11 +2,12 @@
 ghost use Rattle.std.specs.Prelude.{◌≡◌, ℕ, IfOk, IsErrOf, map, option_and_then, option_map, string_bytes};
 ghost use Rattle.std.specs.Vec.Iter.{into_iter_items};
 ghost use Rattle.serde_json.specs.View.{items_view, members_view, view};
-ghost use Rattle.serde_json.specs.Find.{as_array, as_bool, as_object, as_str};
+ghost use Rattle.serde_json.specs.Find.{as_bool, as_object, as_str};
 ghost use Rattle.programs.specs.ApplyLine.{apply_of, event_view};
 ghost use Rattle.programs.specs.Script.{AreEvents, IsFirstBad, apply, lines_of};
 ghost use Rattle.programs.specs.ScriptSteps.{apply_in, comes_in, event_in, event_named, event_of, is_target, next_item, next_named, number_in, numbered, only_member, pumps_in, with_items, with_rest};
 
+use json_values::{into_array, into_object};
 use serde_json::{Map, Value};
 use std::alloc::{AllocError, AllocFailed, Global};
 use std::collections::btree_map::IntoIter;
@@ -50,24 +51,6 @@ fn into_text(value: Value) -> Option<String>
 {
     match value {
         Value::String(text) => Some(text),
-        _ => None,
-    }
-}
-
-fn into_object(value: Value) -> Option<Map<String, Value>>
-    ensures { option_map (λ m. members_view m.entries) result ≡ as_object (view value) }
-{
-    match value {
-        Value::Object(members) => Some(members),
-        _ => None,
-    }
-}
-
-fn into_items(value: Value) -> Option<Vec<Value>>
-    ensures { option_map (λ v. items_view v.items) result ≡ as_array (view value) }
-{
-    match value {
-        Value::Array(items) => Some(items),
         _ => None,
     }
 }
@@ -209,8 +192,8 @@ fn event_named(name: &str, value: Value) -> Option<Event>
 {
     match name {
         "apply" => apply_of(value),
-        "in" => comes_in(into_items(value)?),
-        "pump" => pumps_in(into_items(value)?),
+        "in" => comes_in(into_array(value)?),
+        "pump" => pumps_in(into_array(value)?),
         _ => numbered(name, value.as_u64()?),
     }
 }
