@@ -12,16 +12,20 @@ use Rattle.serde_json.specs.Read.{read as read_json}
 use Rattle.programs.specs.declared.run_fault.RunFault.{RunFault}
 use Rattle.programs.specs.declared.run_fault.RunFault.TheVariants as fault
 
+-- the exit status of wrong usage
+abbrev pub wrong_usage : ℕ
+wrong_usage = 2
+
 abbrev pub status_of_kind : ErrorKind → ℕ
 status_of_kind kind.DisplayHelp = 0
 status_of_kind kind.DisplayVersion = 0
-status_of_kind _ = 2
+status_of_kind _ = wrong_usage
 
 -- the exit status: 2 for the arguments, 3 for a file or the types, 4 for a line of the script, 5 for memory or the store;
 -- 1 where the replies cannot be written, 0 where help or the version was asked for
 abbrev pub status_of : RunFault → ℕ
 status_of (fault.Arguments e) = status_of_kind (kind_of e)
-status_of fault.NotText = 2
+status_of fault.NotText = wrong_usage
 status_of (fault.TypesFile path e) = 3
 status_of (fault.TypesText path e) = 3
 status_of (fault.Types path n e) = 3

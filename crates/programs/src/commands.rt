@@ -1,4 +1,4 @@
-//! What the command lines of all programs share: the version, the help, and an option that names a file. The options of
+//! What the command lines of all programs share: the version, the help, and options that name a file. The options of
 //! `ssa-replay` stand in `replay_options`.
 ghost use Rattle.std.specs.Prelude.{◌≡◌, [], false};
 ghost use Rattle.clap.specs.Built.{FitsChain, IsAuto, TakesValue};
@@ -8,6 +8,9 @@ ghost use Rattle.programs.specs.Commands.{file_option, program};
 
 use clap::{Arg, ArgAction, Command};
 use std::alloc::Global;
+
+/// The help of `--types`, the option that all programs have.
+pub const TYPES_HELP: &str = "The types to serve, one JSON object {\"types\":[..]}";
 
 /// What `--version` prints after the name of each program.
 const VERSION: &str = "0.1.0";

@@ -21,12 +21,12 @@ mod script;
 mod types_file;
 
 pub use arguments::read_arguments;
-pub use commands::{file_option, program};
+pub use commands::{TYPES_HELP, file_option, program};
 pub use laws::plays_are_runs;
 pub use replay_fault::ReplayFault;
 pub use replay_options::{ReplayOptions, options};
 pub use replay_program::ssa_replay;
 pub use replaying::replay;
-pub use run_fault::{RunFault, end_with};
+pub use run_fault::{RunFault, WRONG_USAGE, end_with};
 pub use script::{ApplyLine, Event, ScriptFault, read_script};
 pub use types_file::{read_types, types_in};

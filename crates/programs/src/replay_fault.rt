@@ -3,16 +3,16 @@
 use std::alloc::{AllocError, AllocFailed};
 use std::io;
 use thiserror::Error;
-use verbs::Fault;
+use verbs::{Fault, STORE_FAILED};
 
-/// Why a play ended before its last event.
+/// Why a play ended before its last event. A program tells it as a `RunFault`.
 #[derive(Debug, Drop, Error)]
 pub enum ReplayFault {
     /// Out of memory.
     #[error("out of memory")]
     Memory,
     /// The store refused a statement, for memory or for size.
-    #[error("the store failed")]
+    #[error("{}", STORE_FAILED)]
     Store,
     /// The writer refused a write.
     #[error("{0}")]

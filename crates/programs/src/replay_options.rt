@@ -3,7 +3,7 @@ ghost use Rattle.std.specs.Prelude.{◌≡◌, IfOk, Some, codes, map};
 ghost use Rattle.clap.specs.Words.{FailsBy, fault_of, first_of, matches_of};
 ghost use Rattle.programs.specs.ReplayCommand.{IsReplayCommand, ssa_replay};
 
-use crate::commands::{file_option, program};
+use crate::commands::{TYPES_HELP, file_option, program};
 use clap::{Command, Error};
 use std::alloc::{AllocError, Global};
 use std::convert::AsStr;
@@ -21,8 +21,6 @@ Exit status:
   3  the types file is bad, or a file can't be read
   4  bad line of the script
   5  out of memory, or the store failed";
-
-const TYPES_HELP: &str = "The types to serve, one JSON object {\"types\":[..]}";
 
 const SCRIPT_HELP: &str = "The events to play, one JSON object a line, like {\"open\":1}";
 

@@ -12,6 +12,10 @@ use std::alloc::{AllocError, Global};
 use std::io;
 use std::process::ExitCode;
 use thiserror::Error;
+use verbs::{Fault, STORE_FAILED};
+
+/// The exit status of wrong usage.
+pub const WRONG_USAGE: u8 = 2;
 
 /// Why a run of a program ended before it was done. A fault of a file has its path.
 #[derive(Debug, Drop, Error)]
@@ -44,7 +48,7 @@ pub enum RunFault {
     #[error("out of memory")]
     Memory,
     /// The store refused a statement, for memory or for size.
-    #[error("the store failed")]
+    #[error("{}", STORE_FAILED)]
     Store,
 }
 
@@ -57,8 +61,8 @@ impl RunFault {
         match self {
             RunFault::Arguments(error) if !error.use_stderr() => 0,
             RunFault::Output(_) => 1,
-            RunFault::Arguments(_) => 2,
-            RunFault::NotText => 2,
+            RunFault::Arguments(_) => WRONG_USAGE,
+            RunFault::NotText => WRONG_USAGE,
             RunFault::TypesFile(..)
             | RunFault::TypesText(..)
             | RunFault::Types(..)
@@ -100,6 +104,12 @@ impl From<ReplayFault> for RunFault {
             ReplayFault::Store => RunFault::Store,
             ReplayFault::Write(error) => RunFault::Output(error),
         }
+    }
+}
+
+impl From<Fault> for RunFault {
+    fn from(fault: Fault) -> RunFault {
+        RunFault::from(ReplayFault::from(fault))
     }
 }
 

@@ -216,7 +216,7 @@ fn read_line(alloc: Global, line: &str) -> Result<Option<Event>, AllocError>
     }
 }
 
-/// Why a script has no events.
+/// Why a script has no events. A program tells it as a `RunFault`.
 #[derive(Clone, Copy, Debug, PartialEq, Eq, Error)]
 pub enum ScriptFault {
     /// The first bad line, counted from 1.

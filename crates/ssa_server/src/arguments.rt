@@ -9,7 +9,7 @@ ghost use Rattle.ssa_server.specs.ServerCommand.{IsCount, IsFlag, IsNumberOr, Is
 
 use crate::fault::ServerFault;
 use clap::{Arg, ArgAction, ArgMatches, Command};
-use programs::{file_option, program};
+use programs::{TYPES_HELP, file_option, program};
 use std::alloc::{AllocError, Global};
 use std::convert::AsStr;
 
@@ -25,8 +25,6 @@ Exit status:
   3  the types file is bad or can't be read
   5  out of memory, or the store failed
   6  the port can't be listened on, the clock can't be read, or the system can't say which sockets are ready";
-
-const TYPES_HELP: &str = "The types to serve, one JSON object {\"types\":[..]}";
 
 const PORT_HELP: &str = "The port to listen on; 0 (default): a free port";
 

@@ -3,7 +3,7 @@
 ghost use Rattle.std.specs.Prelude.{◌≡◌};
 ghost use Rattle.ssa_server.specs.Statuses.{status_of};
 
-use programs::RunFault;
+use programs::{RunFault, WRONG_USAGE};
 use std::alloc::AllocError;
 use std::io::{self, ErrorKind};
 use thiserror::Error;
@@ -34,7 +34,7 @@ impl ServerFault {
     {
         match self {
             ServerFault::Run(fault) => fault.status(),
-            ServerFault::Number(_) => 2,
+            ServerFault::Number(_) => WRONG_USAGE,
             ServerFault::Socket(_) => 6,
             ServerFault::Clock(_) => 6,
         }
@@ -61,10 +61,7 @@ impl From<AllocError> for ServerFault {
 
 impl From<Fault> for ServerFault {
     fn from(fault: Fault) -> ServerFault {
-        ServerFault::Run(match fault {
-            Fault::Memory => RunFault::Memory,
-            Fault::Store | Fault::Unreadable => RunFault::Store,
-        })
+        ServerFault::Run(RunFault::from(fault))
     }
 }
 
