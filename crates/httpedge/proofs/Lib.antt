@@ -10,3 +10,4 @@ pub mod Staying
 pub mod Taking
 pub mod Untaken
 pub mod Growing
+pub mod Handed

@@ -6,3 +6,4 @@ pub mod Held
 pub mod Ticks
 pub mod HubSeen
 pub mod Faults
+pub mod Streams

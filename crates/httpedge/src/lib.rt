@@ -14,6 +14,7 @@ mod fault;
 mod hub;
 mod laws;
 mod out;
+mod streams;
 mod ticking;
 mod turns;
 mod watching;
@@ -29,3 +30,4 @@ pub use requests::{
     Decision, Head, Length, Refusal, checked_media, one_asked, path_of, query_of, read_body,
     read_head, reply_bytes,
 };
+pub use streams::{LINGER, PIECE, compact, hand, read_piece};

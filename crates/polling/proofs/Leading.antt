@@ -1,19 +1,18 @@
 -- What happens in turn, joined.
-use Rattle.std.proofs.Common.{◌≡◌, ◌≢◌, ℕ, Bool, true, false, List, [], ◌∷◌, ◌++◌, take, drop, length, Option, Result, Ok, Err, refl, sym, ap, subst, ◌∙◌, append_assoc, append-nil, arith}
+use Rattle.std.proofs.Common.{◌≡◌, ◌≢◌, ℕ, Bool, true, false, List, [], ◌∷◌, ◌++◌, take, drop, length, Option, refl, sym, ap, subst, ◌∙◌, append_assoc, append-nil}
 use Rattle.std.specs.Prelude.{◌==◌}
 use Rattle.std.specs.List.{flat_map}
 use Rattle.std.proofs.lemmas.Grind.{flat_map-append}
 use Rattle.std.proofs.lemmas.List.{take-append-drop}
 use Rattle.std.specs.Io.KnownBytes.{Appends, Consumes, Keeps}
-use Rattle.std.proofs.KnownBytes.{Appends-kept, Appends-nil, Appends-trans, Consumes-kept, Consumes-nil, Consumes-trans}
-use Rattle.std.specs.Prelude.{IsErrAnd, MatchResult}
+use Rattle.std.proofs.KnownBytes.{Appends-kept, Appends-nil, Appends-trans, Consumes-nil, Consumes-trans}
 use Rattle.httpedge.specs.Connections.{out_on}
-use Rattle.httpedge.specs.HubSeen.{Happened, IsIn}
-use Rattle.httpedge.specs.Runs.{Follows, Happening, IsElsewhere, Runs, happens, starves, takes}
+use Rattle.httpedge.specs.HubSeen.{IsIn}
+use Rattle.httpedge.specs.Runs.{Happening, IsElsewhere, Runs, happens, starves, takes}
 use Rattle.httpedge.specs.Steps.{Event, State, opens, comes, goes, pumps, ticks, compacts, with_bytes_taken}
-use Rattle.httpedge.specs.declared.fault.HubFault.{HubFault}
-use Rattle.httpedge.specs.declared.fault.HubFault.TheVariants as fault
+use Rattle.httpedge.specs.Streams.{Compacts, Does, Hands, HandsIf}
 use Rattle.httpedge.specs.declared.hub.Hub.{Hub}
+use Rattle.httpedge.proofs.Handed.{by_hands, reads_none, runs_then}
 use Rattle.polling.specs.Happens.{Brings, Each, Hears, IsAny, IsComing, IsOn, IsTaking, Leads, LeadsBy, LeadsOn, Tells, came}
 
 wrong : false ≡ true → ⊥
@@ -23,10 +22,6 @@ pub clash : (b : Bool) → b ≡ false → b ≡ true → ⊥
 clash b isnt is = wrong (sym isnt ∙ is)
 
 -- ---- lists of what happens
-
-runs_then : (s mid t : State) (hs gs : List Happening) → Runs s hs mid → Runs mid gs t → Runs s (hs ++ gs) t
-runs_then s mid t [] gs is then = subst (λ (x : State). Runs x gs t) is then
-runs_then s mid t (h ∷ hs) gs (next, follows, rest) then = (next, follows, runs_then next mid t hs gs rest then)
 
 each_then : (P : Happening → Type 0) (hs gs : List Happening) → Each P hs → Each P gs → Each P (hs ++ gs)
 each_then P [] gs all more = more
@@ -70,47 +65,42 @@ any_same x y same = leads_same IsAny x y same
 
 -- ---- one event
 
--- an event that happened, or found no memory
-by_event : {A : Type 0} (e : Event) (r : Result A HubFault) (h : Happening) (P : Happening → Type 0) → P (happens e) → ((which : ℕ → Bool) → P (starves e which)) → Happened e r h → P h
-by_event e (Ok a) h P done none is = subst P (sym is) done
-by_event e (Err fault.IdNotAbove) h P done none is = subst P (sym is) done
-by_event e (Err fault.UnknownId) h P done none is = subst P (sym is) done
-by_event e (Err fault.NoLines) h P done none is = subst P (sym is) done
-by_event e (Err fault.TickBack) h P done none is = subst P (sym is) done
-by_event e (Err fault.CompactionRefused) h P done none is = subst P (sym is) done
-by_event e (Err fault.Memory) h P done none is = subst P (sym is.1) (none is.0)
-by_event e (Err fault.Store) h P done none is = subst P (sym is.1) (none is.0)
+leads_event : (x y : Hub) (e : Event) (P : Happening → Type 0) → P (happens e) → ((which : ℕ → Bool) → P (starves e which)) → Does (Hands e) x y → LeadsBy P x y
+leads_event x y e P done none hands = λ s is.
+    let one = hands s is in
+    (one.1.0 ∷ [], one.0, (one.0, one.1.2, refl), (by_hands e P done none one.1.0 one.1.1, tt), one.2)
 
--- what the hub says of an event
-abbrev pub FollowsBy : {A : Type 0} → Hub → Event → Result A HubFault → Hub → Type 0
-FollowsBy x e r y = (s : State) → IsIn x s → (h : Happening) × (t : State) × Happened e r h × Follows s h t × IsIn y t
+pub leads_on : (id : ℕ) (x y : Hub) (e : Event) → ((other : ℕ) → other ≢ id → IsElsewhere e other) → Does (Hands e) x y → LeadsOn id x y
+leads_on id x y e apart hands = leads_event x y e (IsOn id) apart (λ which. apart) hands
 
-pub leads_event : {A : Type 0} (x y : Hub) (e : Event) (r : Result A HubFault) (P : Happening → Type 0) → P (happens e) → ((which : ℕ → Bool) → P (starves e which)) → FollowsBy x e r y
-    → LeadsBy P x y
-leads_event x y e r P done none follows = λ s is.
-    let one = follows s is in
-    (one.0 ∷ [], one.1, (one.1, one.3, refl), (by_event e r one.0 P done none one.2, tt), one.4)
+pub leads_by_any : (x y : Hub) (e : Event) → Does (Hands e) x y → Leads x y
+leads_by_any x y e hands = leads_event x y e IsAny tt (λ which. tt) hands
 
-pub leads_on : {A : Type 0} (id : ℕ) (x y : Hub) (e : Event) (r : Result A HubFault) → ((other : ℕ) → other ≢ id → IsElsewhere e other) → FollowsBy x e r y → LeadsOn id x y
-leads_on id x y e r apart follows = leads_event x y e r (IsOn id) apart (λ which. apart) follows
+-- a compaction, or none
+any_if : (b : Bool) (e : Event) (s t : State) → HandsIf b e s t → (hs : List Happening) × Runs s hs t × Each IsAny hs
+any_if true e s t (h, is, follows) = (h ∷ [], (t, follows, refl), (tt, tt))
+any_if false e s t is = ([], is, tt)
 
-pub leads_by_any : {A : Type 0} (x y : Hub) (e : Event) (r : Result A HubFault) → FollowsBy x e r y → Leads x y
-leads_by_any x y e r follows = leads_event x y e r IsAny tt (λ which. tt) follows
+pub leads_compacts : (keep : ℕ) (x y : Hub) → Does (Compacts keep) x y → Leads x y
+leads_compacts keep x y compacted = λ s is.
+    let one = compacted s is in
+    let ran = any_if _ _ s one.0 one.1 in
+    (ran.0, one.0, ran.1, ran.2, one.2)
 
 -- ---- bytes that come
 
 pub hears_none : (id : ℕ) (x : Hub) → Hears id [] x x
 hears_none id x = λ s is. ([], s, refl, tt, refl, is)
 
-pub hears_one : {A : Type 0} (id : ℕ) (piece : List ℕ) (x y : Hub) (r : Result A HubFault) → FollowsBy x (comes id piece) r y → Hears id piece x y
-hears_one id piece x y r follows = λ s is.
-    let one = follows s is in (
-      one.0 ∷ [],
-      one.1,
-      (one.1, one.3, refl),
-      (by_event (comes id piece) r one.0 (IsComing id) refl (λ which. refl) one.2, tt),
-      append-nil (came one.0) ∙ by_event (comes id piece) r one.0 (λ h. came h ≡ piece) refl (λ which. refl) one.2,
-      one.4,
+pub hears_one : (id : ℕ) (piece : List ℕ) (x y : Hub) → Does (Hands (comes id piece)) x y → Hears id piece x y
+hears_one id piece x y hands = λ s is.
+    let one = hands s is in (
+      one.1.0 ∷ [],
+      one.0,
+      (one.0, one.1.2, refl),
+      (by_hands (comes id piece) (IsComing id) refl (λ which. refl) one.1.0 one.1.1, tt),
+      append-nil (came one.1.0) ∙ by_hands (comes id piece) (λ h. came h ≡ piece) refl (λ which. refl) one.1.0 one.1.1,
+      one.2,
     )
 
 hears_then : (id : ℕ) (a b : List ℕ) (x y z : Hub) → Hears id a x y → Hears id b y z → Hears id (a ++ b) x z
@@ -201,21 +191,12 @@ hands_then id a b c x y z piece before read came =
 pub hands_more : (id : ℕ) (a b c : Option (List ℕ)) (x y z : Hub) → HandsOver id a b x y → HandsOver id b c y z → HandsOver id a c x z
 hands_more id a b c x y z before more = hands_then id a b c x y z more.0 before more.1 more.2
 
-empty_is : (piece : List ℕ) → (length piece == 0) ≡ true → piece ≡ []
-empty_is [] is = refl
-empty_is (n ∷ ns) is = grind (arith)
-
 -- a read that gave nothing
 pub hands_end : (id : ℕ) (a b : Option (List ℕ)) (x : Hub) (piece : List ℕ) → Consumes a b piece → (length piece == 0) ≡ true → HandsOver id a b x x
-hands_end id a b x piece read none = ([], subst (Consumes a b) (empty_is piece none) read, hears_none id x)
+hands_end id a b x piece read none = ([], reads_none a b piece read none, hears_none id x)
 
 pub hands_leads : (id : ℕ) (a b : Option (List ℕ)) (x y : Hub) → HandsOver id a b x y → LeadsOn id x y
 hands_leads id a b x y hands = hears_leads id hands.0 x y hands.2
-
--- an error, where no byte left the reader
-pub none_left : {T E : Type 0} (P : T → Type 0) (Q : E → Type 0) (r : Result T E) (a b : Option (List ℕ)) → IsErrAnd r Q → Keeps a b → MatchResult r P (λ _. Consumes a b [])
-none_left P Q (Ok x) a b is keeps = absurd is
-none_left P Q (Err e) a b is keeps = Consumes-kept a a b [] (Consumes-nil a) keeps
 
 -- what the writer got was taken of the connection
 abbrev pub WritesOut : ℕ → Option (List ℕ) → Option (List ℕ) → Hub → Hub → Type 0

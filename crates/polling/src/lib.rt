@@ -6,7 +6,6 @@
 //! Stands on `httpedge` for what the events lead to, on `verbs` for the machine, on `mio` for readiness.
 #![tactic(auto)]
 
-mod handing;
 mod options;
 mod peer;
 mod peers;

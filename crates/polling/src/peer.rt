@@ -7,18 +7,13 @@ ghost use Rattle.httpedge.specs.Steps.{State};
 ghost use Rattle.polling.specs.Happens.{LeadsOn};
 ghost use Rattle.polling.specs.ServerSeen.{lingers};
 
-use crate::handing::send_lines;
 use crate::reading::{Readout, hand_over};
 use crate::stream::Stream;
 use crate::writing::{Written, write_out};
-use httpedge::Hub;
+use httpedge::{Event, Hub, LINGER, hand};
 use std::alloc::Global;
 use std::io::{Read, Write};
 use std::time::{Duration, Instant};
-
-/// How long, in milliseconds, a connection whose reply was written is read on, so that its peer isn't reset before it has
-/// read the reply.
-const LINGER: u64 = 2000;
 
 /// What a connection waits for after its turn.
 #[derive(Debug, Drop, Clone, Copy, PartialEq, Eq)]
@@ -127,7 +122,7 @@ impl<S: Read + Write + Stream + Drop> Peer<S> {
         if !hub.out(id).is_empty() {
             return self.flush(hub, id, now);
         }
-        send_lines(hub, id, lines);
+        hand(hub, Event::Pump(id, lines));
         self.is_behind = !hub.out(id).is_empty();
         self.flush(hub, id, now)
     }

@@ -2,12 +2,11 @@
 //! stands in `peer`.
 
 ghost use Rattle.std.specs.Prelude.{◌≡◌};
-ghost use Rattle.polling.specs.Happens.{Leads};
+ghost use Rattle.polling.specs.Happens.{Leads, LeadsOn};
 
-use crate::handing::{compact, open, part, tick};
 use crate::options::Options;
 use crate::peer::{Next, Peer};
-use httpedge::Hub;
+use httpedge::{Event, Hub, compact, hand};
 use mio::net::{TcpListener, TcpStream};
 use mio::{Events, Interest, Poll, Token};
 use std::alloc::Global;
@@ -51,6 +50,16 @@ impl Entry {
         }
         self.is_watch && self.peer.may_go_on()
     }
+}
+
+/// A connection is over: unless all of its reply was written, its peer has gone.
+fn part(hub: &mut Hub, id: u64)
+    ensures { LeadsOn id hub.old hub.new }
+{
+    if hub.ended(id) && hub.out(id).is_empty() {
+        return;
+    }
+    hand(hub, Event::Gone(id));
 }
 
 /// The connections, and what is to be done with them.
@@ -213,7 +222,8 @@ impl Peers {
         }
         self.ticked = now;
         let ms = now.duration_since(self.started).as_millis();
-        tick(&mut self.hub, u64::try_from(ms).unwrap_or(u64::MAX));
+        let ms = u64::try_from(ms).unwrap_or(u64::MAX);
+        hand(&mut self.hub, Event::Tick(ms));
         self.pump_watches(true, now);
         self.drop_silent(now);
         self.accept_anew();
@@ -236,7 +246,7 @@ impl Peers {
             return;
         };
         self.highest = id;
-        if !open(&mut self.hub, id) {
+        if !hand(&mut self.hub, Event::Open(id)) {
             return;
         }
         let entry = Entry {

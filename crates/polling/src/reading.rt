@@ -1,17 +1,13 @@
 //! Reads what a peer sent and hands it to the hub. What is out on the connection is written in `writing`.
 
-ghost use Rattle.std.specs.Prelude.{List, MatchResult, [], ℕ};
+ghost use Rattle.std.specs.Prelude.{List, ℕ};
 ghost use Rattle.std.specs.Io.KnownBytes.{Consumes};
 ghost use Rattle.polling.specs.Happens.{Hears};
 
-use crate::handing::receive;
-use httpedge::Hub;
+use httpedge::{Event, Hub, hand, read_piece};
 use std::alloc::Global;
 use std::io;
 use std::io::{ErrorKind, Read};
-
-/// The most bytes that are read at a time.
-const PIECE: usize = 4096;
 
 /// The most reads of one connection in its turn.
 const READS: u32 = 16;
@@ -27,17 +23,6 @@ pub enum Readout {
     Closed,
 }
 
-/// Some of the bytes that a reader has next; none where its peer sends no more. Room is made first, so that no byte
-/// leaves the reader for which there is none.
-fn read_piece<R: Read>(alloc: Global, reader: &mut R) -> io::Result<Vec<u8>>
-    ensures { MatchResult result (λ piece. Consumes (R.remaining reader.old) (R.remaining reader.new) piece.items) (λ _. Consumes (R.remaining reader.old) (R.remaining reader.new) []) }
-{
-    let mut piece = vec![in alloc; 0u8; PIECE]?;
-    let count = reader.read(&mut piece)?;
-    piece.truncate(count);
-    Ok(piece)
-}
-
 /// One read, whose bytes come on the connection.
 fn hand_piece<R: Read>(alloc: Global, hub: &mut Hub, id: u64, reader: &mut R) -> io::Result<Readout>
     ensures { (heard : List ℕ) × Consumes (R.remaining reader.old) (R.remaining reader.new) heard × Hears id heard hub.old hub.new }
@@ -46,7 +31,7 @@ fn hand_piece<R: Read>(alloc: Global, hub: &mut Hub, id: u64, reader: &mut R) ->
     if piece.is_empty() {
         return Ok(Readout::Closed);
     }
-    receive(hub, id, piece);
+    hand(hub, Event::In(id, piece));
     Ok(Readout::More)
 }
 

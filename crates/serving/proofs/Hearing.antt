@@ -1,14 +1,15 @@
 -- Pieces that are read and heard, or written and taken, one after another.
 use Rattle.std.proofs.Common.{◌≡◌, ℕ, true, false, List, [], ◌++◌, Option, Result, Ok, Err, subst}
+use Rattle.std.specs.Prelude.{IsErrAnd, MatchResult}
 use Rattle.std.specs.Result.{OnOk, is_err}
 use Rattle.std.specs.Io.KnownBytes.{Appends, Consumes, Keeps}
 use Rattle.std.proofs.KnownBytes.{Appends-kept, Appends-nil, Appends-trans, Consumes-nil, Consumes-trans}
 use Rattle.httpedge.specs.Connections.{out_on}
 use Rattle.httpedge.specs.HubSeen.{IsIn}
 use Rattle.httpedge.specs.Steps.{State, pumps}
+use Rattle.httpedge.specs.Streams.{Does, Hands}
 use Rattle.httpedge.specs.declared.hub.Hub.{Hub}
-use Rattle.serving.specs.Serving.{Does, Goes, HasTurn, IsPumped, Served, Serves}
-use Rattle.serving.specs.Tidies.{Hands}
+use Rattle.serving.specs.Serving.{Goes, HasTurn, IsPumped, Served, Serves}
 use Rattle.serving.proofs.Joining.{serves_none, serves_then, turned, turns_then}
 
 -- what left the reader came on the connection
@@ -22,6 +23,11 @@ Tells id a b x y = (told : List ℕ) × Appends a b told × Serves id x [] told 
 -- both
 abbrev pub Talks : ℕ → Option (List ℕ) → Option (List ℕ) → Option (List ℕ) → Option (List ℕ) → Hub → Hub → Type 0
 Talks id a b d e x y = (heard : List ℕ) × (told : List ℕ) × Consumes a b heard × Appends d e told × Serves id x heard told y
+
+-- an error, where no byte left the reader
+pub none_read : {T E : Type 0} (P : T → Type 0) (Q : E → Type 0) (r : Result T E) (a b : Option (List ℕ)) → IsErrAnd r Q → Consumes a b [] → MatchResult r P (λ _. Consumes a b [])
+none_read P Q (Ok x) a b is read = absurd is
+none_read P Q (Err e) a b is read = read
 
 pub hears_none : (id : ℕ) (a : Option (List ℕ)) (x : Hub) → Hears id a a x x
 hears_none id a x = ([], Consumes-nil a, serves_none id x)

@@ -1,31 +1,24 @@
 -- Turns of a connection join.
-use Rattle.std.proofs.Common.{◌≡◌, ◌≢◌, ◌<◌, ◌≤◌, ℕ, zero, suc, map, Bool, true, false, cond, T, List, [], ◌∷◌, ◌++◌, take, Option, Some, None, Result, Ok, Err, refl, sym, ap, ap₂, subst, ◌∙◌, append_assoc, append-nil}
-use Rattle.std.specs.Prelude.{◌==◌, ◌-◌, nat_lt, is_some, option_map, unwrap_or}
+use Rattle.std.proofs.Common.{◌≡◌, ◌≢◌, ℕ, zero, suc, map, Bool, true, false, cond, T, List, [], ◌∷◌, ◌++◌, take, Option, Some, None, Result, refl, sym, ap, ap₂, subst, ◌∙◌, append_assoc, append-nil}
+use Rattle.std.specs.Prelude.{◌==◌, is_some, option_map, unwrap_or}
 use Rattle.std.specs.FinMap as fin
 use Rattle.std.proofs.lemmas.Grind.{flat_map-append}
 use Rattle.std.proofs.Math.Dec.{eqb_refl}
-use Rattle.std.proofs.lemmas.Bool.{le-ltb, lt-ltb}
 use Rattle.std.proofs.lemmas.List.{map-append}
 use Rattle.httpedge.specs.Connections.{Connection, gone, has_ended, is_open, open_on, out_on, with_standing}
-use Rattle.httpedge.specs.HubSeen.{Happened, IsIn}
+use Rattle.httpedge.specs.HubSeen.{IsIn}
 use Rattle.httpedge.specs.Runs.{Follows, Happening, HappensElsewhere, IsElsewhere, Runs, happens, starves, takes}
-use Rattle.httpedge.specs.Steps.{Event, State, by_connection, comes, compacts, goes, ticks, unless_refused, with_bytes_taken, with_connection}
-use Rattle.httpedge.specs.declared.fault.HubFault.{HubFault}
-use Rattle.httpedge.specs.declared.fault.HubFault.TheVariants as fault
+use Rattle.httpedge.specs.Steps.{Event, State, by_connection, comes, goes, ticks, unless_refused, with_bytes_taken, with_connection}
+use Rattle.httpedge.specs.Streams.{Compacts, Does, Hands, HandsIf}
 use Rattle.httpedge.specs.declared.hub.Hub.{Hub}
 use Rattle.httpedge.proofs.Connected.{put_there}
+use Rattle.httpedge.proofs.Handed.{by_hands, runs_then}
 use Rattle.httpedge.proofs.Staying.{others}
 use Rattle.serving.specs.declared.server.Limits.{Limits}
-use Rattle.serving.specs.Serving.{Does, DoesRounds, Goes, HasTurn, IsPumped, Leads, Served, Serves, ServesOne}
-use Rattle.serving.specs.Tidies.{Compacts, Hands, HandsIf, Pumps, PumpsAll, Tidies, event_in}
+use Rattle.serving.specs.Serving.{DoesRounds, Goes, HasTurn, IsPumped, Leads, Served, Serves, ServesOne}
+use Rattle.serving.specs.Tidies.{Pumps, PumpsAll, Tidies}
 use Rattle.serving.specs.Turns.{IsGiven, Turns, brought, came}
 use Rattle.serving.proofs.Givens.{TakesNone, given_grows, given_stays}
-
--- ---- runs
-
-pub runs_then : (s mid t : State) (hs gs : List Happening) → Runs s hs mid → Runs mid gs t → Runs s (hs ++ gs) t
-runs_then s mid t [] gs is then = subst (λ (x : State). Runs x gs t) is then
-runs_then s mid t (h ∷ hs) gs (next, follows, rest) then = (next, follows, runs_then next mid t hs gs rest then)
 
 truth_of : (b : Bool) → T b → b ≡ true
 truth_of true holds = refl
@@ -60,21 +53,9 @@ one_turn id s t h none apart follows = (
   (λ other isnt. others s t h other (apart other isnt) follows),
 )
 
--- an event that happened, or found no memory
-pub by_event : {A : Type 0} (e : Event) (r : Result A HubFault) (h : Happening) (P : Happening → Type 0) → P (happens e) → ((which : ℕ → Bool) → P (starves e which)) → Happened e r h → P h
-by_event e (Ok a) h P done none is = subst P (sym is) done
-by_event e (Err fault.IdNotAbove) h P done none is = subst P (sym is) done
-by_event e (Err fault.UnknownId) h P done none is = subst P (sym is) done
-by_event e (Err fault.NoLines) h P done none is = subst P (sym is) done
-by_event e (Err fault.TickBack) h P done none is = subst P (sym is) done
-by_event e (Err fault.CompactionRefused) h P done none is = subst P (sym is) done
-by_event e (Err fault.Memory) h P done none is = subst P (sym is.1) (none is.0)
-by_event e (Err fault.Store) h P done none is = subst P (sym is.1) (none is.0)
-
-event_turn : {A : Type 0} (id : ℕ) (s t : State) (e : Event) (r : Result A HubFault) (h : Happening) → ((other : ℕ) → other ≢ id → IsElsewhere e other) → Happened e r h → Follows s h t
-    → Turns id s (brought id e) [] t
-event_turn id s t e r h apart happened follows =
-    by_event e r h (λ x. Follows s x t → Turns id s (brought id e) [] t) (λ f. one_turn id s t (happens e) tt apart f) (λ which f. one_turn id s t (starves e which) tt apart f) happened follows
+event_turn : (id : ℕ) (s t : State) (e : Event) → ((other : ℕ) → other ≢ id → IsElsewhere e other) → Hands e s t → Turns id s (brought id e) [] t
+event_turn id s t e apart (h, is, follows) =
+    by_hands e (λ x. Follows s x t → Turns id s (brought id e) [] t) (λ f. one_turn id s t (happens e) tt apart f) (λ which f. one_turn id s t (starves e which) tt apart f) h is follows
 
 take_turn : (id : ℕ) (s : State) (n : ℕ) (out : List ℕ) → out_on s.connections id ≡ out → Turns id s [] (take n out) (with_bytes_taken s id n)
 take_turn id s n out outs = (
@@ -98,11 +79,11 @@ gone_closed s id (Some c) at = ap open_in (put_there s.connections id (with_stan
 wrong : false ≡ true → ⊥
 wrong e = cc
 
-goes_closed : {A : Type 0} (id : ℕ) (s t : State) (r : Result A HubFault) (h : Happening) → Happened (goes id) r h → Follows s h t → open_on t.connections id ≡ false
-goes_closed id s t r h happened follows =
-    by_event (goes id) r h (λ x. Follows s x t → open_on t.connections id ≡ false)
+goes_closed : (id : ℕ) (s t : State) → Hands (goes id) s t → open_on t.connections id ≡ false
+goes_closed id s t (h, is, follows) =
+    by_hands (goes id) (λ x. Follows s x t → open_on t.connections id ≡ false)
     (λ f. ap (λ (x : State). open_on x.connections id) f.2 ∙ gone_closed s id (fin.get s.connections id) refl)
-    (λ which f. absurd (wrong f.1)) happened follows
+    (λ which f. absurd (wrong f.1)) h is follows
 
 -- ---- hubs
 
@@ -115,22 +96,19 @@ serves_then id x y z a b c d first second = λ s is.
     let two = second one.0 one.2 in
     (two.0, turns_then id s one.0 two.0 a b c d one.1 two.1, two.2)
 
-pub serves_event : {A : Type 0} (id : ℕ) (x y : Hub) (e : Event) (r : Result A HubFault) → ((other : ℕ) → other ≢ id → IsElsewhere e other)
-    → ((s : State) → IsIn x s → (h : Happening) × (t : State) × Happened e r h × Follows s h t × IsIn y t) → Serves id x (brought id e) [] y
-serves_event id x y e r apart follows = λ s is.
-    let one = follows s is in
-    (one.1, event_turn id s one.1 e r one.0 apart one.2 one.3, one.4)
+pub serves_event : (id : ℕ) (x y : Hub) (e : Event) → ((other : ℕ) → other ≢ id → IsElsewhere e other) → Does (Hands e) x y → Serves id x (brought id e) [] y
+serves_event id x y e apart hands = λ s is.
+    let one = hands s is in
+    (one.0, event_turn id s one.0 e apart one.1, one.2)
 
-pub serves_comes : {A : Type 0} (id : ℕ) (x y : Hub) (bytes : List ℕ) (r : Result A HubFault)
-    → ((s : State) → IsIn x s → (h : Happening) × (t : State) × Happened (comes id bytes) r h × Follows s h t × IsIn y t) → Serves id x bytes [] y
-serves_comes id x y bytes r follows =
-    subst (λ (b : List ℕ). Serves id x b [] y) (ap (λ (b : Bool). cond b bytes []) (same_id id)) (serves_event id x y (comes id bytes) r (λ other isnt. isnt) follows)
+pub serves_comes : (id : ℕ) (x y : Hub) (bytes : List ℕ) → Does (Hands (comes id bytes)) x y → Serves id x bytes [] y
+serves_comes id x y bytes hands =
+    subst (λ (b : List ℕ). Serves id x b [] y) (ap (λ (b : Bool). cond b bytes []) (same_id id)) (serves_event id x y (comes id bytes) (λ other isnt. isnt) hands)
 
-pub serves_goes : {A : Type 0} (id : ℕ) (x y : Hub) (r : Result A HubFault) → ((s : State) → IsIn x s → (h : Happening) × (t : State) × Happened (goes id) r h × Follows s h t × IsIn y t)
-    → Goes id x y
-serves_goes id x y r follows = λ s is.
-    let one = follows s is in
-    (one.1, event_turn id s one.1 (goes id) r one.0 (λ other isnt. isnt) one.2 one.3, goes_closed id s one.1 r one.0 one.2 one.3, one.4)
+pub serves_goes : (id : ℕ) (x y : Hub) → Does (Hands (goes id)) x y → Goes id x y
+serves_goes id x y hands = λ s is.
+    let one = hands s is in
+    (one.0, event_turn id s one.0 (goes id) (λ other isnt. isnt) one.1, goes_closed id s one.0 one.1, one.2)
 
 pub serves_take : (id : ℕ) (x y : Hub) (n : ℕ) (out : List ℕ) → ((s : State) → IsIn x s → out ≡ out_on s.connections id) → ((s : State) → IsIn x s → IsIn y (with_bytes_taken s id n))
     → Serves id x [] (take n out) y
@@ -172,57 +150,6 @@ pub leads_one : (x y z : Hub) → Leads x y → ServesOne y z → Leads x z
 leads_one x y z before (id, heard, told, serves) = leads_then x y z before (leads_turn id y z heard told serves)
 
 -- ---- what is done after a connection
-
-pub does_event : {A : Type 0} (x y : Hub) (e : Event) (r : Result A HubFault)
-    → ((s : State) → IsIn x s → (h : Happening) × (t : State) × Happened e r h × Follows s h t × IsIn y t) → Does (Hands e) x y
-does_event x y e r follows = λ s is.
-    let one = follows s is in
-    (one.1, (one.0, by_event e r one.0 (λ h. event_in h ≡ Some e) refl (λ which. refl) one.2, one.3), one.4)
-
-does_if : (b : Bool) (e : Event) (s t : State) → b ≡ true → Hands e s t → HandsIf b e s t
-does_if true e s t is hands = hands
-does_if false e s t is hands = absurd (wrong is)
-
-skips_if : (b : Bool) (e : Event) (s : State) → b ≡ false → HandsIf b e s s
-skips_if true e s is = absurd (wrong (sym is))
-skips_if false e s is = refl
-
--- what is told of the machine is so in each state of the hub
-abbrev pub IsTold : {E : Type 0} → Hub → Result (ℕ × ℕ) E → Type 0
-IsTold x r = (s : State) → IsIn x s → r ≡ Ok (s.machine.current, s.machine.compacted)
-
-abbrev Marks : Type 0 → Type 0
-Marks E = Result (ℕ × ℕ) E
-
-abbrev marks_of : {E : Type 0} → Marks E → ℕ × ℕ
-marks_of (Ok p) = p
-marks_of (Err e) = (0, 0)
-
-abbrev told_as : {E : Type 0} → ℕ × ℕ → Marks E
-told_as p = Ok p
-
-parts : {E : Type 0} (a b c d : ℕ) → told_as {E = E} (a, b) ≡ told_as (c, d) → (a ≡ c) × (b ≡ d)
-parts a b c d same = (ap (λ r. (marks_of r).0) same, ap (λ r. (marks_of r).1) same)
-
-pub compacts_then : {A E : Type 0} (x y : Hub) (keep current compacted revision : ℕ) (told : Result (ℕ × ℕ) E) (r : Result A HubFault) → IsTold x told → told ≡ Ok (current, compacted)
-    → revision ≡ current - keep → compacted < revision
-    → ((s : State) → IsIn x s → (h : Happening) × (t : State) × Happened (compacts revision) r h × Follows s h t × IsIn y t) → Does (Compacts keep) x y
-compacts_then x y keep current compacted revision told r tells is at rises follows = λ s here.
-    let same = parts current compacted s.machine.current s.machine.compacted (sym is ∙ tells s here) in
-    let done = does_event x y (compacts revision) r follows s here in
-    let now : revision ≡ s.machine.current - keep = at ∙ ap (λ n. n - keep) same.0 in (
-      done.0,
-      does_if (nat_lt s.machine.compacted (s.machine.current - keep)) (compacts (s.machine.current - keep)) s done.0 (sym (ap₂ nat_lt same.1 now) ∙ lt-ltb compacted revision rises)
-          (subst (λ n. Hands (compacts n) s done.0) now done.1),
-      done.2,
-    )
-
-pub compacts_not : {E : Type 0} (x : Hub) (keep current compacted revision : ℕ) (told : Result (ℕ × ℕ) E) → IsTold x told → told ≡ Ok (current, compacted)
-    → revision ≡ current - keep → revision ≤ compacted → Does (Compacts keep) x x
-compacts_not x keep current compacted revision told tells is at rises = λ s here.
-    let same = parts current compacted s.machine.current s.machine.compacted (sym is ∙ tells s here) in
-    let now : revision ≡ s.machine.current - keep = at ∙ ap (λ n. n - keep) same.0 in
-    (s, skips_if (nat_lt s.machine.compacted (s.machine.current - keep)) (compacts (s.machine.current - keep)) s (sym (ap₂ nat_lt same.1 now) ∙ le-ltb compacted revision rises), here)
 
 pub pumps_none : (lines : ℕ) (x : Hub) → Does (PumpsAll lines []) x x
 pumps_none lines x = λ s is. (s, refl, is)

@@ -2,5 +2,4 @@ mod Givens
 mod Hearing
 mod Joining
 mod Keeping
-mod Pieces
 mod Rising

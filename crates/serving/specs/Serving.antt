@@ -5,10 +5,10 @@ use Rattle.httpedge.specs.Connections.{open_on, out_on}
 use Rattle.httpedge.specs.HubSeen.{IsIn}
 use Rattle.httpedge.specs.Runs.{Happening, Runs}
 use Rattle.httpedge.specs.Steps.{State, pumps}
+use Rattle.httpedge.specs.Streams.{Does, Hands}
 use Rattle.httpedge.specs.declared.hub.Hub.{Hub}
 use Rattle.serving.specs.declared.server.Limits.{Limits}
 use Rattle.serving.specs.Rounds.{Rounds}
-use Rattle.serving.specs.Tidies.{Hands}
 use Rattle.serving.specs.Turns.{Turns}
 
 -- the hub before and after a turn of the connection, by the bytes heard and told
@@ -23,10 +23,6 @@ Goes id old new = (s : State) → IsIn old s → (t : State) × Turns id s [] []
 abbrev pub IsLeft : {A E : Type 0} → Result A E → ℕ → State → Type 0
 IsLeft (Ok a) id t = out_on t.connections id ≡ []
 IsLeft (Err e) id t = open_on t.connections id ≡ false
-
--- what this relation of states says leads from the hub before to the hub after
-abbrev pub Does : (State → State → Type 0) → Hub → Hub → Type 0
-Does R old new = (s : State) → IsIn old s → (t : State) × R s t × IsIn new t
 
 -- the turn of a watch that may write so many lines, and ends so
 abbrev pub IsPumped : {A E : Type 0} → Result A E → ℕ → ℕ → List ℕ → State → State → Type 0

@@ -4,56 +4,39 @@ ghost use Rattle.std.specs.Prelude.{◌≡◌, [], List, MatchResult, ℕ, OnOk}
 ghost use Rattle.std.specs.Io.KnownBytes.{Appends, Consumes};
 ghost use Rattle.httpedge.specs.Connections.{out_on};
 ghost use Rattle.httpedge.specs.HubSeen.{IsIn};
-ghost use Rattle.httpedge.specs.Steps.{State, pumps};
-ghost use Rattle.serving.specs.Serving.{Does, Goes, HasTurn, IsPumped, Serves};
-ghost use Rattle.serving.specs.Tidies.{Hands};
+ghost use Rattle.httpedge.specs.Steps.{State};
+ghost use Rattle.httpedge.specs.Streams.{Does};
+ghost use Rattle.serving.specs.Serving.{Goes, HasTurn, IsPumped, Serves};
 
-use httpedge::{Event, Hub};
+use httpedge::{Event, Hub, hand, read_piece};
 use std::alloc::Global;
 use std::io;
 use std::io::{ErrorKind, Read, Write};
 
-/// The most bytes that are read at a time.
-const PIECE: usize = 4096;
-
 fn open(hub: &mut Hub, id: u64) -> io::Result<()>
     ensures { Serves id hub.old [] [] hub.new }
 {
-    if hub.on(&Event::Open(id)).is_err() {
+    if !hand(hub, Event::Open(id)) {
         return Err(io::Error::from(ErrorKind::OutOfMemory));
     }
     Ok(())
 }
 
-fn receive(hub: &mut Hub, id: u64, piece: Vec<u8>)
-    ensures { Serves id hub.old piece.items [] hub.new }
-{
-    let _ = hub.on(&Event::In(id, piece));
-}
-
-fn send_lines(hub: &mut Hub, id: u64, max: u64)
-    ensures { Does (Hands (pumps id max)) hub.old hub.new }
-{
-    let _ = hub.on(&Event::Pump(id, max));
-}
-
-/// The peer of a connection has gone.
+/// The peer of a connection has gone, which isn't open any more.
 pub(crate) fn leave(hub: &mut Hub, id: u64)
     ensures { Goes id hub.old hub.new }
 {
-    let _ = hub.on(&Event::Gone(id));
+    hand(hub, Event::Gone(id));
 }
 
 /// Some of the bytes that a reader has next; an error where it has none.
-fn read_piece<R: Read>(alloc: Global, reader: &mut R) -> io::Result<Vec<u8>>
+fn read_some<R: Read>(alloc: Global, reader: &mut R) -> io::Result<Vec<u8>>
     ensures { MatchResult result (λ piece. Consumes (R.remaining reader.old) (R.remaining reader.new) piece.items) (λ _. Consumes (R.remaining reader.old) (R.remaining reader.new) []) }
 {
-    let mut piece = vec![in alloc; 0u8; PIECE]?;
-    let count = reader.read(&mut piece)?;
-    if count == 0 {
+    let piece = read_piece(alloc, reader)?;
+    if piece.is_empty() {
         return Err(io::Error::from(ErrorKind::UnexpectedEof));
     }
-    piece.truncate(count);
     Ok(piece)
 }
 
@@ -65,8 +48,10 @@ fn listen<R: Read>(alloc: Global, hub: &mut Hub, id: u64, reader: &mut R) -> io:
         if !hub.wants(id) {
             break;
         }
-        match read_piece(alloc, reader) {
-            Ok(piece) => receive(hub, id, piece),
+        match read_some(alloc, reader) {
+            Ok(piece) => {
+                hand(hub, Event::In(id, piece));
+            }
             Err(error) if error.kind() == ErrorKind::Interrupted => {}
             Err(error) => return Err(error),
         }
@@ -135,7 +120,7 @@ pub fn turn<R: Read, W: Write>(
 pub fn pump<W: Write>(hub: &mut Hub, id: u64, max: u64, writer: &mut W) -> io::Result<()>
     ensures { (told : List ℕ) × Appends (W.contents writer.old) (W.contents writer.new) told × Does (IsPumped result id max told) hub.old hub.new }
 {
-    send_lines(hub, id, max);
+    hand(hub, Event::Pump(id, max));
     let done = tell(hub, id, writer);
     if done.is_err() {
         leave(hub, id);

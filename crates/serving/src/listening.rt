@@ -6,6 +6,7 @@ ghost use Rattle.serving.specs.ServerSeen.{hub_of, limits_of};
 ghost use Rattle.serving.specs.Serving.{DoesRounds, Leads, ServesOne};
 
 use crate::server::Server;
+use httpedge::{LINGER, PIECE};
 use std::io::{Read, Write};
 use std::net::{OpenListener, OpenStream, Shutdown};
 use std::rt::Clock;
@@ -18,21 +19,16 @@ const PAUSE: u64 = 10;
 /// For how many milliseconds a peer may send nothing before its connection is closed.
 const QUIET: u64 = 100;
 
-/// For how many milliseconds at most a connection lingers.
-const LINGERS: u128 = 2000;
-
-/// The most bytes that are read at a time while a connection lingers.
-const PIECE: usize = 4096;
-
 /// Ends a connection on which all is written: what its peer still sends is ignored, since a connection that is closed
 /// with bytes unread may cost the peer its reply (RFC 9112, section 9.6).
 fn linger<C: Clock, S: Read + OpenStream>(clock: &C, stream: &mut S) -> io::Result<()> {
     stream.shutdown(Shutdown::Write)?;
     stream.set_read_timeout(Some(Duration::from_millis(QUIET)))?;
+    let longest = Duration::from_millis(LINGER);
     let begun = Instant::now(clock)?;
     let mut piece = [0u8; PIECE];
     for _ in 0..u64::MAX {
-        if stream.read(&mut piece)? == 0 || begun.elapsed(clock)?.as_millis() > LINGERS {
+        if stream.read(&mut piece)? == 0 || begun.elapsed(clock)? > longest {
             break;
         }
     }

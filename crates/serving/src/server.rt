@@ -6,13 +6,14 @@ ghost use Rattle.schema.specs.TypesFile.{ServedShape};
 ghost use Rattle.history.specs.History.{History};
 ghost use Rattle.verbs.specs.Seen.{Stands};
 ghost use Rattle.httpedge.specs.HubSeen.{IsIn};
-ghost use Rattle.httpedge.specs.Steps.{start, ticks};
+ghost use Rattle.httpedge.specs.Steps.{start};
+ghost use Rattle.httpedge.specs.Streams.{Does};
 ghost use Rattle.serving.specs.Rising.{are_rising};
-ghost use Rattle.serving.specs.Serving.{Does, Served, Serves};
-ghost use Rattle.serving.specs.Tidies.{Compacts, Hands, PumpsAll, Tidies};
+ghost use Rattle.serving.specs.Serving.{Served, Serves};
+ghost use Rattle.serving.specs.Tidies.{PumpsAll, Tidies};
 
 use crate::conversing::{leave, pump, turn};
-use httpedge::{Event, Hub};
+use httpedge::{Event, Hub, compact, hand};
 use std::alloc::Global;
 use std::io;
 use std::io::{Read, Write};
@@ -25,25 +26,6 @@ pub struct Limits {
     pub keep: u64,
     /// How many lines a watch may write after each connection; one or more.
     pub lines: u64,
-}
-
-fn tick(hub: &mut Hub, ms: u64)
-    ensures { Does (Hands (ticks ms)) hub.old hub.new }
-{
-    let _ = hub.on(&Event::Tick(ms));
-}
-
-/// Forgets what lies more than so many revisions before the current one.
-fn compact(hub: &mut Hub, keep: u64)
-    ensures { Does (Compacts keep) hub.old hub.new }
-{
-    let Ok((current, compacted)) = hub.marks() else {
-        return;
-    };
-    let revision = current.saturating_sub(keep);
-    if compacted < revision {
-        let _ = hub.on(&Event::Compact(revision));
-    }
 }
 
 /// A hub, and the streams of its watches in the order of their ids, which are below the next one.
@@ -100,7 +82,7 @@ impl<W: Write + Drop> Server<W> {
         ensures tidies { Does (Tidies (limits_of self.old).keep (limits_of self.old).lines (watches_of self.old) ms) (hub_of self.old) (hub_of self.new) }
     {
         let keep = self.limits.keep;
-        tick(&mut self.hub, ms);
+        hand(&mut self.hub, Event::Tick(ms));
         self.pump_watches();
         compact(&mut self.hub, keep);
     }

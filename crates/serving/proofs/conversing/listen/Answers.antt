@@ -1,5 +1,5 @@
 use Rattle.serving.proofs.Hearing.{hears_none, hears_then}
-use Rattle.serving.proofs.Joining.{serves_none}
+use Rattle.serving.proofs.Joining.{serves_comes, serves_none}
 use Rattle.serving.proofs.conversing.listen.Goals.{in-Ok, in-Err}
 use Rattle.serving.proofs.conversing.listen.Goals as goal
 
@@ -8,7 +8,7 @@ pieces-init g c = hears_none _ _ _
 
 pub pieces-preserved : goal.pieces-preserved
 pieces-preserved g c =
-    elim c.match-read_piece.branch [
-      | in-Ok w ↦ rw (w.hub-is) (hears_then _ _ _ _ _ _ _ _ c.pieces.invariant w.in-Ok.ensures w.receive.ensures)
+    elim c.match-read_some.branch [
+      | in-Ok w ↦ rw (w.hub-is) (hears_then _ _ _ _ _ _ _ _ c.pieces.invariant w.in-Ok.ensures (serves_comes _ _ _ _ w.hand.ensures.hands))
       | in-Err w ↦ rw (w.hub-is) (hears_then _ _ _ _ _ _ _ _ c.pieces.invariant w.in-Err.ensures (serves_none _ _))
     ]

@@ -1,0 +1,132 @@
+-- Events that were handed to a hub, and pieces that were read for it.
+use Rattle.std.proofs.Common.{◌≡◌, ◌<◌, ◌≤◌, ◌∙◌, ℕ, Bool, true, false, List, [], ◌∷◌, ◌++◌, length, Option, Some, None, Result, Ok, Err, refl, sym, ap, ap₂, subst, arith}
+use Rattle.std.specs.Prelude.{◌-◌, ◌==◌, nat_lt, unwrap_or, IsErrAnd, MatchResult}
+use Rattle.std.specs.Result.{is_ok}
+use Rattle.std.specs.Io.KnownBytes.{Consumes, Keeps}
+use Rattle.std.proofs.KnownBytes.{Consumes-kept, Consumes-nil}
+use Rattle.std.proofs.lemmas.Bool.{le-ltb, lt-ltb}
+use Rattle.httpedge.specs.HubSeen.{Happened, IsIn, refusal_number}
+use Rattle.httpedge.specs.Runs.{Follows, Happening, Runs, happens, starves, takes}
+use Rattle.httpedge.specs.Steps.{Event, State, compacts, refusal}
+use Rattle.httpedge.specs.Streams.{Compacts, Does, Hands, HandsIf, IsDone, event_in}
+use Rattle.httpedge.specs.declared.fault.HubFault.{HubFault}
+use Rattle.httpedge.specs.declared.fault.HubFault.TheVariants as fault
+use Rattle.httpedge.specs.declared.hub.Hub.{Hub}
+
+-- ---- what happens in turn
+
+pub runs_then : (s mid t : State) (hs gs : List Happening) → Runs s hs mid → Runs mid gs t → Runs s (hs ++ gs) t
+runs_then s mid t [] gs is then = subst (λ (x : State). Runs x gs t) is then
+runs_then s mid t (h ∷ hs) gs (next, follows, rest) then = (next, follows, runs_then next mid t hs gs rest then)
+
+-- ---- one event
+
+-- an event that happened, or found no memory
+by_event : {A : Type 0} (e : Event) (r : Result A HubFault) (h : Happening) (P : Happening → Type 0) → P (happens e) → ((which : ℕ → Bool) → P (starves e which)) → Happened e r h → P h
+by_event e (Ok a) h P done none is = subst P (sym is) done
+by_event e (Err fault.IdNotAbove) h P done none is = subst P (sym is) done
+by_event e (Err fault.UnknownId) h P done none is = subst P (sym is) done
+by_event e (Err fault.NoLines) h P done none is = subst P (sym is) done
+by_event e (Err fault.TickBack) h P done none is = subst P (sym is) done
+by_event e (Err fault.CompactionRefused) h P done none is = subst P (sym is) done
+by_event e (Err fault.Memory) h P done none is = subst P (sym is.1) (none is.0)
+by_event e (Err fault.Store) h P done none is = subst P (sym is.1) (none is.0)
+
+-- what the hub says of an event
+abbrev pub FollowsBy : {A : Type 0} → Hub → Event → Result A HubFault → Hub → Type 0
+FollowsBy x e r y = (s : State) → IsIn x s → (h : Happening) × (t : State) × Happened e r h × Follows s h t × IsIn y t
+
+pub hands_event : {A : Type 0} (x y : Hub) (e : Event) (r : Result A HubFault) → FollowsBy x e r y → Does (Hands e) x y
+hands_event x y e r follows = λ s is.
+    let one = follows s is in
+    (one.1, (one.0, by_event e r one.0 (λ h. event_in h ≡ Some e) refl (λ which. refl) one.2, one.3), one.4)
+
+pub done_event : {A : Type 0} (x y : Hub) (e : Event) (r : Result A HubFault) → ((s : State) → IsIn x s → refusal_number r ≡ refusal s e) → FollowsBy x e r y → is_ok r ≡ true
+    → Does (IsDone e) x y
+done_event x y e (Ok a) refused follows well = λ s is.
+    let one = follows s is in
+    (one.1, (sym (refused s is), subst (λ h. Follows s h one.1) one.2 one.3), one.4)
+done_event x y e (Err f) refused follows well = absurd cc
+
+same_event : (d e : Event) → Some d ≡ Some e → d ≡ e
+same_event d e same = ap (λ (o : Option Event). unwrap_or o e) same
+
+isnt_there : (e : Event) → Some e ≡ None → ⊥
+isnt_there e same = cc
+
+-- what is so of an event that was handed over, also where it finds no memory, is so of what happened
+pub by_hands : (e : Event) (P : Happening → Type 0) → P (happens e) → ((which : ℕ → Bool) → P (starves e which)) → (h : Happening) → event_in h ≡ Some e → P h
+by_hands e P done none (happens d) is = subst (λ (x : Event). P (happens x)) (sym (same_event d e is)) done
+by_hands e P done none (starves d which) is = subst (λ (x : Event). P (starves x which)) (sym (same_event d e is)) (none which)
+by_hands e P done none (takes id n) is = absurd (isnt_there e (sym is))
+
+-- ---- a compaction
+
+wrong : false ≡ true → ⊥
+wrong e = cc
+
+hands_if : (b : Bool) (e : Event) (s t : State) → b ≡ true → Hands e s t → HandsIf b e s t
+hands_if true e s t is hands = hands
+hands_if false e s t is hands = absurd (wrong is)
+
+skips_if : (b : Bool) (e : Event) (s : State) → b ≡ false → HandsIf b e s s
+skips_if true e s is = absurd (wrong (sym is))
+skips_if false e s is = refl
+
+-- what is told of the machine is so in each state of the hub
+abbrev pub IsTold : {E : Type 0} → Hub → Result (ℕ × ℕ) E → Type 0
+IsTold x r = (s : State) → IsIn x s → r ≡ Ok (s.machine.current, s.machine.compacted)
+
+abbrev Marks : Type 0 → Type 0
+Marks E = Result (ℕ × ℕ) E
+
+abbrev marks_of : {E : Type 0} → Marks E → ℕ × ℕ
+marks_of (Ok p) = p
+marks_of (Err e) = (0, 0)
+
+abbrev told_as : {E : Type 0} → ℕ × ℕ → Marks E
+told_as p = Ok p
+
+parts : {E : Type 0} (a b c d : ℕ) → told_as {E = E} (a, b) ≡ told_as (c, d) → (a ≡ c) × (b ≡ d)
+parts a b c d same = (ap (λ r. (marks_of r).0) same, ap (λ r. (marks_of r).1) same)
+
+pub compacts_then : {E : Type 0} (x y : Hub) (keep current compacted revision : ℕ) (told : Result (ℕ × ℕ) E) → IsTold x told → told ≡ Ok (current, compacted)
+    → revision ≡ current - keep → compacted < revision → Does (Hands (compacts revision)) x y → Does (Compacts keep) x y
+compacts_then x y keep current compacted revision told tells is at rises hands = λ s here.
+    let same = parts current compacted s.machine.current s.machine.compacted (sym is ∙ tells s here) in
+    let done = hands s here in
+    let now : revision ≡ s.machine.current - keep = at ∙ ap (λ n. n - keep) same.0 in (
+      done.0,
+      hands_if (nat_lt s.machine.compacted (s.machine.current - keep)) (compacts (s.machine.current - keep)) s done.0 (sym (ap₂ nat_lt same.1 now) ∙ lt-ltb compacted revision rises)
+          (subst (λ n. Hands (compacts n) s done.0) now done.1),
+      done.2,
+    )
+
+pub compacts_not : {E : Type 0} (x : Hub) (keep current compacted revision : ℕ) (told : Result (ℕ × ℕ) E) → IsTold x told → told ≡ Ok (current, compacted)
+    → revision ≡ current - keep → revision ≤ compacted → Does (Compacts keep) x x
+compacts_not x keep current compacted revision told tells is at rises = λ s here.
+    let same = parts current compacted s.machine.current s.machine.compacted (sym is ∙ tells s here) in
+    let now : revision ≡ s.machine.current - keep = at ∙ ap (λ n. n - keep) same.0 in
+    (s, skips_if (nat_lt s.machine.compacted (s.machine.current - keep)) (compacts (s.machine.current - keep)) s (sym (ap₂ nat_lt same.1 now) ∙ le-ltb compacted revision rises), here)
+
+told_none : {E : Type 0} (e : E) (p : ℕ × ℕ) (told : Marks E) → told ≡ Err e → told ≡ Ok p → ⊥
+told_none e p told is isnt = cc
+
+-- a hub whose marks can't be told is in no state
+pub compacts_none : {E : Type 0} (x : Hub) (keep : ℕ) (e : E) (told : Result (ℕ × ℕ) E) → IsTold x told → told ≡ Err e → Does (Compacts keep) x x
+compacts_none x keep e told tells is = λ s here. absurd (told_none e (s.machine.current, s.machine.compacted) told is (tells s here))
+
+-- ---- a piece
+
+empty_is : (piece : List ℕ) → (length piece == 0) ≡ true → piece ≡ []
+empty_is [] is = refl
+empty_is (n ∷ ns) is = grind (arith)
+
+-- a read that gave nothing
+pub reads_none : (a b : Option (List ℕ)) (piece : List ℕ) → Consumes a b piece → (length piece == 0) ≡ true → Consumes a b []
+reads_none a b piece read none = subst (Consumes a b) (empty_is piece none) read
+
+-- an error, where no byte left the reader
+pub none_left : {T E : Type 0} (P : T → Type 0) (Q : E → Type 0) (r : Result T E) (a b : Option (List ℕ)) → IsErrAnd r Q → Keeps a b → MatchResult r P (λ _. Consumes a b [])
+none_left P Q (Ok x) a b is keeps = absurd is
+none_left P Q (Err e) a b is keeps = Consumes-kept a a b [] (Consumes-nil a) keeps

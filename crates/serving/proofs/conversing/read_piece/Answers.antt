@@ -1,5 +1,0 @@
-use Rattle.serving.proofs.Pieces.{none_left}
-use Rattle.serving.proofs.conversing.read_piece.Goals as goal
-
-pub returns-in_err-count : goal.returns-in_err-count
-returns-in_err-count g c = none_left _ _ c.from_residual-in_err-count.result _ _ c.from_residual-in_err-count.ensures.1 c.in_err-count.ensures.bytes
