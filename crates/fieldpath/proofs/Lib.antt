@@ -2,6 +2,7 @@ pub mod Orders
 pub mod Ascending
 pub mod Texts
 pub mod KeyFields
+pub mod Names
 pub mod Shown
 pub mod Spelled
 pub mod ElemTexts

@@ -1,5 +1,5 @@
 -- What a JSON text spells, and that a value's compact text spells it.
-use Rattle.std.proofs.Common.{◌≡◌, ℕ, zero, suc, ◌<◌, ◌≤◌, ◌^◌, pos, negsuc, ◌==◌, ◌&&◌, Bool, true, false, true≢false, cond, nat_lt, nat_le, List, [], ◌∷◌, Option, Some, None, option_map, option_and_then, Ordering, Less, Equal, Greater, nat_cmp, refl, sym, ap, ap₂, subst, ◌∙◌, arith, append-nil}
+use Rattle.std.proofs.Common.{◌≡◌, ℕ, zero, suc, ◌<◌, ◌≤◌, ◌^◌, pos, negsuc, ◌==◌, ◌&&◌, Bool, true, false, true≢false, cond, nat_lt, nat_le, List, [], Option, Some, None, option_map, option_and_then, Ordering, Less, Equal, Greater, nat_cmp, refl, sym, ap, ap₂, subst, ◌∙◌, arith, append-nil}
 use Rattle.std.specs.Prelude.{⊤, drop, max, slice_index}
 use Rattle.std.specs.Cmp.Derive.{both_true}
 use Rattle.std.specs.Cmp.Lexicographic.{slice_cmp}
@@ -13,7 +13,6 @@ use Rattle.json.specs.Json as json
 use Rattle.json.specs.Lex.{tokens}
 use Rattle.json.specs.Tree as tree
 use Rattle.json.specs.Tree.{HasNumbers, ItemsHaveNumbers, MembersHaveNumbers, json_tokens}
-use Rattle.json.specs.Token.{Token}
 use Rattle.json.specs.Print.{IsNumber}
 use Rattle.json.proofs.Printed.Decimals.{IsNumber-decimal, IsNumber-signed_decimal}
 use Rattle.json.proofs.Printed.Tokens.{tokens-print}
@@ -26,12 +25,8 @@ use Rattle.serde_json.proofs.Nesting.{depth-read}
 use Rattle.serde_json.proofs.Numbers.{number_of-decimal, number_of-negative}
 use Rattle.serde_json.proofs.Texts.{print-outline}
 use Rattle.fieldpath.specs.Scalars.{ascend, ascend_from}
+use Rattle.fieldpath.proofs.Names.{ascend_rest, first_below, rest_above}
 use Rattle.fieldpath.specs.Spelled.{IsSpelledNumber, IsSpelled, AreSpelled, MembersAreSpelled, member_names, ReadingsAreSpelled, CompactTextsReadBack}
-
-lt_is : (o : Ordering) → is_lt o ≡ true → o ≡ Less
-lt_is Less h = refl
-lt_is Equal h = absurd (true≢false (sym h))
-lt_is Greater h = absurd (true≢false (sym h))
 
 -- ---- what is read is spelled
 
@@ -151,7 +146,7 @@ spelled-read text d h = (subst (Given IsSpelled) h (by_json (option_and_then (λ
 
 -- ---- numbers
 
-number_back : (n : Num) → IsSpelledNumber n → is_float n ≡ false → number_of (number_text n) ≡ Some n
+pub number_back : (n : Num) → IsSpelledNumber n → is_float n ≡ false → number_of (number_text n) ≡ Some n
 number_back (unsigned n) fits h = number_of-decimal n fits
 number_back (negative (pos n)) fits h = absurd fits
 number_back (negative (negsuc n)) fits h = number_of-negative n fits
@@ -199,31 +194,28 @@ mutual
 
 -- ---- members, one after another
 
-abbrev both : Members → Members → Members
+abbrev pub both : Members → Members → Members
 both no_members more = more
 both (member k d ms) more = member k d (both ms more)
 
 below_later : (l k : List ℕ) (d : Data) (ms more : Members) → ascend_from l (member_names (both ms (member k d more))) ≡ true → slice_cmp nat_cmp l k ≡ Less
-below_later l k d no_members more up = lt_is _ (and_parts (is_lt (slice_cmp nat_cmp l k)) _ up).0
+below_later l k d no_members more up = first_below l k (member_names more) up
 below_later l k d (member m e ms) more up =
-    let p = and_parts (is_lt (slice_cmp nat_cmp l m)) _ up in nat_list_cmp_total.trans l m k (lt_is _ p.0) (below_later m k d ms more p.1)
-
-ascend_rest : (l : List ℕ) (ns : List (List ℕ)) → ascend_from l ns ≡ true → ascend ns ≡ true
-ascend_rest l [] up = refl
-ascend_rest l (n ∷ ns) up = (and_parts (is_lt (slice_cmp nat_cmp l n)) _ up).1
+    let rest = member_names (both ms (member k d more)) in
+    nat_list_cmp_total.trans l m k (first_below l m rest up) (below_later m k d ms more (rest_above l m rest up))
 
 -- a member above all others goes last
-put_last : (k : List ℕ) (d : Data) (ms more : Members) → ascend (member_names (both ms (member k d more))) ≡ true → put k d ms ≡ both ms (member k d no_members)
+pub put_last : (k : List ℕ) (d : Data) (ms more : Members) → ascend (member_names (both ms (member k d more))) ≡ true → put k d ms ≡ both ms (member k d no_members)
 put_last k d no_members more up = refl
 put_last k d (member l e ms) more up =
     let above : slice_cmp nat_cmp k l ≡ Greater = nat_list_cmp_total.antisymm k l ∙ ap ordering_reverse (below_later l k d ms more up) in
     ap (λ o. match_ordering o (member k d (member l e ms)) (member l d ms) (member l e (put k d ms))) above ∙ ap (member l e) (put_last k d ms more (ascend_rest l _ up))
 
-both_assoc : (ms : Members) (k : List ℕ) (d : Data) (more : Members) → both (both ms (member k d no_members)) more ≡ both ms (member k d more)
+pub both_assoc : (ms : Members) (k : List ℕ) (d : Data) (more : Members) → both (both ms (member k d no_members)) more ≡ both ms (member k d more)
 both_assoc no_members k d more = refl
 both_assoc (member l e ms) k d more = ap (member l e) (both_assoc ms k d more)
 
-both_none : (ms : Members) → both ms no_members ≡ ms
+pub both_none : (ms : Members) → both ms no_members ≡ ms
 both_none no_members = refl
 both_none (member l e ms) = ap (member l e) (both_none ms)
 
@@ -253,11 +245,12 @@ mutual
       ∙ ap (of_members (members_outline ms)) (put_last k d found ms up)
       ∙ members_back ms (both found (member k d no_members)) (ap (λ ns. ascend (member_names ns)) next ∙ up) s.1 p.1 ∙ ap Some next
 
-abbrev whole : Option (json.Json × List Token) → Option Data
-whole o = option_and_then of_json (option_and_then (λ p. json.if_last p.0 p.1) o)
-
-pub compact-read : CompactTextsReadBack
-compact-read d s h shallow =
+-- the compact text is one value, which is the outline
+pub compact-outline : (d : Data) → IsSpelled d → has_float d ≡ false → depth d ≤ max_depth → option_and_then (λ p. json.if_last p.0 p.1) (json.value max_depth (tokens (compact_text d))) ≡ Some (outline d)
+compact-outline d s h shallow =
     let same : tokens (compact_text d) ≡ json_tokens (outline d) = ap tokens (sym (print-outline d)) ∙ tokens-print (json_tokens (outline d)) (ArePrintable-json_tokens (outline d) (has_numbers d s h)) in
     let deep : tree.depth (outline d) ≤ max_depth = subst (λ n. n ≤ max_depth) (sym (outline_depth d)) shallow in
-    ap whole (ap (json.value max_depth) (same ∙ sym (append-nil _)) ∙ value-json_tokens (outline d) max_depth [] deep) ∙ json_back d s h
+    ap (option_and_then (λ p. json.if_last p.0 p.1)) (ap (json.value max_depth) (same ∙ sym (append-nil _)) ∙ value-json_tokens (outline d) max_depth [] deep)
+
+pub compact-read : CompactTextsReadBack
+compact-read d s h shallow = ap (option_and_then of_json) (compact-outline d s h shallow) ∙ json_back d s h

@@ -1,10 +1,10 @@
 -- Texts after a prefix.
-use Rattle.std.proofs.Common.{◌≡◌, ◌≢◌, ℕ, Bool, true, false, cond, List, [], ◌∷◌, ◌++◌, length, take, drop, take-append-drop, Option, Some, None, option_map, unwrap_or, MatchOption, Result, Ok, Err, IfOk, String, Global, string_bytes, Bor, refl, sym, subst, ap, ap₂, ◌∙◌}
+use Rattle.std.proofs.Common.{◌≡◌, ◌≢◌, ℕ, Bool, true, false, cond, List, [], ◌∷◌, ◌++◌, length, take, drop, take-append-drop, Option, Some, None, is_some, option_map, unwrap_or, MatchOption, Result, Ok, Err, IfOk, String, Global, string_bytes, Bor, refl, sym, subst, ap, ap₂, ◌∙◌}
 use Rattle.std.proofs.lemmas.Slice.Eq.{bytes_eq-Decides}
 use Rattle.std.specs.Str.{bytes_eq}
 use Rattle.std.specs.Str.Pattern.{FindsTextPrefix, LacksTextAt, StripsPrefix}
 use Rattle.serde_json.specs.Read.{read}
-use Rattle.fieldpath.specs.Elements.{Element, field, name_text, value, NoElement, no_prefix, has_prefix, text_after, read_json, read_element, keys_of, scalar_of}
+use Rattle.fieldpath.specs.Elements.{Element, field, name_text, value, NoElement, no_prefix, has_prefix, is_field_text, text_after, read_json, read_element, keys_of, scalar_of}
 use Rattle.fieldpath.specs.Elems.{element, Gives}
 use Rattle.fieldpath.specs.declared.elem.Elem.{Elem}
 use Rattle.fieldpath.specs.declared.elem.ElemFault.{ElemFault}
@@ -59,6 +59,16 @@ pub read-field : (s t : List ℕ) → Some t ≡ text_after 102 s → read_eleme
 read-field s t h =
     let p = some_rest (has_prefix 102 s) s t h in
     read-by_prefix s ∙ ap (λ f. by_prefix s f (has_prefix 107 s) (has_prefix 118 s)) p.0 ∙ ap (λ u. Ok (field u)) (sym p.1)
+
+pub field-read : (s : List ℕ) → is_field_text s ≡ true → read_element s ≡ Ok (field (drop 2 s))
+field-read s h = read-by_prefix s ∙ ap (λ f. by_prefix s f (has_prefix 107 s) (has_prefix 118 s)) h
+
+-- something is found exactly where the test holds
+pub some-if : (r : Option (Bor (List ℕ))) (b : Bool) (t : List ℕ) → option_map (λ s. s.now) r ≡ cond b (Some t) None → is_some r ≡ b
+some-if None true t h = absurd cc
+some-if None false t h = refl
+some-if (Some x) true t h = refl
+some-if (Some x) false t h = absurd cc
 
 pub read-key : (s t : List ℕ) → None ≡ text_after 102 s → Some t ≡ text_after 107 s → read_element s ≡ read_json s keys_of (read t)
 read-key s t f h =

@@ -129,7 +129,8 @@ impl Elem {
 pub(crate) fn prefixed(alloc: Global, prefix: &str, text: &str) -> Result<String, AllocError>
     ensures { IfOk result (λ s. string_bytes s ≡ prefix.now ++ text.now) }
 {
-    let mut whole = String::from_str(alloc, prefix)?;
+    let mut whole = String::with_capacity(alloc, prefix.len().saturating_add(text.len()))?;
+    whole.push_str(prefix)?;
     whole.push_str(text)?;
     Ok(whole)
 }

@@ -5,7 +5,7 @@ ghost use Rattle.std.specs.Cmp.{eq_by_cmp_equiv, partial_equiv_from_equiv, parti
 ghost use Rattle.std.specs.Ordering.{as_partial_cmp, eq_by_cmp};
 ghost use Rattle.serde_json.specs.View.{view};
 ghost use Rattle.serde_json.specs.Written.{compact_text};
-ghost use Rattle.fieldpath.specs.Elements.{field_name, keys_json, keys_of, list_item_text, name_text, read_element, scalar_json, scalar_of, scalar_text, set_item_text};
+ghost use Rattle.fieldpath.specs.Elements.{field_name, is_field_text, keys_json, keys_of, list_item_text, name_text, read_element, scalar_json, scalar_of, scalar_text, set_item_text};
 ghost use Rattle.fieldpath.specs.Elems.{GivesText, element};
 ghost use Rattle.fieldpath.specs.Paths.{text_cmp, text_cmp_total};
 
@@ -36,6 +36,13 @@ impl Model for ElemText {
     ghost invariant = { λ t. IsElementText (string_bytes t.text) };
 }
 
+/// Whether it is the text of a field's element.
+fn is_field(text: &str) -> bool
+    ensures { result ≡ is_field_text text.now }
+{
+    rest_after("f:", text).is_some()
+}
+
 fn of_scalar(alloc: Global, value: &Value) -> Result<ElemText, AllocError>
     requires { is_some (scalar_of (view value.now)) ≡ true }
     ensures { IfOk result (λ t. string_bytes t ≡ scalar_text (view value.now)) }
@@ -59,9 +66,9 @@ impl ElemText {
     pub fn of_field(alloc: Global, name: &str) -> Result<ElemText, AllocError>
         ensures { IfOk result (λ t. string_bytes t ≡ name_text name.now) }
     {
-        let mut text = String::from_str(alloc, "f:")?;
-        text.push_str(name)?;
-        Ok(ElemText { text })
+        Ok(ElemText {
+            text: prefixed(alloc, "f:", name)?,
+        })
     }
 
     /// The text of a set item's element, if the value is a scalar.
@@ -86,14 +93,34 @@ impl ElemText {
         }
     }
 
-    /// This text, refused exactly where `Elem::read` refuses it.
-    pub fn read(alloc: Global, text: &str) -> Result<ElemText, ElemFault>
+    /// This text of a field's element.
+    fn of_field_text(alloc: Global, text: &str) -> Result<ElemText, ElemFault>
+        requires { is_field_text text.now ≡ true }
+        ensures { GivesText text.now result (read_element text.now) }
+    {
+        Ok(ElemText {
+            text: String::from_str(alloc, text)?,
+        })
+    }
+
+    /// This text, once its element is read.
+    fn checked(alloc: Global, text: &str) -> Result<ElemText, ElemFault>
         ensures { GivesText text.now result (read_element text.now) }
     {
         drop(Elem::read(alloc, text)?);
         Ok(ElemText {
             text: String::from_str(alloc, text)?,
         })
+    }
+
+    /// This text, refused exactly where `Elem::read` refuses it. A field's takes one allocation.
+    pub fn read(alloc: Global, text: &str) -> Result<ElemText, ElemFault>
+        ensures { GivesText text.now result (read_element text.now) }
+    {
+        if is_field(text) {
+            return ElemText::of_field_text(alloc, text);
+        }
+        ElemText::checked(alloc, text)
     }
 
     /// The element that has this text.

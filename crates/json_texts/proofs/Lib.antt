@@ -1,0 +1,6 @@
+pub mod Parts
+pub mod Ordered
+mod Whole
+mod Places
+mod Copies
+mod Seen
