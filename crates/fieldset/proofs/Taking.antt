@@ -1,13 +1,13 @@
--- The reader's loop over the members of an object, as far as it has come.
-use Rattle.std.proofs.Common.{◌≡◌, ◌&&◌, ℕ, Bool, true, false, cond, not, List, [], ◌∷◌, length, Ok, Err, string_cmp, Less, String, Global, string_bytes, refl, sym, ap, ap₂, subst, ◌∙◌, arith, IsTrue}
+-- The readers' loop over the members of an object, as far as it has come.
+use Rattle.std.proofs.Common.{◌≡◌, ◌&&◌, ℕ, Bool, true, false, cond, not, List, Ok, Err, Option, Some, None, refl, sym, ap, ap₂, subst, ◌∙◌}
 use Rattle.std.specs.declared.result.Result.{Result}
-use Rattle.std.specs.List.{AllByRecursion}
-use Rattle.std.specs.List.Sorted.{IsStrictlySortedBy}
-use Rattle.std.specs.Map.{keys_of}
-use Rattle.std.proofs.lemmas.Map.Keys.{sorted_head, sorted_tail}
-use Rattle.serde_json.specs.Data.{Members, object}
-use Rattle.serde_json.specs.View.{members_view, view}
-use Rattle.serde_json.specs.declared.value.Value.{Value}
+use Rattle.std.specs.Str.{bytes_eq}
+use Rattle.serde_json.specs.Data.{Data, Members, no_members, member, object}
+use Rattle.fieldpath.specs.Elements.{Element, read_element}
+use Rattle.fieldpath.specs.Scalars.{ascend, ascend_from}
+use Rattle.fieldpath.specs.Spelled.{member_names}
+use Rattle.fieldpath.proofs.Names.{ascend_rest, first_below, further, rest_above}
+use Rattle.json_values.specs.Members.{has}
 use Rattle.pathmap.specs.Contents.{Content, nothing, over, under}
 use Rattle.pathmap.specs.Insides.{inside}
 use Rattle.pathmap.specs.Levels.{has_path}
@@ -15,14 +15,12 @@ use Rattle.pathmap.proofs.Contents.{nothing-over, over-nothing, over-over}
 use Rattle.pathmap.proofs.Heads.{inside-nothing}
 use Rattle.pathmap.proofs.Insides.{inside_after}
 use Rattle.pathmap.proofs.Levels.{nothing_path}
-use Rattle.schema.specs.Steps.{Spot}
+use Rattle.schema.specs.Steps.{Spot, step}
 use Rattle.fieldset.specs.declared.fault.FieldsV1Fault.{FieldsV1Fault}
 use Rattle.fieldset.specs.declared.fault.FieldsV1Fault.TheVariants as fault
-use Rattle.fieldset.specs.Reading.{Reading, Refusal, and_then, are_due, is_empty, is_marked, joined, not_canonical, read_at, read_member, read_members, top}
-use Rattle.fieldset.specs.Seen.{Fails, Gives}
-
-abbrev pub Entry : Type 0
-Entry = String Global × Value
+use Rattle.fieldset.specs.declared.member.Member.{Member}
+use Rattle.fieldset.specs.Reading.{Reading, Refusal, and_then, are_due, dot, element_in, is_empty, is_key_field, is_marked, joined, may_have_dot, not_canonical, off_schema, read_at, read_below, read_mark, read_member, read_members, some_or, top}
+use Rattle.fieldset.specs.Seen.{Fails, Gives, next_at, read_named, read_next}
 
 pub joined-nothing : (a : Reading) → joined (Ok nothing) a ≡ a
 joined-nothing (Ok c) = ap Ok (nothing-over c)
@@ -53,72 +51,98 @@ fails-and_then f r g = fails-by f r (and_then r g) (λ e is. ap (λ x. and_then 
 pub passed_on : {X Y : Type 0} (view : X → Y) (e f : FieldsV1Fault) (r : Result X FieldsV1Fault) (read : Result Y Refusal) → r ≡ Err e → e ≡ f → Fails f read → Gives view r read
 passed_on view e f r read is same h = subst (λ s. Gives view s read) (sym is) (subst (λ x. Fails x read) (sym same) h)
 
+pub is_none : (o : Option Member) → ((m : Member) → o ≡ Some m → ⊥) → o ≡ None
+is_none None h = refl
+is_none (Some m) h = absurd (h m refl)
+
+-- ---- a member by where its name leads
+
+pub named-is : (s : Spot) (beside : Members) (k : List ℕ) (d : Data) (inner : Spot → Reading) → read_named s beside k d inner ≡ read_member s beside k d inner
+named-is s beside k d inner = ap (λ r. cond (bytes_eq k dot) (read_mark (may_have_dot s beside) d) r) (by_element (element_in (read_element k)))
+  where
+    by_step : (b : Bool) (o : Option Spot)
+        → and_then (let r : Result (Option Spot) Refusal = cond b (Ok None) (and_then (some_or off_schema o) (λ next. Ok (Some next))) in r) (read_next (read_mark (has dot beside) d) k inner)
+        ≡ cond b (read_mark (has dot beside) d) (and_then (some_or off_schema o) (λ next. read_below k (inner next)))
+    by_step true o = refl
+    by_step false None = refl
+    by_step false (Some next) = refl
+
+    by_element : (r : Result Element Refusal) → and_then (and_then r (next_at s)) (read_next (read_mark (has dot beside) d) k inner)
+        ≡ and_then r (λ e. cond (is_key_field s e) (read_mark (has dot beside) d) (and_then (some_or off_schema (step s e)) (λ next. read_below k (inner next))))
+    by_element (Err e) = refl
+    by_element (Ok e) = by_step (is_key_field s e) (step s e)
+
 -- ---- the loop
 
 -- nothing stands at the names that are left
-abbrev pub AllFree : Content → List Entry → Type 0
-AllFree c it = AllByRecursion (λ e. inside (string_bytes e.0) c ≡ nothing) it
+abbrev pub AllFree : Content → Members → Type 0
+AllFree c no_members = Unit {0}
+AllFree c (member k d left) = (inside k c ≡ nothing) × AllFree c left
 
-free_nothing : (it : List Entry) → AllFree nothing it
-free_nothing [] = tt
-free_nothing (e ∷ it) = (inside-nothing (string_bytes e.0), free_nothing it)
+free_nothing : (left : Members) → AllFree nothing left
+free_nothing no_members = tt
+free_nothing (member k d left) = (inside-nothing k, free_nothing left)
 
-free_put : (k : String Global) (c m : Content) (left : List Entry) → AllByRecursion (λ y. string_cmp k y ≡ Less) (keys_of left) → AllFree c left → AllFree (over c (under (string_bytes k) m)) left
-free_put k c m [] above free = tt
-free_put k c m (e ∷ left) above free = (inside_after (string_bytes k) (string_bytes e.0) c m above.0 ∙ free.0, free_put k c m left above.1 free.1)
+free_put : (k : List ℕ) (c m : Content) (left : Members) → ascend_from k (member_names left) ≡ true → AllFree c left → AllFree (over c (under k m)) left
+free_put k c m no_members up free = tt
+free_put k c m (member l d left) up free =
+    let above = first_below k l (member_names left) up in
+    (inside_after k l c m above ∙ free.0, free_put k c m left (further k l (member_names left) above (rest_above k l (member_names left) up)) free.1)
 
 -- what is there, joined with what the members that are left say, is what all say
-abbrev pub IsSoFar : Spot → Members → Reading → Content → List Entry → Type 0
-IsSoFar spot beside whole c it = (joined (Ok c) (read_members spot beside (members_view it)) ≡ whole) × IsStrictlySortedBy string_cmp (keys_of it) × AllFree c it
+abbrev pub IsSoFar : Spot → Members → Reading → Content → Members → Type 0
+IsSoFar spot beside whole c left = (joined (Ok c) (read_members spot beside left) ≡ whole) × (ascend (member_names left) ≡ true) × AllFree c left
 
 module _ (spot : Spot) (beside : Members) where
-  pub begin : (c : Content) (it all : List Entry) → c ≡ nothing → it ≡ all → IsStrictlySortedBy string_cmp (keys_of all) → IsSoFar spot beside (read_members spot beside (members_view all)) c it
-  begin c it all none is sorted = (
-    ap₂ (λ d m. joined (Ok d) (read_members spot beside (members_view m))) none is ∙ joined-nothing (read_members spot beside (members_view all)),
-    subst (λ es. IsStrictlySortedBy string_cmp (keys_of es)) (sym is) sorted,
-    subst (λ d. AllFree d it) (sym none) (free_nothing it),
+  pub begin : (c : Content) (left all : Members) → c ≡ nothing → left ≡ all → ascend (member_names all) ≡ true → IsSoFar spot beside (read_members spot beside all) c left
+  begin c left all none is up = (
+    ap₂ (λ d m. joined (Ok d) (read_members spot beside m)) none is ∙ joined-nothing (read_members spot beside all),
+    subst (λ m. ascend (member_names m) ≡ true) (sym is) up,
+    subst (λ d. AllFree d left) (sym none) (free_nothing left),
   )
 
-  module _ (whole : Reading) (c : Content) (it : List Entry) where
-    pub finish : it ≡ [] → IsSoFar spot beside whole c it → whole ≡ Ok c
-    finish none so_far = sym so_far.0 ∙ ap (λ es. joined (Ok c) (read_members spot beside (members_view es))) none ∙ joined-none c
+  module _ (whole : Reading) (c : Content) (it : Members) where
+    pub finish : it ≡ no_members → IsSoFar spot beside whole c it → whole ≡ Ok c
+    finish none so_far = sym so_far.0 ∙ ap (λ m. joined (Ok c) (read_members spot beside m)) none ∙ joined-none c
 
-    module _ (e : Entry) (left : List Entry) (steps : it ≡ e ∷ left) (so_far : IsSoFar spot beside whole c it) where
-      sorted_it : IsStrictlySortedBy string_cmp (keys_of (e ∷ left))
-      sorted_it = subst (λ es. IsStrictlySortedBy string_cmp (keys_of es)) steps so_far.1
+    module _ (k : List ℕ) (d : Data) (left : Members) (steps : it ≡ member k d left) (so_far : IsSoFar spot beside whole c it) where
+      up : ascend_from k (member_names left) ≡ true
+      up = subst (λ m. ascend (member_names m) ≡ true) steps so_far.1
 
-      left_sorted : IsStrictlySortedBy string_cmp (keys_of left)
-      left_sorted = sorted_tail string_cmp e.0 (keys_of left) sorted_it
+      left_up : ascend (member_names left) ≡ true
+      left_up = ascend_rest k (member_names left) up
 
-      free : AllFree c (e ∷ left)
+      free : AllFree c (member k d left)
       free = subst (AllFree c) steps so_far.2
 
       abbrev pub one : Reading
-      one = read_member spot beside (string_bytes e.0) (view e.1) (λ next. read_at next (view e.1))
+      one = read_named spot beside k d (λ next. read_at next d)
 
-      there : joined (Ok c) (joined one (read_members spot beside (members_view left))) ≡ whole
-      there = sym (ap (λ es. joined (Ok c) (read_members spot beside (members_view es))) steps) ∙ so_far.0
+      there : joined (Ok c) (joined one (read_members spot beside left)) ≡ whole
+      there =
+          ap (λ r. joined (Ok c) (joined r (read_members spot beside left))) (named-is spot beside k d (λ next. read_at next d))
+          ∙ sym (ap (λ m. joined (Ok c) (read_members spot beside m)) steps) ∙ so_far.0
 
       pub nothing_added : one ≡ Ok nothing → IsSoFar spot beside whole c left
       nothing_added is = (
-        ap (joined (Ok c)) (sym (ap (λ r. joined r (read_members spot beside (members_view left))) is ∙ joined-nothing (read_members spot beside (members_view left)))) ∙ there,
-        left_sorted,
+        ap (joined (Ok c)) (sym (ap (λ r. joined r (read_members spot beside left)) is ∙ joined-nothing (read_members spot beside left))) ∙ there,
+        left_up,
         free.1,
       )
 
       -- a map put below the name of this member, where nothing stood
-      pub added : (k : List ℕ) (m d : Content) (b : Bool) → one ≡ Ok (under k m) → k ≡ string_bytes e.0 → b ≡ not (has_path (inside k c)) → d ≡ cond b (over c (under k m)) c → IsSoFar spot beside whole d left
-      added k m d b is named is_free put =
-          let there_now : d ≡ over c (under k m) = put ∙ ap (λ t. cond t (over c (under k m)) c) (is_free ∙ ap (λ g. not (has_path (inside g c))) named ∙ ap (λ x. not (has_path x)) free.0 ∙ ap not nothing_path) in (
-            ap (λ x. joined (Ok x) (read_members spot beside (members_view left))) there_now
-                ∙ joined-joined (Ok c) (Ok (under k m)) (read_members spot beside (members_view left))
-                ∙ ap (λ r. joined (Ok c) (joined r (read_members spot beside (members_view left)))) (sym is) ∙ there,
-            left_sorted,
-            subst (λ x. AllFree x left) (sym (there_now ∙ ap (λ g. over c (under g m)) named)) (free_put e.0 c m left (sorted_head string_cmp e.0 (keys_of left) sorted_it) free.1),
+      pub added : (n : List ℕ) (m new : Content) (b : Bool) → one ≡ Ok (under n m) → n ≡ k → b ≡ not (has_path (inside n c)) → new ≡ cond b (over c (under n m)) c → IsSoFar spot beside whole new left
+      added n m new b is named is_free put =
+          let there_now : new ≡ over c (under n m) = put ∙ ap (λ t. cond t (over c (under n m)) c) (is_free ∙ ap (λ g. not (has_path (inside g c))) named ∙ ap (λ x. not (has_path x)) free.0 ∙ ap not nothing_path) in (
+            ap (λ x. joined (Ok x) (read_members spot beside left)) there_now
+                ∙ joined-joined (Ok c) (Ok (under n m)) (read_members spot beside left)
+                ∙ ap (λ r. joined (Ok c) (joined r (read_members spot beside left))) (sym is) ∙ there,
+            left_up,
+            subst (λ x. AllFree x left) (sym (there_now ∙ ap (λ g. over c (under g m)) named)) (free_put k c m left up free.1),
           )
 
       pub failed : (f : FieldsV1Fault) → Fails f one → Fails f whole
-      failed f = fails-by f one whole (λ x is. sym there ∙ ap (λ r. joined (Ok c) (joined r (read_members spot beside (members_view left)))) is)
+      failed f = fails-by f one whole (λ x is. sym there ∙ ap (λ r. joined (Ok c) (joined r (read_members spot beside left))) is)
 
 -- ---- an object, with what stands at its own path over its members
 
@@ -127,9 +151,6 @@ at_object s ms c d is_due is topped =
     ap (λ b. cond b (let read : Reading = Err not_canonical in read) (joined (Ok (top (is_marked s ms))) (read_members s ms ms))) is_due
     ∙ ap (joined (Ok (top (is_marked s ms)))) is ∙ ap Ok (sym topped)
 
--- ---- empty objects
-
-pub object-is_empty : (b : Bool) (es : List Entry) → (IsTrue b → length es ≡ 0) → (length es ≡ 0 → IsTrue b) → b ≡ is_empty (members_view es)
-object-is_empty b [] only holds = holds refl
-object-is_empty true (e ∷ es) only holds = absurd (omega (arith, only refl))
-object-is_empty false (e ∷ es) only holds = refl
+pub at_failed : (s : Spot) (ms : Members) (f : FieldsV1Fault) → (are_due s && is_empty ms) ≡ false → Fails f (read_members s ms ms) → Fails f (read_at s (object ms))
+at_failed s ms f is_due = fails-by f (read_members s ms ms) (read_at s (object ms)) (λ e is.
+    ap (λ b. cond b (let read : Reading = Err not_canonical in read) (joined (Ok (top (is_marked s ms))) (read_members s ms ms))) is_due ∙ ap (joined (Ok (top (is_marked s ms)))) is)

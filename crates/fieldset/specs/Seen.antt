@@ -1,13 +1,17 @@
 -- What the calls of the reader answer, beside the definition.
-use Rattle.std.specs.Prelude.{◌≡◌, ℕ, List, Option, Some, None, String, string_bytes}
+use Rattle.std.specs.Prelude.{◌≡◌, ℕ, List, Option, Some, None, String, string_bytes, if◌then◌else◌}
 use Rattle.std.specs.declared.alloc.Global.{Global}
 use Rattle.std.specs.declared.result.Result.{Result}
 use Rattle.std.specs.declared.result.Result.TheVariants.{Ok, Err}
-use Rattle.fieldpath.specs.Elements.{IsElementText, read_element}
-use Rattle.fieldset.specs.Reading.{Refusal, element_in, not_an_object, bad_key, not_canonical, off_schema}
+use Rattle.std.specs.Str.{bytes_eq}
+use Rattle.serde_json.specs.Data.{Data, Members}
+use Rattle.fieldpath.specs.Elements.{Element, IsElementText, read_element}
+use Rattle.json_values.specs.Members.{has}
+use Rattle.schema.specs.Steps.{Spot, step}
+use Rattle.fieldset.specs.Reading.{Reading, Refusal, and_then, dot, element_in, is_key_field, may_have_dot, read_below, read_mark, some_or, not_an_object, bad_key, not_canonical, off_schema}
 use Rattle.fieldset.specs.declared.fault.FieldsV1Fault.{FieldsV1Fault}
 use Rattle.fieldset.specs.declared.fault.FieldsV1Fault.TheVariants as fault
-use Rattle.fieldset.specs.declared.read.Member.{Member}
+use Rattle.fieldset.specs.declared.member.Member.{Member}
 use Rattle.pathmap.specs.Contents.{Content, nothing, under}
 use Rattle.pathmap.specs.Maps.{content}
 
@@ -41,3 +45,21 @@ Reads name (Err fault.BadKey) = element_in (read_element name) ≡ Err bad_key
 Reads name (Err fault.NotCanonical) = ⊥
 Reads name (Err fault.OffSchema) = ⊥
 Reads name (Err fault.Memory) = Unit {0}
+
+-- ---- a member, by where its name leads
+
+-- where an element leads; none where it is that of a key field of the item that stands here
+abbrev pub next_at : Spot → Element → Result (Option Spot) Refusal
+next_at s e = if is_key_field s e then Ok None else and_then (some_or off_schema (step s e)) (λ next. Ok (Some next))
+
+abbrev pub next_of : Spot → List ℕ → Result (Option Spot) Refusal
+next_of s k = and_then (element_in (read_element k)) (next_at s)
+
+-- what a member says, by where its name leads
+abbrev pub read_next : Reading → List ℕ → (Spot → Reading) → Option Spot → Reading
+read_next mark k inner None = mark
+read_next mark k inner (Some next) = read_below k (inner next)
+
+-- `read_member`, step by step
+abbrev pub read_named : Spot → Members → List ℕ → Data → (Spot → Reading) → Reading
+read_named s beside k d inner = if bytes_eq k dot then read_mark (may_have_dot s beside) d else and_then (next_of s k) (read_next (read_mark (has dot beside) d) k inner)

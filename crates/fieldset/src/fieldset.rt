@@ -1,11 +1,13 @@
 //! Finite sets of paths, and what each call makes of them. FieldsV1 is printed in `fields_v1` and `write`, and read in
-//! `read`.
+//! `read` and `borrowed`.
 
-ghost use Rattle.std.specs.Prelude.{◌≡◌, ◌++◌, IfOk, OnOk, OnErr, IsTrue, ◌↔◌};
+ghost use Rattle.std.specs.Prelude.{◌≡◌, ◌++◌, true, IfOk, OnOk, OnErr, IsTrue, ◌↔◌};
 ghost use Rattle.std.specs.FinSet as set;
 ghost use Rattle.pathmap.specs.Contents.{dom, in_order};
 ghost use Rattle.pathmap.specs.Beside.{clear_of, has_at_or_below};
 ghost use Rattle.pathmap.specs.Maps.{content};
+ghost use Rattle.json.specs.Value.{value_view};
+ghost use Rattle.json_texts.specs.InOrder.{data_of, is_ordered};
 ghost use Rattle.serde_json.specs.View.{view};
 ghost use Rattle.serde_json.specs.Written.{compact_text};
 ghost use Rattle.schema.specs.Shape.{shape};
@@ -13,6 +15,7 @@ ghost use Rattle.fieldset.specs.FieldsV1.{fields_v1_of};
 ghost use Rattle.fieldset.specs.Reading.{read_fields_v1};
 ghost use Rattle.fieldset.specs.Seen.{Gives};
 
+use crate::borrowed;
 use crate::fault::FieldsV1Fault;
 use crate::fields_v1::members;
 use crate::read::read_paths;
@@ -173,6 +176,20 @@ impl FieldSet {
     {
         Ok(FieldSet {
             map: read_paths(alloc, schema, value)?,
+        })
+    }
+
+    /// The same of a value that borrows its text, each object's names in order: `from_fields_v1` without a copy.
+    pub fn from_borrowed(
+        alloc: Global,
+        schema: &Schema,
+        value: &json::Value<'_>,
+    ) -> Result<FieldSet, FieldsV1Fault>
+        requires { is_ordered (value_view value.now) ≡ true }
+        ensures { Gives (λ s. s) result (read_fields_v1 (shape schema.now) (data_of (value_view value.now))) }
+    {
+        Ok(FieldSet {
+            map: borrowed::read_paths(alloc, schema, value)?,
         })
     }
 

@@ -5,10 +5,12 @@
 //! Stands on `pathmap` for the trie that holds a set, and on `fieldpath` for paths and their order.
 #![tactic(auto)]
 
+mod borrowed;
 mod both_ways;
 mod fault;
 mod fields_v1;
 mod fieldset;
+mod member;
 mod pushing;
 mod read;
 mod write;

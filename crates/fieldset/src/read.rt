@@ -1,31 +1,24 @@
-//! Reads FieldsV1 values as sets of paths; they are printed in `fields_v1` as values, and in `write` as texts.
-ghost use Rattle.std.specs.Prelude.{◌≡◌, IfOk, string_bytes};
+//! Reads FieldsV1 values as sets of paths; those that borrow their text are read in `borrowed`. They are printed in
+//! `fields_v1` as values, and in `write` as texts.
+ghost use Rattle.std.specs.Prelude.{◌≡◌, IfOk};
 ghost use Rattle.serde_json.specs.View.{members_view, view};
-ghost use Rattle.fieldpath.specs.Elements.{read_element};
-ghost use Rattle.fieldpath.specs.Elems.{element};
 ghost use Rattle.pathmap.specs.Contents.{dom, nothing};
 ghost use Rattle.pathmap.specs.Maps.{content};
 ghost use Rattle.json_values.specs.Members.{has};
 ghost use Rattle.schema.specs.KeyNames.{names_in};
 ghost use Rattle.schema.specs.Shape.{shape};
 ghost use Rattle.schema.specs.Spots.{spot};
-ghost use Rattle.fieldset.specs.Reading.{are_due, element_in, has_keys, is_empty, is_key_field, is_marked, may_have_dot, object_in, read_at, read_fields_v1, read_mark, read_member, read_members};
-ghost use Rattle.fieldset.specs.Seen.{Gives, IsNamed, Reads, member_view};
+ghost use Rattle.fieldset.specs.Reading.{has_keys, is_empty, is_marked, may_have_dot, object_in, read_at, read_fields_v1, read_mark, read_members};
+ghost use Rattle.fieldset.specs.Seen.{Gives, IsNamed, member_view, read_named};
 
 use crate::fault::FieldsV1Fault;
-use fieldpath::{Elem, ElemFault, ElemText};
+use crate::member::{Member, are_due, element_of};
+use fieldpath::ElemText;
 use json_values::has;
 use pathmap::PathMap;
-use schema::{Schema, Spot, is_key};
+use schema::{Schema, Spot};
 use serde_json::{Map, Value};
 use std::alloc::{AllocError, Global};
-
-/// What stands under an element.
-#[derive(Drop)]
-struct Member {
-    element: ElemText,
-    map: PathMap,
-}
 
 fn object_of(value: &Value) -> Result<&Map<String, Value>, FieldsV1Fault>
     ensures { Gives (λ m. members_view m.now.entries) result (object_in (view value.now)) }
@@ -40,19 +33,6 @@ fn is_empty(members: &Map<String, Value>) -> bool
     ensures { result ≡ is_empty (members_view members.now.entries) }
 {
     members.is_empty()
-}
-
-/// Whether the element is that of a key field of the item that stands here.
-fn is_key_field(here: Spot<'_>, elem: &Elem) -> bool
-    ensures { result ≡ is_key_field (spot here.entry) (element elem.now) }
-{
-    match here {
-        Spot::MapItem(_, names) => match elem {
-            Elem::Field(name) => is_key(names, name.as_str()),
-            Elem::Key(_) | Elem::Value(_) => false,
-        },
-        Spot::Value(_) | Spot::SetItem => false,
-    }
 }
 
 fn has_keys(
@@ -84,17 +64,6 @@ fn may_have_dot(
     }
 }
 
-/// Whether an object that stands here has members.
-fn are_due(here: Spot<'_>) -> bool
-    ensures { result ≡ are_due (spot here.entry) }
-{
-    match here {
-        Spot::Value(schema) => !schema.is_leaf(),
-        Spot::SetItem => false,
-        Spot::MapItem(_, _) => true,
-    }
-}
-
 /// Whether the path that leads here is in the set.
 fn is_marked(here: Spot<'_>, members: &Map<String, Value>) -> bool
     ensures { result ≡ is_marked (spot here.entry) (members_view members.now.entries) }
@@ -106,7 +75,7 @@ fn is_marked(here: Spot<'_>, members: &Map<String, Value>) -> bool
     }
 }
 
-/// The value of `.` or of a key field.
+/// Checks that `.` or a key field may stand here, and that its value is `{}`.
 fn read_mark(is_due: bool, value: &Value) -> Result<(), FieldsV1Fault>
     ensures { Gives (λ _. nothing) result (read_mark is_due (view value.now)) }
 {
@@ -118,26 +87,6 @@ fn read_mark(is_due: bool, value: &Value) -> Result<(), FieldsV1Fault>
     }
 }
 
-fn text_of(alloc: Global, name: &str) -> Result<ElemText, FieldsV1Fault>
-    ensures { Reads name.now result }
-{
-    match ElemText::read(alloc, name) {
-        Ok(text) => Ok(text),
-        Err(ElemFault::Memory) => Err(FieldsV1Fault::Memory),
-        Err(_) => Err(FieldsV1Fault::BadKey),
-    }
-}
-
-/// The element whose text a name is, and this text.
-fn element_of(alloc: Global, name: &str) -> Result<(ElemText, Elem), FieldsV1Fault>
-    ensures read { Gives (λ p. element p.1) result (element_in (read_element name.now)) }
-    ensures named { IfOk result (λ p. string_bytes p.0 ≡ name.now) }
-{
-    let text = text_of(alloc, name)?;
-    let elem = text.elem(alloc)?;
-    Ok((text, elem))
-}
-
 /// A member, beside all members of its object.
 #[cycle(read)]
 fn read_member(
@@ -147,20 +96,17 @@ fn read_member(
     beside: &Map<String, Value>,
     name: &str,
 ) -> Result<Option<Member>, FieldsV1Fault>
-    ensures read { Gives member_view result (read_member (spot here.entry) (members_view beside.now.entries) name.now (view value.now) (λ next. read_at next (view value.now))) }
+    ensures read { Gives member_view result (read_named (spot here.entry) (members_view beside.now.entries) name.now (view value.now) (λ next. read_at next (view value.now))) }
     ensures named { IfOk result (λ m. IsNamed m name.now) }
 {
     if name == "." {
         read_mark(may_have_dot(here, alloc, beside)?, value)?;
         return Ok(None);
     }
-    let (element, elem) = element_of(alloc, name)?;
-    if is_key_field(here, &elem) {
+    let (element, next) = element_of(here, alloc, name)?;
+    let Some(next) = next else {
         read_mark(has(beside, "."), value)?;
         return Ok(None);
-    }
-    let Some(next) = here.step(&elem) else {
-        return Err(FieldsV1Fault::OffSchema);
     };
     let map = read_at(value, alloc, next)?;
     Ok(Some(Member { element, map }))

@@ -3,6 +3,7 @@
 ghost use Rattle.std.specs.Prelude.{◌≡◌, false, IfSome, None, Some, map, option_map, string_bytes};
 ghost use Rattle.std.specs.List.{list_all, list_any};
 ghost use Rattle.std.specs.Str.{bytes_eq};
+ghost use Rattle.fieldpath.specs.Elements.{field};
 ghost use Rattle.fieldpath.specs.Elems.{element};
 ghost use Rattle.fieldpath.specs.Scalars.{key_fields, scalar};
 ghost use Rattle.schema.specs.KeyFields.{fits_key};
@@ -97,6 +98,19 @@ fn field_spot<'a>(fields: &'a [(String, Schema)], name: &str) -> Option<Spot<'a>
 }
 
 /// A field of an item of a map list; the key fields stand in the item's element alone.
+fn field_beside<'a>(
+    fields: &'a [(String, Schema)],
+    names: &'a [String],
+    name: &str,
+) -> Option<Spot<'a>>
+    ensures { option_map spot result ≡ step_beside (names_in names.now) (fields_in fields.now) (field name.now) }
+{
+    if is_key(names, name) {
+        return None;
+    }
+    field_spot(fields, name)
+}
+
 fn step_beside<'a>(
     fields: &'a [(String, Schema)],
     names: &'a [String],
@@ -105,12 +119,7 @@ fn step_beside<'a>(
     ensures { option_map spot result ≡ step_beside (names_in names.now) (fields_in fields.now) (element elem.now) }
 {
     match elem {
-        Elem::Field(name) => {
-            if is_key(names, name.as_str()) {
-                return None;
-            }
-            field_spot(fields, name.as_str())
-        }
+        Elem::Field(name) => field_beside(fields, names, name.as_str()),
         Elem::Key(_) | Elem::Value(_) => None,
     }
 }
@@ -124,6 +133,17 @@ impl<'a> Spot<'a> {
             Spot::Value(schema) => schema.step(elem),
             Spot::SetItem => None,
             Spot::MapItem(fields, names) => step_beside(fields, names, elem),
+        }
+    }
+
+    /// Where the field of this name leads: `step` without its element.
+    pub fn step_field(self, name: &str) -> Option<Spot<'a>>
+        ensures { option_map spot result ≡ step (spot self.entry) (field name.now) }
+    {
+        match self {
+            Spot::Value(schema) => schema.step_field(name),
+            Spot::SetItem => None,
+            Spot::MapItem(fields, names) => field_beside(fields, names, name),
         }
     }
 

@@ -7,6 +7,8 @@ pub mod Prints
 pub mod Joins
 pub mod Floats
 pub mod Listed
+pub mod Ascending
+pub mod Shallow
 pub mod Members
 pub mod LeftOut
 pub mod Atomic

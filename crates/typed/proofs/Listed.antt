@@ -1,8 +1,10 @@
 -- Items of sets and map lists, one after another.
 use Rattle.std.specs.List.{list_any}
 use Rattle.std.specs.Str.{bytes_eq}
-use Rattle.std.proofs.Common.{◌≡◌, ℕ, ◌+◌, ◌<◌, Bool, true, false, cond, List, [], ◌∷◌, length, drop, get_or, drop-cons, add-one, Some, Ok, Err, sym, ap, subst, ◌∙◌}
-use Rattle.serde_json.specs.Data.{Data, Members, object}
+use Rattle.std.proofs.Common.{◌≡◌, ℕ, ◌+◌, ◌<◌, Bool, true, false, cond, List, [], ◌∷◌, length, drop, get_or, add-one, Some, None, Ok, Err, sym, ap, subst, ◌∙◌}
+use Rattle.std.proofs.lemmas.List.{drop_more}
+use Rattle.serde_json.specs.Data.{Data, Items, no_items, item, Members, object}
+use Rattle.serde_json.specs.Find.{as_object}
 use Rattle.serde_json.specs.View.{view, items_view}
 use Rattle.serde_json.specs.declared.value.Value.{Value}
 use Rattle.fieldpath.specs.Elements.{list_item_text}
@@ -11,10 +13,11 @@ use Rattle.pathmap.specs.Insides.{inside}
 use Rattle.pathmap.specs.Levels.{has_path}
 use Rattle.pathmap.proofs.Heads.{inside-nothing}
 use Rattle.pathmap.proofs.Levels.{nothing_path}
-use Rattle.typed.specs.declared.fault.Cause.TheVariants.{DuplicateItem, KeyFieldMissing}
+use Rattle.typed.specs.declared.fault.Cause.TheVariants.{DuplicateItem, KeyFieldMissing, NotAnObject, WrongType}
 use Rattle.typed.specs.declared.fault.ReadFault.{ReadFault}
-use Rattle.typed.specs.Faults.{Read, Tells, fault_in, below, and_then, shown_place}
-use Rattle.typed.specs.Reading.{joined, marked, one_item, items_at, have_keys, keys_in, keyed_item, named_item, object_item}
+use Rattle.typed.specs.Faults.{Read, Tells, fault_in, below, and_then, shown_place, some_or}
+use Rattle.typed.specs.Keyed.{keyed_members}
+use Rattle.typed.specs.Reading.{is_null, joined, marked, one_item, items_at, have_keys, keys_in, keyed_item, named_item, object_item}
 use Rattle.typed.proofs.Floats.{ok_is, err_not_ok}
 use Rattle.typed.specs.Steps.{AreSeen}
 use Rattle.typed.proofs.Joins.{joined-nothing, joined-none, joined-joined, tells-after}
@@ -25,31 +28,31 @@ repeated seen i e read rest is again = rw (is) (ap (λ b. fault_in (cond b (Err 
 
 -- ---- a loop over items, as far as it has come
 
-abbrev pub AreItemsSoFar : (Data → Read (List ℕ × Content)) → Read Content → Content → ℕ → List Value → Type 0
-AreItemsSoFar inner whole c i left = (seen : List (List ℕ)) × (joined (Ok c) (items_at inner i seen (items_view left)) ≡ whole) × AreSeen seen c
+abbrev pub AreItemsTo : (Data → Read (List ℕ × Content)) → Read Content → Content → ℕ → Items → Type 0
+AreItemsTo inner whole c i left = (seen : List (List ℕ)) × (joined (Ok c) (items_at inner i seen left) ≡ whole) × AreSeen seen c
 
-pub items_begin : (inner : Data → Read (List ℕ × Content)) (c : Content) (all : List Value) → c ≡ nothing → AreItemsSoFar inner (items_at inner 0 [] (items_view all)) c 0 all
-items_begin inner c all none = (
+pub list_begin : (inner : Data → Read (List ℕ × Content)) (c : Content) (all : Items) → c ≡ nothing → AreItemsTo inner (items_at inner 0 [] all) c 0 all
+list_begin inner c all none = (
   [],
-  ap (λ x. joined (Ok x) (items_at inner 0 [] (items_view all))) none ∙ joined-nothing (items_at inner 0 [] (items_view all)),
+  ap (λ x. joined (Ok x) (items_at inner 0 [] all)) none ∙ joined-nothing (items_at inner 0 [] all),
   λ g. ap has_path (ap (inside g) none ∙ inside-nothing g) ∙ nothing_path,
 )
 
-pub items_end : (inner : Data → Read (List ℕ × Content)) (whole : Read Content) (c : Content) (i : ℕ) (left : List Value) → left ≡ [] → AreItemsSoFar inner whole c i left → whole ≡ Ok c
-items_end inner whole c i left none so_far = sym so_far.1 ∙ ap (λ l. joined (Ok c) (items_at inner i so_far.0 (items_view l))) none ∙ joined-none c
+pub list_end : (inner : Data → Read (List ℕ × Content)) (whole : Read Content) (c : Content) (i : ℕ) (left : Items) → left ≡ no_items → AreItemsTo inner whole c i left → whole ≡ Ok c
+list_end inner whole c i left none so_far = sym so_far.1 ∙ ap (λ l. joined (Ok c) (items_at inner i so_far.0 l)) none ∙ joined-none c
 
-module _ (inner : Data → Read (List ℕ × Content)) (whole : Read Content) (c : Content) (all : List Value) (i : ℕ) (v : Value) (lt : i < length all) (is : v ≡ get_or all i v) (so_far : AreItemsSoFar inner whole c i (drop i all)) where
-  there : joined (Ok c) (one_item so_far.0 (below (shown_place i) (λ e. e) (inner (view v))) (λ more. items_at inner (i + 1) more (items_view (drop (i + 1) all)))) ≡ whole
-  there =
-      ap (λ w. joined (Ok c) (one_item so_far.0 (below (shown_place i) (λ e. e) (inner (view w))) (λ more. items_at inner (i + 1) more (items_view (drop (i + 1) all))))) is
-      ∙ rw add-one (sym (ap (λ l. joined (Ok c) (items_at inner i so_far.0 (items_view l))) (drop-cons all i v lt)) ∙ so_far.1)
+module _ (inner : Data → Read (List ℕ × Content)) (whole : Read Content) (c : Content) (i : ℕ) (left : Items) (d : Data) (more : Items) (steps : left ≡ item d more) (so_far : AreItemsTo inner whole c i left) where
+  abbrev rest : List (List ℕ) → Read Content
+  rest seen = items_at inner (i + 1) seen more
 
-  pub item_added : (new : Content)
-      → (e : List ℕ × Content) × (inner (view v) ≡ Ok e) × (list_any (bytes_eq e.0) so_far.0 ≡ false) × (new ≡ over c (marked e.0 e.1)) × AreSeen (e.0 ∷ so_far.0) new
-      → AreItemsSoFar inner whole new (i + 1) (drop (i + 1) all)
-  item_added new added =
-      let e = added.0 in
-      let rest = λ (more : List (List ℕ)). items_at inner (i + 1) more (items_view (drop (i + 1) all)) in (
+  there : joined (Ok c) (one_item so_far.0 (below (shown_place i) (λ e. e) (inner d)) (λ seen. items_at inner (i + 1) seen more)) ≡ whole
+  there = rw add-one (sym (ap (λ l. joined (Ok c) (items_at inner i so_far.0 l)) steps) ∙ so_far.1)
+
+  pub next_added : (new : Content)
+      → (e : List ℕ × Content) × (inner d ≡ Ok e) × (list_any (bytes_eq e.0) so_far.0 ≡ false) × (new ≡ over c (marked e.0 e.1)) × AreSeen (e.0 ∷ so_far.0) new
+      → AreItemsTo inner whole new (i + 1) more
+  next_added new added =
+      let e = added.0 in (
         e.0 ∷ so_far.0,
         ap (λ x. joined (Ok x) (rest (e.0 ∷ so_far.0))) added.3
             ∙ joined-joined (Ok c) (Ok (marked e.0 e.1)) (rest (e.0 ∷ so_far.0))
@@ -59,8 +62,43 @@ module _ (inner : Data → Read (List ℕ × Content)) (whole : Read Content) (c
         added.4,
       )
 
+  pub next_failed : (f : ReadFault) → ((rest : List (List ℕ) → Read Content) → Tells f (fault_in (one_item so_far.0 (below (shown_place i) (λ e. e) (inner d)) rest))) → Tells f (fault_in whole)
+  next_failed f h = subst (λ r. Tells f (fault_in r)) there (tells-after f c _ (h rest))
+
+-- the same loop over a slice of values
+
+abbrev pub AreItemsSoFar : (Data → Read (List ℕ × Content)) → Read Content → Content → ℕ → List Value → Type 0
+AreItemsSoFar inner whole c i left = AreItemsTo inner whole c i (items_view left)
+
+pub items_begin : (inner : Data → Read (List ℕ × Content)) (c : Content) (all : List Value) → c ≡ nothing → AreItemsSoFar inner (items_at inner 0 [] (items_view all)) c 0 all
+items_begin inner c all none = list_begin inner c (items_view all) none
+
+pub items_end : (inner : Data → Read (List ℕ × Content)) (whole : Read Content) (c : Content) (i : ℕ) (left : List Value) → left ≡ [] → AreItemsSoFar inner whole c i left → whole ≡ Ok c
+items_end inner whole c i left none so_far = list_end inner whole c i (items_view left) (ap items_view none) so_far
+
+module _ (inner : Data → Read (List ℕ × Content)) (whole : Read Content) (c : Content) (all : List Value) (i : ℕ) (v : Value) (lt : i < length all) (is : v ≡ get_or all i v) (so_far : AreItemsSoFar inner whole c i (drop i all)) where
+  steps_on : items_view (drop i all) ≡ item (view v) (items_view (drop (i + 1) all))
+  steps_on = ap items_view (drop_more all i v lt ∙ ap (λ w. w ∷ drop (i + 1) all) (sym is))
+
+  pub item_added : (new : Content)
+      → (e : List ℕ × Content) × (inner (view v) ≡ Ok e) × (list_any (bytes_eq e.0) so_far.0 ≡ false) × (new ≡ over c (marked e.0 e.1)) × AreSeen (e.0 ∷ so_far.0) new
+      → AreItemsSoFar inner whole new (i + 1) (drop (i + 1) all)
+  item_added = next_added inner whole c i (items_view (drop i all)) (view v) (items_view (drop (i + 1) all)) steps_on so_far
+
   pub item_failed : (f : ReadFault) → ((rest : List (List ℕ) → Read Content) → Tells f (fault_in (one_item so_far.0 (below (shown_place i) (λ e. e) (inner (view v))) rest))) → Tells f (fault_in whole)
-  item_failed f h = subst (λ r. Tells f (fault_in r)) there (tells-after f c _ (h (λ more. items_at inner (i + 1) more (items_view (drop (i + 1) all)))))
+  item_failed = next_failed inner whole c i (items_view (drop i all)) (view v) (items_view (drop (i + 1) all)) steps_on so_far
+
+-- ---- an item of a map list, once it is an object
+
+module _ (names : List (List ℕ)) (inner : Members → Read Content) where
+  pub object_keyed : (d : Data) (ms : Members) → Some ms ≡ as_object d → keyed_members names inner ms ≡ keyed_item names inner d
+  object_keyed d ms h = ap (λ o. and_then {Y = List ℕ × Content} (some_or (cond (is_null d) WrongType NotAnObject) o) (keyed_members names inner)) h
+
+  pub other_keyed : (d : Data) → None ≡ as_object d → fault_in (keyed_item names inner d) ≡ Some (cond (is_null d) WrongType NotAnObject, [])
+  other_keyed d h = ap (λ o. fault_in (and_then {Y = List ℕ × Content} (some_or (cond (is_null d) WrongType NotAnObject) o) (keyed_members names inner))) (sym h)
+
+  pub with_keys : (ms : Members) → have_keys names ms ≡ true → keyed_members names inner ms ≡ and_then (inner ms) (named_item (list_item_text (object (keys_in names ms))))
+  with_keys ms h = ap (λ b. cond b (and_then (inner ms) (named_item (list_item_text (object (keys_in names ms))))) (Err (KeyFieldMissing, []))) h
 
 -- ---- an item of a map list, once its key fields are there
 

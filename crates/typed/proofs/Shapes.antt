@@ -1,6 +1,6 @@
 -- A schema, level by level.
-use Rattle.std.proofs.Common.{◌≡◌, ℕ, Bool, false, List, [], String, Vec, Box, Global, Ok, rules, refl}
-use Rattle.serde_json.specs.Data.{Data, Members, object, array}
+use Rattle.std.proofs.Common.{◌≡◌, ℕ, Bool, false, List, [], String, Vec, Box, Global, Ok, rules, refl, sym, ap, ◌∙◌}
+use Rattle.serde_json.specs.Data.{Data, Items, Members, object, array}
 use Rattle.serde_json.specs.Find.{as_object, as_array}
 use Rattle.serde_json.specs.View.{items_view}
 use Rattle.serde_json.specs.declared.value.Value.{Value}
@@ -44,7 +44,14 @@ pub content_struct : (s : Schema) (v : Vec (String Global × Schema) Global) (b 
     → content_of (shape s) d ≡ members_at (λ k e. content_of_field (fields_in fs) k e) ms
 content_struct s v b fs d ms is granular items found = rw (is, shape-Struct v b, granular, items, found) refl
 
+pub content_keyed : (s : Schema) (inner : Box Schema Global) (kind : ListKind) (names : Vec (String Global) Global) (t : Schema) (ks : List (String Global)) (d : Data) (ds : Items)
+    → s ≡ schemas.List inner kind → kind ≡ kinds.Keyed names → t ≡ inner.value → ks ≡ names.items → some_or WrongType (as_array d) ≡ Ok ds
+    → content_of (shape s) d ≡ items_at (keyed_item (names_in ks) (λ ms. content_of_item (shape t) (names_in ks) ms)) 0 [] ds
+content_keyed s inner kind names t ks d ds is keyed same keys found = rw (is, shape-List inner kind, keyed, same, keys, found) refl
+
 pub content_list : (s : Schema) (inner : Box Schema Global) (kind : ListKind) (names : Vec (String Global) Global) (t : Schema) (ks : List (String Global)) (vs : List Value) (d : Data) (all : List Value)
     → s ≡ schemas.List inner kind → kind ≡ kinds.Keyed names → t ≡ inner.value → ks ≡ names.items → vs ≡ all → some_or WrongType (as_array d) ≡ Ok (items_view all)
     → content_of (shape s) d ≡ items_at (keyed_item (names_in ks) (λ ms. content_of_item (shape t) (names_in ks) ms)) 0 [] (items_view vs)
-content_list s inner kind names t ks vs d all is keyed same keys items found = rw (is, shape-List inner kind, keyed, same, keys, items, found) refl
+content_list s inner kind names t ks vs d all is keyed same keys items found =
+    content_keyed s inner kind names t ks d (items_view all) is keyed same keys found
+    ∙ ap (λ l. items_at (keyed_item (names_in ks) (λ ms. content_of_item (shape t) (names_in ks) ms)) 0 [] (items_view l)) (sym items)

@@ -2,6 +2,7 @@ pub mod Faults
 pub mod Reading
 pub mod Printing
 pub mod Steps
+pub mod Keyed
 pub mod Placed
 pub mod Fitting
 pub mod Rows

@@ -1,4 +1,5 @@
-//! The items of sets and of map lists: which element each is. Their values are read in `read`.
+//! What readers of contents share: objects and their members, and the items of sets and of map lists by their elements.
+//! Values are read in `read` and `borrowed`.
 
 ghost use Rattle.std.specs.Prelude.{◌≡◌, ℕ, List, [], Err, Ok, IfOk, OnOk, if◌then◌else◌, option_map, string_bytes};
 ghost use Rattle.fieldpath.specs.Elements.{list_item_text, name_text, set_item_text};
@@ -140,6 +141,20 @@ fn key_members(
     Ok(keys)
 }
 
+/// An item of a map list, by the object of its key fields and what stands below it.
+pub(crate) fn item_of_keys(
+    alloc: Global,
+    keys: Map<String, Value>,
+    below: PathMap,
+) -> Result<Item, ReadFault>
+    ensures { Gives item_view result (named_item (list_item_text (object (members_view keys.entries))) (content below)) }
+{
+    match ElemText::of_list_item(alloc, &Value::Object(keys))? {
+        Some(element) => Ok(Item { element, below }),
+        None => Err(wrong(alloc, Cause::WrongType)),
+    }
+}
+
 /// An item of a map list, by its key fields and what stands below it.
 pub(crate) fn list_item(
     names: &[String],
@@ -150,11 +165,7 @@ pub(crate) fn list_item(
     ensures { Gives item_view result
         (named_item (list_item_text (object (keys_in (names_in names.now) (members_view members.now.entries)))) (content below)) }
 {
-    let keys = Value::Object(key_members(names, alloc, members)?);
-    match ElemText::of_list_item(alloc, &keys)? {
-        Some(element) => Ok(Item { element, below }),
-        None => Err(wrong(alloc, Cause::WrongType)),
-    }
+    item_of_keys(alloc, key_members(names, alloc, members)?, below)
 }
 
 /// Adds what was read of an item; an earlier one with its element is a fault of the list.

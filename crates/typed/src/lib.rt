@@ -5,6 +5,8 @@
 //! Stands on `pathmap` for maps of paths and on `schema` for shapes.
 #![tactic(auto)]
 
+mod borrowed;
+mod borrowed_items;
 mod changes;
 mod fault;
 mod items;

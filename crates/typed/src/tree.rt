@@ -5,6 +5,8 @@ ghost use Rattle.fieldpath.specs.Elements.{name_text};
 ghost use Rattle.pathmap.specs.Insides.{inside};
 ghost use Rattle.serde_json.specs.Data.{no_members};
 ghost use Rattle.serde_json.specs.View.{view};
+ghost use Rattle.json.specs.Value.{value_view};
+ghost use Rattle.json_texts.specs.InOrder.{data_of, is_ordered};
 ghost use Rattle.schema.specs.Lawful.{is_well_formed};
 ghost use Rattle.schema.specs.Shape.{fields_in, shape, shape_at, struct_of};
 ghost use Rattle.typed.specs.Fitting.{IsContent};
@@ -16,6 +18,7 @@ ghost use Rattle.typed.specs.Faults.{Gives};
 ghost use Rattle.typed.specs.Reading.{content_of};
 ghost use Rattle.typed.specs.Without.{omitted_of, without};
 
+use crate::borrowed::read_borrowed;
 use crate::fault::ReadFault;
 use crate::omitted::Omitted;
 use crate::print::{print_field, print_map};
@@ -56,6 +59,20 @@ impl Tree {
     {
         Ok(Tree {
             map: read_map(schema, alloc, value)?,
+        })
+    }
+
+    /// The content of a value that borrows its text, as `read` gives it of the same value with texts of its own.
+    pub fn read_borrowed(
+        schema: &Schema,
+        alloc: Global,
+        value: &json::Value<'_>,
+    ) -> Result<Tree, ReadFault>
+        requires { is_ordered (value_view value.now) ≡ true }
+        ensures { Gives (λ t. t) result (content_of (shape schema.now) (data_of (value_view value.now))) }
+    {
+        Ok(Tree {
+            map: read_borrowed(schema, alloc, value)?,
         })
     }
 

@@ -1,4 +1,4 @@
-use Rattle.std.proofs.Common.{refl, false, ◌&&◌, ◌≡◌, Option, Some, None, Ok, string_bytes, sym, subst, ap, ap₂, ◌∙◌}
+use Rattle.std.proofs.Common.{false, ◌&&◌, ◌≡◌, Ok, string_bytes, sym, subst, ap, ap₂, ◌∙◌}
 use Rattle.std.proofs.lemmas.Result.{err_from_is_err_and}
 use Rattle.serde_json.specs.View.{members_view, view}
 use Rattle.serde_json.proofs.Views.{view-Object}
@@ -6,57 +6,53 @@ use Rattle.pathmap.specs.Contents.{over}
 use Rattle.pathmap.specs.Maps.{content}
 use Rattle.pathmap.proofs.Contents.{nothing-over}
 use Rattle.schema.specs.Spots.{spot}
-use Rattle.fieldset.specs.declared.read.Member.{Member}
-use Rattle.fieldset.specs.Reading.{are_due, is_empty, is_marked, read_at, read_member, read_members, top}
-use Rattle.fieldset.specs.Seen.{Fails, IsNamed, member_view}
-use Rattle.fieldset.proofs.Taking.{Entry, added, at_object, begin, failed, finish, nothing_added, passed_on}
+use Rattle.fieldset.specs.Reading.{are_due, is_empty, is_marked, read_at, read_members, top}
+use Rattle.fieldset.specs.Seen.{Fails, IsNamed, member_view, read_named}
+use Rattle.fieldset.proofs.Owning.{names_ascend}
+use Rattle.fieldset.proofs.Taking.{added, at_object, begin, failed, finish, is_none, nothing_added, passed_on}
 use Rattle.fieldset.proofs.read.+read.Goals as goal
 use Rattle.fieldset.proofs.read.+read.Goals.{read_at-then-is_marked, read_at-else-is_marked, read_at-else-are_due-via-then-are_due+else-is_empty, read_at-else-are_due-via-else-are_due}
 
-is_none : (o : Option Member) → ((m : Member) → o ≡ Some m → ⊥) → o ≡ None
-is_none None h = refl
-is_none (Some m) h = absurd (h m refl)
-
 pub read_members-loop-name-init : goal.read_members-loop-name-init
 read_members-loop-name-init t c =
-    begin (spot c.args.here) (members_view c.args.members.now.entries) (content c.empty-map.result) c.into_iter-name-iterator.result c.args.members.now.entries c.empty-map.ensures
-    (c.into_iter-name-iterator.ensures.into_iter_gives ∙ c.iter-name-items.ensures.rest) c.iter-name-items.ensures.ordered
+    let ms = members_view c.args.members.now.entries in
+    begin (spot c.args.here) ms (content c.empty-map.result) (members_view c.into_iter-name-iterator.result) ms c.empty-map.ensures
+    (ap members_view (c.into_iter-name-iterator.ensures.into_iter_gives ∙ c.iter-name-items.ensures.rest)) (names_ascend c.args.members.now.entries c.iter-name-items.ensures.ordered)
 
 pub read_members-returns-in_err-member : goal.read_members-returns-in_err-member
 read_members-returns-in_err-member t c =
     let s = spot c.args.here in
     let ms = members_view c.args.members.now.entries in
-    let e : Entry = (c.in-Some.name.now, c.in-Some.value.now) in
+    let d = view c.in-Some.value.now in
     let p = err_from_is_err_and c.from_residual.result c.from_residual.ensures.1 in
     let f = c.in_err-member.field-0.0 in
     passed_on content p.0 f c.from_residual.result (read_members s ms ms) p.1 p.2
-    (failed s ms (read_members s ms ms) (content c.loop-name.map) c.loop-name.name-iterator e c.next.new.self c.in-Some.ensures.steps c.loop-name.invariant f
-    (subst (λ k. Fails f (read_member s ms k (view e.1) (λ next. read_at next (view e.1)))) c.as_str.ensures.value c.in_err-member.ensures.read))
+    (failed s ms (read_members s ms ms) (content c.loop-name.map) (members_view c.loop-name.name-iterator) (string_bytes c.in-Some.name.now) d (members_view c.next.new.self) (ap members_view c.in-Some.ensures.steps) c.loop-name.invariant f
+    (subst (λ k. Fails f (read_named s ms k d (λ next. read_at next d))) c.as_str.ensures.value c.in_err-member.ensures.read))
 
 pub read_members-loop-name-preserved-in_default : goal.read_members-loop-name-preserved-in_default
 read_members-loop-name-preserved-in_default t c =
     let s = spot c.args.here in
     let ms = members_view c.args.members.now.entries in
-    let e : Entry = (c.in-Some.name.now, c.in-Some.value.now) in
-    nothing_added s ms (read_members s ms ms) (content c.loop-name.map) c.loop-name.name-iterator e c.next.new.self c.in-Some.ensures.steps c.loop-name.invariant
-    (ap (λ k. read_member s ms k (view e.1) (λ next. read_at next (view e.1))) (sym c.as_str.ensures.value) ∙ c.in_ok-member.ensures.read ∙ ap (λ o. Ok (member_view o)) (is_none c.in_ok-member.field-0 c.in_default.not-Some))
+    let d = view c.in-Some.value.now in
+    nothing_added s ms (read_members s ms ms) (content c.loop-name.map) (members_view c.loop-name.name-iterator) (string_bytes c.in-Some.name.now) d (members_view c.next.new.self) (ap members_view c.in-Some.ensures.steps) c.loop-name.invariant
+    (ap (λ k. read_named s ms k d (λ next. read_at next d)) (sym c.as_str.ensures.value) ∙ c.in_ok-member.ensures.read ∙ ap (λ o. Ok (member_view o)) (is_none c.in_ok-member.field-0 c.in_default.not-Some))
 
 pub read_members-loop-name-preserved : goal.read_members-loop-name-preserved
 read_members-loop-name-preserved t c =
     let s = spot c.args.here in
     let ms = members_view c.args.members.now.entries in
-    let e : Entry = (c.in-Some.name.now, c.in-Some.value.now) in
-    let k = string_bytes c.in-Some-2.member.element in
-    let m = c.in-Some-2.member.map in
-    added s ms (read_members s ms ms) (content c.loop-name.map) c.loop-name.name-iterator e c.next.new.self c.in-Some.ensures.steps c.loop-name.invariant k m (content c.insert_child.new.self) c.in_ok-insert_child.field-0
-    (ap (λ k. read_member s ms k (view e.1) (λ next. read_at next (view e.1))) (sym c.as_str.ensures.value) ∙ c.in_ok-member.ensures.read ∙ ap (λ o. Ok (member_view o)) c.in-Some-2.is)
+    let d = view c.in-Some.value.now in
+    added s ms (read_members s ms ms) (content c.loop-name.map) (members_view c.loop-name.name-iterator) (string_bytes c.in-Some.name.now) d (members_view c.next.new.self) (ap members_view c.in-Some.ensures.steps) c.loop-name.invariant
+    (string_bytes c.in-Some-2.member.element) c.in-Some-2.member.map (content c.insert_child.new.self) c.in_ok-insert_child.field-0
+    (ap (λ k. read_named s ms k d (λ next. read_at next d)) (sym c.as_str.ensures.value) ∙ c.in_ok-member.ensures.read ∙ ap (λ o. Ok (member_view o)) c.in-Some-2.is)
     (subst (λ o. IsNamed o c.as_str.result.now) c.in-Some-2.is c.in_ok-member.ensures.named ∙ c.as_str.ensures.value) c.in_ok-insert_child.ensures.added c.in_ok-insert_child.ensures.put
 
 pub read_members-returns : goal.read_members-returns
 read_members-returns t c =
     let s = spot c.args.here in
     let ms = members_view c.args.members.now.entries in
-    finish s ms (read_members s ms ms) (content c.loop-name.map) c.loop-name.name-iterator c.in-None.ensures.steps.0 c.loop-name.invariant
+    finish s ms (read_members s ms ms) (content c.loop-name.map) (members_view c.loop-name.name-iterator) (ap members_view c.in-None.ensures.steps.0) c.loop-name.invariant
 
 pub read_at-returns : goal.read_at-returns
 read_at-returns t c =

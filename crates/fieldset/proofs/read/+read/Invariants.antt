@@ -8,4 +8,4 @@ use Rattle.fieldset.proofs.read.+read.Given as goal
 abbrev pub invariant-read_members-loop-name : goal.invariant-read_members-loop-name
 invariant-read_members-loop-name l =
     let ms = members_view l.members.entries in
-    IsSoFar (spot l.here) ms (read_members (spot l.here) ms ms) (content l.map) l.name-iterator
+    IsSoFar (spot l.here) ms (read_members (spot l.here) ms ms) (content l.map) (members_view l.name-iterator)

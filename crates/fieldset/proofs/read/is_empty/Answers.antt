@@ -1,4 +1,4 @@
-use Rattle.fieldset.proofs.Taking.{object-is_empty}
+use Rattle.fieldset.proofs.Owning.{object-is_empty}
 use Rattle.fieldset.proofs.read.is_empty.Goals as goal
 
 pub returns : goal.returns
