@@ -1,15 +1,13 @@
 -- What reading a text back answers.
-use Rattle.std.proofs.Common.{◌≡◌, ℕ, true, List, [], ◌∷◌, length, Some, refl, sym, ap, ◌∙◌, subst}
+use Rattle.std.proofs.Common.{◌≡◌, ℕ, true, List, Some, sym, ap, ◌∙◌, subst}
 use Rattle.std.proofs.lemmas.Bool.{and_parts}
-use Rattle.std.specs.Prelude.{codes}
 use Rattle.std.specs.Result.{IfOk, IsErrAnd}
 use Rattle.std.specs.declared.result.Result.{Result}
 use Rattle.std.specs.declared.result.Result.TheVariants.{Ok, Err}
-use Rattle.serde_json.specs.Data.{Data, object, Members, put}
-use Rattle.serde_json.specs.View.{members_view}
-use Rattle.serde_json.proofs.Views.{Entry}
-use Rattle.serde_json.specs.Read.{read}
+use Rattle.serde_json.specs.Data.{Data}
 use Rattle.fieldpath.proofs.Spelled.{spelled-read}
+use Rattle.json_texts.specs.InOrder.{in_order}
+use Rattle.json_texts.proofs.Ordered.{ordered-read}
 use Rattle.schema.specs.Lawful.{is_lawful, is_well_formed}
 use Rattle.schema.specs.ObjectShape.{IsObjectShape}
 use Rattle.schema.specs.Shape.{Shape}
@@ -17,26 +15,26 @@ use Rattle.typed.specs.Fitting.{IsContent}
 use Rattle.objects.specs.State.{State}
 use Rattle.objects.specs.Placed.{OwnedStand}
 use Rattle.objects.specs.ObjectText.{Identity, object_value, object_text}
-use Rattle.objects.specs.Parts.{Gives, parts_in, put_labels}
+use Rattle.objects.specs.Parts.{Gives, parts_in}
 use Rattle.objects.specs.ReadBack.{IsObjectText, IsReadBack}
 use Rattle.objects.specs.Views.{state_of}
 use Rattle.objects.specs.declared.fault.ObjectFault.{ObjectFault}
 use Rattle.objects.specs.declared.fault.ObjectFault.TheVariants.{NotCanonical, Memory}
 use Rattle.objects.specs.declared.owned.Owned.{Owned}
-use Rattle.objects.proofs.Back.{text_read, parts_back, parts_content}
+use Rattle.objects.proofs.Back.{text_in_order, parts_back, parts_content}
 use Rattle.objects.proofs.Taken.{no_some, same_some}
 
 module _ (s : Shape) (of : Identity) (t : List ℕ) (shaped : IsObjectShape s) where
-  -- no JSON
-  pub unread : {X : Type 0} (view : X → Data) (e : ObjectFault) → Gives view (Err e) (read t) → IsReadBack s of t (Err e)
-  unread view NotCanonical none = λ v state said. no_some (object_value s of v state) (sym (text_read s of v state t shaped said) ∙ none)
+  -- not in order
+  pub unread : {X : Type 0} (view : X → Data) (e : ObjectFault) → Gives view (Err e) (in_order t) → IsReadBack s of t (Err e)
+  unread view NotCanonical none = λ v state said. no_some (object_value s of v state) (sym (text_in_order s of v state t shaped said) ∙ none)
   unread view Memory none = tt
 
-  module _ (d : Data) (reads : read t ≡ Some d) where
+  module _ (d : Data) (reads : in_order t ≡ Some d) where
     -- what the text says is what was read of its value
     said_parts : (v : ℕ) (state : State) → IsObjectText s of v state t → parts_in s d ≡ Some (state, v)
     said_parts v state said =
-        ap (parts_in s) (sym (same_some (object_value s of v state) d (sym (text_read s of v state t shaped said) ∙ reads))) ∙ parts_back s of v state shaped said.placed said.numbered
+        ap (parts_in s) (sym (same_some (object_value s of v state) d (sym (text_in_order s of v state t shaped said) ∙ reads))) ∙ parts_back s of v state shaped said.placed said.numbered
 
     pub no_parts : (e : ObjectFault) → Gives {X = Owned × ℕ} {Y = State × ℕ} (λ o. (state_of o.0, o.1)) (Err e) (parts_in s d) → IsReadBack s of t (Err e)
     no_parts NotCanonical none = λ v state said. no_some (state, v) (sym (said_parts v state said) ∙ none)
@@ -54,11 +52,11 @@ module _ (s : Shape) (of : Identity) (t : List ℕ) (shaped : IsObjectShape s) w
           let same = same_parts w said_state said in
           other (is shaped.1 (subst (λ p. IsContent s p.0.content) same said.placed.0) ∙ sym (said.is_text ∙ ap (λ p. object_text s of p.1 p.0) same))
 
-  pub read_back : (d : Data) (state : State) (v : ℕ) (printed : List ℕ) → read t ≡ Some d → parts_in s d ≡ Some (state, v) → OwnedStand state
+  pub read_back : (d : Data) (state : State) (v : ℕ) (printed : List ℕ) → in_order t ≡ Some d → parts_in s d ≡ Some (state, v) → OwnedStand state
       → (is_lawful s ≡ true → IsContent s state.content → printed ≡ object_text s of v state) → printed ≡ t → IsObjectText s of v state t
   read_back d state v printed reads parts stand is same =
       let lawful = shaped.1 in
-      let spelled = spelled-read t d reads in
+      let spelled = spelled-read t d (ordered-read t d reads) in
       let content = parts_content s d state v (and_parts (is_well_formed s) _ lawful).0 spelled.0 spelled.1 parts in
       record { placed = (content.0, (content.1, stand, content.2)); numbered = content.3; is_text = sym same ∙ is lawful content.0 }
 
@@ -70,8 +68,3 @@ handed s of t (Err x) e is h = subst (λ y. IsReadBack s of t (Err y)) (sym is) 
 pub ok_map : {X E : Type 0} {P Q : X → Type 0} (r : Result X E) → ((x : X) → P x → Q x) → IfOk r P → IfOk r Q
 ok_map (Ok x) f h = f x h
 ok_map (Err e) f h = tt
-
--- members with labels, where there are some
-pub labels_some : (es : List Entry) (ms : Members) → (length es ≡ 0 → ⊥) → put_labels (members_view es) ms ≡ put (codes "metadata") (object (members_view es)) ms
-labels_some [] ms some = absurd (some refl)
-labels_some (e ∷ es) ms some = refl

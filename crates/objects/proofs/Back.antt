@@ -12,6 +12,8 @@ use Rattle.fieldpath.specs.Elements.{name_text}
 use Rattle.fieldpath.specs.Scalars.{ascend}
 use Rattle.fieldpath.specs.Spelled.{IsSpelled, member_names}
 use Rattle.fieldpath.proofs.Spelled.{put_ascend, put_spelled}
+use Rattle.json_texts.specs.InOrder.{in_order}
+use Rattle.json_texts.proofs.Ordered.{compact-ordered}
 use Rattle.names.specs.Decimals.{version_of}
 use Rattle.names.proofs.Decimals.{exact}
 use Rattle.pathmap.specs.Contents.{Content, PathSet}
@@ -103,13 +105,13 @@ module _ (all : Fields) (of : Identity) (v : ℕ) (state : State) where
     value_is =
         ap₂ (λ ls ms. object (put (codes "apiVersion") (string of.api_version) (put (codes "kind") (string of.kind) (put (codes "metadata") (object (metadata_of type_of_all of v state.owners ls)) ms)))) labels_are (members_back fields_printed)
 
-    in_order : (ms : Members) → print type_of_all state.content ≡ object_or_none ms → ascend (member_names ms) ≡ true
-    in_order no_members is = refl
-    in_order (member k d ms) is = (printed_textual type_of_all state.content (object (member k d ms)) lawful placed.0 is).0.0
+    print_ascends : (ms : Members) → print type_of_all state.content ≡ object_or_none ms → ascend (member_names ms) ≡ true
+    print_ascends no_members is = refl
+    print_ascends (member k d ms) is = (printed_textual type_of_all state.content (object (member k d ms)) lawful placed.0 is).0.0
 
     content_there : content_of type_of_all (fields_of beside meta) ≡ Ok state.content
     content_there =
-        ap (content_of type_of_all) (fields_back of.api_version of.kind meta fields_printed version_free kind_free own_labels (in_order fields_printed refl) metadata_there (labels_back of.name of.namespace (decimal v) listed own_labels (metadata_printed in_metadata).2))
+        ap (content_of type_of_all) (fields_back of.api_version of.kind meta fields_printed version_free kind_free own_labels (print_ascends fields_printed refl) metadata_there (labels_back of.name of.namespace (decimal v) listed own_labels (metadata_printed in_metadata).2))
         ∙ content_back all state.content (round type_of_all state.content formed (content_placed type_of_all formed state.content placed.0))
 
     all_placed : AllPlaced type_of_all (fin.entries state.owners)
@@ -148,6 +150,12 @@ parts_back (list_of s kind) of v state shaped placed low = absurd (true≢false 
 pub text_read : (s : Shape) (of : Identity) (v : ℕ) (state : State) (t : List ℕ) → IsObjectShape s → IsObjectText s of v state t → read t ≡ Some (object_value s of v state)
 unfolding object_text
 text_read s of v state t shaped said = ap read said.is_text ∙ (value_textual s shaped.1 of v state said.placed.0).3
+
+-- and so it is in order, and represents its value
+pub text_in_order : (s : Shape) (of : Identity) (v : ℕ) (state : State) (t : List ℕ) → IsObjectShape s → IsObjectText s of v state t → in_order t ≡ Some (object_value s of v state)
+unfolding object_text
+text_in_order s of v state t shaped said =
+    let textual = value_textual s shaped.1 of v state said.placed.0 in ap in_order said.is_text ∙ compact-ordered (object_value s of v state) textual.0 textual.1 textual.2
 
 pub one_for_one : OneForOne
 one_for_one s of v w a b t shaped one other =

@@ -1,7 +1,7 @@
 -- The texts of entries, put together of pieces.
-use Rattle.std.proofs.Common.{◌≡◌, ℕ, suc, arith, eqb-true, ◌+◌, ◌<◌, ◌≤◌, Bool, true, false, true≢false, ◌==◌, List, [], ◌∷◌, ◌++◌, drop, get_or, length, refl, sym, ap, ◌∙◌, append_assoc, append-nil}
+use Rattle.std.proofs.Common.{◌≡◌, ℕ, suc, arith, eqb-true, ◌+◌, ◌<◌, ◌≤◌, Bool, true, false, true≢false, ◌==◌, List, [], ◌∷◌, ◌++◌, drop, get_or, length, refl, sym, ap, ◌∙◌, append_assoc}
 use Rattle.std.specs.Prelude.{codes}
-use Rattle.std.proofs.lemmas.List.{drop_all, drop_more, map-append}
+use Rattle.std.proofs.lemmas.List.{drop_all, drop_more}
 use Rattle.json.specs.Print.{quoted}
 use Rattle.serde_json.specs.Data.{Data, string, array, object, Items, item, Members, no_members, member, put}
 use Rattle.serde_json.specs.Written.{comma_if, compact_text, items_text, members_text}
@@ -12,7 +12,6 @@ use Rattle.objects.specs.Managers.{pair, pairs}
 use Rattle.objects.specs.ObjectText.{entry_items, entry_value, members_with, put_filled}
 use Rattle.objects.specs.Owners.{Manager, operation_text}
 use Rattle.objects.specs.declared.managers.Entry.{Entry}
-use Rattle.objects.proofs.Entries.{Pairs}
 
 -- what is there once a member is: with any more, what was there with this one and those
 abbrev pub HasMember : Bool → List ℕ → Data → List ℕ → List ℕ → Type 0
@@ -89,22 +88,3 @@ module _ (s : Shape) (a : List ℕ) where
 -- an opening bracket, then items with the closing one
 pub array_pushed : (ds : Items) (start one new : List ℕ) → start ≡ [] → one ≡ start ++ 91 ∷ [] → new ≡ one ++ items_text false ds → new ≡ compact_text (array ds)
 array_pushed ds start one new none bracket items = items ∙ ap (λ x. x ++ items_text false ds) (bracket ∙ ap (λ x. x ++ 91 ∷ []) none)
-
--- ---- those that are read
-
--- the text so far with any more entries is that of all
-abbrev pub AreListed : Shape → List ℕ → List Entry → Bool → List ℕ → Type 0
-AreListed s a es later text = (more : Pairs) → text ++ items_text later (entry_items s a more) ≡ 91 ∷ items_text false (entry_items s a (pairs es ++ more))
-
-module _ (s : Shape) (a : List ℕ) where
-  pub listed_first : (start text : List ℕ) → start ≡ [] → text ≡ start ++ 91 ∷ [] → AreListed s a [] false text
-  listed_first start text none bracket more = ap (λ x. x ++ items_text false (entry_items s a more)) (bracket ∙ ap (λ x. x ++ 91 ∷ []) none)
-
-  pub listed_more : (es : List Entry) (e : Entry) (later : Bool) (text one new : List ℕ) → AreListed s a es later text → one ≡ text ++ comma_if later → new ≡ one ++ compact_text (entry_value s a (pair e).0 (pair e).1)
-      → AreListed s a (es ++ e ∷ []) true new
-  listed_more es e later text one new before comma value more =
-      item_pushed text one new (entry_value s a (pair e).0 (pair e).1) later (entry_items s a more) comma value ∙ before (pair e ∷ more)
-      ∙ ap (λ ps. 91 ∷ items_text false (entry_items s a ps)) (sym (ap (λ ps. ps ++ more) (map-append pair es (e ∷ [])) ∙ append_assoc (pairs es) (pair e ∷ []) more))
-
-  pub listed_all : (es : List Entry) (later : Bool) (text new : List ℕ) → AreListed s a es later text → new ≡ text ++ 93 ∷ [] → new ≡ compact_text (array (entry_items s a (pairs es)))
-  listed_all es later text new before closed = closed ∙ before [] ∙ ap (λ ps. 91 ∷ items_text false (entry_items s a ps)) (append-nil (pairs es))

@@ -14,5 +14,6 @@ pub mod Counted
 pub mod Back
 pub mod Answered
 pub mod Listed
+pub mod Lent
 pub mod EntryTexts
 pub mod MetadataTexts

@@ -8,5 +8,6 @@ pub mod ObjectText
 pub mod Views
 pub mod ReadBack
 pub mod Parts
+pub mod Borrowed
 pub mod Labels
 pub mod EntryTexts

@@ -91,12 +91,13 @@ items_or_none (Some d) = as_array d
 abbrev pub owners_of : List (Manager × PathSet) → Option Owners
 owners_of es = if rising es && have_paths es then Some (fin.from_entries es) else None
 
--- the owners that a value of `managedFields` says
-abbrev pub owners_listed : Shape → Option Data → Option Owners
-owners_listed s listed = option_and_then owners_of (option_and_then (entries_in s) (items_or_none listed))
+-- the entries that a value of `managedFields` says
+abbrev pub entries_listed : Shape → Option Data → Option (List (Manager × PathSet))
+entries_listed s listed = option_and_then (entries_in s) (items_or_none listed)
 
+-- the owners that `metadata` says
 abbrev pub owners_in : Shape → Members → Option Owners
-owners_in s metadata = owners_listed s (get_member (codes "managedFields") metadata)
+owners_in s metadata = option_and_then owners_of (entries_listed s (get_member (codes "managedFields") metadata))
 
 -- ---- the whole
 

@@ -1,18 +1,23 @@
 //! The envelope of an object (`apiVersion`, `kind`, `metadata`), separated from its fields. It is printed in `object` and
 //! `metadata`.
-ghost use Rattle.std.specs.Prelude.{◌≡◌, codes, IfOk, OnOk, option_map};
-ghost use Rattle.serde_json.specs.Find.{get_member};
-ghost use Rattle.serde_json.specs.View.{members_view, view};
+ghost use Rattle.std.specs.Prelude.{◌≡◌, codes, true, IfOk, IfSome, OnOk, option_map};
+ghost use Rattle.json.specs.Value.{members_view, value_view};
+ghost use Rattle.json_texts.specs.InOrder.{are_ordered, data_of, is_ordered};
+ghost use Rattle.json_values.specs.Members.{split_off};
+ghost use Rattle.objects.specs.Borrowed.{AreOthers, data_in, place_in};
 ghost use Rattle.objects.specs.Parts.{fields_of, labels_left, own_members, put_labels, split, version_in};
 
-use json_values::{into_object, split_off, take, text_at};
+use json::Value;
+use json_texts::{Members, into_object, take, text_at};
 use names::version_of;
-use serde_json::{Map, Value};
-use std::alloc::{AllocError, Global};
+use std::alloc::AllocError;
+use std::cmp::Ordering;
 
 /// The members without those that name the object's type.
-fn own_members(members: Map<String, Value>) -> Map<String, Value>
-    ensures { members_view result.entries ≡ own_members (members_view members.entries) }
+fn own_members(members: Members<'_>) -> Members<'_>
+    requires { are_ordered (members_view members.items) ≡ true }
+    ensures own { data_in result.items ≡ own_members (data_in members.entry.items) }
+    ensures ordered { are_ordered (members_view result.items) ≡ true }
 {
     let mut own = members;
     drop(take(&mut own, "apiVersion"));
@@ -20,19 +25,37 @@ fn own_members(members: Map<String, Value>) -> Map<String, Value>
     own
 }
 
-/// The members without the envelope's, and those of `metadata`, if it is there.
-pub(crate) fn split(value: Value) -> Option<(Map<String, Value>, Map<String, Value>)>
-    ensures { option_map (λ p. (members_view p.0.entries, members_view p.1.entries)) result ≡ split (view value) }
+/// The members but for `metadata`, and the members of that one.
+fn split_off(members: Members<'_>) -> Option<(Members<'_>, Members<'_>)>
+    requires { are_ordered (members_view members.items) ≡ true }
+    ensures parts { option_map (λ p. (data_in p.0.items, data_in p.1.items)) result ≡ split_off (codes "metadata") (data_in members.entry.items) }
+    ensures ordered { IfSome result (λ p. AreOthers p.0.items × (are_ordered (members_view p.1.items) ≡ true)) }
 {
-    let Some(members) = into_object(value) else {
+    let mut others = members;
+    let Some(value) = take(&mut others, "metadata") else {
         return None;
     };
-    split_off(own_members(members), "metadata")
+    let Some(metadata) = into_object(value) else {
+        return None;
+    };
+    Some((others, metadata))
+}
+
+/// The members without the envelope's, and those of `metadata`, if it is there.
+pub(crate) fn split(value: Value<'_>) -> Option<(Members<'_>, Members<'_>)>
+    requires { is_ordered (value_view value) ≡ true }
+    ensures parts { option_map (λ p. (data_in p.0.items, data_in p.1.items)) result ≡ split (data_of (value_view value.entry)) }
+    ensures ordered { IfSome result (λ p. AreOthers p.0.items × (are_ordered (members_view p.1.items) ≡ true)) }
+{
+    match into_object(value) {
+        Some(members) => split_off(own_members(members)),
+        None => None,
+    }
 }
 
 /// The version that `metadata` names.
-pub(crate) fn version_in(metadata: &Map<String, Value>) -> Option<u64>
-    ensures { result ≡ version_in (members_view metadata.now.entries) }
+pub(crate) fn version_in<'a>(metadata: &[(&'a str, Value<'a>)]) -> Option<u64>
+    ensures { result ≡ version_in (data_in metadata.now) }
 {
     match text_at(metadata, "resourceVersion") {
         Some(text) => version_of(text),
@@ -40,43 +63,60 @@ pub(crate) fn version_in(metadata: &Map<String, Value>) -> Option<u64>
     }
 }
 
-/// `metadata` without the envelope's part: labels and annotations; and its `managedFields`.
-fn labels_left(metadata: Map<String, Value>) -> (Map<String, Value>, Option<Value>)
-    ensures labels { members_view result.0.entries ≡ labels_left (members_view metadata.entries) }
-    ensures listed { option_map view result.1 ≡ get_member (codes "managedFields") (members_view metadata.entries) }
+/// `metadata` without the envelope's part: labels and annotations.
+fn labels_left(metadata: Members<'_>) -> Members<'_>
+    requires { are_ordered (members_view metadata.items) ≡ true }
+    ensures labels { data_in result.items ≡ labels_left (data_in metadata.entry.items) }
+    ensures ordered { are_ordered (members_view result.items) ≡ true }
 {
     let mut labels = metadata;
     drop(take(&mut labels, "name"));
     drop(take(&mut labels, "namespace"));
     drop(take(&mut labels, "resourceVersion"));
-    let listed = take(&mut labels, "managedFields");
-    (labels, listed)
+    drop(take(&mut labels, "managedFields"));
+    labels
 }
 
-fn put_labels(
-    members: &mut Map<String, Value>,
-    alloc: Global,
-    labels: Map<String, Value>,
-) -> Result<(), AllocError>
-    ensures { OnOk result (members_view members.new.entries ≡ put_labels (members_view labels.entries) (members_view members.old.entries)) }
+/// How many members stand before the place of this name.
+fn place_in<'a>(members: &[(&'a str, Value<'a>)], name: &str) -> usize
+    ensures { result ≡ place_in name.now (data_in members.now) }
+{
+    let mut place = 0;
+    for (known, _) in members {
+        if name.cmp(*known) != Ordering::Greater {
+            return place;
+        }
+        place += 1;
+    }
+    place
+}
+
+/// Puts `metadata` back in its place, where something is left in it.
+fn put_labels<'a>(members: &mut Members<'a>, labels: Members<'a>) -> Result<(), AllocError>
+    requires others { AreOthers members.old.items }
+    requires labels { are_ordered (members_view labels.items) ≡ true }
+    ensures put { OnOk result (data_in members.new.items ≡ put_labels (data_in labels.entry.items) (data_in members.old.items)) }
+    ensures ordered { OnOk result (are_ordered (members_view members.new.items) ≡ true) }
 {
     if labels.is_empty() {
         return Ok(());
     }
-    serde_json::put(members, alloc, "metadata", Value::Object(labels))
+    let place = place_in(members, "metadata");
+    members.insert(place, ("metadata", Value::Object(labels)))?;
+    Ok(())
 }
 
-/// The value of the object's fields, from what `split` gave; and that of `managedFields`.
-pub(crate) fn fields_of(
-    alloc: Global,
-    others: Map<String, Value>,
-    metadata: Map<String, Value>,
-) -> Result<(Value, Option<Value>), AllocError>
-    ensures fields { IfOk result (λ o. view o.0 ≡ fields_of (members_view others.entries) (members_view metadata.entries)) }
-    ensures listed { IfOk result (λ o. option_map view o.1 ≡ get_member (codes "managedFields") (members_view metadata.entries)) }
+/// The value of the object's fields, from what `split` gave.
+pub(crate) fn fields_of<'a>(
+    others: Members<'a>,
+    metadata: Members<'a>,
+) -> Result<Value<'a>, AllocError>
+    requires others { AreOthers others.items }
+    requires metadata { are_ordered (members_view metadata.items) ≡ true }
+    ensures fields { IfOk result (λ v. data_of (value_view v) ≡ fields_of (data_in others.entry.items) (data_in metadata.entry.items)) }
+    ensures ordered { IfOk result (λ v. is_ordered (value_view v) ≡ true) }
 {
     let mut fields = others;
-    let (labels, listed) = labels_left(metadata);
-    put_labels(&mut fields, alloc, labels)?;
-    Ok((Value::Object(fields), listed))
+    put_labels(&mut fields, labels_left(metadata))?;
+    Ok(Value::Object(fields))
 }

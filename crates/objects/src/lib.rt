@@ -1,7 +1,7 @@
 //! An object, its content and who owns which paths of it, and its text both ways.
 //!
 //! Promises: an object's text says one version, content and owners, and every text that is none is refused.
-//! Stands on `fieldset` for sets of paths, on `typed` for contents, on `json_values` for what a text's value has.
+//! Stands on `fieldset` for sets of paths, on `typed` for contents, on `json_texts` for texts read as values.
 #![tactic(auto)]
 
 mod envelope;

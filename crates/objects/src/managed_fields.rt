@@ -1,32 +1,26 @@
-//! The entries of `managedFields`, read. With them comes their text, made of the FieldsV1 values that were read: of a
-//! text they are those that the sets have, so FieldsV1 isn't made again. They are written in `managed_text`.
-ghost use Rattle.std.specs.Prelude.{◌≡◌, ◌++◌, true, codes, IfOk, Some, option_map, option_and_then};
-ghost use Rattle.std.specs.FinMap as fin;
-ghost use Rattle.serde_json.specs.Data.{Data, array};
-ghost use Rattle.serde_json.specs.View.{items_view, members_view, view};
-ghost use Rattle.serde_json.specs.Written.{compact_text};
-ghost use Rattle.fieldpath.specs.Spelled.{AreSpelled, IsSpelled, MembersAreSpelled};
-ghost use Rattle.schema.specs.Lawful.{is_type_shape};
-ghost use Rattle.schema.specs.Shape.{shape};
-ghost use Rattle.fieldset.specs.FieldsV1.{fields_v1_of};
-ghost use Rattle.fieldset.specs.Reading.{read_fields_v1};
-ghost use Rattle.objects.specs.Managers.{manager_view, pair, pairs};
-ghost use Rattle.objects.specs.ObjectText.{entry_items, entry_value};
+//! The entries of `managedFields`, read. They are written in `managed_text`.
+ghost use Rattle.std.specs.Prelude.{◌≡◌, true, codes, option_and_then};
+ghost use Rattle.json.specs.Value.{items_view, members_view, value_view};
+ghost use Rattle.json_texts.specs.InOrder.{are_ordered, data_of, is_ordered, items_are_ordered, items_data};
 ghost use Rattle.json_values.specs.Members.{text_at};
-ghost use Rattle.objects.specs.Parts.{Gives, entries_in, entry_in, if_ok, items_or_none, manager_in, operation_named, owners_listed, set_in};
+ghost use Rattle.serde_json.specs.Find.{get_member};
+ghost use Rattle.schema.specs.Shape.{shape};
+ghost use Rattle.fieldset.specs.Reading.{read_fields_v1};
+ghost use Rattle.objects.specs.Borrowed.{data_in};
+ghost use Rattle.objects.specs.Managers.{manager_view, pair, pairs};
+ghost use Rattle.objects.specs.Parts.{Gives, entries_in, entries_listed, entry_in, if_ok, manager_in, operation_named, owners_in, set_in};
 
 use crate::fault::ObjectFault;
-use crate::managed_text::push_entry_with;
 use crate::manager::{Manager, Operation};
 use crate::managers::{Entry, Managers};
-use fieldset::{FieldSet, FieldsV1Fault, push_comma};
-use json_values::{into_array, into_object, take, text_at};
+use fieldset::{FieldSet, FieldsV1Fault};
+use json::Value;
+use json_texts::{as_array, as_object, member, text_at};
 use schema::Schema;
-use serde_json::{Map, Value};
 use std::alloc::Global;
 
-fn operation_in(members: &Map<String, Value>) -> Option<Operation>
-    ensures { result ≡ option_and_then operation_named (text_at (codes "operation") (members_view members.now.entries)) }
+fn operation_in<'a>(members: &[(&'a str, Value<'a>)]) -> Option<Operation>
+    ensures { result ≡ option_and_then operation_named (text_at (codes "operation") (data_in members.now)) }
 {
     match text_at(members, "operation") {
         Some(text) => Operation::named(text),
@@ -34,9 +28,10 @@ fn operation_in(members: &Map<String, Value>) -> Option<Operation>
     }
 }
 
-/// Who wrote, by no subresource: none is served, and an entry that names one is printed otherwise.
-fn read_manager(alloc: Global, members: &Map<String, Value>) -> Result<Manager, ObjectFault>
-    ensures { Gives manager_view result (manager_in (members_view members.now.entries)) }
+/// Who wrote. An entry's subresource isn't read, since none is served: an object that names one differs when it is printed
+/// again, so its text is none of an object.
+fn read_manager<'a>(alloc: Global, members: &[(&'a str, Value<'a>)]) -> Result<Manager, ObjectFault>
+    ensures { Gives manager_view result (manager_in (data_in members.now)) }
 {
     let Some(name) = text_at(members, "manager") else {
         return Err(ObjectFault::NotCanonical);
@@ -48,10 +43,15 @@ fn read_manager(alloc: Global, members: &Map<String, Value>) -> Result<Manager, 
 }
 
 /// The set of paths that a FieldsV1 value says.
-fn read_fields_v1(alloc: Global, schema: &Schema, value: &Value) -> Result<FieldSet, ObjectFault>
-    ensures { Gives (λ s. s) result (if_ok (read_fields_v1 (shape schema.now) (view value.now))) }
+fn read_fields_v1(
+    alloc: Global,
+    schema: &Schema,
+    value: &Value<'_>,
+) -> Result<FieldSet, ObjectFault>
+    requires { is_ordered (value_view value.now) ≡ true }
+    ensures { Gives (λ s. s) result (if_ok (read_fields_v1 (shape schema.now) (data_of (value_view value.now)))) }
 {
-    match FieldSet::from_fields_v1(alloc, schema, value) {
+    match FieldSet::from_borrowed(alloc, schema, value) {
         Ok(paths) => Ok(paths),
         Err(FieldsV1Fault::NotAnObject) => Err(ObjectFault::NotCanonical),
         Err(FieldsV1Fault::BadKey) => Err(ObjectFault::NotCanonical),
@@ -61,96 +61,79 @@ fn read_fields_v1(alloc: Global, schema: &Schema, value: &Value) -> Result<Field
     }
 }
 
-/// The set of paths that an entry's `fieldsV1` says, and that value.
-fn read_set(
+/// The set of paths that an entry's `fieldsV1` says.
+fn read_set<'a>(
     alloc: Global,
     schema: &Schema,
-    members: Map<String, Value>,
-) -> Result<(FieldSet, Value), ObjectFault>
-    ensures set { Gives (λ o. o.0) result (set_in (shape schema.now) (members_view members.entries)) }
-    ensures value { IfOk result (λ o. is_type_shape (shape schema.now) ≡ true → MembersAreSpelled (members_view members.entries) → view o.1 ≡ fields_v1_of (shape schema.now) o.0) }
+    members: &[(&'a str, Value<'a>)],
+) -> Result<FieldSet, ObjectFault>
+    requires { are_ordered (members_view members.now) ≡ true }
+    ensures { Gives (λ s. s) result (set_in (shape schema.now) (data_in members.now)) }
 {
-    let mut left = members;
-    let Some(value) = take(&mut left, "fieldsV1") else {
-        return Err(ObjectFault::NotCanonical);
-    };
-    let paths = read_fields_v1(alloc, schema, &value)?;
-    Ok((paths, value))
+    match member(members, "fieldsV1") {
+        Some(value) => read_fields_v1(alloc, schema, value),
+        None => Err(ObjectFault::NotCanonical),
+    }
 }
 
-/// An entry, which is appended as it is printed.
-fn read_entry(
-    alloc: Global,
-    schema: &Schema,
-    api_version: &str,
-    value: Value,
-    text: &mut Vec<u8>,
-) -> Result<Entry, ObjectFault>
-    ensures entry { Gives pair result (entry_in (shape schema.now) (view value)) }
-    ensures item { IfOk result (λ e. is_type_shape (shape schema.now) ≡ true → IsSpelled (view value)
-        → text.new.items ≡ text.old.items ++ compact_text (entry_value (shape schema.now) api_version.now (pair e).0 (pair e).1)) }
+fn read_entry(alloc: Global, schema: &Schema, value: &Value<'_>) -> Result<Entry, ObjectFault>
+    requires { is_ordered (value_view value.now) ≡ true }
+    ensures { Gives pair result (entry_in (shape schema.now) (data_of (value_view value.now))) }
 {
-    let Some(members) = into_object(value) else {
+    let Some(members) = as_object(value) else {
         return Err(ObjectFault::NotCanonical);
     };
-    let manager = read_manager(alloc, &members)?;
-    let (paths, fields) = read_set(alloc, schema, members)?;
-    push_entry_with(text, alloc, api_version, &manager, &fields)?;
+    let manager = read_manager(alloc, members)?;
+    let paths = read_set(alloc, schema, members)?;
     Ok(Entry { manager, paths })
 }
 
-/// The entries, and their text.
 fn read_entries(
     alloc: Global,
     schema: &Schema,
-    api_version: &str,
-    values: Vec<Value>,
-) -> Result<(Vec<Entry>, Vec<u8>), ObjectFault>
-    ensures entries { Gives (λ o. pairs o.0.items) result (entries_in (shape schema.now) (items_view values.items)) }
-    ensures items { IfOk result (λ o. is_type_shape (shape schema.now) ≡ true → AreSpelled (items_view values.items)
-        → o.1.items ≡ compact_text (array (entry_items (shape schema.now) api_version.now (pairs o.0.items)))) }
+    values: &[Value<'_>],
+) -> Result<Vec<Entry>, ObjectFault>
+    requires { items_are_ordered (items_view values.now) ≡ true }
+    ensures { Gives (λ v. pairs v.items) result (entries_in (shape schema.now) (items_data (items_view values.now))) }
 {
     let mut entries = Vec::new(alloc);
-    let mut text = Vec::with_capacity(alloc, 1024)?;
-    text.push(b'[')?;
-    let mut later = false;
     for value in values {
-        push_comma(&mut text, later)?;
-        let entry = read_entry(alloc, schema, api_version, value, &mut text)?;
+        let entry = read_entry(alloc, schema, value)?;
         entries.push(entry)?;
-        later = true;
     }
-    text.push(b']')?;
-    Ok((entries, text))
+    Ok(entries)
 }
 
-/// The items of `managedFields`; none where it is absent.
-fn items_in(alloc: Global, listed: Option<Value>) -> Option<Vec<Value>>
-    ensures { option_map (λ v. items_view v.items) result ≡ items_or_none (option_map view listed) }
-{
-    match listed {
-        Some(value) => into_array(value),
-        None => Some(Vec::new(alloc)),
-    }
-}
-
-/// Who owns what, as the value of `managedFields` says it, and its text.
-pub(crate) fn read_owners(
+/// The entries of `managedFields`; none where it is absent.
+fn entries_in<'a>(
     alloc: Global,
     schema: &Schema,
-    api_version: &str,
-    listed: Option<Value>,
-) -> Result<(Managers, Vec<u8>), ObjectFault>
-    ensures owners { Gives (λ o. o.0) result (owners_listed (shape schema.now) (option_map view listed)) }
-    ensures items { IfOk result (λ o. is_type_shape (shape schema.now) ≡ true → ((d : Data) → option_map view listed ≡ Some d → IsSpelled d)
-        → o.1.items ≡ compact_text (array (entry_items (shape schema.now) api_version.now (fin.entries o.0)))) }
+    metadata: &[(&'a str, Value<'a>)],
+) -> Result<Vec<Entry>, ObjectFault>
+    requires { are_ordered (members_view metadata.now) ≡ true }
+    ensures { Gives (λ v. pairs v.items) result (entries_listed (shape schema.now) (get_member (codes "managedFields") (data_in metadata.now))) }
 {
-    let Some(values) = items_in(alloc, listed) else {
+    let Some(listed) = member(metadata, "managedFields") else {
+        return Ok(Vec::new(alloc));
+    };
+    let Some(values) = as_array(listed) else {
         return Err(ObjectFault::NotCanonical);
     };
-    let (entries, text) = read_entries(alloc, schema, api_version, values)?;
+    read_entries(alloc, schema, values)
+}
+
+/// Who owns what, as `metadata` says it.
+pub(crate) fn read_owners<'a>(
+    alloc: Global,
+    schema: &Schema,
+    metadata: &[(&'a str, Value<'a>)],
+) -> Result<Managers, ObjectFault>
+    requires { are_ordered (members_view metadata.now) ≡ true }
+    ensures { Gives (λ w. w) result (owners_in (shape schema.now) (data_in metadata.now)) }
+{
+    let entries = entries_in(alloc, schema, metadata)?;
     match Managers::with_entries(entries) {
-        Some(managers) => Ok((managers, text)),
+        Some(managers) => Ok(managers),
         None => Err(ObjectFault::NotCanonical),
     }
 }

@@ -1,18 +1,16 @@
 //! `managedFields` written as text, entry after entry. It is read in `managed_fields`.
 ghost use Rattle.std.specs.Prelude.{◌≡◌, ◌++◌, false, true, IfOk, OnOk};
 ghost use Rattle.serde_json.specs.Data.{Data, Members, array, member, no_members, object, string};
-ghost use Rattle.serde_json.specs.View.{view};
-ghost use Rattle.serde_json.specs.Written.{compact_text, has_float, items_text, members_text};
+ghost use Rattle.serde_json.specs.Written.{compact_text, items_text, members_text};
 ghost use Rattle.schema.specs.Shape.{shape};
 ghost use Rattle.objects.specs.EntryTexts.{front_of, manager_members};
 ghost use Rattle.objects.specs.Managers.{manager_view, pairs};
-ghost use Rattle.objects.specs.ObjectText.{entry_items, entry_value, members_with, put_filled};
+ghost use Rattle.objects.specs.ObjectText.{entry_items, entry_value, put_filled};
 
 use crate::manager::Manager;
 use crate::managers::Entry;
-use fieldset::{push_comma, push_name, push_string, push_value};
+use fieldset::{push_comma, push_name, push_string};
 use schema::Schema;
-use serde_json::Value;
 use std::alloc::{AllocError, Global};
 
 /// Appends a member that is a text.
@@ -59,22 +57,6 @@ fn push_manager(out: &mut Vec<u8>, alloc: Global, manager: &Manager) -> Result<(
     push_text(out, alloc, true, "manager", manager.name.as_str())?;
     push_text(out, alloc, true, "operation", manager.operation.text())?;
     push_filled(out, alloc, "subresource", manager.subresource.as_str())
-}
-
-/// Appends an entry with this FieldsV1 value.
-pub(crate) fn push_entry_with(
-    out: &mut Vec<u8>,
-    alloc: Global,
-    api_version: &str,
-    manager: &Manager,
-    fields: &Value,
-) -> Result<(), AllocError>
-    ensures { has_float (view fields.now) ≡ false
-        → OnOk result (out.new.items ≡ out.old.items ++ compact_text (object (members_with api_version.now (manager_view manager.now) (view fields.now)))) }
-{
-    push_front(out, alloc, api_version)?;
-    push_value(out, alloc, fields)?;
-    push_manager(out, alloc, manager)
 }
 
 fn push_entry(

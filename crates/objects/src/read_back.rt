@@ -1,19 +1,13 @@
 //! Objects read back from their texts, which are printed in `object`. The envelope is separated in `envelope`.
 ghost use Rattle.std.specs.Prelude.{◌≡◌, ℕ, true, IfOk};
-ghost use Rattle.std.specs.FinMap as fin;
-ghost use Rattle.serde_json.specs.Data.{array};
-ghost use Rattle.serde_json.specs.Read.{read};
-ghost use Rattle.serde_json.specs.View.{view};
-ghost use Rattle.serde_json.specs.Written.{compact_text};
-ghost use Rattle.fieldpath.specs.Spelled.{IsSpelled};
-ghost use Rattle.schema.specs.Lawful.{is_type_shape};
+ghost use Rattle.json.specs.Value.{value_view};
+ghost use Rattle.json_texts.specs.InOrder.{data_of, in_order, is_ordered};
 ghost use Rattle.schema.specs.ObjectShape.{IsObjectShape};
 ghost use Rattle.schema.specs.Shape.{shape};
 ghost use Rattle.typed.specs.Reading.{content_of};
 ghost use Rattle.objects.specs.State.{State};
 ghost use Rattle.objects.specs.Placed.{OwnedStand};
 ghost use Rattle.objects.specs.Managers.{pairs};
-ghost use Rattle.objects.specs.ObjectText.{entry_items};
 ghost use Rattle.objects.specs.Parts.{Gives, all_within, if_read, parts_in};
 ghost use Rattle.objects.specs.ReadBack.{IsReadBack};
 ghost use Rattle.objects.specs.Views.{identity_of, state_of};
@@ -27,47 +21,41 @@ use crate::managers::Entry;
 use crate::object::Identity;
 use crate::owned::Owned;
 use fieldset::FieldSet;
+use json::{Scratch, Value};
 use schema::Schema;
-use serde_json::Value;
 use std::alloc::{AllocError, Global};
 use typed::{ReadFault, Tree};
 
 /// The JSON value of a text.
-fn read_value(alloc: Global, text: &str) -> Result<Value, ObjectFault>
-    ensures { Gives view result (read text.now) }
+fn read_value<'a>(
+    alloc: Global,
+    text: &'a str,
+    scratch: &'a mut Scratch,
+) -> Result<Value<'a>, ObjectFault>
+    ensures value { Gives (λ v. data_of (value_view v)) result (in_order text.now) }
+    ensures ordered { IfOk result (λ v. is_ordered (value_view v) ≡ true) }
 {
-    match Value::from_str(alloc, text) {
-        Ok(value) => Ok(value),
-        Err(error) => {
-            if error.is_memory() {
-                Err(ObjectFault::Memory)
-            } else {
-                Err(ObjectFault::NotCanonical)
-            }
-        }
+    match json_texts::read(alloc, text, scratch)? {
+        Some(value) => Ok(value),
+        None => Err(ObjectFault::NotCanonical),
     }
 }
 
-fn read_content(alloc: Global, schema: &Schema, value: &Value) -> Result<Tree, ObjectFault>
-    ensures { Gives (λ t. t) result (if_read (content_of (shape schema.now) (view value.now))) }
+fn read_content(alloc: Global, schema: &Schema, value: &Value<'_>) -> Result<Tree, ObjectFault>
+    requires { is_ordered (value_view value.now) ≡ true }
+    ensures { Gives (λ t. t) result (if_read (content_of (shape schema.now) (data_of (value_view value.now)))) }
 {
-    match Tree::read(schema, alloc, value) {
+    match Tree::read_borrowed(schema, alloc, value) {
         Ok(tree) => Ok(tree),
         Err(ReadFault::Shape(_, _)) => Err(ObjectFault::NotCanonical),
         Err(ReadFault::Memory) => Err(ObjectFault::Memory),
     }
 }
 
-/// What stands in an object's value and who owns it, its version, and the text of its `managedFields`.
-fn read_parts(
-    alloc: Global,
-    schema: &Schema,
-    api_version: &str,
-    value: Value,
-) -> Result<((Owned, u64), Vec<u8>), ObjectFault>
-    ensures parts { Gives {Y = State × ℕ} (λ o. (state_of o.0.0, o.0.1)) result (parts_in (shape schema.now) (view value)) }
-    ensures items { IfOk result (λ o. is_type_shape (shape schema.now) ≡ true → IsSpelled (view value)
-        → o.1.items ≡ compact_text (array (entry_items (shape schema.now) api_version.now (fin.entries o.0.0.managers)))) }
+/// What stands in an object's value and who owns it, and its version.
+fn read_parts(alloc: Global, schema: &Schema, value: Value<'_>) -> Result<(Owned, u64), ObjectFault>
+    requires { is_ordered (value_view value) ≡ true }
+    ensures { Gives {Y = State × ℕ} (λ o. (state_of o.0, o.1)) result (parts_in (shape schema.now) (data_of (value_view value.entry))) }
 {
     let Some((others, metadata)) = split(value) else {
         return Err(ObjectFault::NotCanonical);
@@ -75,10 +63,10 @@ fn read_parts(
     let Some(version) = version_in(&metadata) else {
         return Err(ObjectFault::NotCanonical);
     };
-    let (fields, listed) = fields_of(alloc, others, metadata)?;
-    let (managers, text) = read_owners(alloc, schema, api_version, listed)?;
+    let managers = read_owners(alloc, schema, &metadata)?;
+    let fields = fields_of(others, metadata)?;
     let tree = read_content(alloc, schema, &fields)?;
-    Ok(((Owned { tree, managers }, version), text))
+    Ok((Owned { tree, managers }, version))
 }
 
 /// Whether each of these paths stands in the content.
@@ -111,7 +99,7 @@ impl Owned {
     }
 
     /// Reads an object of this type and key back: what stands in it, who owns what, and its version.
-    /// Refuses every text but those that `to_object` gives of a content with owners of its paths.
+    /// Every text is `NotCanonical` but those that `to_object` gives of a content with owners of its paths.
     pub fn from_object(
         alloc: Global,
         schema: &Schema,
@@ -120,12 +108,13 @@ impl Owned {
     ) -> Result<(Owned, u64), ObjectFault>
         ensures { IsObjectShape (shape schema.now) → IsReadBack (shape schema.now) (identity_of of.entry) text.now result }
     {
-        let value = read_value(alloc, text)?;
-        let ((owned, version), managed) = read_parts(alloc, schema, of.api_version, value)?;
+        let mut scratch = Scratch::new(alloc);
+        let value = read_value(alloc, text, &mut scratch)?;
+        let (owned, version) = read_parts(alloc, schema, value)?;
         if !owned.owned_stand(alloc)? {
             return Err(ObjectFault::NotCanonical);
         }
-        let printed = owned.text_with(alloc, schema, of, version, managed)?;
+        let printed = owned.to_object(alloc, schema, of, version)?;
         if printed.as_str() == text {
             return Ok((owned, version));
         }

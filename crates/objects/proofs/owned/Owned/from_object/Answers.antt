@@ -1,10 +1,9 @@
-use Rattle.std.proofs.Common.{◌∙◌, string_bytes, sym, true≢false}
+use Rattle.std.proofs.Common.{Global, ◌∙◌, string_bytes, sym, true≢false}
 use Rattle.std.specs.Cmp.Lexicographic.{bytes_decides}
+use Rattle.json.specs.Value.{value_view}
+use Rattle.json_texts.specs.InOrder.{data_of}
 use Rattle.schema.specs.Shape.{shape}
-use Rattle.serde_json.specs.View.{view}
 use Rattle.objects.specs.Views.{identity_of, state_of}
-use Rattle.fieldpath.proofs.Spelled.{spelled-read}
-use Rattle.objects.proofs.Within.{both_true}
 use Rattle.objects.proofs.Answered.{handed, unread, no_parts, not_standing, not_printed, read_back}
 use Rattle.objects.proofs.owned.Owned.from_object.Goals as goal
 
@@ -14,7 +13,7 @@ returns-in_err-value c = λ shaped.
     let of = identity_of c.args.of in
     let t = c.args.text.now in
     let e = c.in_err-value.field-0.0 in
-    handed s of t c.from_residual.result e c.from_residual.ensures.1 (unread s of t shaped view e c.in_err-value.ensures)
+    handed s of t c.from_residual.result e c.from_residual.ensures.1 (unread s of t shaped (λ v. data_of (value_view {A = Global} v)) e c.in_err-value.ensures.value)
 
 pub returns-in_err-owned : goal.returns-in_err-owned
 returns-in_err-owned c = λ shaped.
@@ -23,21 +22,21 @@ returns-in_err-owned c = λ shaped.
     let t = c.args.text.now in
     let e = c.in_err-owned.field-0.0 in
     handed s of t c.from_residual-in_err-owned.result e c.from_residual-in_err-owned.ensures.1
-    (no_parts s of t shaped (view c.in_ok-value.value) c.in_ok-value.ensures e c.in_err-owned.ensures.parts)
+    (no_parts s of t shaped (data_of (value_view c.in_ok-value.value)) c.in_ok-value.ensures.value e c.in_err-owned.ensures)
 
 pub returns-then-not-branch : goal.returns-then-not-branch
 returns-then-not-branch c = λ shaped.
-    not_standing (shape c.args.schema.now) (identity_of c.args.of) c.args.text.now shaped (view c.in_ok-value.value) c.in_ok-value.ensures (state_of c.in_ok-owned.owned) c.in_ok-owned.version c.in_ok-owned.ensures.parts
+    not_standing (shape c.args.schema.now) (identity_of c.args.of) c.args.text.now shaped (data_of (value_view c.in_ok-value.value)) c.in_ok-value.ensures.value (state_of c.in_ok-owned.owned) c.in_ok-owned.version c.in_ok-owned.ensures
     (λ stand. true≢false (sym (c.in_ok-owned_stand.ensures.1 stand) ∙ c.if-not-branch.true))
 
 pub returns-then-eq : goal.returns-then-eq
 returns-then-eq c = λ shaped.
-    read_back (shape c.args.schema.now) (identity_of c.args.of) c.args.text.now shaped (view c.in_ok-value.value) (state_of c.in_ok-owned.owned) c.in_ok-owned.version (string_bytes c.in_ok-printed.printed) c.in_ok-value.ensures c.in_ok-owned.ensures.parts
-    (c.in_ok-owned_stand.ensures.0 c.if-not-branch.false) (c.in_ok-printed.ensures (c.in_ok-owned.ensures.items (both_true _ _ shaped.0 shaped.1) (spelled-read c.args.text.now (view c.in_ok-value.value) c.in_ok-value.ensures).0))
+    read_back (shape c.args.schema.now) (identity_of c.args.of) c.args.text.now shaped (data_of (value_view c.in_ok-value.value)) (state_of c.in_ok-owned.owned) c.in_ok-owned.version (string_bytes c.in_ok-printed.printed) c.in_ok-value.ensures.value c.in_ok-owned.ensures
+    (c.in_ok-owned_stand.ensures.0 c.if-not-branch.false) c.in_ok-printed.ensures
     (sym c.as_str.ensures.value ∙ (bytes_decides c.as_str.result.now c.args.text.now).0 (sym c.eq.ensures ∙ c.if-eq.true))
 
 pub returns : goal.returns
 returns c = λ shaped.
-    not_printed (shape c.args.schema.now) (identity_of c.args.of) c.args.text.now shaped (view c.in_ok-value.value) c.in_ok-value.ensures (state_of c.in_ok-owned.owned) c.in_ok-owned.version c.in_ok-owned.ensures.parts
-    (string_bytes c.in_ok-printed.printed) (c.in_ok-printed.ensures (c.in_ok-owned.ensures.items (both_true _ _ shaped.0 shaped.1) (spelled-read c.args.text.now (view c.in_ok-value.value) c.in_ok-value.ensures).0))
+    not_printed (shape c.args.schema.now) (identity_of c.args.of) c.args.text.now shaped (data_of (value_view c.in_ok-value.value)) c.in_ok-value.ensures.value (state_of c.in_ok-owned.owned) c.in_ok-owned.version c.in_ok-owned.ensures
+    (string_bytes c.in_ok-printed.printed) c.in_ok-printed.ensures
     (λ same. true≢false (sym ((bytes_decides c.as_str.result.now c.args.text.now).1 (c.as_str.ensures.value ∙ same)) ∙ sym c.eq.ensures ∙ c.if-eq.false))
