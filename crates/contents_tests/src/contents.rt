@@ -1,5 +1,5 @@
 //! Questions about contents and their texts under a schema; the examples stand in `readings`, `object_texts`, `fields_v1`
-//! and `key_names`.
+//! and `key_names`. Those about texts in order are answered in `borrowed`.
 //!
 //! | question | answer |
 //! |---|---|
@@ -16,6 +16,7 @@
 //! | `less TEXT and TEXT` | the first content without the paths of the second |
 //! | `compare TEXT and TEXT` | the paths of the first content, those changed from the second, and those added, modified and removed |
 
+use crate::borrowed::answer_borrowed;
 use crate::given::{first_schema, path, printed, push_paths, shown_paths, tree, types_of};
 use fieldset::FieldSet;
 use ownership::{Identity, ObjectFault, Owned};
@@ -57,6 +58,7 @@ pub fn answer_under(alloc: Global, schema: &Schema, question: &str) -> Result<St
         "print" => printed(alloc, schema, &tree(alloc, schema, text)?),
         "set" | "fields" => fields_v1(alloc, schema, call, text),
         "object" => again(alloc, schema, text),
+        "in-order" | "borrowed" | "borrowed-set" => answer_borrowed(alloc, schema, call, text),
         _ => of_two(alloc, schema, call, text),
     }
 }

@@ -47,6 +47,35 @@ read {"spec":{"frozen":{"ports":[{"port":1}]}}} => .spec.frozen.ports[0]: key fi
 read {"spec":{"frozen":{"ports":[{"name":"a"},{"name":"a"}]}}} => read
 read {"spec":{"image":5,"config":{"a":1}}} => .spec.config.a: wrong type
 
+texts_in_order
+in-order {"a":[null,true,-1,"\n"],"b":{}} => {"a":[null,true,-1,"\n"],"b":{}}
+in-order { "a" : [ ] } => {"a":[]}
+in-order {"b":1,"a":2} => none
+in-order {"a":{"b":1,"b":2}} => none
+in-order {"a":[1.0]} => none
+in-order {"a":-0} => none
+in-order 18446744073709551615 => 18446744073709551615
+in-order 18446744073709551616 => none
+in-order [1 => none
+
+read_from_borrowed_values
+borrowed {"spec":{"args":["x","y"],"config":{"a":"1","b":null},"frozen":{"ports":[{"name":"a"}]},"image":"i","ports":[{"name":"web","port":80}],"ready":true,"replicas":3,"tags":["b","a"]}} => {"spec":{"args":["x","y"],"config":{"a":"1"},"frozen":{"ports":[{"name":"a"}]},"image":"i","ports":[{"name":"web","port":80}],"ready":true,"replicas":3,"tags":["a","b"]}}
+borrowed 5 => : not an object
+borrowed {"spec":{"nope":[]}} => .spec.nope: unknown field
+borrowed {"spec":{"config":{"a b":1}}} => .spec.config.a b: wrong type
+borrowed {"spec":{"ports":[{"name":null,"port":"x"}]}} => .spec.ports[0]: key field missing
+borrowed {"spec":{"ports":[{"name":"a"},{"name":"a","port":"x"}]}} => .spec.ports[1].port: wrong type
+borrowed {"spec":{"ports":[{"name":"a"},{"name":"a"}]}} => .spec.ports: duplicate item
+borrowed {"spec":{"tags":["a","a"]}} => .spec.tags: duplicate item
+
+sets_from_borrowed_values
+borrowed-set {"f:spec":{"f:config":{"f:a":{}},"f:ports":{"k:{\"name\":\"web\"}":{".":{},"f:name":{},"f:port":{}}},"f:tags":{"v:\"a\"":{}}}} => {"f:spec":{"f:config":{"f:a":{}},"f:ports":{"k:{\"name\":\"web\"}":{".":{},"f:name":{},"f:port":{}}},"f:tags":{"v:\"a\"":{}}}}
+borrowed-set {"f:spec":3} => NotAnObject
+borrowed-set {"x":{}} => BadKey
+borrowed-set {"f:spec":{}} => NotCanonical
+borrowed-set {"f:spec":{"f:ports":{"k:{\"name\":\"web\"}":{".":{}}}}} => NotCanonical
+borrowed-set {"f:spec":{"f:nope":{}}} => OffSchema
+
 items_stand_under_their_elements
 paths {"spec":{"args":["x","y"],"config":{"a":"1"},"frozen":{"ports":[{"port":null,"name":"a"}]},"image":"i","ports":[{"port":80,"name":"web"}],"ready":true,"replicas":3,"tags":["b","a"]}} => paths .spec.args .spec.config.a .spec.frozen .spec.image .spec.ports[name="web"] .spec.ports[name="web"].port .spec.ready .spec.replicas .spec.tags[="a"] .spec.tags[="b"]
 print {"spec":{"args":["x","y"],"config":{"a":"1"},"frozen":{"ports":[{"port":null,"name":"a"}]},"image":"i","ports":[{"port":80,"name":"web"}],"ready":true,"replicas":3,"tags":["b","a"]}} => {"spec":{"args":["x","y"],"config":{"a":"1"},"frozen":{"ports":[{"name":"a"}]},"image":"i","ports":[{"name":"web","port":80}],"ready":true,"replicas":3,"tags":["a","b"]}}

@@ -5,7 +5,7 @@ use Rattle.httpedge.specs.Runs.{Follows, Happening, Steps, happens, starves, tak
 use Rattle.httpedge.specs.Steps.{Event, State, compacts, refusal}
 use Rattle.httpedge.specs.declared.hub.Hub.{Hub}
 
--- what this relation of states says leads from the hub before to the hub after
+-- each state of the hub before and one of the hub after stand in this relation
 abbrev pub Does : (State → State → Type 0) → Hub → Hub → Type 0
 Does R old new = (s : State) → IsIn old s → (t : State) × R s t × IsIn new t
 

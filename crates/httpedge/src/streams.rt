@@ -1,5 +1,5 @@
-//! What every server of streams does with a hub: it hands over events and the pieces that it reads, and forgets what
-//! isn't kept. What an event changes stands in `hub`.
+//! What every server of streams does with a hub: it hands over events and the pieces that it reads, reads on after a
+//! reply, and forgets what isn't kept. What an event changes stands in `hub`.
 
 ghost use Rattle.std.specs.Prelude.{◌≡◌, [], MatchResult, true};
 ghost use Rattle.std.specs.Io.KnownBytes.{Consumes};
@@ -15,8 +15,8 @@ use std::io::Read;
 /// The most bytes that are read at a time.
 pub const PIECE: usize = 4096;
 
-/// For how many milliseconds at most a connection whose reply was written is read on: closed with bytes unread it may
-/// cost its peer the reply (RFC 9112, section 9.6).
+/// How many milliseconds at most a connection is read on after its reply: a close with bytes unread may lose the reply
+/// (RFC 9112, section 9.6).
 pub const LINGER: u64 = 2000;
 
 /// Hands the hub an event: whether it was done. What one changes that is refused or out of memory is told at `Hub::on`.

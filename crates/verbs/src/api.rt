@@ -113,7 +113,7 @@ impl Api {
         planned(self.alloc, &mut self.catalog, &mut self.store, call)
     }
 
-    /// Makes the change of a plan, if it has one: a plan of what stands now. Refused, it changes nothing.
+    /// Makes the change of a plan, if it has one: a plan of what stands now. On an error nothing is changed.
     pub fn commit(&mut self, plan: &Plan) -> Result<(), Fault>
         requires { IfSome plan.now.change (λ c. ComesNext self.old (change_of c)) }
         ensures ok { (types : List ServedShape) (m : History) → Stands self.old types m → IfSome plan.now.change (λ c. IsNext types m (change_of c))
@@ -128,7 +128,7 @@ impl Api {
         }
     }
 
-    /// The next lines of a watch, at most `max`. Refused, the cursor stays; nothing else changes in any case.
+    /// The next lines of a watch, at most `max`. On an error the cursor stays; nothing else changes in any case.
     pub fn pump(&mut self, cursor: &mut WatchCursor, max: usize) -> Result<Pumped, Fault>
         ensures pumped { (types : List ServedShape) (m : History) → Stands self.old types m
             → IfOk result (λ p. turn_of p cursor.new ≡ pumped (from_history m) max cursor.old) }
@@ -141,8 +141,8 @@ impl Api {
         pumped(self.alloc, &mut self.store, cursor, max)
     }
 
-    /// The line of a bookmark, where one is due: the version up to which the watch has told all. Refused, the cursor
-    /// stays; it needs no memory where none is due.
+    /// The line of a bookmark, where one is due: the version up to which the watch has told all. On an error the
+    /// cursor stays; it needs no memory where none is due.
     pub fn bookmark(&self, cursor: &mut WatchCursor) -> Result<Option<String>, Fault>
         ensures bookmarked { (types : List ServedShape) (m : History) → Stands self.now types m
             → IfOk result (λ o. marking_of o cursor.new ≡ bookmarked_in types cursor.old) }

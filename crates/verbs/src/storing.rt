@@ -188,7 +188,7 @@ pub fn as_it_stands(object: Object) -> Plan
     }
 }
 
-/// What stands is neither changed nor remembered again; it is kept beside the answer.
+/// The plan that answers what stands and changes nothing. The text is copied, since what stands is remembered.
 fn unchanged(live: &Object) -> Result<Written, AllocError>
     ensures plan { IfOk result (λ w. written_plan w ≡ as_it_stands (object_of live.now)) }
     ensures right { (t : ServedShape) → IfOk result (RemembersRight t) }

@@ -10,7 +10,7 @@ ghost use Rattle.watchline.specs.Status.{status_value};
 use serde_json::{Value, json};
 use std::alloc::{AllocError, Global};
 
-/// 410 Gone.
+/// The code of what is no longer kept (RFC 9110, section 15.5.11).
 const GONE: u16 = 410;
 
 /// The Status object that tells a failure (Kubernetes API conventions, "Response Status Kind").
@@ -33,7 +33,7 @@ pub fn status_value(
     })
 }
 
-/// What the Status says: changes after this revision were forgotten, up to the compacted number.
+/// The message of the Status that ends a watch: changes after this revision were forgotten, up to the compacted number.
 pub fn expired_message(alloc: Global, revision: u64, compacted: u64) -> Result<String, AllocError>
     ensures { IfOk result (λ s. string_bytes s ≡ expired_message revision compacted) }
 {
