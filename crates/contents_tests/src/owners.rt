@@ -94,7 +94,7 @@ fn shown_beside(
     match answer {
         Ok(owned) => {
             let mut text = shown(alloc, schema, owned)?;
-            if is_same(alloc, owned, live)? {
+            if is_same(owned, live) {
                 text.push_str(" as before")?;
             }
             Ok(text)

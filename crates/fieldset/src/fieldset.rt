@@ -4,7 +4,7 @@
 ghost use Rattle.std.specs.Prelude.{◌≡◌, ◌++◌, true, IfOk, OnOk, OnErr, IsTrue, ◌↔◌};
 ghost use Rattle.std.specs.FinSet as set;
 ghost use Rattle.pathmap.specs.Contents.{dom, in_order};
-ghost use Rattle.pathmap.specs.Beside.{clear_of, has_at_or_below};
+ghost use Rattle.pathmap.specs.Beside.{clear_of, has_at_or_below, is_within};
 ghost use Rattle.pathmap.specs.Maps.{content};
 ghost use Rattle.json.specs.Value.{value_view};
 ghost use Rattle.json_texts.specs.InOrder.{data_of, is_ordered};
@@ -118,6 +118,13 @@ impl FieldSet {
         Ok(FieldSet {
             map: self.map.minus(alloc, &other.map)?,
         })
+    }
+
+    /// Whether the other set has all of its paths.
+    pub fn is_within(&self, other: &FieldSet) -> bool
+        ensures { result ≡ is_within self.now other.now }
+    {
+        self.map.is_within(&other.map)
     }
 
     /// The paths that the other set has too.

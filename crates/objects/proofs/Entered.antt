@@ -8,6 +8,7 @@ use Rattle.serde_json.specs.Data.{Items, no_items, item, Members, array}
 use Rattle.serde_json.specs.Find.{get_member}
 use Rattle.serde_json.proofs.Views.{get_member-put}
 use Rattle.fieldset.specs.FieldsV1.{fields_v1_of}
+use Rattle.pathmap.specs.Beside.{is_empty}
 use Rattle.pathmap.specs.Contents.{PathSet}
 use Rattle.schema.specs.Shape.{Shape}
 use Rattle.fieldset.specs.BothWays.{HavePlaces}
@@ -15,7 +16,7 @@ use Rattle.fieldset.specs.Reading.{read_fields_v1}
 use Rattle.objects.specs.declared.manager.Operation.{Operation}
 use Rattle.objects.specs.declared.manager.Operation.TheVariants.{Apply, Update}
 use Rattle.objects.specs.ObjectText.{entry_members, entry_value, entry_items, put_entries}
-use Rattle.objects.specs.Owners.{Manager, Owners, HavePaths, is_empty, manager_of}
+use Rattle.objects.specs.Owners.{Manager, Owners, HavePaths, manager_of}
 use Rattle.objects.specs.Parts.{if_ok, manager_in, set_in, entry_in, one_more, entries_in, items_or_none, owners_of}
 use Rattle.objects.specs.Ranks.{have_paths}
 use Rattle.objects.proofs.Entries.{Pairs, from-entries}

@@ -9,8 +9,9 @@ use Rattle.std.specs.List.{list_all, insert}
 use Rattle.std.specs.FinMap.{is_sorted, put}
 use Rattle.std.specs.FinMap.Entries.{below_all}
 use Rattle.fieldpath.specs.Paths.{path_cmp}
+use Rattle.pathmap.specs.Beside.{is_empty}
 use Rattle.pathmap.specs.Contents.{PathSet}
-use Rattle.objects.specs.Owners.{Manager, HavePaths, is_same, is_empty, less, others, with_owner, taken_over, manager_cmp}
+use Rattle.objects.specs.Owners.{Manager, HavePaths, is_same, less, others, with_owner, taken_over, manager_cmp}
 use Rattle.objects.specs.Managers.{pair, pairs}
 use Rattle.objects.specs.Ranks.{rank}
 use Rattle.objects.specs.declared.managers.Entry.{Entry}

@@ -6,9 +6,10 @@ use Rattle.std.specs.FinSet as set
 use Rattle.std.specs.FinMap.Entries.{below_all}
 use Rattle.std.specs.List.{AllByRecursion, IsAllAdjacentAnswer}
 use Rattle.std.specs.Ordering.{eq_by_cmp, is_lt}
+use Rattle.pathmap.specs.Beside.{is_empty}
 use Rattle.pathmap.specs.Contents.{PathSet}
 use Rattle.objects.specs.Managers.{pair, pairs, manager_view}
-use Rattle.objects.specs.Owners.{Manager, HavePaths, WroteByNone, is_empty, manager_cmp}
+use Rattle.objects.specs.Owners.{Manager, HavePaths, WroteByNone, manager_cmp}
 use Rattle.objects.specs.Ranks.{have_paths, rising, rising_from}
 use Rattle.objects.specs.declared.managers.Entry.{Entry}
 use Rattle.objects.proofs.Entries.{Pairs, fst, snd, next, empty_is}

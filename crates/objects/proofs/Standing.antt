@@ -5,16 +5,17 @@ use Rattle.std.specs.FinSet as set
 use Rattle.std.specs.List.{AllByRecursion}
 use Rattle.std.specs.Option.{unwrap_or}
 use Rattle.fieldpath.specs.Paths.{PathTexts, path_cmp}
+use Rattle.pathmap.specs.Beside.{is_within}
 use Rattle.pathmap.specs.Contents.{PathSet, dom}
 use Rattle.pathmap.proofs.Contents.{path_cmp_total}
-use Rattle.pathmap.proofs.Sets.{contains-dom}
+use Rattle.pathmap.proofs.Sets.{contains-dom, within_at, without_path}
 use Rattle.objects.specs.State.{State}
 use Rattle.objects.specs.Placed.{Stands, OwnedStand}
-use Rattle.objects.specs.Owners.{Manager, owned_by, is_within}
+use Rattle.objects.specs.Owners.{Manager, owned_by}
 use Rattle.objects.specs.Parts.{all_within}
 use Rattle.objects.proofs.Entries.{Pairs}
 use Rattle.objects.proofs.Rising.{all_found, found_of_all}
-use Rattle.objects.proofs.Within.{left_true, right_true, both_true, none_left, within_at, without_path}
+use Rattle.objects.proofs.Within.{left_true, right_true, both_true, none_left}
 
 within_has : (s t : PathSet) (q : PathTexts) → is_within s t ≡ true → set.contains s q ≡ true → set.contains t q ≡ true
 within_has s t q h there = none_left (set.contains t q) (ap (λ a. a && not (set.contains t q)) (sym there) ∙ within_at s t h q)

@@ -8,12 +8,13 @@ use Rattle.std.specs.Option.{unwrap_or}
 use Rattle.std.specs.Cmp.{Equal-is}
 use Rattle.std.specs.Ordering.{eq_by_cmp}
 use Rattle.fieldpath.specs.Paths.{path_cmp}
+use Rattle.pathmap.specs.Beside.{is_empty}
 use Rattle.pathmap.specs.Contents.{PathSet}
 use Rattle.pathmap.proofs.Contents.{path_cmp_total}
-use Rattle.pathmap.proofs.Sets.{same_paths}
-use Rattle.objects.specs.Owners.{Manager, Owners, HavePaths, WroteByNone, is_same, is_empty, owned_by, others, less, with_owner, taken_over, manager_cmp}
+use Rattle.pathmap.proofs.Sets.{no_paths, same_paths}
+use Rattle.objects.specs.Owners.{Manager, Owners, HavePaths, WroteByNone, is_same, owned_by, others, less, with_owner, taken_over, manager_cmp}
 use Rattle.objects.proofs.Entries.{Pairs, fst, snd, is_other, is_sorted-filter}
-use Rattle.objects.proofs.Within.{no_paths, same_manager-is, same_manager-itself}
+use Rattle.objects.proofs.Within.{same_manager-is, same_manager-itself}
 use Rattle.objects.proofs.Orders.{manager_total, manager_antisymmetric}
 
 -- ---- sets less some paths

@@ -1,10 +1,11 @@
 -- Who owns which paths. Server-Side Apply, "Field management": a manager is a name and an operation (`Apply` or `Update`), with a subresource where it wrote by one.
-use Rattle.std.specs.Prelude.{◌≡◌, ℕ, Bool, false, not, List, [], ◌∷◌, Some, filter, map, unwrap_or, if◌then◌else◌, codes, ◌==◌}
+use Rattle.std.specs.Prelude.{◌≡◌, ℕ, Bool, false, not, List, [], ◌∷◌, Some, filter, map, unwrap_or, if◌then◌else◌, codes}
 use Rattle.std.specs.declared.cmp.Ordering.{Ordering}
 use Rattle.std.specs.Ordering.{on, eq_by_cmp}
 use Rattle.std.specs.FinMap as fin
 use Rattle.std.specs.FinSet as set
 use Rattle.fieldpath.specs.Paths.{path_cmp}
+use Rattle.pathmap.specs.Beside.{is_empty}
 use Rattle.pathmap.specs.Contents.{PathSet}
 use Rattle.objects.specs.declared.manager.Operation.{Operation}
 use Rattle.objects.specs.declared.manager.Operation.TheVariants.{Apply, Update}
@@ -49,13 +50,6 @@ owned_by w m = unwrap_or (fin.get w m) set.empty
 -- the entries of all managers but one, in order
 unfoldable pub others : Owners → Manager → List (Manager × PathSet)
 others w m = filter (λ e. not (is_same m e.0)) (fin.entries w)
-
-abbrev pub is_empty : PathSet → Bool
-is_empty s = set.len s == 0
-
--- whether the other set has all these paths
-abbrev pub is_within : PathSet → PathSet → Bool
-is_within s t = is_empty (set.difference s t)
 
 -- each entry has a path
 abbrev pub HavePaths : Owners → Type 0

@@ -9,6 +9,7 @@ use Rattle.serde_json.specs.Data.{Data, object, Items, no_items, item, Members, 
 use Rattle.serde_json.specs.Find.{get_member, as_object, as_array}
 use Rattle.json_values.specs.Members.{less, split_off, text_at}
 use Rattle.names.specs.Decimals.{version_of}
+use Rattle.pathmap.specs.Beside.{is_within}
 use Rattle.pathmap.specs.Contents.{PathSet}
 use Rattle.schema.specs.Shape.{Shape}
 use Rattle.typed.specs.Faults.{Read}
@@ -19,7 +20,7 @@ use Rattle.objects.specs.declared.manager.Operation.{Operation}
 use Rattle.objects.specs.declared.manager.Operation.TheVariants.{Apply, Update}
 use Rattle.objects.specs.State.{State}
 use Rattle.fieldset.specs.Reading.{Refusal, read_fields_v1}
-use Rattle.objects.specs.Owners.{Manager, Owners, manager_of, is_within}
+use Rattle.objects.specs.Owners.{Manager, Owners, manager_of}
 use Rattle.objects.specs.Ranks.{have_paths, rising}
 
 -- What a call returned, by its view, is what was read, unless memory ran out; refused, nothing was.

@@ -2,8 +2,9 @@
 use Rattle.std.specs.Prelude.{ℕ, suc, Bool, true, not, ◌&&◌, List, [], ◌∷◌}
 use Rattle.std.specs.List.{list_all}
 use Rattle.std.specs.Ordering.{is_lt, match_ordering}
+use Rattle.pathmap.specs.Beside.{is_empty}
 use Rattle.pathmap.specs.Contents.{PathSet}
-use Rattle.objects.specs.Owners.{Manager, manager_cmp, is_empty}
+use Rattle.objects.specs.Owners.{Manager, manager_cmp}
 
 -- how many entries stand before the key's place
 abbrev pub rank : Manager → List (Manager × PathSet) → ℕ

@@ -11,7 +11,6 @@ ghost use Rattle.objects.specs.Managers.{pairs};
 ghost use Rattle.objects.specs.Parts.{Gives, all_within, if_read, parts_in};
 ghost use Rattle.objects.specs.ReadBack.{IsReadBack};
 ghost use Rattle.objects.specs.Views.{identity_of, state_of};
-ghost use Rattle.objects.specs.Owners.{is_within};
 ghost use Rattle.pathmap.specs.Contents.{dom};
 
 use crate::envelope::{fields_of, split, version_in};
@@ -20,10 +19,9 @@ use crate::managed_fields::read_owners;
 use crate::managers::Entry;
 use crate::object::Identity;
 use crate::owned::Owned;
-use fieldset::FieldSet;
 use json::{Scratch, Value};
 use schema::Schema;
-use std::alloc::{AllocError, Global};
+use std::alloc::Global;
 use typed::{ReadFault, Tree};
 
 /// The JSON value of a text.
@@ -69,33 +67,26 @@ fn read_parts(alloc: Global, schema: &Schema, value: Value<'_>) -> Result<(Owned
     Ok((Owned { tree, managers }, version))
 }
 
-/// Whether each of these paths stands in the content.
-fn stand_in(tree: &Tree, alloc: Global, paths: &FieldSet) -> Result<bool, AllocError>
-    ensures { IfOk result (λ b. b ≡ is_within paths.now (dom tree.now)) }
-{
-    Ok(tree.lacking(alloc, paths)?.is_empty())
-}
-
 /// Whether all paths of the entries stand in the content.
-fn all_stand_in(tree: &Tree, alloc: Global, entries: &[Entry]) -> Result<bool, AllocError>
-    ensures { IfOk result (λ b. b ≡ all_within (dom tree.now) (pairs entries.now)) }
+fn all_stand_in(tree: &Tree, entries: &[Entry]) -> bool
+    ensures { result ≡ all_within (dom tree.now) (pairs entries.now) }
 {
     for entry in entries {
-        if !stand_in(tree, alloc, &entry.paths)? {
-            return Ok(false);
+        if !tree.has_all(&entry.paths) {
+            return false;
         }
     }
-    Ok(true)
+    true
 }
 
 impl Owned {
     ghost use Rattle.std.specs.Prelude.{◌↔◌, IsTrue};
 
     /// Whether each owned path stands in the content.
-    fn owned_stand(&self, alloc: Global) -> Result<bool, AllocError>
-        ensures { IfOk result (λ b. IsTrue b ↔ OwnedStand (state_of self.now)) }
+    fn owned_stand(&self) -> bool
+        ensures { IsTrue result ↔ OwnedStand (state_of self.now) }
     {
-        all_stand_in(&self.tree, alloc, self.managers.entries())
+        all_stand_in(&self.tree, self.managers.entries())
     }
 
     /// Reads an object of this type and key back: what stands in it, who owns what, and its version.
@@ -111,7 +102,7 @@ impl Owned {
         let mut scratch = Scratch::new(alloc);
         let value = read_value(alloc, text, &mut scratch)?;
         let (owned, version) = read_parts(alloc, schema, value)?;
-        if !owned.owned_stand(alloc)? {
+        if !owned.owned_stand() {
             return Err(ObjectFault::NotCanonical);
         }
         let printed = owned.to_object(alloc, schema, of, version)?;

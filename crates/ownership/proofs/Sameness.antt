@@ -8,16 +8,16 @@ use Rattle.std.specs.Cmp.{Equal-is, tied_itself, int_cmp_total}
 use Rattle.std.specs.Cmp.Lexicographic.{bytes_decides}
 use Rattle.fieldpath.specs.Paths.{PathTexts}
 use Rattle.pathmap.specs.Contents.{Standing, text, whole, truth, plain, mark, Content, PathSet}
-use Rattle.pathmap.specs.Beside.{same_standing, same_value, changed}
+use Rattle.pathmap.specs.Beside.{same_standing, same_value, changed, is_unchanged, is_within}
 use Rattle.pathmap.proofs.Contents.{path_cmp_total, same}
-use Rattle.pathmap.proofs.Sets.{same_paths, contains-changed}
-use Rattle.objects.specs.Owners.{Manager, is_same, is_within}
+use Rattle.pathmap.proofs.Sets.{same_paths, contains-changed, has_no_path, without_path, within_at}
+use Rattle.objects.specs.Owners.{Manager, is_same}
 use Rattle.objects.specs.State.{State}
 use Rattle.objects.specs.Managers.{pairs}
 use Rattle.objects.specs.declared.managers.Entry.{Entry}
-use Rattle.ownership.specs.Sameness.{same_entry, same_entries, is_unchanged, same_content, same_state}
+use Rattle.ownership.specs.Sameness.{same_entry, same_entries, same_content, same_state}
 use Rattle.objects.proofs.Entries.{length-pairs}
-use Rattle.objects.proofs.Within.{left_true, right_true, both_true, none_left, has_no_path, without_path, within_at, same_manager-is, same_manager-itself}
+use Rattle.objects.proofs.Within.{left_true, right_true, both_true, none_left, same_manager-is, same_manager-itself}
 
 -- ---- values
 pub same_standing-is : (v w : Standing) → same_standing v w ≡ true → v ≡ w

@@ -1,5 +1,5 @@
 -- What a write does: it creates the object, changes its content or owners, or neither.
-use Rattle.std.specs.Prelude.{Bool, if◌then◌else◌, Option, None, Some}
+use Rattle.std.specs.Prelude.{if◌then◌else◌, Option, None, Some}
 use Rattle.objects.specs.State.{State}
 use Rattle.ownership.specs.Sameness.{same_state}
 use Rattle.ownership.specs.declared.outcome.Outcome.{Outcome}

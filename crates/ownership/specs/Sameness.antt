@@ -2,8 +2,8 @@
 use Rattle.std.specs.Prelude.{Bool, true, false, ◌&&◌, List, [], ◌∷◌}
 use Rattle.std.specs.FinMap as fin
 use Rattle.pathmap.specs.Contents.{Content, PathSet}
-use Rattle.pathmap.specs.Beside.{changed}
-use Rattle.objects.specs.Owners.{Manager, is_empty, is_same, is_within}
+use Rattle.pathmap.specs.Beside.{is_unchanged, is_within}
+use Rattle.objects.specs.Owners.{Manager, is_same}
 use Rattle.objects.specs.State.{State}
 
 abbrev pub same_entry : Manager × PathSet → Manager × PathSet → Bool
@@ -14,9 +14,6 @@ same_entries [] [] = true
 same_entries [] (f ∷ fs) = false
 same_entries (e ∷ es) [] = false
 same_entries (e ∷ es) (f ∷ fs) = same_entry e f && same_entries es fs
-
-abbrev pub is_unchanged : Content → Content → Bool
-is_unchanged c d = is_empty (changed c d)
 
 abbrev pub same_content : Content → Content → Bool
 same_content c d = is_unchanged c d && is_unchanged d c

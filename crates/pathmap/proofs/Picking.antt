@@ -1,5 +1,6 @@
 -- What a rule picks at the empty path, and below an element.
 use Rattle.std.proofs.Common.{◌≡◌, ℕ, Bool, true, false, cond, not, ◌&&◌, nat_cmp, List, [], ◌∷◌, ◌++◌, map, Option, Some, None, is_some, refl, sym, ap, ap₂, subst, ◌∙◌, true≢false}
+use Rattle.std.specs.Cmp.{both_ways}
 use Rattle.std.specs.Cmp.Lexicographic.{slice_cmp}
 use Rattle.std.specs.Option.{option_map}
 use Rattle.std.specs.FinMap as fin
@@ -9,23 +10,23 @@ use Rattle.std.proofs.lemmas.List.{append_assoc}
 use Rattle.std.proofs.lemmas.Map.Keys.{sorted_head, sorted_tail}
 use Rattle.std.proofs.lemmas.Slice.Eq.{bytes_eq-Decides}
 use Rattle.fieldpath.specs.Paths.{PathTexts}
-use Rattle.pathmap.specs.Contents.{Standing, mark, Content, nothing, over, gather, dom, marked}
-use Rattle.pathmap.specs.Beside.{same_value, has_at_or_below}
+use Rattle.pathmap.specs.Contents.{Standing, mark, Content, PathSet, nothing, over, gather, dom, marked}
+use Rattle.pathmap.specs.Beside.{same_value, has_at_or_below, is_empty}
 use Rattle.pathmap.specs.Insides.{inside}
 use Rattle.pathmap.specs.Levels.{at_top, standing, has_path, IsRising, AreFull, AreChildren, child_of}
 use Rattle.pathmap.specs.Maps.{content_or_nothing}
-use Rattle.pathmap.specs.Picks.{kept, picked, picked_in, picks, picks_alone, picks_some}
+use Rattle.pathmap.specs.Picks.{kept, no_child, picked, picked_in, picks, picks_alone, picks_some}
 use Rattle.pathmap.specs.declared.held.Held.{Held}
 use Rattle.pathmap.specs.declared.pick.Rule.{Rule}
 use Rattle.pathmap.specs.declared.pick.Rule.TheVariants.{Absent, Present, Changed, Clear}
 use Rattle.pathmap.proofs.Contents.{path_cmp_total, same, get-nothing}
 use Rattle.pathmap.proofs.Heads.{no_path}
 use Rattle.pathmap.proofs.Insides.{get-inside}
-use Rattle.pathmap.proofs.Levels.{get-level-top, get-level-below, held_some, nothing_path}
+use Rattle.pathmap.proofs.Levels.{get-level-top, get-level-below, bare_below, bare_level, held_some, nothing_path}
 use Rattle.pathmap.specs.Merged.{back_of, first_of, left_of}
 use Rattle.pathmap.proofs.Merging.{Above, child_above, first_back, left_keeps, rising_more}
-use Rattle.pathmap.proofs.Order.{get-marked}
-use Rattle.pathmap.proofs.Sets.{same_paths, contains-dom, contains-changed, contains-clear_of, IsBelow, has_below-at, has_none, nothing-has}
+use Rattle.pathmap.proofs.Order.{get-marked, is_marked}
+use Rattle.pathmap.proofs.Sets.{same_paths, contains-dom, contains-changed, contains-clear_of, has_no_path, without_path, IsBelow, has_below-at, has_none, nothing-has}
 
 pub twice : (b : Bool) → b ≡ not (not b)
 twice true = refl
@@ -220,3 +221,50 @@ kept-full f c cs some = by_path (has_path c) refl
     by_path : (b : Bool) → has_path c ≡ b → cond b ((f, c) ∷ cs) cs ≡ (f, c) ∷ cs
     by_path true is = refl
     by_path false is = absurd (some (no_path c is))
+
+-- ---- whether nothing is picked
+
+marked_none : (s : PathSet) → is_empty s ≡ true → marked s ≡ nothing
+marked_none s none = same (marked s) nothing (λ q. get-marked s q ∙ ap (λ b. cond b (Some mark) None) (has_no_path s none q) ∙ sym (get-nothing q))
+
+none_marked : (s : PathSet) → marked s ≡ nothing → is_empty s ≡ true
+none_marked s none = without_path s (λ q. sym (is_marked s q) ∙ ap (λ c. is_some (fin.get c q)) none ∙ ap is_some (get-nothing q))
+
+-- a top that is picked is something
+pub top_picked : (rule : Rule) (c d : Content) → picks_some rule (fin.get c []) d ≡ true → is_empty (picked rule c d) ≡ false
+top_picked rule c d is = by_test (is_empty (picked rule c d)) refl
+  where
+    by_test : (b : Bool) → is_empty (picked rule c d) ≡ b → b ≡ false
+    by_test true none = absurd (true≢false (sym (contains-picked rule c d [] ∙ decides-top rule (fin.get c []) d ∙ is) ∙ has_no_path (picked rule c d) none []))
+    by_test false some = refl
+
+no_child-is : (cs : Named) → no_child cs ≡ true → cs ≡ []
+no_child-is [] none = refl
+no_child-is (c ∷ cs) none = absurd (true≢false (sym none))
+
+-- below a top that isn't, nothing is picked exactly where of each child nothing is
+pub none_below : (rule : Rule) (ds : Named) (d : Content) → ((f : List ℕ) → beside rule ds f ≡ inside f d) → (h : Option Held) (cs : Named) → IsRising cs → picks_some rule (option_map standing h) d ≡ false
+    → no_child (picked_in rule ds cs) ≡ is_empty (picked rule (over (at_top h) (gather cs)) d)
+none_below rule ds d insides h cs rises off =
+    let ps = picked_in rule ds cs in
+    let s = picked rule (over (at_top h) (gather cs)) d in
+    let bare : Option Held = None in
+    let level : over (at_top bare) (gather ps) ≡ marked s = picks_level rule ds d insides h bare cs rises (sym (ap (λ b. cond b (Some mark) None) off)) in
+    both_ways (no_child ps) (is_empty s) (λ none. none_marked s (sym level ∙ bare_level bare ps refl (no_child-is ps none)))
+    (λ none. ap no_child (bare_below bare ps (picked_children rule ds cs rises).1 (level ∙ marked_none s none)))
+
+module _ (rule : Rule) (e : List ℕ × Content) (left cs rest next : Named) (o : Option Content) (steps : cs ≡ e ∷ left) (rises : IsRising cs) (rises_rest : IsRising rest) (first : o ≡ first_of e.0 (back_of e.0 rest))
+    (others : next ≡ left_of e.0 (back_of e.0 rest)) where
+  abbrev chosen : PathSet
+  chosen = picked rule e.1 (content_or_nothing o)
+
+  one_child : kept e.0 (marked chosen) [] ++ picked_in rule next left ≡ picked_in rule rest cs
+  one_child = picks_more rule e left cs rest next [] (kept e.0 (marked chosen) []) o (marked chosen) steps rises rises_rest first others refl refl
+
+  -- a child of which nothing is picked
+  pub none_more : is_empty chosen ≡ true → picked_in rule next left ≡ picked_in rule rest cs
+  none_more none = sym (ap (λ l. l ++ picked_in rule next left) (kept-bare e.0 (marked chosen) [] (marked_none chosen none))) ∙ one_child
+
+  -- and one of which something is
+  pub some_more : is_empty chosen ≡ false → no_child (picked_in rule rest cs) ≡ false
+  some_more some = ap no_child (sym one_child ∙ ap (λ l. l ++ picked_in rule next left) (kept-full e.0 (marked chosen) [] (λ none. true≢false (sym (none_marked chosen none) ∙ some))))

@@ -1,5 +1,5 @@
 -- Sets of paths, and the paths that have a value.
-use Rattle.std.proofs.Common.{◌≡◌, ℕ, Bool, true, false, not, ◌&&◌, ◌||◌, List, [], ◌∷◌, map, Option, Some, None, is_some, is_eq, refl, sym, ap, ap₂, ◌∙◌, true≢false, cond}
+use Rattle.std.proofs.Common.{◌≡◌, ◌==◌, eqb-true, ℕ, Bool, true, false, not, ◌&&◌, ◌||◌, List, [], ◌∷◌, map, Option, Some, None, is_some, is_eq, refl, sym, ap, ap₂, ◌∙◌, true≢false, cond}
 use Rattle.std.specs.Cmp.{Equal-is, both_ways, first_so, second_so, tied_itself}
 use Rattle.std.specs.Ordering.{eq_by_cmp}
 use Rattle.std.specs.List.{list_any}
@@ -9,7 +9,7 @@ use Rattle.std.specs.FinSet as set
 use Rattle.std.proofs.lemmas.Slice.Eq.{bytes_eq-Decides}
 use Rattle.fieldpath.specs.Paths.{PathTexts, path_cmp}
 use Rattle.pathmap.specs.Contents.{Standing, Content, PathSet, nothing, over, dom}
-use Rattle.pathmap.specs.Beside.{same_value, changed, is_front, has_at_or_below, has_at_or_above, without, clear_of}
+use Rattle.pathmap.specs.Beside.{same_value, changed, is_empty, is_within, is_front, has_at_or_below, has_at_or_above, without, clear_of}
 use Rattle.pathmap.proofs.Contents.{path_cmp_total, path_cmp_antisymmetric, same, either, get-nothing, get-over}
 
 pub same_paths : (s t : PathSet) → ((q : PathTexts) → set.contains s q ≡ set.contains t q) → s ≡ t
@@ -21,6 +21,23 @@ contains-dom c q = set.contains-from_list path_cmp_total (map (λ e. e.0) (fin.e
 
 pub contains-where : (s : PathSet) (p : PathTexts → Bool) (q : PathTexts) → set.contains (set.retain s p) q ≡ (set.contains s q && p q)
 contains-where s p q = set.contains-retain s p q (λ x t. ap p (sym (path_cmp_antisymmetric q x t)))
+
+-- ---- sets without a path
+
+pub no_paths : (s : PathSet) → is_empty s ≡ true → s ≡ set.empty
+no_paths s none = set.empty_of_len s (eqb-true (set.len s) 0 none)
+
+pub has_no_path : (s : PathSet) → is_empty s ≡ true → (q : PathTexts) → set.contains s q ≡ false
+has_no_path s none q = ap (λ t. set.contains t q) (no_paths s none) ∙ set.contains-empty path_cmp q
+
+pub without_path : (s : PathSet) → ((q : PathTexts) → set.contains s q ≡ false) → is_empty s ≡ true
+without_path s none = ap (λ t. set.len t == 0) (same_paths s set.empty (λ q. none q ∙ sym (set.contains-empty path_cmp q))) ∙ ap (λ n. n == 0) (set.len-empty path_cmp)
+
+-- no path of the first set is outside of the second
+pub within_at : (s t : PathSet) → is_within s t ≡ true → (q : PathTexts) → (set.contains s q && not (set.contains t q)) ≡ false
+within_at s t all q = sym (set.contains-difference path_cmp_total s t q) ∙ has_no_path (set.difference s t) all q
+
+-- ---- the paths of contents side by side
 
 pub contains-changed : (c d : Content) (q : PathTexts) → set.contains (changed c d) q ≡ (is_some (fin.get c q) && not (same_value (fin.get c q) (fin.get d q)))
 unfolding changed

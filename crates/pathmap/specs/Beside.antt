@@ -1,5 +1,5 @@
 -- Contents and sets of paths side by side.
-use Rattle.std.specs.Prelude.{Bool, true, false, not, ◌&&◌, [], ◌∷◌, Option, Some, None}
+use Rattle.std.specs.Prelude.{Bool, true, false, not, ◌&&◌, ◌==◌, [], ◌∷◌, Option, Some, None}
 use Rattle.std.specs.FinMap as fin
 use Rattle.std.specs.FinSet as set
 use Rattle.std.specs.List.{list_any}
@@ -31,6 +31,17 @@ same_value (Some v) (Some w) = same_standing v w
 -- the paths of c that d lacks or has another value at
 unfoldable pub changed : Content → Content → PathSet
 changed c d = set.retain (dom c) (λ p. not (same_value (fin.get c p) (fin.get d p)))
+
+abbrev pub is_empty : PathSet → Bool
+is_empty s = set.len s == 0
+
+-- whether the second set has all paths of the first
+abbrev pub is_within : PathSet → PathSet → Bool
+is_within s t = is_empty (set.difference s t)
+
+-- whether d has the same value at each path of c
+abbrev pub is_unchanged : Content → Content → Bool
+is_unchanged c d = is_empty (changed c d)
 
 -- whether the first path is a front of the second, or the second itself
 abbrev pub is_front : PathTexts → PathTexts → Bool

@@ -42,3 +42,8 @@ kept f c cs = if has_path c then (f, c) ∷ cs else cs
 abbrev pub picked_in : Rule → List (List ℕ × Content) → List (List ℕ × Content) → List (List ℕ × Content)
 picked_in rule ds [] = []
 picked_in rule ds (c ∷ cs) = kept c.0 (marked (picked rule c.1 (content_or_nothing (child_of c.0 ds)))) (picked_in rule ds cs)
+
+-- whether there is no child
+abbrev pub no_child : List (List ℕ × Content) → Bool
+no_child [] = true
+no_child (c ∷ cs) = false

@@ -1,14 +1,14 @@
-//! The parts of a map that another map picks: what both have, what it lacks, what differs.
+//! The parts of a map that another map picks: what both have, what it lacks, what differs; and whether there is any.
 
 ghost use Rattle.std.specs.Prelude.{ℕ, List, ◌≡◌, ◌++◌, [], IfOk, OnOk, Some, None, string_bytes, if◌then◌else◌};
 ghost use Rattle.std.specs.Option.{option_map};
 ghost use Rattle.std.specs.FinSet as set;
 ghost use Rattle.pathmap.specs.Contents.{dom, mark, marked, nothing};
-ghost use Rattle.pathmap.specs.Beside.{changed, clear_of};
+ghost use Rattle.pathmap.specs.Beside.{changed, clear_of, is_empty, is_unchanged, is_within};
 ghost use Rattle.pathmap.specs.Insides.{inside};
 ghost use Rattle.pathmap.specs.Levels.{child_of, IsRising};
 ghost use Rattle.pathmap.specs.Maps.{content, content_or_nothing, contents_in, standing};
-ghost use Rattle.pathmap.specs.Picks.{kept, picked, picked_in, picks, picks_alone, picks_some};
+ghost use Rattle.pathmap.specs.Picks.{kept, no_child, picked, picked_in, picks, picks_alone, picks_some};
 
 use crate::copying::push_made;
 use crate::held::Held;
@@ -66,13 +66,20 @@ fn is_picked(rule: Rule, mine: &Held, theirs: Option<&PathMap>) -> bool
     }
 }
 
+/// Whether something stands at the empty path and is picked.
+fn picks_held(rule: Rule, mine: &Option<Held>, theirs: Option<&PathMap>) -> bool
+    ensures { result ≡ picks_some rule (option_map standing mine.now) (content_or_nothing (option_map (λ m. m.now) theirs.entry)) }
+{
+    match mine {
+        Some(held) => is_picked(rule, held, theirs),
+        None => false,
+    }
+}
+
 fn pick_held(rule: Rule, mine: &Option<Held>, theirs: Option<&PathMap>) -> Option<Held>
     ensures { option_map standing result ≡ (if picks_some rule (option_map standing mine.now) (content_or_nothing (option_map (λ m. m.now) theirs.entry)) then Some mark else None) }
 {
-    let Some(held) = mine else {
-        return None;
-    };
-    if is_picked(rule, held, theirs) {
+    if picks_held(rule, mine, theirs) {
         Some(Held::Mark)
     } else {
         None
@@ -153,12 +160,50 @@ fn picked_paths(
     Ok(made)
 }
 
+/// Both in order, as in `pick_below`, up to the first child of which a path is picked.
+#[cycle(picks_none)]
+fn picks_none_below(
+    mine: &[(ElemText, PathMap)],
+    theirs: &[(ElemText, PathMap)],
+    rule: Rule,
+) -> bool
+    ensures { IsRising (contents_in mine.now) → IsRising (contents_in theirs.now) → result ≡ no_child (picked_in rule (contents_in theirs.now) (contents_in mine.now)) }
+{
+    let mut rest = theirs;
+    for (name, inner) in mine {
+        let (map, left) = split_named(skip(rest, name), name);
+        rest = left;
+        if !picks_none(inner, map, rule) {
+            return false;
+        }
+    }
+    true
+}
+
+/// Whether the rule picks no path: the walk of `pick`, which makes nothing and stops at the first path that is picked.
+#[cycle(picks_none)]
+fn picks_none(mine: &PathMap, theirs: Option<&PathMap>, rule: Rule) -> bool
+    ensures { result ≡ is_empty (picked rule (content mine.now) (content_or_nothing (option_map (λ m. m.now) theirs.entry))) }
+{
+    if picks_held(rule, &mine.held, theirs) {
+        return false;
+    }
+    picks_none_below(&mine.below, below_of(theirs), rule)
+}
+
 impl PathMap {
     /// The paths that the other map lacks.
     pub fn minus(&self, alloc: Global, other: &PathMap) -> Result<PathMap, AllocError>
         ensures { IfOk result (λ m. dom (content m) ≡ set.difference (dom (content self.now)) (dom (content other.now))) }
     {
         picked_paths(self, alloc, Some(other), Rule::Absent)
+    }
+
+    /// Whether the other map has all of its paths: `minus` would have none.
+    pub fn is_within(&self, other: &PathMap) -> bool
+        ensures { result ≡ is_within (dom (content self.now)) (dom (content other.now)) }
+    {
+        picks_none(self, Some(other), Rule::Absent)
     }
 
     /// The paths that the other map has too.
@@ -173,6 +218,13 @@ impl PathMap {
         ensures { IfOk result (λ m. dom (content m) ≡ changed (content self.now) (content other.now)) }
     {
         picked_paths(self, alloc, Some(other), Rule::Changed)
+    }
+
+    /// Whether the other map has the same value at each of its paths: `changed` would have none.
+    pub fn is_unchanged_from(&self, other: &PathMap) -> bool
+        ensures { result ≡ is_unchanged (content self.now) (content other.now) }
+    {
+        picks_none(self, Some(other), Rule::Changed)
     }
 
     /// The paths at or below which the other map has none.

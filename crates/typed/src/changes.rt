@@ -1,8 +1,8 @@
-//! How a content differs from another: what was added, changed and removed.
+//! How a content differs from another: what was added, changed and removed, and whether anything was.
 
 ghost use Rattle.std.specs.Prelude.{◌≡◌, IfOk};
 ghost use Rattle.std.specs.FinSet as set;
-ghost use Rattle.pathmap.specs.Beside.{changed, without};
+ghost use Rattle.pathmap.specs.Beside.{changed, is_unchanged, is_within, without};
 ghost use Rattle.pathmap.specs.Contents.{dom};
 ghost use Rattle.pathmap.specs.Maps.{content};
 
@@ -36,11 +36,25 @@ impl Tree {
         Ok(FieldSet::of(paths.map().minus(alloc, self.map())?))
     }
 
+    /// Whether it has all of these paths.
+    pub fn has_all(&self, paths: &FieldSet) -> bool
+        ensures { result ≡ is_within paths.now (dom self.now) }
+    {
+        paths.map().is_within(self.map())
+    }
+
     /// The paths that the other content lacks or has another value at.
     pub fn changed_from(&self, alloc: Global, other: &Tree) -> Result<FieldSet, AllocError>
         ensures { IfOk result (λ s. s ≡ changed self.now other.now) }
     {
         Ok(FieldSet::of(self.map().changed(alloc, other.map())?))
+    }
+
+    /// Whether the other content has the same value at each of its paths.
+    pub fn is_unchanged_from(&self, other: &Tree) -> bool
+        ensures { result ≡ is_unchanged self.now other.now }
+    {
+        self.map().is_unchanged_from(other.map())
     }
 
     /// The paths that the other content lacks.

@@ -216,7 +216,7 @@ pub(crate) fn stored_over(
     ensures plan { Gives written_plan result (stored_over (type_of of.entry) of.entry.current (key_of of.entry.key) (object_in live.now) (state_of owned)) }
     ensures right { IfOk result (RemembersRight (type_of of.entry)) }
 {
-    match written_over(alloc, &owned, live.before())? {
+    match written_over(&owned, live.before()) {
         Outcome::Created => stored(alloc, of, 201, owned),
         Outcome::Configured => stored(alloc, of, 200, owned),
         Outcome::Unchanged => match &live.object {

@@ -1,7 +1,7 @@
 use Rattle.std.proofs.Common.{sym, ap, ap₂, ◌∙◌, ◌++◌, ◌∷◌, []}
 use Rattle.std.proofs.lemmas.List.{map-append}
+use Rattle.pathmap.specs.Beside.{is_empty}
 use Rattle.objects.specs.Managers.{pair, pairs, manager_view}
-use Rattle.objects.specs.Owners.{is_empty}
 use Rattle.objects.proofs.Entries.{less_same, less_empty, less_some, empty_is}
 use Rattle.objects.proofs.managers.less_others.Goals as goal
 use Rattle.objects.proofs.managers.less_others.Goals.{then-not-is_same+in_ok-paths+then-not-is_empty+in_ok-try_copy+in_ok-push, then-not-is_same+in_ok-paths+else-not-is_empty, else-not-is_same}

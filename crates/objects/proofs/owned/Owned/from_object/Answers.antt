@@ -24,15 +24,15 @@ returns-in_err-owned c = λ shaped.
     handed s of t c.from_residual-in_err-owned.result e c.from_residual-in_err-owned.ensures.1
     (no_parts s of t shaped (data_of (value_view c.in_ok-value.value)) c.in_ok-value.ensures.value e c.in_err-owned.ensures)
 
-pub returns-then-not-branch : goal.returns-then-not-branch
-returns-then-not-branch c = λ shaped.
+pub returns-then-not-owned_stand : goal.returns-then-not-owned_stand
+returns-then-not-owned_stand c = λ shaped.
     not_standing (shape c.args.schema.now) (identity_of c.args.of) c.args.text.now shaped (data_of (value_view c.in_ok-value.value)) c.in_ok-value.ensures.value (state_of c.in_ok-owned.owned) c.in_ok-owned.version c.in_ok-owned.ensures
-    (λ stand. true≢false (sym (c.in_ok-owned_stand.ensures.1 stand) ∙ c.if-not-branch.true))
+    (λ stand. true≢false (sym (c.owned_stand.ensures.1 stand) ∙ c.if-not-owned_stand.true))
 
 pub returns-then-eq : goal.returns-then-eq
 returns-then-eq c = λ shaped.
     read_back (shape c.args.schema.now) (identity_of c.args.of) c.args.text.now shaped (data_of (value_view c.in_ok-value.value)) (state_of c.in_ok-owned.owned) c.in_ok-owned.version (string_bytes c.in_ok-printed.printed) c.in_ok-value.ensures.value c.in_ok-owned.ensures
-    (c.in_ok-owned_stand.ensures.0 c.if-not-branch.false) c.in_ok-printed.ensures
+    (c.owned_stand.ensures.0 c.if-not-owned_stand.false) c.in_ok-printed.ensures
     (sym c.as_str.ensures.value ∙ (bytes_decides c.as_str.result.now c.args.text.now).0 (sym c.eq.ensures ∙ c.if-eq.true))
 
 pub returns : goal.returns

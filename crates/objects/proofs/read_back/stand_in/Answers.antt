@@ -1,7 +1,0 @@
-use Rattle.std.proofs.Common.{sym, ap, ◌∙◌}
-use Rattle.objects.specs.Owners.{is_empty}
-use Rattle.objects.proofs.Entries.{empty_is}
-use Rattle.objects.proofs.read_back.stand_in.Goals as goal
-
-pub returns : goal.returns
-returns c = sym (empty_is c.in_ok-lacking.field-0 c.is_empty-2.result c.is_empty-2.ensures) ∙ ap is_empty c.in_ok-lacking.ensures
