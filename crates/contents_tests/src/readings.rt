@@ -38,6 +38,7 @@ read {"spec":{"tags":[null]}} => .spec.tags[0]: wrong type
 read {"spec":{"tags":["a","a"]}} => .spec.tags: duplicate item
 read {"spec":{"ports":{}}} => .spec.ports: wrong type
 read {"spec":{"ports":[5]}} => .spec.ports[0]: not an object
+read {"spec":{"ports":[{"name":"a","nope":1}]}} => .spec.ports[0].nope: unknown field
 read {"spec":{"ports":[null]}} => .spec.ports[0]: wrong type
 read {"spec":{"ports":[{"name":null,"port":"x"}]}} => .spec.ports[0]: key field missing
 read {"spec":{"ports":[{"name":5,"port":"x"}]}} => .spec.ports[0].name: wrong type

@@ -1,7 +1,7 @@
 //! What replies say to a client: the body of a list's answer, and a line of a watch (Kubernetes API Concepts,
 //! "Retrieving large results sets in chunks" and "Efficient detection of changes").
 //!
-//! What is read is of the asked type and namespace, or else its first error.
+//! What is read is of the asked type and namespace; where it isn't, the first thing that is wrong with it is told.
 //!
 //! What is kept of an object is what its own text says.
 //!

@@ -28,7 +28,7 @@ use Rattle.schema.specs.Shape.{Shape, Fields, shape_at}
 use Rattle.schema.specs.Steps.{Spot, value_of, set_item, map_item, is_leaf}
 use Rattle.fieldset.specs.BothWays.{AreInOrder, IsInOrder, ReadIsWritten}
 use Rattle.fieldset.specs.FieldsV1.{each, fields_v1_of, leaf, members_of, put_names}
-use Rattle.fieldset.specs.Reading.{Reading, and_then, are_due, dot, has_keys, is_empty, is_marked, joined, not_an_object, not_canonical, read_at, read_member, read_members, top}
+use Rattle.fieldset.specs.Reading.{Reading, and_then, needs_members, dot, has_keys, is_empty, is_marked, joined, not_an_object, not_canonical, read_at, read_member, read_members, top}
 use Rattle.fieldset.proofs.Fronts.{IsGood, IsPlacedAt, all_lead, base-each, base_at, dressed, first_of, good_next, inner_at, inner_of, members_at, none_some, second_of}
 use Rattle.fieldset.proofs.Saying.{IsDue, Said, said}
 use Rattle.fieldset.proofs.Marks.{content_or, dot_next, joined_parts, not_ok, same_ok}
@@ -249,10 +249,10 @@ first_member : (ms : Members) → is_empty ms ≡ false → (k : List ℕ) × (d
 first_member no_members h = absurd (true≢false h)
 first_member (member k d ms) h = (k, d, get_first k d ms)
 
-unmarked_due : (spot : Spot) (ms : Members) → is_marked spot ms ≡ false → are_due spot ≡ true
-unmarked_due (value_of s) ms h = ap not h
-unmarked_due set_item ms h = absurd (true≢false h)
-unmarked_due (map_item names all) ms h = refl
+unmarked_needs : (spot : Spot) (ms : Members) → is_marked spot ms ≡ false → needs_members spot ≡ true
+unmarked_needs (value_of s) ms h = ap not h
+unmarked_needs set_item ms h = absurd (true≢false h)
+unmarked_needs (map_item names all) ms h = refl
 
 module _ (ms : Members) (backs : AllBack ms) (rise : Rising ms) (spot : Spot) (good : IsGood spot) (x : Content) (placed : IsPlacedAt spot x) (y : Content) (reads : read_members spot ms ms ≡ Ok y)
     (whole : over (top (is_marked spot ms)) y ≡ x) where
@@ -304,8 +304,8 @@ module _ (ms : Members) (backs : AllBack ms) (rise : Rising ms) (spot : Spot) (g
   members_same : members_at spot x ≡ ms
   members_same = dressed_same spot ms (base_at spot x) (is_some (fin.get x [])) top_is rise base_rise base_get facts_of
 
-  has_some : (are_due spot && is_empty ms) ≡ false → has_path x ≡ true
-  has_some due = by_mark (is_marked spot ms) refl
+  has_some : (needs_members spot && is_empty ms) ≡ false → has_path x ≡ true
+  has_some filled = by_mark (is_marked spot ms) refl
     where
       by_said : (k : List ℕ) (d : Data) → get_member k ms ≡ Some d → is_marked spot ms ≡ false → (c : Content) → Said spot ms k d (λ n. read_at n d) c → has_path x ≡ true
       by_said k d is unmarked c (inl s) =
@@ -317,16 +317,16 @@ module _ (ms : Members) (backs : AllBack ms) (rise : Rising ms) (spot : Spot) (g
       by_mark : (b : Bool) → is_marked spot ms ≡ b → has_path x ≡ true
       by_mark true is = one_path x [] (top_is ∙ is)
       by_mark false is =
-          let first = first_member ms (sym (ap (λ b. b && is_empty ms) (unmarked_due spot ms is)) ∙ due) in
+          let first = first_member ms (sym (ap (λ b. b && is_empty ms) (unmarked_needs spot ms is)) ∙ filled) in
           let f = facts_of first.0 first.1 first.2 in
           by_said first.0 first.1 first.2 is f.0 f.1
 
 object_back : (ms : Members) → AllBack ms → Rising ms → Backs (object ms)
-object_back ms backs rise spot good x h = by_due (are_due spot && is_empty ms) refl h
+object_back ms backs rise spot good x h = by_need (needs_members spot && is_empty ms) refl h
   where
-    by_due : (b : Bool) → (are_due spot && is_empty ms) ≡ b → cond b (Err not_canonical) (joined (Ok (top (is_marked spot ms))) (read_members spot ms ms)) ≡ Ok x → (has_path x ≡ true) × (object (members_at spot x) ≡ object ms)
-    by_due true is gave = absurd (not_ok not_canonical x gave)
-    by_due false is gave =
+    by_need : (b : Bool) → (needs_members spot && is_empty ms) ≡ b → cond b (Err not_canonical) (joined (Ok (top (is_marked spot ms))) (read_members spot ms ms)) ≡ Ok x → (has_path x ≡ true) × (object (members_at spot x) ≡ object ms)
+    by_need true is gave = absurd (not_ok not_canonical x gave)
+    by_need false is gave =
         let parts = joined_parts (Ok (top (is_marked spot ms))) (read_members spot ms ms) x gave in
         let whole : over (top (is_marked spot ms)) parts.1 ≡ x = ap (λ c. over c parts.1) (same_ok (top (is_marked spot ms)) parts.0 parts.2) ∙ parts.4 in
         let placed = at_placed spot (object ms) x h in
@@ -387,7 +387,7 @@ mutual
   at_marks (number n) spot x h = absurd (not_ok not_an_object x h)
   at_marks (string s) spot x h = absurd (not_ok not_an_object x h)
   at_marks (array ds) spot x h = absurd (not_ok not_an_object x h)
-  at_marks (object ms) spot x h = object_marks spot ms x (λ y is. members_marks ms spot ms y is) (are_due spot && is_empty ms) h
+  at_marks (object ms) spot x h = object_marks spot ms x (λ y is. members_marks ms spot ms y is) (needs_members spot && is_empty ms) h
 
   members_marks : (ms : Members) (spot : Spot) (beside : Members) (x : Content) → read_members spot beside ms ≡ Ok x → IsMarks x
   members_marks no_members spot beside x h = subst IsMarks (same_ok nothing x h) nothing_marks

@@ -14,7 +14,7 @@ use Rattle.pathmap.proofs.Trees.{ties}
 use Rattle.json_values.specs.Members.{has}
 use Rattle.schema.specs.Steps.{Spot, value_of, set_item, map_item, step}
 use Rattle.fieldset.specs.BothWays.{HavePlaces, ReadHavePlaces}
-use Rattle.fieldset.specs.Reading.{Refusal, Reading, and_then, are_due, bad_key, dot, element_in, is_empty, is_key_field, is_marked, joined, may_have_dot, not_an_object, not_canonical, off_schema, read_at, read_below, read_mark, read_member, read_members, some_or, top}
+use Rattle.fieldset.specs.Reading.{Refusal, Reading, and_then, needs_members, bad_key, dot, element_in, is_empty, is_key_field, is_marked, joined, may_have_dot, not_an_object, not_canonical, off_schema, read_at, read_below, read_mark, read_member, read_members, some_or, top}
 use Rattle.fieldset.proofs.Fronts.{IsPlacedAt}
 use Rattle.fieldset.proofs.Marks.{joined_parts, mark_nothing, not_ok, same_ok}
 use Rattle.fieldset.proofs.Places.{next, place-here, place-next, place_at, place_next, step_read}
@@ -89,8 +89,8 @@ when_some true = refl
 when_some false = refl
 
 object_placed : (spot : Spot) (ms : Members) (x : Content) → ((y : Content) → read_members spot ms ms ≡ Ok y → IsPlacedBelow spot y)
-    → cond (are_due spot && is_empty ms) (Err not_canonical) (joined (Ok (top (is_marked spot ms))) (read_members spot ms ms)) ≡ Ok x → IsPlacedAt spot x
-object_placed spot ms x below h = by_due (are_due spot && is_empty ms) h
+    → cond (needs_members spot && is_empty ms) (Err not_canonical) (joined (Ok (top (is_marked spot ms))) (read_members spot ms ms)) ≡ Ok x → IsPlacedAt spot x
+object_placed spot ms x below h = by_need (needs_members spot && is_empty ms) h
   where
     at : (y : Content) → over (top (is_marked spot ms)) y ≡ x → IsPlacedBelow spot y → IsPlacedAt spot x
     at y is placed = subst (IsPlacedAt spot) is by_path
@@ -103,9 +103,9 @@ object_placed spot ms x below h = by_due (are_due spot && is_empty ms) h
             either_some (is_some (place_at spot (g ∷ t)) ≡ true) (fin.get (top (is_marked spot ms)) (g ∷ t)) (fin.get y (g ∷ t)) (sym (ap is_some (get-over (top (is_marked spot ms)) y (g ∷ t))) ∙ there)
             (λ is_top. absurd (true≢false (sym is_top ∙ ap is_some (get_top_below (is_marked spot ms) g t)))) (placed.1 g t)
 
-    by_due : (b : Bool) → cond b (Err not_canonical) (joined (Ok (top (is_marked spot ms))) (read_members spot ms ms)) ≡ Ok x → IsPlacedAt spot x
-    by_due true h = absurd (not_ok not_canonical x h)
-    by_due false h =
+    by_need : (b : Bool) → cond b (Err not_canonical) (joined (Ok (top (is_marked spot ms))) (read_members spot ms ms)) ≡ Ok x → IsPlacedAt spot x
+    by_need true h = absurd (not_ok not_canonical x h)
+    by_need false h =
         let parts = joined_parts (Ok (top (is_marked spot ms))) (read_members spot ms ms) x h in
         at parts.1 (ap (λ c. over c parts.1) (same_ok (top (is_marked spot ms)) parts.0 parts.2) ∙ parts.4) (below parts.1 parts.3)
 

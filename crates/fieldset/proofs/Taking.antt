@@ -19,7 +19,7 @@ use Rattle.schema.specs.Steps.{Spot, step}
 use Rattle.fieldset.specs.declared.fault.FieldsV1Fault.{FieldsV1Fault}
 use Rattle.fieldset.specs.declared.fault.FieldsV1Fault.TheVariants as fault
 use Rattle.fieldset.specs.declared.member.Member.{Member}
-use Rattle.fieldset.specs.Reading.{Reading, Refusal, and_then, are_due, dot, element_in, is_empty, is_key_field, is_marked, joined, may_have_dot, not_canonical, off_schema, read_at, read_below, read_mark, read_member, read_members, some_or, top}
+use Rattle.fieldset.specs.Reading.{Reading, Refusal, and_then, needs_members, dot, element_in, is_empty, is_key_field, is_marked, joined, may_have_dot, not_canonical, off_schema, read_at, read_below, read_mark, read_member, read_members, some_or, top}
 use Rattle.fieldset.specs.Seen.{Fails, Gives, next_at, read_named, read_next}
 
 pub joined-nothing : (a : Reading) → joined (Ok nothing) a ≡ a
@@ -43,9 +43,6 @@ fails-by fault.BadKey r s h is = h _ is
 fails-by fault.NotCanonical r s h is = h _ is
 fails-by fault.OffSchema r s h is = h _ is
 fails-by fault.Memory r s h is = tt
-
-pub fails-and_then : {X Y : Type 0} (f : FieldsV1Fault) (r : Result X Refusal) (g : X → Result Y Refusal) → Fails f r → Fails f (and_then r g)
-fails-and_then f r g = fails-by f r (and_then r g) (λ e is. ap (λ x. and_then x g) is)
 
 -- a fault that `?` hands on
 pub passed_on : {X Y : Type 0} (view : X → Y) (e f : FieldsV1Fault) (r : Result X FieldsV1Fault) (read : Result Y Refusal) → r ≡ Err e → e ≡ f → Fails f read → Gives view r read
@@ -146,11 +143,11 @@ module _ (spot : Spot) (beside : Members) where
 
 -- ---- an object, with what stands at its own path over its members
 
-pub at_object : (s : Spot) (ms : Members) (c d : Content) → (are_due s && is_empty ms) ≡ false → read_members s ms ms ≡ Ok c → d ≡ over (top (is_marked s ms)) c → read_at s (object ms) ≡ Ok d
-at_object s ms c d is_due is topped =
-    ap (λ b. cond b (let read : Reading = Err not_canonical in read) (joined (Ok (top (is_marked s ms))) (read_members s ms ms))) is_due
+pub at_object : (s : Spot) (ms : Members) (c d : Content) → (needs_members s && is_empty ms) ≡ false → read_members s ms ms ≡ Ok c → d ≡ over (top (is_marked s ms)) c → read_at s (object ms) ≡ Ok d
+at_object s ms c d has_needed is topped =
+    ap (λ b. cond b (let read : Reading = Err not_canonical in read) (joined (Ok (top (is_marked s ms))) (read_members s ms ms))) has_needed
     ∙ ap (joined (Ok (top (is_marked s ms)))) is ∙ ap Ok (sym topped)
 
-pub at_failed : (s : Spot) (ms : Members) (f : FieldsV1Fault) → (are_due s && is_empty ms) ≡ false → Fails f (read_members s ms ms) → Fails f (read_at s (object ms))
-at_failed s ms f is_due = fails-by f (read_members s ms ms) (read_at s (object ms)) (λ e is.
-    ap (λ b. cond b (let read : Reading = Err not_canonical in read) (joined (Ok (top (is_marked s ms))) (read_members s ms ms))) is_due ∙ ap (joined (Ok (top (is_marked s ms)))) is)
+pub at_failed : (s : Spot) (ms : Members) (f : FieldsV1Fault) → (needs_members s && is_empty ms) ≡ false → Fails f (read_members s ms ms) → Fails f (read_at s (object ms))
+at_failed s ms f has_needed = fails-by f (read_members s ms ms) (read_at s (object ms)) (λ e is.
+    ap (λ b. cond b (let read : Reading = Err not_canonical in read) (joined (Ok (top (is_marked s ms))) (read_members s ms ms))) has_needed ∙ ap (joined (Ok (top (is_marked s ms)))) is)

@@ -57,8 +57,8 @@ put_not_empty k d (member l e ms) = by_order (slice_cmp nat_cmp k l)
 -- ---- one level
 
 module _ (c : Content) (marks : IsMarks c) (has_one : has_path c ≡ true) where
-  closes : (b due : Bool) (read : Reading) → due ≡ false → b ≡ is_some (fin.get c []) → read ≡ Ok (gather (each_inside c (heads c))) → cond due (Err not_canonical) (joined (Ok (top b)) read) ≡ Ok c
-  closes b due read none is reads = ap (λ x. cond x (Err not_canonical) (joined (Ok (top b)) read)) none ∙ ap₂ (λ t r. joined (Ok (top t)) r) is reads ∙ ap Ok (split c marks)
+  closes : (b lacks : Bool) (read : Reading) → lacks ≡ false → b ≡ is_some (fin.get c []) → read ≡ Ok (gather (each_inside c (heads c))) → cond lacks (Err not_canonical) (joined (Ok (top b)) read) ≡ Ok c
+  closes b lacks read none is reads = ap (λ x. cond x (Err not_canonical) (joined (Ok (top b)) read)) none ∙ ap₂ (λ t r. joined (Ok (top t)) r) is reads ∙ ap Ok (split c marks)
 
   no_top : is_some (fin.get c []) ≡ false → heads c ≡ [] → ⊥
   no_top none no_heads = true≢false (sym (heads_or_top c has_one no_heads) ∙ none)

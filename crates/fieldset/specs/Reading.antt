@@ -91,10 +91,10 @@ top true = here mark
 top false = nothing
 
 -- only at a leaf and at an item of a set is an object empty
-abbrev pub are_due : Spot → Bool
-are_due (value_of s) = not (is_leaf s)
-are_due set_item = false
-are_due (map_item names all) = true
+abbrev pub needs_members : Spot → Bool
+needs_members (value_of s) = not (is_leaf s)
+needs_members set_item = false
+needs_members (map_item names all) = true
 
 abbrev pub read_below : List ℕ → Reading → Reading
 read_below k read = and_then read (λ c. Ok (under k c))
@@ -114,7 +114,7 @@ abbrev mutual
   read_at spot (number n) = Err not_an_object
   read_at spot (string s) = Err not_an_object
   read_at spot (array ds) = Err not_an_object
-  read_at spot (object ms) = if are_due spot && is_empty ms then Err not_canonical else joined (Ok (top (is_marked spot ms))) (read_members spot ms ms)
+  read_at spot (object ms) = if needs_members spot && is_empty ms then Err not_canonical else joined (Ok (top (is_marked spot ms))) (read_members spot ms ms)
 
   pub read_members : Spot → Members → Members → Reading
   read_members spot beside no_members = Ok nothing

@@ -1,5 +1,5 @@
 -- What the calls of the reader answer, beside the definition.
-use Rattle.std.specs.Prelude.{◌≡◌, ℕ, List, Option, Some, None, String, string_bytes, if◌then◌else◌}
+use Rattle.std.specs.Prelude.{◌≡◌, ◌&&◌, ℕ, Bool, List, Option, Some, None, String, string_bytes, if◌then◌else◌}
 use Rattle.std.specs.declared.alloc.Global.{Global}
 use Rattle.std.specs.declared.result.Result.{Result}
 use Rattle.std.specs.declared.result.Result.TheVariants.{Ok, Err}
@@ -37,6 +37,10 @@ abbrev pub IsNamed : Option Member → List ℕ → Type 0
 IsNamed None name = Unit {0}
 IsNamed (Some m) name = string_bytes m.element ≡ name
 
+-- what `.` and key fields say, by whether they may stand there and whether their value has no member
+abbrev pub mark_by : Bool → Bool → Reading
+mark_by is_due is_empty = if is_due && is_empty then Ok nothing else Err not_canonical
+
 -- the text of an element, or that it is none
 abbrev pub Reads : List ℕ → Result (String Global) FieldsV1Fault → Type 0
 Reads name (Ok t) = (string_bytes t ≡ name) × IsElementText name
@@ -48,9 +52,13 @@ Reads name (Err fault.Memory) = Unit {0}
 
 -- ---- a member, by where its name leads
 
+-- where an element leads that is of no key field
+abbrev pub stepped : Spot → Element → Result (Option Spot) Refusal
+stepped s e = and_then (some_or off_schema (step s e)) (λ next. Ok (Some next))
+
 -- where an element leads; none where it is that of a key field of the item that stands here
 abbrev pub next_at : Spot → Element → Result (Option Spot) Refusal
-next_at s e = if is_key_field s e then Ok None else and_then (some_or off_schema (step s e)) (λ next. Ok (Some next))
+next_at s e = if is_key_field s e then Ok None else stepped s e
 
 abbrev pub next_of : Spot → List ℕ → Result (Option Spot) Refusal
 next_of s k = and_then (element_in (read_element k)) (next_at s)

@@ -1,11 +1,14 @@
-//! A member of a FieldsV1 object: the element that its name is the text of, and where this leads. Members are read in
-//! `read`, and in `borrowed` where a value borrows its text.
+//! A member of a FieldsV1 object: the element that its name is the text of, where this leads, and what says that a path is
+//! in the set. Members are read in `read`, and in `borrowed` where a value borrows its text.
 ghost use Rattle.std.specs.Prelude.{◌≡◌, IfOk, option_map, string_bytes};
 ghost use Rattle.fieldpath.specs.Elements.{field};
 ghost use Rattle.fieldpath.specs.Elems.{element};
+ghost use Rattle.json_values.specs.Members.{has};
+ghost use Rattle.pathmap.specs.Contents.{nothing};
 ghost use Rattle.schema.specs.Spots.{spot};
-ghost use Rattle.fieldset.specs.Reading.{are_due, is_key_field};
-ghost use Rattle.fieldset.specs.Seen.{Gives, Reads, next_at, next_of};
+ghost use Rattle.serde_json.specs.Data.{Members};
+ghost use Rattle.fieldset.specs.Reading.{dot, is_key_field, is_marked, needs_members};
+ghost use Rattle.fieldset.specs.Seen.{Gives, Reads, mark_by, next_at, next_of, stepped};
 
 use crate::fault::FieldsV1Fault;
 use fieldpath::{Elem, ElemFault, ElemText};
@@ -21,13 +24,35 @@ pub(crate) struct Member {
 }
 
 /// Whether an object that stands here must have members.
-pub(crate) fn are_due(here: Spot<'_>) -> bool
-    ensures { result ≡ are_due (spot here.entry) }
+pub(crate) fn needs_members(here: Spot<'_>) -> bool
+    ensures { result ≡ needs_members (spot here.entry) }
 {
     match here {
         Spot::Value(schema) => !schema.is_leaf(),
         Spot::SetItem => false,
         Spot::MapItem(_, _) => true,
+    }
+}
+
+/// Whether the path that leads here is in the set, by whether `.` stands here.
+pub(crate) fn is_marked(here: Spot<'_>, has_dot: bool) -> bool
+    ensures { (ms : Members) → has_dot ≡ has dot ms → result ≡ is_marked (spot here.entry) ms }
+{
+    match here {
+        Spot::Value(schema) => schema.is_leaf(),
+        Spot::SetItem => true,
+        Spot::MapItem(_, _) => has_dot,
+    }
+}
+
+/// Checks that `.` or a key field may stand where it does, and that its value is `{}`.
+pub(crate) fn check_mark(is_due: bool, is_empty: bool) -> Result<(), FieldsV1Fault>
+    ensures { Gives (λ _. nothing) result (mark_by is_due is_empty) }
+{
+    if is_due && is_empty {
+        Ok(())
+    } else {
+        Err(FieldsV1Fault::NotCanonical)
     }
 }
 
@@ -54,25 +79,10 @@ fn next_field<'a>(here: Spot<'a>, name: &str) -> Result<Option<Spot<'a>>, Fields
     }
 }
 
-/// Whether the element is that of a key field of the item that stands here.
-fn is_key_field(here: Spot<'_>, elem: &Elem) -> bool
-    ensures { result ≡ is_key_field (spot here.entry) (element elem.now) }
-{
-    match here {
-        Spot::MapItem(_, names) => match elem {
-            Elem::Field(name) => is_key(names, name.as_str()),
-            Elem::Key(_) | Elem::Value(_) => false,
-        },
-        Spot::Value(_) | Spot::SetItem => false,
-    }
-}
-
+/// Where an element that is no field leads. Key fields are fields, so it is that of none.
 fn next_elem<'a>(here: Spot<'a>, elem: &Elem) -> Result<Option<Spot<'a>>, FieldsV1Fault>
-    ensures { Gives (option_map spot) result (next_at (spot here.entry) (element elem.now)) }
+    ensures { Gives (option_map spot) result (stepped (spot here.entry) (element elem.now)) }
 {
-    if is_key_field(here, elem) {
-        return Ok(None);
-    }
     match here.step(elem) {
         Some(next) => Ok(Some(next)),
         None => Err(FieldsV1Fault::OffSchema),

@@ -1,6 +1,5 @@
-//! JSON texts, appended piece by piece. Out of memory, what is left of a text says nothing: `push_string` and
-//! `push_name` leave it empty.
-ghost use Rattle.std.specs.Prelude.{◌≡◌, ◌∷◌, ◌++◌, [], false, OnOk};
+//! JSON texts, appended piece by piece. A piece that is refused memory leaves the text as it was, or empty.
+ghost use Rattle.std.specs.Prelude.{◌≡◌, ◌∷◌, ◌++◌, [], false, IfOk, OnOk};
 ghost use Rattle.json.specs.Print.{quoted};
 ghost use Rattle.serde_json.specs.Data.{string};
 ghost use Rattle.serde_json.specs.View.{view};
@@ -21,13 +20,44 @@ pub fn push_comma(out: &mut Vec<u8>, later: bool) -> Result<(), AllocError>
     Ok(())
 }
 
+/// How long a text is at most behind which a writer goes on: it clears as much room ahead as the text is long. Behind a longer
+/// one each piece is written apart, and copied.
+const LONG: usize = 2048;
+
+/// Room for a text, its quotes and a colon; the writer takes more for what it escapes.
+fn room_for(alloc: Global, text: &str) -> Result<Vec<u8>, AllocError>
+    ensures { IfOk result (λ v. v.items ≡ []) }
+{
+    Vec::with_capacity(alloc, text.len().saturating_add(4))
+}
+
+/// A string behind these bytes.
+fn with_string(before: Vec<u8>, text: &str) -> Result<Vec<u8>, AllocError>
+    ensures { IfOk result (λ v. v.items ≡ before.items ++ compact_text (string text.now)) }
+{
+    let mut writer = Writer::new(before);
+    writer.string(text)?;
+    Ok(writer.into_inner())
+}
+
+/// A member's name and the colon behind these bytes.
+fn with_name(before: Vec<u8>, name: &str) -> Result<Vec<u8>, AllocError>
+    ensures { IfOk result (λ v. v.items ≡ before.items ++ (quoted name.now ++ 58 ∷ [])) }
+{
+    let mut writer = Writer::new(before);
+    writer.key(name)?;
+    Ok(writer.into_inner())
+}
+
 /// Appends a string.
 pub fn push_string(out: &mut Vec<u8>, alloc: Global, text: &str) -> Result<(), AllocError>
     ensures { OnOk result (out.new.items ≡ out.old.items ++ compact_text (string text.now)) }
 {
-    let mut writer = Writer::new(mem::replace(out, Vec::new(alloc)));
-    writer.string(text)?;
-    *out = writer.into_inner();
+    if out.len() > LONG {
+        let apart = with_string(room_for(alloc, text)?, text)?;
+        return out.extend_from_slice(apart.as_slice());
+    }
+    *out = with_string(mem::replace(out, Vec::new(alloc)), text)?;
     Ok(())
 }
 
@@ -35,9 +65,11 @@ pub fn push_string(out: &mut Vec<u8>, alloc: Global, text: &str) -> Result<(), A
 pub fn push_name(out: &mut Vec<u8>, alloc: Global, name: &str) -> Result<(), AllocError>
     ensures { OnOk result (out.new.items ≡ out.old.items ++ (quoted name.now ++ 58 ∷ [])) }
 {
-    let mut writer = Writer::new(mem::replace(out, Vec::new(alloc)));
-    writer.key(name)?;
-    *out = writer.into_inner();
+    if out.len() > LONG {
+        let apart = with_name(room_for(alloc, name)?, name)?;
+        return out.extend_from_slice(apart.as_slice());
+    }
+    *out = with_name(mem::replace(out, Vec::new(alloc)), name)?;
     Ok(())
 }
 

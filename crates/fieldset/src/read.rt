@@ -8,11 +8,11 @@ ghost use Rattle.json_values.specs.Members.{has};
 ghost use Rattle.schema.specs.KeyNames.{names_in};
 ghost use Rattle.schema.specs.Shape.{shape};
 ghost use Rattle.schema.specs.Spots.{spot};
-ghost use Rattle.fieldset.specs.Reading.{has_keys, is_empty, is_marked, may_have_dot, object_in, read_at, read_fields_v1, read_mark, read_members};
+ghost use Rattle.fieldset.specs.Reading.{has_keys, is_empty, may_have_dot, object_in, read_at, read_fields_v1, read_mark, read_members};
 ghost use Rattle.fieldset.specs.Seen.{Gives, IsNamed, member_view, read_named};
 
 use crate::fault::FieldsV1Fault;
-use crate::member::{Member, are_due, element_of};
+use crate::member::{Member, check_mark, element_of, is_marked, needs_members};
 use fieldpath::ElemText;
 use json_values::has;
 use pathmap::PathMap;
@@ -64,27 +64,12 @@ fn may_have_dot(
     }
 }
 
-/// Whether the path that leads here is in the set.
-fn is_marked(here: Spot<'_>, members: &Map<String, Value>) -> bool
-    ensures { result ≡ is_marked (spot here.entry) (members_view members.now.entries) }
-{
-    match here {
-        Spot::Value(schema) => schema.is_leaf(),
-        Spot::SetItem => true,
-        Spot::MapItem(_, _) => has(members, "."),
-    }
-}
-
 /// Checks that `.` or a key field may stand here, and that its value is `{}`.
 fn read_mark(is_due: bool, value: &Value) -> Result<(), FieldsV1Fault>
     ensures { Gives (λ _. nothing) result (read_mark is_due (view value.now)) }
 {
     let members = object_of(value)?;
-    if is_due && is_empty(members) {
-        Ok(())
-    } else {
-        Err(FieldsV1Fault::NotCanonical)
-    }
+    check_mark(is_due, is_empty(members))
 }
 
 /// A member, beside all members of its object.
@@ -138,11 +123,11 @@ fn read_at(value: &Value, alloc: Global, here: Spot<'_>) -> Result<PathMap, Fiel
     let Value::Object(members) = value else {
         return Err(FieldsV1Fault::NotAnObject);
     };
-    if are_due(here) && is_empty(members) {
+    if needs_members(here) && is_empty(members) {
         return Err(FieldsV1Fault::NotCanonical);
     }
     let mut map = read_members(members, alloc, here)?;
-    if is_marked(here, members) {
+    if is_marked(here, has(members, ".")) {
         map.mark();
     }
     Ok(map)

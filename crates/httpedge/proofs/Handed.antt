@@ -8,7 +8,7 @@ use Rattle.std.proofs.lemmas.Bool.{le-ltb, lt-ltb}
 use Rattle.httpedge.specs.HubSeen.{Happened, IsIn, refusal_number}
 use Rattle.httpedge.specs.Runs.{Follows, Happening, Runs, happens, starves, takes}
 use Rattle.httpedge.specs.Steps.{Event, State, compacts, refusal}
-use Rattle.httpedge.specs.Streams.{Compacts, Does, Hands, HandsIf, IsDone, event_in}
+use Rattle.httpedge.specs.Streams.{Compacts, MovesBy, Hands, HandsIf, IsDone, event_in}
 use Rattle.httpedge.specs.declared.fault.HubFault.{HubFault}
 use Rattle.httpedge.specs.declared.fault.HubFault.TheVariants as fault
 use Rattle.httpedge.specs.declared.hub.Hub.{Hub}
@@ -36,13 +36,13 @@ by_event e (Err fault.Store) h P done none is = subst P (sym is.1) (none is.0)
 abbrev pub FollowsBy : {A : Type 0} → Hub → Event → Result A HubFault → Hub → Type 0
 FollowsBy x e r y = (s : State) → IsIn x s → (h : Happening) × (t : State) × Happened e r h × Follows s h t × IsIn y t
 
-pub hands_event : {A : Type 0} (x y : Hub) (e : Event) (r : Result A HubFault) → FollowsBy x e r y → Does (Hands e) x y
+pub hands_event : {A : Type 0} (x y : Hub) (e : Event) (r : Result A HubFault) → FollowsBy x e r y → MovesBy (Hands e) x y
 hands_event x y e r follows = λ s is.
     let one = follows s is in
     (one.1, (one.0, by_event e r one.0 (λ h. event_in h ≡ Some e) refl (λ which. refl) one.2, one.3), one.4)
 
 pub done_event : {A : Type 0} (x y : Hub) (e : Event) (r : Result A HubFault) → ((s : State) → IsIn x s → refusal_number r ≡ refusal s e) → FollowsBy x e r y → is_ok r ≡ true
-    → Does (IsDone e) x y
+    → MovesBy (IsDone e) x y
 done_event x y e (Ok a) refused follows well = λ s is.
     let one = follows s is in
     (one.1, (sym (refused s is), subst (λ h. Follows s h one.1) one.2 one.3), one.4)
@@ -91,7 +91,7 @@ parts : {E : Type 0} (a b c d : ℕ) → told_as {E = E} (a, b) ≡ told_as (c, 
 parts a b c d same = (ap (λ r. (marks_of r).0) same, ap (λ r. (marks_of r).1) same)
 
 pub compacts_then : {E : Type 0} (x y : Hub) (keep current compacted revision : ℕ) (told : Result (ℕ × ℕ) E) → IsTold x told → told ≡ Ok (current, compacted)
-    → revision ≡ current - keep → compacted < revision → Does (Hands (compacts revision)) x y → Does (Compacts keep) x y
+    → revision ≡ current - keep → compacted < revision → MovesBy (Hands (compacts revision)) x y → MovesBy (Compacts keep) x y
 compacts_then x y keep current compacted revision told tells is at rises hands = λ s here.
     let same = parts current compacted s.machine.current s.machine.compacted (sym is ∙ tells s here) in
     let done = hands s here in
@@ -103,7 +103,7 @@ compacts_then x y keep current compacted revision told tells is at rises hands =
     )
 
 pub compacts_not : {E : Type 0} (x : Hub) (keep current compacted revision : ℕ) (told : Result (ℕ × ℕ) E) → IsTold x told → told ≡ Ok (current, compacted)
-    → revision ≡ current - keep → revision ≤ compacted → Does (Compacts keep) x x
+    → revision ≡ current - keep → revision ≤ compacted → MovesBy (Compacts keep) x x
 compacts_not x keep current compacted revision told tells is at rises = λ s here.
     let same = parts current compacted s.machine.current s.machine.compacted (sym is ∙ tells s here) in
     let now : revision ≡ s.machine.current - keep = at ∙ ap (λ n. n - keep) same.0 in
@@ -113,7 +113,7 @@ told_none : {E : Type 0} (e : E) (p : ℕ × ℕ) (told : Marks E) → told ≡ 
 told_none e p told is isnt = cc
 
 -- a hub whose marks can't be told is in no state
-pub compacts_none : {E : Type 0} (x : Hub) (keep : ℕ) (e : E) (told : Result (ℕ × ℕ) E) → IsTold x told → told ≡ Err e → Does (Compacts keep) x x
+pub compacts_none : {E : Type 0} (x : Hub) (keep : ℕ) (e : E) (told : Result (ℕ × ℕ) E) → IsTold x told → told ≡ Err e → MovesBy (Compacts keep) x x
 compacts_none x keep e told tells is = λ s here. absurd (told_none e (s.machine.current, s.machine.compacted) told is (tells s here))
 
 -- ---- a piece

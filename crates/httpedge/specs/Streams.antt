@@ -6,8 +6,8 @@ use Rattle.httpedge.specs.Steps.{Event, State, compacts, refusal}
 use Rattle.httpedge.specs.declared.hub.Hub.{Hub}
 
 -- each state of the hub before and one of the hub after stand in this relation
-abbrev pub Does : (State → State → Type 0) → Hub → Hub → Type 0
-Does R old new = (s : State) → IsIn old s → (t : State) × R s t × IsIn new t
+abbrev pub MovesBy : (State → State → Type 0) → Hub → Hub → Type 0
+MovesBy R old new = (s : State) → IsIn old s → (t : State) × R s t × IsIn new t
 
 abbrev pub event_in : Happening → Option Event
 event_in (happens e) = Some e

@@ -78,7 +78,7 @@ pub(crate) fn has_ended(connection: &Connection) -> bool
     }
 }
 
-/// How many are open with a new one, which is open only where fewer were than may be.
+/// How many are open once this one is added.
 pub(crate) fn count_with(count: usize, connection: &Connection) -> usize
     ensures { result ≡ cond (is_open_in connection.now && nat_lt count 1024) (count + 1) count }
 {

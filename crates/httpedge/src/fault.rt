@@ -10,7 +10,7 @@ pub enum HubFault {
     /// An opening whose id is not above those of all earlier ones.
     #[error("the id is not above all earlier ones")]
     IdNotAbove,
-    /// Bytes, a going or a pump of a connection that was never opened.
+    /// Bytes or a pump of a connection that was never opened, or its peer's going.
     #[error("there is no connection of this id")]
     UnknownId,
     /// A pump of no lines.

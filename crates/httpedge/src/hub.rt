@@ -196,8 +196,8 @@ impl Hub {
         }
     }
 
-    /// Handles an event: in the event that decides what the bytes of a connection ask, the reply is written and the
-    /// connection has ended, or watches. Refused, an event changes nothing; out of memory, an opening changes nothing,
+    /// Handles an event. Once the bytes of a connection decide what is asked, the reply is written, and the connection has
+    /// ended, or watches. Refused, an event changes nothing; out of memory, an opening changes nothing,
     /// and a connection that waits is dead where bytes come on it, a watch where it is pumped. At a tick each watch has
     /// its turn, and only one that was out of memory for what it writes is dead. Bytes on one that has ended need no
     /// memory. A compaction that fails changes nothing. The store is asked where bytes come, at a pump and at a

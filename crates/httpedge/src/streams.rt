@@ -4,7 +4,7 @@
 ghost use Rattle.std.specs.Prelude.{◌≡◌, [], MatchResult, true};
 ghost use Rattle.std.specs.Io.KnownBytes.{Consumes};
 ghost use Rattle.httpedge.specs.HubSeen.{event_of};
-ghost use Rattle.httpedge.specs.Streams.{Compacts, Does, Hands, IsDone};
+ghost use Rattle.httpedge.specs.Streams.{Compacts, MovesBy, Hands, IsDone};
 
 use crate::event::Event;
 use crate::hub::Hub;
@@ -21,15 +21,15 @@ pub const LINGER: u64 = 2000;
 
 /// Hands the hub an event: whether it was done. What one changes that is refused or out of memory is told at `Hub::on`.
 pub fn hand(hub: &mut Hub, event: Event) -> bool
-    ensures hands { Does (Hands (event_of event)) hub.old hub.new }
-    ensures done { result ≡ true → Does (IsDone (event_of event)) hub.old hub.new }
+    ensures hands { MovesBy (Hands (event_of event)) hub.old hub.new }
+    ensures done { result ≡ true → MovesBy (IsDone (event_of event)) hub.old hub.new }
 {
     hub.on(&event).is_ok()
 }
 
 /// Forgets what lies more than so many revisions before the current one, where that raises the compacted number.
 pub fn compact(hub: &mut Hub, keep: u64)
-    ensures { Does (Compacts keep) hub.old hub.new }
+    ensures { MovesBy (Compacts keep) hub.old hub.new }
 {
     let Ok((current, compacted)) = hub.marks() else {
         return;

@@ -1,7 +1,7 @@
 //! The client's cache of objects, with indexes that follow every change.
 //!
 //! After any list of calls the objects are the map of those put and not removed since, and each index has,
-//! for each of its keys, just the objects whose keys by its function have it. A refused call leaves the
+//! for each of its keys, just the objects to which its function gives this key. A refused call leaves the
 //! objects and every index.
 //!
 //! Stands on std alone.

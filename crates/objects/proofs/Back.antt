@@ -39,7 +39,7 @@ use Rattle.objects.specs.Placed.{IsPlacedState}
 use Rattle.objects.specs.ObjectText.{Identity, members_printed, metadata_members, metadata_of, entry_items, object_value, object_text}
 use Rattle.objects.specs.Owners.{Manager, Owners, HavePaths, WroteByNone, manager_of}
 use Rattle.json_values.specs.Members.{less, text_at, split_off}
-use Rattle.objects.specs.Parts.{if_read, own_members, split, version_in, labels_left, put_labels, operation_named, manager_in, set_in, entry_of, entry_in, entries_in, items_or_none, owners_of, owners_in, fields_of, state_with, parts_of, parts_in}
+use Rattle.objects.specs.Parts.{if_read, own_members, split, version_in, metadata_left, put_metadata, operation_named, manager_in, set_in, entry_of, entry_in, entries_in, items_or_none, owners_of, owners_in, fields_of, state_with, parts_of, parts_in}
 use Rattle.objects.specs.Ranks.{have_paths, rising}
 use Rattle.objects.specs.ReadBack.{IsObjectText, OneForOne, max_version}
 use Rattle.objects.proofs.Entered.{AllPlaced, entries_there, items_put, owners_back}
@@ -194,11 +194,11 @@ put_kept n k d ms spelled deep h = (put_ascend k d ms h.0, put_spelled k d ms sp
 at_most : (a m n : ℕ) → suc a ≤ suc m → suc m ≤ n → suc a ≤ n
 at_most a m n h k = omega (arith, h, k)
 
-labels_kept : (n : ℕ) (labels ms : Members) (m : ℕ) → suc m ≤ n → Kept m labels → Kept n ms → Kept n (put_labels labels ms)
-labels_kept n no_members ms m low l h = h
-labels_kept n (member k d labels) ms m low l h = put_kept n (codes "metadata") (object (member k d labels)) ms (l.0, l.1) (at_most (members_depth (member k d labels)) m n (one_deeper (members_depth (member k d labels)) m l.2) low) h
+metadata_kept : (n : ℕ) (labels ms : Members) (m : ℕ) → suc m ≤ n → Kept m labels → Kept n ms → Kept n (put_metadata labels ms)
+metadata_kept n no_members ms m low l h = h
+metadata_kept n (member k d labels) ms m low l h = put_kept n (codes "metadata") (object (member k d labels)) ms (l.0, l.1) (at_most (members_depth (member k d labels)) m n (one_deeper (members_depth (member k d labels)) m l.2) low) h
 
-fields_kept : (ms others envelope : Members) → Kept (members_depth ms) ms → split_off (codes "metadata") (own_members ms) ≡ Some (others, envelope) → Kept (members_depth ms) (put_labels (labels_left envelope) others)
+fields_kept : (ms others envelope : Members) → Kept (members_depth ms) ms → split_off (codes "metadata") (own_members ms) ≡ Some (others, envelope) → Kept (members_depth ms) (put_metadata (metadata_left envelope) others)
 fields_kept ms others envelope kept is =
     let n = members_depth ms in
     let own = less_kept n (codes "kind") (less (codes "apiVersion") ms) (less_kept n (codes "apiVersion") ms kept) in
@@ -211,8 +211,8 @@ fields_kept ms others envelope kept is =
     let m = members_depth found.0 in
     let inner : Kept m found.0 = (spelled.0, spelled.1, itself m) in
     let left = less_kept m (codes "managedFields") _ (less_kept m (codes "resourceVersion") _ (less_kept m (codes "namespace") _ (less_kept m (codes "name") found.0 inner))) in
-    let whole = labels_kept n (labels_left found.0) (less (codes "metadata") (own_members ms)) m deep left (less_kept n (codes "metadata") (own_members ms) own) in
-    subst (λ p. Kept n (put_labels (labels_left p.1) p.0)) found.2 whole
+    let whole = metadata_kept n (metadata_left found.0) (less (codes "metadata") (own_members ms)) m deep left (less_kept n (codes "metadata") (own_members ms) own) in
+    subst (λ p. Kept n (put_metadata (metadata_left p.1) p.0)) found.2 whole
 
 owners_have : (es : Pairs) (w : Owners) → owners_of es ≡ Some w → HavePaths w
 owners_have es w is = by_test (rising es && have_paths es) refl is

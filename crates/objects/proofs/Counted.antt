@@ -1,14 +1,15 @@
 -- How many labels an object is printed with.
-use Rattle.std.proofs.Common.{◌≡◌, ℕ, refl, ap, ◌∙◌}
+use Rattle.std.proofs.Common.{◌≡◌, ℕ, refl, sym, ap, ◌∙◌}
 use Rattle.std.specs.Prelude.{codes, decimal, option_and_then}
 use Rattle.serde_json.specs.Data.{string, array, object, Items, no_items, item, Members, put}
 use Rattle.serde_json.specs.Find.{as_object, get_member}
 use Rattle.serde_json.proofs.Views.{get_member-put, get_member-put_other}
+use Rattle.json_values.specs.Members.{members_at}
 use Rattle.schema.specs.Shape.{Shape}
 use Rattle.std.specs.FinMap as fin
 use Rattle.typed.specs.Printing.{print}
 use Rattle.objects.specs.State.{State}
-use Rattle.objects.specs.Labels.{label_count, labels_of, size}
+use Rattle.objects.specs.Labels.{HasLabels, label_count, labels_of, size}
 use Rattle.objects.specs.ObjectText.{Identity, entry_items, members_printed, metadata_members, metadata_of, object_value, put_entries}
 use Rattle.objects.proofs.Taken.{apart}
 
@@ -36,3 +37,7 @@ labels_counted s of version state =
     ∙ get_member-put_other (codes "labels") (codes "resourceVersion") (string (decimal version)) entries (apart (codes "labels") (codes "resourceVersion") refl)
     ∙ past_entries (entry_items s of.api_version (fin.entries state.owners)) labels in
     ap (λ o. size (option_and_then labels_of o)) found ∙ ap (λ o. size (option_and_then as_object o)) kept
+
+-- a count of the labels in what is printed as `metadata`
+pub has_labels : (s : Shape) (state : State) (n : ℕ) (metadata : Members) → n ≡ size (members_at (codes "labels") metadata) → metadata ≡ metadata_members (print s state.content) → HasLabels n s state
+has_labels s state n metadata counted are = λ of version. counted ∙ ap (λ ms. size (members_at (codes "labels") ms)) are ∙ sym (labels_counted s of version state)

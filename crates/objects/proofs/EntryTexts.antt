@@ -3,7 +3,7 @@ use Rattle.std.proofs.Common.{◌≡◌, ℕ, suc, arith, eqb-true, ◌+◌, ◌
 use Rattle.std.specs.Prelude.{codes}
 use Rattle.std.proofs.lemmas.List.{drop_all, drop_more}
 use Rattle.json.specs.Print.{quoted}
-use Rattle.serde_json.specs.Data.{Data, string, array, object, Items, item, Members, no_members, member, put}
+use Rattle.serde_json.specs.Data.{Data, string, object, Items, item, Members, no_members, member, put}
 use Rattle.serde_json.specs.Written.{comma_if, compact_text, items_text, members_text}
 use Rattle.fieldset.proofs.Appended.{regroup}
 use Rattle.schema.specs.Shape.{Shape}
@@ -84,7 +84,3 @@ module _ (s : Shape) (a : List ℕ) where
 
   pub all_pushed : (all : List Entry) (i : ℕ) (later : Bool) (old new whole : List ℕ) → length all ≤ i → old ++ items_text later (entry_items s a (pairs (drop i all))) ≡ whole → new ≡ old ++ 93 ∷ [] → new ≡ whole
   all_pushed all i later old new whole past before closed = closed ∙ sym (ap (λ es. old ++ items_text later (entry_items s a (pairs es))) (drop_all i all past)) ∙ before
-
--- an opening bracket, then items with the closing one
-pub array_pushed : (ds : Items) (start one new : List ℕ) → start ≡ [] → one ≡ start ++ 91 ∷ [] → new ≡ one ++ items_text false ds → new ≡ compact_text (array ds)
-array_pushed ds start one new none bracket items = items ∙ ap (λ x. x ++ items_text false ds) (bracket ∙ ap (λ x. x ++ 91 ∷ []) none)

@@ -10,6 +10,7 @@ use Rattle.serde_json.proofs.Views.{get_member-put, get_member-put_other}
 use Rattle.fieldpath.specs.Elements.{name_text}
 use Rattle.fieldpath.specs.Scalars.{ascend, ascend_from}
 use Rattle.fieldpath.specs.Spelled.{member_names}
+use Rattle.fieldpath.proofs.Names.{ascend_rest, first_below, further, rest_above}
 use Rattle.pathmap.specs.Contents.{Content}
 use Rattle.pathmap.specs.Insides.{inside}
 use Rattle.schema.specs.Lawful.{names_of}
@@ -20,8 +21,8 @@ use Rattle.typed.specs.Printing.{object_or_none, with_member, print, print_field
 use Rattle.typed.specs.Reading.{content_of}
 use Rattle.objects.specs.ObjectText.{members_printed, put_entries}
 use Rattle.json_values.specs.Members.{less, split_off}
-use Rattle.objects.specs.Parts.{own_members, split, labels_left, put_labels, fields_of}
-use Rattle.objects.proofs.Taken.{no_some, same_some, apart, below_apart, first_below, rest_above, further, ascend_rest, less_absent, less_put, put_back}
+use Rattle.objects.specs.Parts.{own_members, split, metadata_left, put_metadata, fields_of}
+use Rattle.objects.proofs.Taken.{no_some, same_some, apart, below_apart, less_absent, less_put, put_back}
 
 -- ---- the fields of what is printed
 
@@ -133,7 +134,7 @@ module _ (name namespace version : List ℕ) (items : Items) (labels : Members) 
       ∙ get_member-put_other (codes "name") (codes "resourceVersion") (string version) with_items (apart (codes "name") (codes "resourceVersion") refl)
       ∙ items_other items (codes "name") (apart (codes "name") (codes "managedFields") refl) none.0
 
-  pub labels_back : labels_left with_name ≡ labels
+  pub labels_back : metadata_left with_name ≡ labels
   labels_back =
       ap (λ ms. less (codes "managedFields") (less (codes "resourceVersion") (less (codes "namespace") ms))) (less_put (codes "name") (string name) with_namespace name_free)
       ∙ ap (λ ms. less (codes "managedFields") (less (codes "resourceVersion") ms)) (less_put (codes "namespace") (string namespace) with_version namespace_free)
@@ -180,11 +181,11 @@ module _ (api_version kind : List ℕ) (meta base : Members) (no_version : get_m
       ap (split_off (codes "metadata")) own_back ∙ ap (λ o. option_map (λ m. (less (codes "metadata") with_metadata, m)) (option_and_then as_object o)) (get_member-put (codes "metadata") (object meta) base)
 
   -- the fields as they were printed
-  pub fields_back : (labels : Members) → ascend (member_names base) ≡ true → get_member (codes "metadata") base ≡ object_or_none labels → labels_left meta ≡ labels
+  pub fields_back : (labels : Members) → ascend (member_names base) ≡ true → get_member (codes "metadata") base ≡ object_or_none labels → metadata_left meta ≡ labels
       → fields_of (less (codes "metadata") with_metadata) meta ≡ object base
-  fields_back labels up is left = ap (λ l. object (put_labels l (less (codes "metadata") with_metadata))) left ∙ by_labels labels is
+  fields_back labels up is left = ap (λ l. object (put_metadata l (less (codes "metadata") with_metadata))) left ∙ by_labels labels is
     where
-      by_labels : (l : Members) → get_member (codes "metadata") base ≡ object_or_none l → object (put_labels l (less (codes "metadata") with_metadata)) ≡ object base
+      by_labels : (l : Members) → get_member (codes "metadata") base ≡ object_or_none l → object (put_metadata l (less (codes "metadata") with_metadata)) ≡ object base
       by_labels no_members none = ap object (less_put (codes "metadata") (object meta) base none)
       by_labels (member k d l) some = ap object (put_back (codes "metadata") (object meta) (object (member k d l)) base up some)
 

@@ -14,12 +14,13 @@ use Rattle.serde_json.specs.Data.{object, Members, no_members, member, put}
 use Rattle.serde_json.specs.Find.{get_member}
 use Rattle.fieldpath.specs.Scalars.{ascend, ascend_from}
 use Rattle.fieldpath.specs.Spelled.{member_names}
+use Rattle.fieldpath.proofs.Names.{ascend_rest, first_below, rest_above}
 use Rattle.fieldpath.proofs.Spelled.{put_ascend}
 use Rattle.json_values.specs.Members.{less}
 use Rattle.objects.specs.Borrowed.{Entry, AreOthers, data_in, place_in}
-use Rattle.objects.specs.Parts.{put_labels}
+use Rattle.objects.specs.Parts.{put_metadata}
 use Rattle.objects.proofs.Entries.{not_zero}
-use Rattle.objects.proofs.Taken.{absent_above, ascend_rest, cmp, first_below, no_some, rest_above, tied}
+use Rattle.objects.proofs.Taken.{absent_above, cmp, no_some, tied}
 
 names_ascend : (es : List Entry) → are_ordered (members_view es) ≡ true → ascend (member_names (data_in es)) ≡ true
 names_ascend es h = ap ascend (names-data (members_view es)) ∙ (ordered_parts (members_view es) h).0
@@ -83,17 +84,17 @@ module _ (k : List ℕ) (es : List Entry) (i : ℕ) (m : Entry) (new : List Entr
       let up : ascend (names (members_view new)) ≡ true = ap ascend (sym (names-data (members_view new)) ∙ ap member_names is_put) ∙ put_ascend k (data_of (value_view m.1)) (data_in es) (names_ascend es h) in
       both_true up (ap (λ l. members_are_ordered (members_view l)) is ∙ all_insert es i m one (ordered_parts (members_view es) h).1)
 
--- members with labels, where there are some
-pub labels_some : (ls : List Entry) (ms : Members) → (length ls == 0) ≡ false → put_labels (data_in ls) ms ≡ put (codes "metadata") (object (data_in ls)) ms
-labels_some [] ms some = absurd (true≢false (sym none ∙ some))
+-- members with what is left of `metadata`, where there is some
+pub something_left : (ls : List Entry) (ms : Members) → (length ls == 0) ≡ false → put_metadata (data_in ls) ms ≡ put (codes "metadata") (object (data_in ls)) ms
+something_left [] ms some = absurd (true≢false (sym none ∙ some))
   where
     none : (0 == 0) ≡ true
     none = grind arith
-labels_some (e ∷ ls) ms some = refl
+something_left (e ∷ ls) ms some = refl
 
-pub labels_none : (ls : List Entry) (ms : Members) → (length ls == 0) ≡ true → put_labels (data_in ls) ms ≡ ms
-labels_none [] ms none = refl
-labels_none (e ∷ ls) ms none = absurd (true≢false (sym none ∙ not_zero (length ls)))
+pub nothing_left : (ls : List Entry) (ms : Members) → (length ls == 0) ≡ true → put_metadata (data_in ls) ms ≡ ms
+nothing_left [] ms none = refl
+nothing_left (e ∷ ls) ms none = absurd (true≢false (sym none ∙ not_zero (length ls)))
 
-pub labels_ordered : (ls : Vec Entry Global) → are_ordered (members_view ls.items) ≡ true → is_ordered (value_view (Object ls)) ≡ true
-labels_ordered ls h = ap is_ordered (view-Object ls) ∙ h
+pub left_ordered : (ls : Vec Entry Global) → are_ordered (members_view ls.items) ≡ true → is_ordered (value_view (Object ls)) ≡ true
+left_ordered ls h = ap is_ordered (view-Object ls) ∙ h

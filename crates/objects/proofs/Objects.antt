@@ -1,17 +1,14 @@
 -- The parts of an object's value.
-use Rattle.std.proofs.Common.{◌≡◌, ℕ, false, List, [], ◌∷◌, ◌++◌, map, take, length, get_or, ◌+◌, ◌<◌, ◌==◌, refl, sym, ap, ap₂, ◌∙◌, true≢false, codes, Option}
-use Rattle.std.proofs.lemmas.List.{take_more, map-append}
+use Rattle.std.proofs.Common.{◌≡◌, ℕ, false, List, [], ◌∷◌, map, length, ◌==◌, refl, ap, ap₂, ◌∙◌, true≢false, codes, Option}
 use Rattle.serde_json.specs.Data.{Data, string, object, array, item, Members, put}
-use Rattle.serde_json.specs.View.{view, items_of, items_view}
+use Rattle.serde_json.specs.View.{items_of, items_view}
 use Rattle.serde_json.specs.declared.value.Value.{Value}
 use Rattle.pathmap.specs.Contents.{PathSet}
 use Rattle.schema.specs.Shape.{Shape}
 use Rattle.objects.specs.Owners.{Manager}
-use Rattle.objects.specs.Managers.{pair, pairs}
 use Rattle.objects.specs.ObjectText.{Identity, entry_items, entry_value, put_entries, metadata_of, metadata_members, members_printed, with_envelope, object_value}
 use Rattle.objects.specs.State.{State}
 use Rattle.typed.specs.Printing.{print}
-use Rattle.objects.specs.declared.managers.Entry.{Entry}
 
 module _ (s : Shape) (api_version : List ℕ) where
   abbrev pub value_of : Manager × PathSet → Data
@@ -20,12 +17,6 @@ module _ (s : Shape) (api_version : List ℕ) where
   pub entries_map : (es : List (Manager × PathSet)) → items_of (map value_of es) ≡ entry_items s api_version es
   entries_map [] = refl
   entries_map (e ∷ es) = ap (item (value_of e)) (entries_map es)
-
-  pub one_entry : (es : List Entry) (i : ℕ) (e : Entry) (vs : List Value) (v : Value) → i < length es → e ≡ get_or es i e → map view vs ≡ map value_of (pairs (take i es)) → view v ≡ value_of (pair e)
-      → map view (vs ++ v ∷ []) ≡ map value_of (pairs (take (i + 1) es))
-  one_entry es i e vs v lt is before same =
-      map-append view vs (v ∷ []) ∙ ap₂ (λ l x. l ++ x ∷ []) before same
-      ∙ sym (ap (λ l. map value_of (pairs l)) (take_more es i e lt ∙ ap (λ x. take i es ++ x ∷ []) (sym is)) ∙ ap (map value_of) (map-append pair (take i es) (e ∷ [])) ∙ map-append value_of (pairs (take i es)) (pair e ∷ []))
 
 pub put_some : (vs : List Value) (ms : Members) → (length vs == 0) ≡ false → put_entries (items_view vs) ms ≡ put (codes "managedFields") (array (items_view vs)) ms
 put_some [] ms e = absurd (true≢false e)

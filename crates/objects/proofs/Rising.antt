@@ -6,6 +6,7 @@ use Rattle.std.specs.FinSet as set
 use Rattle.std.specs.FinMap.Entries.{below_all}
 use Rattle.std.specs.List.{AllByRecursion, IsAllAdjacentAnswer}
 use Rattle.std.specs.Ordering.{eq_by_cmp, is_lt}
+use Rattle.fieldpath.proofs.Names.{lt_is}
 use Rattle.pathmap.specs.Beside.{is_empty}
 use Rattle.pathmap.specs.Contents.{PathSet}
 use Rattle.objects.specs.Managers.{pair, pairs, manager_view}
@@ -16,7 +17,7 @@ use Rattle.objects.proofs.Entries.{Pairs, fst, snd, next, empty_is}
 use Rattle.objects.proofs.Orders.{manager_total}
 use Rattle.objects.proofs.Within.{both_true, left_true, right_true, same_manager-itself, same_manager-is}
 use Rattle.objects.proofs.Taking.{none_above}
-use Rattle.objects.proofs.Taken.{lt_is, no_some, same_some}
+use Rattle.objects.proofs.Taken.{no_some, same_some}
 
 is_true : (b : Bool) → T b → b ≡ true
 is_true true h = refl

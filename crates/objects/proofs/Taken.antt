@@ -1,5 +1,5 @@
 -- Members of an object, one taken out and put back.
-use Rattle.std.proofs.Common.{◌≡◌, ◌≤◌, ℕ, Bool, true, false, max, List, [], ◌∷◌, Some, None, is_some, Ordering, Less, Equal, Greater, nat_cmp, is_eq, refl, sym, ap, ◌∙◌, true≢false, subst, arith}
+use Rattle.std.proofs.Common.{◌≡◌, ◌≤◌, ℕ, Bool, true, false, max, List, Some, None, is_some, Ordering, Less, Equal, Greater, nat_cmp, is_eq, refl, sym, ap, ◌∙◌, true≢false, subst, arith}
 use Rattle.std.specs.Cmp.{tied_itself}
 use Rattle.std.specs.Cmp.Lexicographic.{slice_cmp, bytes_decides}
 use Rattle.std.specs.FinMap.{nat_cmp-IsAntisymmetric, slice_cmp-IsAntisymmetric}
@@ -11,8 +11,9 @@ use Rattle.serde_json.specs.Data.{Data, Members, no_members, member, put, depth,
 use Rattle.serde_json.specs.Find.{get_member}
 use Rattle.fieldpath.specs.Scalars.{ascend, ascend_from}
 use Rattle.fieldpath.specs.Spelled.{IsSpelled, MembersAreSpelled, member_names}
+pub use Rattle.fieldpath.proofs.Names.{ascend_rest, first_below, further, rest_above}
 use Rattle.json_values.specs.Members.{less}
-use Rattle.objects.proofs.Within.{left_true, right_true, both_true}
+use Rattle.objects.proofs.Within.{both_true}
 
 pub no_some : {A P : Type 0} (x : A) → Some x ≡ None → P
 no_some x e = absurd (true≢false (ap is_some e))
@@ -31,11 +32,6 @@ same_text k = tied_itself nat_list_cmp_total k
 pub tied : (k l : List ℕ) → cmp k l ≡ Equal → k ≡ l
 tied = slice_cmp-IsAntisymmetric nat_cmp-IsAntisymmetric
 
-pub lt_is : (o : Ordering) → is_lt o ≡ true → o ≡ Less
-lt_is Less h = refl
-lt_is Equal h = absurd (true≢false (sym h))
-lt_is Greater h = absurd (true≢false (sym h))
-
 pub apart : (k l : List ℕ) → bytes_eq k l ≡ false → k ≡ l → ⊥
 apart k l other same = true≢false (sym ((bytes_decides k l).1 same) ∙ other)
 
@@ -46,21 +42,6 @@ below_apart k l lt = by_test (bytes_eq l k) refl
     by_test : (b : Bool) → bytes_eq l k ≡ b → b ≡ false
     by_test true is = absurd (true≢false (ap is_eq (sym (same_text k) ∙ ap (cmp k) (sym ((bytes_decides l k).0 is)) ∙ lt)))
     by_test false is = refl
-
-pub first_below : (k l : List ℕ) (ns : List (List ℕ)) → ascend_from k (l ∷ ns) ≡ true → cmp k l ≡ Less
-first_below k l ns h = lt_is (cmp k l) (left_true (is_lt (cmp k l)) (ascend_from l ns) h)
-
-pub rest_above : (k l : List ℕ) (ns : List (List ℕ)) → ascend_from k (l ∷ ns) ≡ true → ascend_from l ns ≡ true
-rest_above k l ns h = right_true (is_lt (cmp k l)) (ascend_from l ns) h
-
--- what is below a name is below those above it
-pub further : (k l : List ℕ) (ns : List (List ℕ)) → cmp k l ≡ Less → ascend_from l ns ≡ true → ascend_from k ns ≡ true
-further k l [] lt h = refl
-further k l (n ∷ ns) lt h = both_true _ _ (ap is_lt (nat_list_cmp_total.trans k l n lt (first_below l n ns h))) (rest_above l n ns h)
-
-pub ascend_rest : (l : List ℕ) (ns : List (List ℕ)) → ascend_from l ns ≡ true → ascend ns ≡ true
-ascend_rest l [] h = refl
-ascend_rest l (n ∷ ns) h = rest_above l n ns h
 
 -- ---- one taken out
 

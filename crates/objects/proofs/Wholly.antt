@@ -12,7 +12,8 @@ use Rattle.pathmap.specs.Insides.{inside}
 use Rattle.schema.specs.Lawful.{are_well_formed, is_lawful, is_well_formed, names_of}
 use Rattle.schema.specs.Shape.{Shape, Fields, struct_of, shape_at}
 use Rattle.typed.specs.Printing.{object_or_none, print, print_fields}
-use Rattle.typed.specs.Texts.{Texts, object_of, put_text, texts_of}
+use Rattle.typed.specs.Texts.{Texts, fields_but, object_of, put_text, texts_of}
+use Rattle.typed.proofs.FieldsBut.{put_over}
 use Rattle.typed.proofs.Wholes.{object-texts, texts_of-put}
 use Rattle.objects.specs.State.{State}
 use Rattle.objects.specs.ObjectText.{Identity, members_printed, metadata_members, metadata_of, object_text, object_value}
@@ -44,7 +45,7 @@ pub put_more : (k : List ℕ) (d : Data) (ms : Members) (old new : Texts) → ol
 put_more k d ms old new before is = is ∙ ap (put_text k (compact_text d)) before ∙ sym (texts_of-put k d ms)
 
 pub struct_text : (all : Fields) (of : Identity) (version : ℕ) (state : State) (metadata : Members) (one two three four : Texts) (t : List ℕ)
-    → metadata ≡ metadata_of (struct_of all false) of version state.owners (metadata_members (print (struct_of all false) state.content)) → one ≡ texts_of (print_fields all state.content no_members)
+    → metadata ≡ metadata_of (struct_of all false) of version state.owners (metadata_members (print (struct_of all false) state.content)) → one ≡ texts_of (print_fields (fields_but (codes "metadata") all) state.content no_members)
     → two ≡ put_text (codes "metadata") (compact_text (object metadata)) one → three ≡ put_text (codes "kind") (compact_text (string of.kind)) two
     → four ≡ put_text (codes "apiVersion") (compact_text (string of.api_version)) three → t ≡ object_of four → t ≡ object_text (struct_of all false) of version state
 unfolding object_text object_value
@@ -52,7 +53,10 @@ struct_text all of version state metadata one two three four t metadata_is field
     let s = struct_of all false in
     let base = print_fields all state.content no_members in
     let made = metadata_of s of version state.owners (metadata_members (print s state.content)) in
-    let second = put_more (codes "metadata") (object made) base one two fields (with_metadata ∙ ap (λ m. put_text (codes "metadata") (compact_text (object m)) one) metadata_is) in
+    let others = print_fields (fields_but (codes "metadata") all) state.content no_members in
+    let second =
+    put_more (codes "metadata") (object made) others one two fields (with_metadata ∙ ap (λ m. put_text (codes "metadata") (compact_text (object m)) one) metadata_is)
+    ∙ ap texts_of (sym (put_over (codes "metadata") (object made) state.content all)) in
     let third = put_more (codes "kind") (string of.kind) (put (codes "metadata") (object made) base) two three second with_kind in
     let whole = put (codes "kind") (string of.kind) (put (codes "metadata") (object made) base) in
     let fourth = put_more (codes "apiVersion") (string of.api_version) whole three four third with_version in

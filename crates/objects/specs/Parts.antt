@@ -50,13 +50,13 @@ abbrev pub version_in : Members → Option ℕ
 version_in metadata = option_and_then version_of (text_at (codes "resourceVersion") metadata)
 
 -- labels and annotations
-abbrev pub labels_left : Members → Members
-labels_left metadata = less (codes "managedFields") (less (codes "resourceVersion") (less (codes "namespace") (less (codes "name") metadata)))
+abbrev pub metadata_left : Members → Members
+metadata_left metadata = less (codes "managedFields") (less (codes "resourceVersion") (less (codes "namespace") (less (codes "name") metadata)))
 
 -- `metadata`, where something is left in it
-abbrev pub put_labels : Members → Members → Members
-put_labels no_members ms = ms
-put_labels (member k d labels) ms = put (codes "metadata") (object (member k d labels)) ms
+abbrev pub put_metadata : Members → Members → Members
+put_metadata no_members ms = ms
+put_metadata (member k d left) ms = put (codes "metadata") (object (member k d left)) ms
 
 -- ---- entries
 
@@ -104,7 +104,7 @@ owners_in s metadata = option_and_then owners_of (entries_listed s (get_member (
 
 -- the value of the fields
 abbrev pub fields_of : Members → Members → Data
-fields_of others metadata = object (put_labels (labels_left metadata) others)
+fields_of others metadata = object (put_metadata (metadata_left metadata) others)
 
 abbrev pub state_with : Shape → Members → Members → ℕ → Option (State × ℕ)
 state_with s others metadata version =

@@ -5,7 +5,7 @@ ghost use Rattle.json.specs.Value.{members_view, value_view};
 ghost use Rattle.json_texts.specs.InOrder.{are_ordered, data_of, is_ordered};
 ghost use Rattle.json_values.specs.Members.{split_off};
 ghost use Rattle.objects.specs.Borrowed.{AreOthers, data_in, place_in};
-ghost use Rattle.objects.specs.Parts.{fields_of, labels_left, own_members, put_labels, split, version_in};
+ghost use Rattle.objects.specs.Parts.{fields_of, metadata_left, own_members, put_metadata, split, version_in};
 
 use json::Value;
 use json_texts::{Members, into_object, take, text_at};
@@ -64,17 +64,17 @@ pub(crate) fn version_in<'a>(metadata: &[(&'a str, Value<'a>)]) -> Option<u64>
 }
 
 /// `metadata` without the envelope's part: labels and annotations.
-fn labels_left(metadata: Members<'_>) -> Members<'_>
+fn metadata_left(metadata: Members<'_>) -> Members<'_>
     requires { are_ordered (members_view metadata.items) ≡ true }
-    ensures labels { data_in result.items ≡ labels_left (data_in metadata.entry.items) }
+    ensures left { data_in result.items ≡ metadata_left (data_in metadata.entry.items) }
     ensures ordered { are_ordered (members_view result.items) ≡ true }
 {
-    let mut labels = metadata;
-    drop(take(&mut labels, "name"));
-    drop(take(&mut labels, "namespace"));
-    drop(take(&mut labels, "resourceVersion"));
-    drop(take(&mut labels, "managedFields"));
-    labels
+    let mut left = metadata;
+    drop(take(&mut left, "name"));
+    drop(take(&mut left, "namespace"));
+    drop(take(&mut left, "resourceVersion"));
+    drop(take(&mut left, "managedFields"));
+    left
 }
 
 /// How many members stand before the place of this name.
@@ -92,17 +92,17 @@ fn place_in<'a>(members: &[(&'a str, Value<'a>)], name: &str) -> usize
 }
 
 /// Puts `metadata` back in its place, where something is left in it.
-fn put_labels<'a>(members: &mut Members<'a>, labels: Members<'a>) -> Result<(), AllocError>
+fn put_metadata<'a>(members: &mut Members<'a>, left: Members<'a>) -> Result<(), AllocError>
     requires others { AreOthers members.old.items }
-    requires labels { are_ordered (members_view labels.items) ≡ true }
-    ensures put { OnOk result (data_in members.new.items ≡ put_labels (data_in labels.entry.items) (data_in members.old.items)) }
+    requires left { are_ordered (members_view left.items) ≡ true }
+    ensures put { OnOk result (data_in members.new.items ≡ put_metadata (data_in left.entry.items) (data_in members.old.items)) }
     ensures ordered { OnOk result (are_ordered (members_view members.new.items) ≡ true) }
 {
-    if labels.is_empty() {
+    if left.is_empty() {
         return Ok(());
     }
     let place = place_in(members, "metadata");
-    members.insert(place, ("metadata", Value::Object(labels)))?;
+    members.insert(place, ("metadata", Value::Object(left)))?;
     Ok(())
 }
 
@@ -117,6 +117,6 @@ pub(crate) fn fields_of<'a>(
     ensures ordered { IfOk result (λ v. is_ordered (value_view v) ≡ true) }
 {
     let mut fields = others;
-    put_labels(&mut fields, labels_left(metadata))?;
+    put_metadata(&mut fields, metadata_left(metadata))?;
     Ok(Value::Object(fields))
 }

@@ -1,13 +1,12 @@
 //! How many labels an object is printed with; their limit stands in `size` of the crate `verbs`.
-ghost use Rattle.std.specs.Prelude.{◌≡◌, ℕ, true, codes, IfOk};
+ghost use Rattle.std.specs.Prelude.{◌≡◌, true, codes, IfOk};
 ghost use Rattle.schema.specs.Lawful.{is_lawful};
 ghost use Rattle.schema.specs.Shape.{shape};
 ghost use Rattle.serde_json.specs.View.{members_view};
 ghost use Rattle.json_values.specs.Members.{members_at};
 ghost use Rattle.typed.specs.Printing.{print};
-ghost use Rattle.objects.specs.Labels.{label_count, size};
-ghost use Rattle.objects.specs.ObjectText as texts;
-ghost use Rattle.objects.specs.ObjectText.{metadata_members, object_value};
+ghost use Rattle.objects.specs.Labels.{HasLabels, size};
+ghost use Rattle.objects.specs.ObjectText.{metadata_members};
 ghost use Rattle.objects.specs.Views.{state_of};
 
 use crate::object::{labels_of, members_of};
@@ -17,7 +16,8 @@ use schema::Schema;
 use serde_json::{Map, Value};
 use std::alloc::{AllocError, Global};
 
-fn count_labels(metadata: &Map<String, Value>) -> usize
+/// How many labels stand in `metadata`.
+pub(crate) fn count_labels(metadata: &Map<String, Value>) -> usize
     ensures { result ≡ size (members_at (codes "labels") (members_view metadata.now.entries)) }
 {
     match members_at(metadata, "labels") {
@@ -48,8 +48,8 @@ impl Owned {
     }
 
     /// How many labels the object is printed with, whatever its key and version.
-    pub fn label_count(&self, alloc: Global, schema: &Schema) -> Result<usize, AllocError>
-        ensures { is_lawful (shape schema.now) ≡ true → IfOk result (λ n. (of : texts.Identity) (version : ℕ) → n ≡ label_count (object_value (shape schema.now) of version (state_of self.now))) }
+    pub(crate) fn label_count(&self, alloc: Global, schema: &Schema) -> Result<usize, AllocError>
+        ensures { is_lawful (shape schema.now) ≡ true → IfOk result (λ n. HasLabels n (shape schema.now) (state_of self.now)) }
     {
         let metadata = self.printed_metadata(alloc, schema)?;
         Ok(count_labels(&metadata))

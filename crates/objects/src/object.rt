@@ -9,10 +9,12 @@ ghost use Rattle.serde_json.specs.Written.{compact_text};
 ghost use Rattle.schema.specs.Lawful.{is_lawful};
 ghost use Rattle.schema.specs.Shape.{fields_in, shape, struct_of};
 ghost use Rattle.typed.specs.Fitting.{IsContent};
+ghost use Rattle.objects.specs.Labels.{HasLabels};
 ghost use Rattle.objects.specs.Managers.{pair, pairs, manager_view};
 ghost use Rattle.objects.specs.ObjectText.{entry_items, entry_value, members_or_none, members_with, metadata_members, metadata_with, object_text, object_value, put_entries, put_filled, put_manager};
 ghost use Rattle.objects.specs.Views.{identity_of, state_of};
 
+use crate::labels::count_labels;
 use crate::managed_text::entries_text;
 use crate::manager::Manager;
 use crate::managers::Entry;
@@ -234,8 +236,8 @@ impl Owned {
         self.value_with(alloc, schema, of, version, items)
     }
 
-    /// The object's text under a struct of these fields, where that of `managedFields` is at hand: the texts of its members,
-    /// put together.
+    /// The object's text under a struct of these fields, where that of `managedFields` is at hand, and how many labels it
+    /// has: the texts of its members, put together. `metadata` is printed as a value, once, since its labels are counted.
     fn fields_text(
         &self,
         alloc: Global,
@@ -243,19 +245,22 @@ impl Owned {
         of: Identity<'_>,
         version: u64,
         managed: Vec<u8>,
-    ) -> Result<String, AllocError>
-        ensures { managed.items ≡ compact_text (array (entry_items (struct_of (fields_in fields.now) false) of.entry.api_version.now (fin.entries self.now.managers)))
+    ) -> Result<(String, usize), AllocError>
+        ensures text { managed.items ≡ compact_text (array (entry_items (struct_of (fields_in fields.now) false) of.entry.api_version.now (fin.entries self.now.managers)))
             → is_lawful (struct_of (fields_in fields.now) false) ≡ true → IsContent (struct_of (fields_in fields.now) false) self.now.tree
-            → IfOk result (λ t. string_bytes t ≡ object_text (struct_of (fields_in fields.now) false) (identity_of of.entry) version (state_of self.now)) }
+            → IfOk result (λ p. string_bytes p.0 ≡ object_text (struct_of (fields_in fields.now) false) (identity_of of.entry) version (state_of self.now)) }
+        ensures labels { is_lawful (struct_of (fields_in fields.now) false) ≡ true → IfOk result (λ p. HasLabels p.1 (struct_of (fields_in fields.now) false) (state_of self.now)) }
     {
         let printed = self.tree.field_value(alloc, fields, "metadata")?;
         let labels = members_of(alloc, printed);
+        let count = count_labels(&labels);
         let metadata = self.metadata_text(alloc, of, version, managed, &labels)?;
-        let mut texts = self.tree.texts(alloc, fields)?;
+        let mut texts = self.tree.texts_without(alloc, fields, "metadata")?;
         typed::put_text(&mut texts, alloc, "metadata", metadata)?;
         typed::put_string(&mut texts, alloc, "kind", of.kind)?;
         typed::put_string(&mut texts, alloc, "apiVersion", of.api_version)?;
-        typed::object_text(alloc, &texts)
+        let text = typed::object_text(alloc, &texts)?;
+        Ok((text, count))
     }
 
     /// The object's text under a schema that is no granular struct: that of its value.
@@ -273,23 +278,44 @@ impl Owned {
         value.to_string(alloc)
     }
 
-    /// The object's text, where that of `managedFields` is at hand.
-    pub(crate) fn text_with(
+    /// The object's text, where that of `managedFields` is at hand, and how many labels it has.
+    fn text_with(
         &self,
         alloc: Global,
         schema: &Schema,
         of: Identity<'_>,
         version: u64,
         managed: Vec<u8>,
-    ) -> Result<String, AllocError>
-        ensures { managed.items ≡ compact_text (array (entry_items (shape schema.now) of.entry.api_version.now (fin.entries self.now.managers)))
+    ) -> Result<(String, usize), AllocError>
+        ensures text { managed.items ≡ compact_text (array (entry_items (shape schema.now) of.entry.api_version.now (fin.entries self.now.managers)))
             → is_lawful (shape schema.now) ≡ true → IsContent (shape schema.now) self.now.tree
-            → IfOk result (λ t. string_bytes t ≡ object_text (shape schema.now) (identity_of of.entry) version (state_of self.now)) }
+            → IfOk result (λ p. string_bytes p.0 ≡ object_text (shape schema.now) (identity_of of.entry) version (state_of self.now)) }
+        ensures labels { is_lawful (shape schema.now) ≡ true → IfOk result (λ p. HasLabels p.1 (shape schema.now) (state_of self.now)) }
     {
         match schema.granular_fields() {
             Some(fields) => self.fields_text(alloc, fields, of, version, managed),
-            None => self.value_text(alloc, schema, of, version),
+            None => {
+                let text = self.value_text(alloc, schema, of, version)?;
+                let labels = self.label_count(alloc, schema)?;
+                Ok((text, labels))
+            }
         }
+    }
+
+    /// The object's text as `to_object` answers it, and how many labels it has, whatever its key and version: of one print.
+    pub fn to_object_with_labels(
+        &self,
+        alloc: Global,
+        schema: &Schema,
+        of: Identity<'_>,
+        version: u64,
+    ) -> Result<(String, usize), AllocError>
+        ensures text { is_lawful (shape schema.now) ≡ true → IsContent (shape schema.now) self.now.tree
+            → IfOk result (λ p. string_bytes p.0 ≡ object_text (shape schema.now) (identity_of of.entry) version (state_of self.now)) }
+        ensures labels { is_lawful (shape schema.now) ≡ true → IfOk result (λ p. HasLabels p.1 (shape schema.now) (state_of self.now)) }
+    {
+        let managed = entries_text(alloc, schema, of.api_version, self.managers.entries())?;
+        self.text_with(alloc, schema, of, version, managed)
     }
 
     /// The object's text: its value as compact JSON.
@@ -303,7 +329,7 @@ impl Owned {
         ensures { is_lawful (shape schema.now) ≡ true → IsContent (shape schema.now) self.now.tree
             → IfOk result (λ t. string_bytes t ≡ object_text (shape schema.now) (identity_of of.entry) version (state_of self.now)) }
     {
-        let managed = entries_text(alloc, schema, of.api_version, self.managers.entries())?;
-        self.text_with(alloc, schema, of, version, managed)
+        let (text, _) = self.to_object_with_labels(alloc, schema, of, version)?;
+        Ok(text)
     }
 }

@@ -16,7 +16,7 @@ pub struct Conflict {
 /// Why an apply was not done. Nothing was changed.
 #[derive(Debug, Drop, Error)]
 pub enum ApplyFault {
-    /// All conflicts, by manager, operation and path.
+    /// All conflicts, by manager, then path.
     #[error("the body changes paths that other managers own")]
     Conflicts(Vec<Conflict>),
     /// Out of memory.

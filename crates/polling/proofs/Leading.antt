@@ -10,7 +10,7 @@ use Rattle.httpedge.specs.Connections.{out_on}
 use Rattle.httpedge.specs.HubSeen.{IsIn}
 use Rattle.httpedge.specs.Runs.{Happening, IsElsewhere, Runs, happens, starves, takes}
 use Rattle.httpedge.specs.Steps.{Event, State, opens, comes, goes, pumps, ticks, compacts, with_bytes_taken}
-use Rattle.httpedge.specs.Streams.{Compacts, Does, Hands, HandsIf}
+use Rattle.httpedge.specs.Streams.{Compacts, MovesBy, Hands, HandsIf}
 use Rattle.httpedge.specs.declared.hub.Hub.{Hub}
 use Rattle.httpedge.proofs.Handed.{by_hands, reads_none, runs_then}
 use Rattle.polling.specs.Happens.{Brings, Each, Hears, IsAny, IsComing, IsOn, IsTaking, Leads, LeadsBy, LeadsOn, Tells, came}
@@ -65,15 +65,15 @@ any_same x y same = leads_same IsAny x y same
 
 -- ---- one event
 
-leads_event : (x y : Hub) (e : Event) (P : Happening → Type 0) → P (happens e) → ((which : ℕ → Bool) → P (starves e which)) → Does (Hands e) x y → LeadsBy P x y
+leads_event : (x y : Hub) (e : Event) (P : Happening → Type 0) → P (happens e) → ((which : ℕ → Bool) → P (starves e which)) → MovesBy (Hands e) x y → LeadsBy P x y
 leads_event x y e P done none hands = λ s is.
     let one = hands s is in
     (one.1.0 ∷ [], one.0, (one.0, one.1.2, refl), (by_hands e P done none one.1.0 one.1.1, tt), one.2)
 
-pub leads_on : (id : ℕ) (x y : Hub) (e : Event) → ((other : ℕ) → other ≢ id → IsElsewhere e other) → Does (Hands e) x y → LeadsOn id x y
+pub leads_on : (id : ℕ) (x y : Hub) (e : Event) → ((other : ℕ) → other ≢ id → IsElsewhere e other) → MovesBy (Hands e) x y → LeadsOn id x y
 leads_on id x y e apart hands = leads_event x y e (IsOn id) apart (λ which. apart) hands
 
-pub leads_by_any : (x y : Hub) (e : Event) → Does (Hands e) x y → Leads x y
+pub leads_by_any : (x y : Hub) (e : Event) → MovesBy (Hands e) x y → Leads x y
 leads_by_any x y e hands = leads_event x y e IsAny tt (λ which. tt) hands
 
 -- a compaction, or none
@@ -81,7 +81,7 @@ any_if : (b : Bool) (e : Event) (s t : State) → HandsIf b e s t → (hs : List
 any_if true e s t (h, is, follows) = (h ∷ [], (t, follows, refl), (tt, tt))
 any_if false e s t is = ([], is, tt)
 
-pub leads_compacts : (keep : ℕ) (x y : Hub) → Does (Compacts keep) x y → Leads x y
+pub leads_compacts : (keep : ℕ) (x y : Hub) → MovesBy (Compacts keep) x y → Leads x y
 leads_compacts keep x y compacted = λ s is.
     let one = compacted s is in
     let ran = any_if _ _ s one.0 one.1 in
@@ -92,7 +92,7 @@ leads_compacts keep x y compacted = λ s is.
 pub hears_none : (id : ℕ) (x : Hub) → Hears id [] x x
 hears_none id x = λ s is. ([], s, refl, tt, refl, is)
 
-pub hears_one : (id : ℕ) (piece : List ℕ) (x y : Hub) → Does (Hands (comes id piece)) x y → Hears id piece x y
+pub hears_one : (id : ℕ) (piece : List ℕ) (x y : Hub) → MovesBy (Hands (comes id piece)) x y → Hears id piece x y
 hears_one id piece x y hands = λ s is.
     let one = hands s is in (
       one.1.0 ∷ [],

@@ -147,8 +147,8 @@ fn ask_in(alloc: Global, api: &Api, head: &Head<'_>) -> Result<Progress, AllocEr
         checked_media(head),
     ) {
         Ok(target) => ask_of(alloc, target, head),
-        Err(verbs::Refusal::Denied(denied)) => Ok(Progress::Refused(denied)),
-        Err(verbs::Refusal::Memory) => Err(AllocError),
+        Err(verbs::AdmitFault::Denied(denied)) => Ok(Progress::Refused(denied)),
+        Err(verbs::AdmitFault::Memory) => Err(AllocError),
     }
 }
 

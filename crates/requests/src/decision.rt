@@ -1,4 +1,4 @@
-//! What the bytes that came on a connection decide. It is decided in `head`, `body` and `asking`.
+//! Undecided, refused or accepted: how far bytes were read. It is decided in `head`, `body` and `asking`.
 
 use verbs::Denied;
 

@@ -9,9 +9,9 @@
 //! | `bytes K METHOD TARGET BODY` | it comes byte by byte, and nothing is written before the last |
 //! | `in K TEXT`, `gone K`, `pump K N`, `tick MS`, `compact C` | the event |
 //! | `told K METHOD TARGET BODY`, `got K METHOD TARGET BODY` | as `ask`; nothing without METHOD TARGET BODY |
-//! | `out K` | nothing: the bytes that are out on K are taken |
+//! | `out K` | no event; the bytes that are out on K are taken |
 //! | `take K N` | the next N of them are taken: how many are left |
-//! | `stand K` | nothing: how many are out, whether K waits, whether it has ended |
+//! | `stand K` | no event: how many are out, whether K waits, whether it has ended |
 //!
 //! The answer of an event is why the hub refuses it, or the bytes that then are out on connection 1, which are taken. Of
 //! `told` it is the status and the message of the reply on K, or else the version of its object; of `got` the status and

@@ -7,7 +7,7 @@ use Rattle.std.proofs.KnownBytes.{Appends-kept, Appends-nil, Appends-trans, Cons
 use Rattle.httpedge.specs.Connections.{out_on}
 use Rattle.httpedge.specs.HubSeen.{IsIn}
 use Rattle.httpedge.specs.Steps.{State, pumps}
-use Rattle.httpedge.specs.Streams.{Does, Hands}
+use Rattle.httpedge.specs.Streams.{MovesBy, Hands}
 use Rattle.httpedge.specs.declared.hub.Hub.{Hub}
 use Rattle.serving.specs.Serving.{Goes, HasTurn, IsPumped, Served, Serves}
 use Rattle.serving.proofs.Joining.{serves_none, serves_then, turned, turns_then}
@@ -83,9 +83,9 @@ done_badly (Err e) id x y z heard told badly serves goes = λ s is.
 
 -- the turn of a watch
 abbrev pub Ended : {A E : Type 0} → Result A E → ℕ → ℕ → Option (List ℕ) → Option (List ℕ) → Hub → Hub → Type 0
-Ended r id lines a b x y = (told : List ℕ) × Appends a b told × Does (IsPumped r id lines told) x y
+Ended r id lines a b x y = (told : List ℕ) × Appends a b told × MovesBy (IsPumped r id lines told) x y
 
-pub ended_well : {A E : Type 0} (r : Result A E) (id lines : ℕ) (a b : Option (List ℕ)) (x y z : Hub) → is_err r ≡ false → Does (Hands (pumps id lines)) x y → Tells id a b y z
+pub ended_well : {A E : Type 0} (r : Result A E) (id lines : ℕ) (a b : Option (List ℕ)) (x y z : Hub) → is_err r ≡ false → MovesBy (Hands (pumps id lines)) x y → Tells id a b y z
     → OnOk r (IsAllOut id z) → Ended r id lines a b x z
 ended_well r id lines a b x y z well sent tells out = (
   tells.0,
@@ -96,7 +96,7 @@ ended_well r id lines a b x y z well sent tells out = (
       (two.0, (one.0, one.1, two.1, two.2), two.3),
 )
 
-pub ended_badly : {A E : Type 0} (r : Result A E) (id lines : ℕ) (a b : Option (List ℕ)) (x y z v : Hub) → is_err r ≡ true → Does (Hands (pumps id lines)) x y → Tells id a b y z
+pub ended_badly : {A E : Type 0} (r : Result A E) (id lines : ℕ) (a b : Option (List ℕ)) (x y z v : Hub) → is_err r ≡ true → MovesBy (Hands (pumps id lines)) x y → Tells id a b y z
     → Goes id z v → Ended r id lines a b x v
 ended_badly r id lines a b x y z v badly sent tells left = (
   tells.0 ++ [],

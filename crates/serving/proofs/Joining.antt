@@ -9,7 +9,7 @@ use Rattle.httpedge.specs.Connections.{Connection, gone, has_ended, is_open, ope
 use Rattle.httpedge.specs.HubSeen.{IsIn}
 use Rattle.httpedge.specs.Runs.{Follows, Happening, HappensElsewhere, IsElsewhere, Runs, happens, starves, takes}
 use Rattle.httpedge.specs.Steps.{Event, State, by_connection, comes, goes, ticks, unless_refused, with_bytes_taken, with_connection}
-use Rattle.httpedge.specs.Streams.{Compacts, Does, Hands, HandsIf}
+use Rattle.httpedge.specs.Streams.{Compacts, MovesBy, Hands, HandsIf}
 use Rattle.httpedge.specs.declared.hub.Hub.{Hub}
 use Rattle.httpedge.proofs.Connected.{put_there}
 use Rattle.httpedge.proofs.Handed.{by_hands, runs_then}
@@ -96,16 +96,16 @@ serves_then id x y z a b c d first second = λ s is.
     let two = second one.0 one.2 in
     (two.0, turns_then id s one.0 two.0 a b c d one.1 two.1, two.2)
 
-pub serves_event : (id : ℕ) (x y : Hub) (e : Event) → ((other : ℕ) → other ≢ id → IsElsewhere e other) → Does (Hands e) x y → Serves id x (brought id e) [] y
+pub serves_event : (id : ℕ) (x y : Hub) (e : Event) → ((other : ℕ) → other ≢ id → IsElsewhere e other) → MovesBy (Hands e) x y → Serves id x (brought id e) [] y
 serves_event id x y e apart hands = λ s is.
     let one = hands s is in
     (one.0, event_turn id s one.0 e apart one.1, one.2)
 
-pub serves_comes : (id : ℕ) (x y : Hub) (bytes : List ℕ) → Does (Hands (comes id bytes)) x y → Serves id x bytes [] y
+pub serves_comes : (id : ℕ) (x y : Hub) (bytes : List ℕ) → MovesBy (Hands (comes id bytes)) x y → Serves id x bytes [] y
 serves_comes id x y bytes hands =
     subst (λ (b : List ℕ). Serves id x b [] y) (ap (λ (b : Bool). cond b bytes []) (same_id id)) (serves_event id x y (comes id bytes) (λ other isnt. isnt) hands)
 
-pub serves_goes : (id : ℕ) (x y : Hub) → Does (Hands (goes id)) x y → Goes id x y
+pub serves_goes : (id : ℕ) (x y : Hub) → MovesBy (Hands (goes id)) x y → Goes id x y
 serves_goes id x y hands = λ s is.
     let one = hands s is in
     (one.0, event_turn id s one.0 (goes id) (λ other isnt. isnt) one.1, goes_closed id s one.0 one.1, one.2)
@@ -151,15 +151,15 @@ leads_one x y z before (id, heard, told, serves) = leads_then x y z before (lead
 
 -- ---- what is done after a connection
 
-pub pumps_none : (lines : ℕ) (x : Hub) → Does (PumpsAll lines []) x x
+pub pumps_none : (lines : ℕ) (x : Hub) → MovesBy (PumpsAll lines []) x x
 pumps_none lines x = λ s is. (s, refl, is)
 
 pumps_more : (lines : ℕ) (ids : List ℕ) (id : ℕ) (s mid t : State) → PumpsAll lines ids s mid → Pumps lines id mid t → PumpsAll lines (ids ++ id ∷ []) s t
 pumps_more lines [] id s mid t is pumps = (t, subst (λ (x : State). Pumps lines id x t) is pumps, refl)
 pumps_more lines (i ∷ ids) id s mid t (next, first, rest) pumps = (next, first, pumps_more lines ids id next mid t rest pumps)
 
-pumps_then : {A E : Type 0} (r : Result A E) (lines : ℕ) (ids : List ℕ) (id : ℕ) (x y z v : Hub) (told : List ℕ) → Does (PumpsAll lines ids) x y → Does (IsPumped r id lines told) y z
-    → Serves id z [] [] v → Does (PumpsAll lines (ids ++ id ∷ [])) x v
+pumps_then : {A E : Type 0} (r : Result A E) (lines : ℕ) (ids : List ℕ) (id : ℕ) (x y z v : Hub) (told : List ℕ) → MovesBy (PumpsAll lines ids) x y → MovesBy (IsPumped r id lines told) y z
+    → Serves id z [] [] v → MovesBy (PumpsAll lines (ids ++ id ∷ [])) x v
 pumps_then r lines ids id x y z v told before pumped settled = λ s is.
     let one = before s is in
     let two = pumped one.0 one.2 in
@@ -167,15 +167,15 @@ pumps_then r lines ids id x y z v told before pumped settled = λ s is.
     (three.0, pumps_more lines ids id s one.0 three.0 one.1 (two.1.0, told ++ [], two.1.1, turns_then id two.1.0 two.0 three.0 [] told [] [] two.1.2 three.1), three.2)
 
 -- over the streams of watches
-pub pumps_next : {A E W : Type 0} (r : Result A E) (lines : ℕ) (ws : List (ℕ × W)) (w : ℕ × W) (x y z v : Hub) (told : List ℕ) → Does (PumpsAll lines (map (λ w. w.0) ws)) x y
-    → Does (IsPumped r w.0 lines told) y z → Serves w.0 z [] [] v → Does (PumpsAll lines (map (λ w. w.0) (ws ++ w ∷ []))) x v
+pub pumps_next : {A E W : Type 0} (r : Result A E) (lines : ℕ) (ws : List (ℕ × W)) (w : ℕ × W) (x y z v : Hub) (told : List ℕ) → MovesBy (PumpsAll lines (map (λ w. w.0) ws)) x y
+    → MovesBy (IsPumped r w.0 lines told) y z → Serves w.0 z [] [] v → MovesBy (PumpsAll lines (map (λ w. w.0) (ws ++ w ∷ []))) x v
 pumps_next r lines ws w x y z v told before pumped settled =
-    subst (λ (ids : List ℕ). Does (PumpsAll lines ids) x v) (sym (map-append (λ w. w.0) ws (w ∷ []))) (pumps_then r lines (map (λ w. w.0) ws) w.0 x y z v told before pumped settled)
+    subst (λ (ids : List ℕ). MovesBy (PumpsAll lines ids) x v) (sym (map-append (λ w. w.0) ws (w ∷ []))) (pumps_then r lines (map (λ w. w.0) ws) w.0 x y z v told before pumped settled)
 
-pub pumps_all : {W : Type 0} (lines : ℕ) (ws vs : List (ℕ × W)) (x y : Hub) → ws ≡ vs → Does (PumpsAll lines (map (λ w. w.0) ws)) x y → Does (PumpsAll lines (map (λ w. w.0) vs)) x y
-pumps_all {W} lines ws vs x y same does = subst (λ (us : List (ℕ × W)). Does (PumpsAll lines (map (λ w. w.0) us)) x y) same does
+pub pumps_all : {W : Type 0} (lines : ℕ) (ws vs : List (ℕ × W)) (x y : Hub) → ws ≡ vs → MovesBy (PumpsAll lines (map (λ w. w.0) ws)) x y → MovesBy (PumpsAll lines (map (λ w. w.0) vs)) x y
+pumps_all {W} lines ws vs x y same does = subst (λ (us : List (ℕ × W)). MovesBy (PumpsAll lines (map (λ w. w.0) us)) x y) same does
 
-pub tidies : (keep lines : ℕ) (ids : List ℕ) (ms : ℕ) (x y z v : Hub) → Does (Hands (ticks ms)) x y → Does (PumpsAll lines ids) y z → Does (Compacts keep) z v → Does (Tidies keep lines ids ms) x v
+pub tidies : (keep lines : ℕ) (ids : List ℕ) (ms : ℕ) (x y z v : Hub) → MovesBy (Hands (ticks ms)) x y → MovesBy (PumpsAll lines ids) y z → MovesBy (Compacts keep) z v → MovesBy (Tidies keep lines ids ms) x v
 tidies keep lines ids ms x y z v ticked pumped compacted = λ s is.
     let one = ticked s is in
     let two = pumped one.0 one.2 in
@@ -194,7 +194,7 @@ run_pumps lines (id ∷ ids) s t (mid, (first, told, (h, is, follows), turns), r
     let others = run_pumps lines ids mid t rest in
     (h ∷ (turns.0 ++ others.0), (first, follows, runs_then first mid t turns.0 others.0 turns.1 others.1))
 
-pub leads_tidied : (keep lines : ℕ) (ids : List ℕ) (ms : ℕ) (x y : Hub) → Does (Tidies keep lines ids ms) x y → Leads x y
+pub leads_tidied : (keep lines : ℕ) (ids : List ℕ) (ms : ℕ) (x y : Hub) → MovesBy (Tidies keep lines ids ms) x y → Leads x y
 leads_tidied keep lines ids ms x y does = λ s is.
     let one = does s is in
     let second = run_pumps lines ids one.1.0 one.1.1 one.1.3 in
@@ -206,13 +206,13 @@ leads_tidied keep lines ids ms x y does = λ s is.
 pub rounds_none : (limits : Limits) (hub : Hub) → DoesRounds limits hub hub
 rounds_none limits hub = (zero, λ s is. (s, refl, is))
 
-pub rounds_more : (now limits : Limits) (ms : ℕ) (ids : List ℕ) (x y z v : Hub) → now ≡ limits → DoesRounds limits x y → ServesOne y z → Does (Tidies now.keep now.lines ids ms) z v
+pub rounds_more : (now limits : Limits) (ms : ℕ) (ids : List ℕ) (x y z v : Hub) → now ≡ limits → DoesRounds limits x y → ServesOne y z → MovesBy (Tidies now.keep now.lines ids ms) z v
     → DoesRounds limits x v
 rounds_more now limits ms ids x y z v same before (id, heard, told, serves) tidied = (
   suc before.0,
   λ s is.
       let one = before.1 s is in
       let two = serves one.0 one.2 in
-      let three = (subst (λ (m : Limits). Does (Tidies m.keep m.lines ids ms) z v) same tidied) two.0 two.2 in
+      let three = (subst (λ (m : Limits). MovesBy (Tidies m.keep m.lines ids ms) z v) same tidied) two.0 two.2 in
       (three.0, (one.0, one.1, (id, heard, told, ids, ms, two.0, two.1, three.1)), three.2),
 )

@@ -5,7 +5,7 @@ use Rattle.httpedge.specs.Connections.{open_on, out_on}
 use Rattle.httpedge.specs.HubSeen.{IsIn}
 use Rattle.httpedge.specs.Runs.{Happening, Runs}
 use Rattle.httpedge.specs.Steps.{State, pumps}
-use Rattle.httpedge.specs.Streams.{Does, Hands}
+use Rattle.httpedge.specs.Streams.{MovesBy, Hands}
 use Rattle.httpedge.specs.declared.hub.Hub.{Hub}
 use Rattle.serving.specs.declared.server.Limits.{Limits}
 use Rattle.serving.specs.Rounds.{Rounds}
@@ -43,7 +43,7 @@ ServesOne old new = (id : ℕ) × (heard : List ℕ) × (told : List ℕ) × Ser
 
 -- so many of them, each with what is done after it
 abbrev pub DoesRounds : Limits → Hub → Hub → Type 0
-DoesRounds limits old new = (n : ℕ) × Does (Rounds limits.keep limits.lines n) old new
+DoesRounds limits old new = (n : ℕ) × MovesBy (Rounds limits.keep limits.lines n) old new
 
 -- events in turn lead from the hub before to the hub after
 abbrev pub Leads : Hub → Hub → Type 0

@@ -5,7 +5,7 @@ ghost use Rattle.std.specs.Io.KnownBytes.{Appends, Consumes};
 ghost use Rattle.httpedge.specs.Connections.{out_on};
 ghost use Rattle.httpedge.specs.HubSeen.{IsIn};
 ghost use Rattle.httpedge.specs.Steps.{State};
-ghost use Rattle.httpedge.specs.Streams.{Does};
+ghost use Rattle.httpedge.specs.Streams.{MovesBy};
 ghost use Rattle.serving.specs.Serving.{Goes, HasTurn, IsPumped, Serves};
 
 use httpedge::{Event, Hub, hand, read_piece};
@@ -118,7 +118,7 @@ pub fn turn<R: Read, W: Write>(
 /// The turn of a watch: the hub may write so many lines, and what is out is written. Where a write fails the peer has
 /// gone.
 pub fn pump<W: Write>(hub: &mut Hub, id: u64, max: u64, writer: &mut W) -> io::Result<()>
-    ensures { (told : List ℕ) × Appends (W.contents writer.old) (W.contents writer.new) told × Does (IsPumped result id max told) hub.old hub.new }
+    ensures { (told : List ℕ) × Appends (W.contents writer.old) (W.contents writer.new) told × MovesBy (IsPumped result id max told) hub.old hub.new }
 {
     hand(hub, Event::Pump(id, max));
     let done = tell(hub, id, writer);

@@ -7,7 +7,7 @@ ghost use Rattle.history.specs.History.{History};
 ghost use Rattle.verbs.specs.Seen.{Stands};
 ghost use Rattle.httpedge.specs.HubSeen.{IsIn};
 ghost use Rattle.httpedge.specs.Steps.{start};
-ghost use Rattle.httpedge.specs.Streams.{Does};
+ghost use Rattle.httpedge.specs.Streams.{MovesBy};
 ghost use Rattle.serving.specs.Rising.{are_rising};
 ghost use Rattle.serving.specs.Serving.{Served, Serves};
 ghost use Rattle.serving.specs.Tidies.{PumpsAll, Tidies};
@@ -79,7 +79,7 @@ impl<W: Write + Drop> Server<W> {
     pub fn tidy(&mut self, ms: u64)
         ensures limits { limits_of self.new ≡ limits_of self.old }
         ensures order { are_rising (watches_of self.old) ≡ true }
-        ensures tidies { Does (Tidies (limits_of self.old).keep (limits_of self.old).lines (watches_of self.old) ms) (hub_of self.old) (hub_of self.new) }
+        ensures tidies { MovesBy (Tidies (limits_of self.old).keep (limits_of self.old).lines (watches_of self.old) ms) (hub_of self.old) (hub_of self.new) }
     {
         let keep = self.limits.keep;
         hand(&mut self.hub, Event::Tick(ms));
@@ -90,7 +90,7 @@ impl<W: Write + Drop> Server<W> {
     fn pump_watches(&mut self)
         ensures limits { limits_of self.new ≡ limits_of self.old }
         ensures order { are_rising (watches_of self.old) ≡ true }
-        ensures pumps { Does (PumpsAll (limits_of self.old).lines (watches_of self.old)) (hub_of self.old) (hub_of self.new) }
+        ensures pumps { MovesBy (PumpsAll (limits_of self.old).lines (watches_of self.old)) (hub_of self.old) (hub_of self.new) }
     {
         let lines = self.limits.lines;
         let watches = std::mem::replace(&mut self.watches, Vec::new(self.alloc));

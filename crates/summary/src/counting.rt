@@ -20,7 +20,7 @@ pub(crate) fn value_of<'a>(object: &'a Object, label: &str) -> Option<&'a str>
     }
 }
 
-/// Counts one more that has the value. Refused, it changes nothing.
+/// Counts one more object with this value. Refused memory changes nothing.
 pub(crate) fn add_one(
     alloc: Global,
     counts: &mut BTreeMap<String, u64>,

@@ -28,4 +28,5 @@ pub mod Spelling
 pub mod FieldTexts
 pub mod Rows
 pub mod Wholes
+pub mod FieldsBut
 pub mod ItemTexts

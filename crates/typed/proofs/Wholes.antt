@@ -1,8 +1,9 @@
 -- Texts that are put together of pieces.
-use Rattle.std.proofs.Common.{◌≡◌, ℕ, ◌+◌, ◌<◌, ◌≤◌, Bool, true, false, ◌⊎◌, inl, inr, get_or, drop, length, nat_cmp, string_cmp, List, [], ◌∷◌, ◌++◌, Option, Some, None, Ordering, Less, Equal, Greater, String, Vec, Global, string_bytes, refl, sym, ap, ap₂, ◌∙◌, subst, true≢false, append_assoc}
+use Rattle.std.proofs.Common.{◌≡◌, ℕ, ◌+◌, ◌<◌, ◌≤◌, Bool, true, false, cond, ◌⊎◌, inl, inr, get_or, drop, length, nat_cmp, string_cmp, List, [], ◌∷◌, ◌++◌, Option, Some, None, Ordering, Less, Equal, Greater, String, Vec, Global, string_bytes, refl, sym, ap, ap₂, ◌∙◌, subst, true≢false, append_assoc}
 use Rattle.std.specs.BTreeMap.{insert_entry}
 use Rattle.std.specs.Cmp.Lexicographic.{slice_cmp}
 use Rattle.std.specs.Ordering.{match_ordering}
+use Rattle.std.specs.Str.{bytes_eq}
 use Rattle.std.specs.Result.{OnOk}
 use Rattle.std.specs.declared.result.Result.{Result}
 use Rattle.std.specs.declared.result.Result.TheVariants.{Ok, Err}
@@ -15,13 +16,13 @@ use Rattle.pathmap.specs.Contents.{Content, nothing}
 use Rattle.pathmap.specs.Insides.{heads, inside}
 use Rattle.pathmap.specs.Maps.{content, contents_in}
 use Rattle.pathmap.specs.declared.pathmap.PathMap.{PathMap}
-use Rattle.schema.specs.Shape.{Fields, Shape, fields_in, map_of, shape, struct_of}
+use Rattle.schema.specs.Shape.{Fields, Shape, field, fields_in, map_of, no_fields, shape, struct_of}
 use Rattle.schema.specs.declared.schema.Schema.{Schema}
 use Rattle.schema.specs.declared.schema.Schema as schemas
 use Rattle.fieldset.proofs.Appended.{regroup}
 use Rattle.typed.specs.Printing.{each_member, object_or_none, print as printed, print_fields, value_at, with_member}
 use Rattle.typed.specs.Rows.{AllFit, Fits, IsThere, row_of_children, row_of_fields, text_or_none, then_member, then_named}
-use Rattle.typed.specs.Texts.{Texts, joined, object_of, put_text, texts_in, texts_of}
+use Rattle.typed.specs.Texts.{Texts, fields_but, joined, object_of, put_text, texts_in, texts_of}
 use Rattle.typed.proofs.Insides.{Children, children_of}
 use Rattle.typed.proofs.Prints.{fields_more, print-nothing}
 use Rattle.typed.proofs.Rows.{children_row, opened, struct_row, there}
@@ -162,27 +163,54 @@ text_put s c k text old new is_there value put ms before =
 pub no_text : (s : Shape) (c : Content) (k : List ℕ) (old : Texts) → c ≡ nothing → (ms : Members) → old ≡ texts_of ms → old ≡ texts_of (with_member k (printed s c) ms)
 no_text s c k old bare ms before = before ∙ sym (ap (λ o. texts_of (with_member k o ms)) (ap (printed s) bare ∙ print-nothing s))
 
--- of texts that were those of some members, what is there with what is left of the fields gives them all
-abbrev pub PutAll : List (String Global × Schema) → ℕ → Content → Texts → Texts → Type 0
-PutAll all i c start texts =
+-- what a field's text adds to those of some members
+abbrev pub PutsField : Shape → Content → Texts → Texts → List ℕ → Type 0
+PutsField s c old new k = Fits s (inside (name_text k) c) → (ms : Members) → old ≡ texts_of ms → new ≡ texts_of (with_member k (printed s (inside (name_text k) c)) ms)
+
+-- of texts that were those of some members, what is there with what is left of the fields that are put gives them all
+abbrev pub PutAll : (Fields → Fields) → List (String Global × Schema) → ℕ → Content → Texts → Texts → Type 0
+PutAll kept all i c start texts =
     AllFit (fields_in all) c → AllFit (fields_in (drop i all)) c
-    × ((ms : Members) → start ≡ texts_of ms → (now : Members) × (texts ≡ texts_of now) × (print_fields (fields_in (drop i all)) c now ≡ print_fields (fields_in all) c ms))
+    × ((ms : Members) → start ≡ texts_of ms → (now : Members) × (texts ≡ texts_of now) × (print_fields (kept (fields_in (drop i all))) c now ≡ print_fields (kept (fields_in all)) c ms))
 
-pub field_put : (all : List (String Global × Schema)) (i : ℕ) (f : String Global × Schema) → i < length all → f ≡ get_or all i f → (c : Content) (start old new : Texts) → PutAll all i c start old
-    → (Fits (shape f.1) (inside (name_text (string_bytes f.0)) c) → (ms : Members) → old ≡ texts_of ms → new ≡ texts_of (with_member (string_bytes f.0) (printed (shape f.1) (inside (name_text (string_bytes f.0)) c)) ms)) → PutAll all (i + 1) c start new
-field_put all i f lt is c start old new before step fit =
-    let so_far = before fit in (
-      rest_fit all i f lt is c so_far.0,
-      λ ms begun.
-          let at = so_far.1 ms begun in
-          let now = with_member (string_bytes f.0) (printed (shape f.1) (inside (name_text (string_bytes f.0)) c)) at.0 in
-          (now, step (field_fits all i f lt is c so_far.0) at.0 at.1, fields_more all i f lt is c at.0 now refl ∙ at.2),
-    )
+module _ (all : List (String Global × Schema)) (i : ℕ) (f : String Global × Schema) (lt : i < length all) (is : f ≡ get_or all i f) (c : Content) (start old : Texts) where
+  abbrev rest : Fields
+  rest = fields_in (drop (i + 1) all)
 
-pub all_put : (all : List (String Global × Schema)) (i : ℕ) (c : Content) (start texts : Texts) → length all ≤ i → PutAll all i c start texts → AllFit (fields_in all) c
-    → (ms : Members) → start ≡ texts_of ms → texts ≡ texts_of (print_fields (fields_in all) c ms)
-all_put all i c start texts past before fit ms begun =
-    let at = (before fit).1 ms begun in at.1 ∙ ap texts_of (sym (ap (λ fs. print_fields (fields_in fs) c at.0) (drop_all i all past)) ∙ at.2)
+  abbrev with_field : Members → Members
+  with_field ms = with_member (string_bytes f.0) (printed (shape f.1) (inside (name_text (string_bytes f.0)) c)) ms
+
+  put_by : (kept : Fields → Fields) (new : Texts) → ((ms : Members) → print_fields (kept rest) c (with_field ms) ≡ print_fields (kept (fields_in (drop i all))) c ms) → PutAll kept all i c start old
+      → PutsField (shape f.1) c old new (string_bytes f.0) → PutAll kept all (i + 1) c start new
+  put_by kept new next before step fit =
+      let so_far = before fit in (
+        rest_fit all i f lt is c so_far.0,
+        λ ms begun.
+            let at = so_far.1 ms begun in (with_field at.0, step (field_fits all i f lt is c so_far.0) at.0 at.1, next at.0 ∙ at.2),
+      )
+
+  pub field_put : (new : Texts) → PutAll (λ fs. fs) all i c start old → PutsField (shape f.1) c old new (string_bytes f.0) → PutAll (λ fs. fs) all (i + 1) c start new
+  field_put new = put_by (λ fs. fs) new (λ ms. fields_more all i f lt is c ms (with_field ms) refl)
+
+  module _ (k : List ℕ) where
+    -- what is left, by whether the first of it has the name
+    left_by : (b : Bool) → bytes_eq (string_bytes f.0) k ≡ b → (ms : Members)
+        → print_fields (cond b (fields_but k rest) (field (string_bytes f.0) (shape f.1) (fields_but k rest))) c ms ≡ print_fields (fields_but k (fields_in (drop i all))) c ms
+    left_by b test ms =
+        sym (ap (λ fs. print_fields (fields_but k (fields_in fs)) c ms) (split all i f lt is c) ∙ ap (λ b. print_fields (cond b (fields_but k rest) (field (string_bytes f.0) (shape f.1) (fields_but k rest))) c ms) test)
+
+    pub other_put : (new : Texts) → bytes_eq (string_bytes f.0) k ≡ false → PutAll (fields_but k) all i c start old → PutsField (shape f.1) c old new (string_bytes f.0) → PutAll (fields_but k) all (i + 1) c start new
+    other_put new other = put_by (fields_but k) new (left_by false other)
+
+    pub left_out : bytes_eq (string_bytes f.0) k ≡ true → PutAll (fields_but k) all i c start old → PutAll (fields_but k) all (i + 1) c start old
+    left_out same before fit =
+        let so_far = before fit in (rest_fit all i f lt is c so_far.0, λ ms begun. let at = so_far.1 ms begun in (at.0, at.1, left_by true same at.0 ∙ at.2))
+
+pub all_put : (kept : Fields → Fields) (all : List (String Global × Schema)) (i : ℕ) (c : Content) (start texts : Texts) → kept no_fields ≡ no_fields → length all ≤ i → PutAll kept all i c start texts → AllFit (fields_in all) c
+    → (ms : Members) → start ≡ texts_of ms → texts ≡ texts_of (print_fields (kept (fields_in all)) c ms)
+all_put kept all i c start texts ends past before fit ms begun =
+    let at = (before fit).1 ms begun in
+    at.1 ∙ ap texts_of (sym (ap (λ fs. print_fields (kept (fields_in fs)) c at.0) (drop_all i all past) ∙ ap (λ fs. print_fields fs c at.0) ends) ∙ at.2)
 
 -- one text more in a loop over all of them
 pub one_text : (old one two three k t : List ℕ) (later : Bool) (rest : Texts) → one ≡ old ++ comma_if later → two ≡ one ++ (quoted k ++ 58 ∷ []) → three ≡ two ++ t → three ++ joined true rest ≡ old ++ joined later ((k, t) ∷ rest)

@@ -11,7 +11,7 @@ ghost use Rattle.schema.specs.Lawful.{is_well_formed};
 ghost use Rattle.schema.specs.Shape.{fields_in, shape, shape_at, struct_of};
 ghost use Rattle.typed.specs.Fitting.{IsContent};
 ghost use Rattle.typed.specs.Printing.{print, print_fields};
-ghost use Rattle.typed.specs.Texts.{texts_in, texts_of};
+ghost use Rattle.typed.specs.Texts.{fields_but, texts_in, texts_of};
 ghost use Rattle.pathmap.specs.Contents.{nothing, over};
 ghost use Rattle.pathmap.specs.Maps.{content};
 ghost use Rattle.typed.specs.Faults.{Gives};
@@ -25,7 +25,7 @@ use crate::print::{print_field, print_map};
 use crate::read::read_map;
 use crate::texts::Texts;
 use crate::without::read_without;
-use crate::write::put_fields;
+use crate::write::put_fields_but;
 use pathmap::{PathMap, put_under};
 use schema::Schema;
 use serde_json::Value;
@@ -163,13 +163,19 @@ impl Tree {
         print_field(fields, alloc, name, &self.map)
     }
 
-    /// The texts of the members that the content is printed with under a struct of these fields, by name.
-    pub fn texts(&self, alloc: Global, fields: &[(String, Schema)]) -> Result<Texts, AllocError>
+    /// The texts of the members that the content is printed with under a struct of these fields, by name, but for the
+    /// field of this name.
+    pub fn texts_without(
+        &self,
+        alloc: Global,
+        fields: &[(String, Schema)],
+        name: &str,
+    ) -> Result<Texts, AllocError>
         ensures { is_well_formed (struct_of (fields_in fields.now) false) ≡ true → IsContent (struct_of (fields_in fields.now) false) self.now
-            → IfOk result (λ m. texts_in m.entries ≡ texts_of (print_fields (fields_in fields.now) self.now no_members)) }
+            → IfOk result (λ m. texts_in m.entries ≡ texts_of (print_fields (fields_but name.now (fields_in fields.now)) self.now no_members)) }
     {
         let mut texts = BTreeMap::new(alloc);
-        put_fields(&mut texts, alloc, fields, &self.map)?;
+        put_fields_but(&mut texts, alloc, fields, name, &self.map)?;
         Ok(texts)
     }
 }

@@ -1,6 +1,7 @@
 //! Contents written as JSON texts. Of numbers, truth values and map lists of several key fields a JSON value is made first
 //! (`print`); all else is written directly.
 ghost use Rattle.std.specs.Prelude.{◌≡◌, [], ◌∷◌, ◌++◌, false, IfOk, OnOk};
+ghost use Rattle.fieldpath.specs.Elements.{name_text};
 ghost use Rattle.pathmap.specs.Insides.{heads, inside};
 ghost use Rattle.pathmap.specs.Maps.{content};
 ghost use Rattle.schema.specs.Shape.{fields_in, keyed, kind_of, list_of, map_of, shape, struct_of};
@@ -8,7 +9,7 @@ ghost use Rattle.serde_json.specs.Data.{Data, Members, member, no_members, objec
 ghost use Rattle.serde_json.specs.Written.{compact_text, items_text, members_text};
 ghost use Rattle.typed.specs.Printing.{each_item, each_member, print, print_fields, print_item, with_member};
 ghost use Rattle.typed.specs.Rows.{AllFit, EachFits, FieldsFit, Fits, IsThere, item_of, row_of_fields, text_or_none, then_member};
-ghost use Rattle.typed.specs.Texts.{texts_in, texts_of};
+ghost use Rattle.typed.specs.Texts.{fields_but, texts_in, texts_of};
 
 use crate::print::{field_in, print_list};
 use crate::pushing::{push_some, push_top};
@@ -265,9 +266,27 @@ fn put_member(
     put_text(texts, alloc, name, text)
 }
 
+/// Puts the text of the member that a field is printed as, if anything stands in it.
+#[cycle(write)]
+fn put_field(
+    texts: &mut Texts,
+    alloc: Global,
+    schema: &Schema,
+    name: &str,
+    map: &PathMap,
+) -> Result<(), AllocError>
+    ensures { Fits (shape schema.now) (inside (name_text name.now) (content map.now)) → OnOk result ((ms : Members) → texts_in texts.old.entries ≡ texts_of ms
+        → texts_in texts.new.entries ≡ texts_of (with_member name.now (print (shape schema.now) (inside (name_text name.now) (content map.now))) ms)) }
+{
+    let Some(below) = field_in(map, alloc, name)? else {
+        return Ok(());
+    };
+    put_member(texts, alloc, schema, name, below)
+}
+
 /// Puts the texts of the members that a struct's fields are printed as.
 #[cycle(write)]
-pub(crate) fn put_fields(
+fn put_fields(
     texts: &mut Texts,
     alloc: Global,
     fields: &[(String, Schema)],
@@ -277,11 +296,28 @@ pub(crate) fn put_fields(
         → texts_in texts.new.entries ≡ texts_of (print_fields (fields_in fields.now) (content map.now) ms)) }
 {
     for (name, inner) in fields {
-        let text = name.as_str();
-        let Some(below) = field_in(map, alloc, text)? else {
+        put_field(texts, alloc, inner, name.as_str(), map)?;
+    }
+    Ok(())
+}
+
+/// Puts the texts of the members that the fields of other names than this are printed as.
+pub(crate) fn put_fields_but(
+    texts: &mut Texts,
+    alloc: Global,
+    fields: &[(String, Schema)],
+    left_out: &str,
+    map: &PathMap,
+) -> Result<(), AllocError>
+    ensures { AllFit (fields_in fields.now) (content map.now) → OnOk result ((ms : Members) → texts_in texts.old.entries ≡ texts_of ms
+        → texts_in texts.new.entries ≡ texts_of (print_fields (fields_but left_out.now (fields_in fields.now)) (content map.now) ms)) }
+{
+    for (name, inner) in fields {
+        let name = name.as_str();
+        if name == left_out {
             continue;
-        };
-        put_member(texts, alloc, inner, text, below)?;
+        }
+        put_field(texts, alloc, inner, name, map)?;
     }
     Ok(())
 }

@@ -25,7 +25,7 @@ use Rattle.verbs.specs.Parameters.{parameters_validated}
 use Rattle.verbs.specs.Promise.{IsCalled}
 use Rattle.verbs.specs.Seen.{objects_in}
 use Rattle.verbs.specs.Size.{size_validated}
-use Rattle.verbs.specs.Step.{Creation, Intent, apply_validated, at_path, body_of, collection_validated_by, create_validated, creation_validated, delete_validated, deleted_over, get_validated, intent_of, validated_at, validated_in, validated_over, as_it_stands, key_at, not_there, object_validated_by, plan_for, planned_over, ownership_validated, printed, revisions_left, stored, stored_over, there, update_validated, updated_by, updated_over, version_checked, version_come, all_validated_by, collection_of, list_answered, list_validated, Lists, lists_in}
+use Rattle.verbs.specs.Step.{Creation, Intent, apply_validated, at_path, body_of, collection_validated_by, create_validated, creation_validated, delete_validated, deleted_over, get_validated, intent_of, validated_at, validated_in, validated_over, as_it_stands, key_at, not_there, object_validated_by, plan_for, planned_over, ownership_validated, printed, revisions_left, store_state, store_unless_same, there, update_validated, updated_by, updated_over, version_checked, version_come, all_validated_by, collection_of, list_answered, list_validated, Lists, lists_in}
 use Rattle.verbs.proofs.Checks.{change_in, no_err, ok_is, passed}
 
 -- and its key is one of those that Q says
@@ -34,17 +34,17 @@ Fits current objects Q None = Unit {0}
 Fits current objects Q (Some c) = (c.revision ≡ suc current) × (c.body ≡ None → fin.contains_key objects c.key ≡ true) × Q c.key
 
 module _ (current : ℕ) (objects : Objects) (Q : Key → Type 0) where
-  stored_fits : (t : ServedShape) (k : Key) (status : ℕ) (s : State) (p : Plan) → Q k → stored t current k status s ≡ Ok p → Fits current objects Q p.change
+  stored_fits : (t : ServedShape) (k : Key) (status : ℕ) (s : State) (p : Plan) → Q k → store_state t current k status s ≡ Ok p → Fits current objects Q p.change
   stored_fits t k status s p own e =
       let sized = passed (size_validated (printed t k (suc current) s)) _ p e in
       let left = passed (revisions_left current) _ p sized.2 in
       subst (Fits current objects Q) (ap change_in left.2) (refl, (λ gone. no_some _ gone), own)
 
-  over_fits : (t : ServedShape) (k : Key) (found : Option Object) (s : State) (p : Plan) → Q k → stored_over t current k found s ≡ Ok p → Fits current objects Q p.change
+  over_fits : (t : ServedShape) (k : Key) (found : Option Object) (s : State) (p : Plan) → Q k → store_unless_same t current k found s ≡ Ok p → Fits current objects Q p.change
   over_fits t k None s p own e = stored_fits t k 201 s p own e
   over_fits t k (Some o) s p own e = go (same_state s (state_said t.shape o.body)) e
     where
-      go : (b : Bool) → cond b (Ok (as_it_stands o)) (stored t current k 200 s) ≡ Ok p → Fits current objects Q p.change
+      go : (b : Bool) → cond b (Ok (as_it_stands o)) (store_state t current k 200 s) ≡ Ok p → Fits current objects Q p.change
       go true f = subst (Fits current objects Q) (ap change_in f) tt
       go false f = stored_fits t k 200 s p own f
 

@@ -49,7 +49,7 @@ use Rattle.verbs.specs.Options.{options_validated}
 use Rattle.verbs.specs.Parameters.{parameters_validated}
 use Rattle.verbs.specs.Promise.{AppliesKeepOthers, BodiesSayStates, OthersKeepUnchanged, PlansComeNext, SaysState, StepsKeepMachines, TextsSayStates, UpdatesTakeChanges}
 use Rattle.verbs.specs.Size.{count_if_there, is_over, max_bytes, max_labels, size_validated}
-use Rattle.verbs.specs.Step.{Intent, applied_over, apply_validated, at_path, body_of, collection_validated_by, conflict_refusal, Creation, create_validated, created_as, creation_validated, delete_validated, deleted_over, get_validated, intent_of, validated_at, validated_in, validated_over, as_it_stands, key_at, not_there, object_validated_by, ownership_validated, planned, printed, revisions_left, shape_validated, stored, stored_over, text_at, there, plan_for, update_validated, updated_by, updated_over, version_checked, version_come, all_validated_by, collection_of, list_answered, list_validated, Lists, lists_of}
+use Rattle.verbs.specs.Step.{Intent, applied_over, apply_validated, at_path, body_of, collection_validated_by, conflict_refusal, Creation, create_validated, created_as, creation_validated, delete_validated, deleted_over, get_validated, intent_of, validated_at, validated_in, validated_over, as_it_stands, key_at, not_there, object_validated_by, ownership_validated, planned, printed, revisions_left, shape_validated, store_state, store_unless_same, text_at, there, plan_for, update_validated, updated_by, updated_over, version_checked, version_come, all_validated_by, collection_of, list_answered, list_validated, Lists, lists_of}
 use Rattle.verbs.proofs.Changes.{machine_next, standing_next, standing_texts, texts_at}
 use Rattle.verbs.proofs.Checks.{change_in, held, no_err, ok_is, passed}
 use Rattle.verbs.proofs.Contents.{intended_content}
@@ -90,18 +90,18 @@ module _ (types : List ServedShape) (current : ℕ) (objects : Objects) (t : Ser
   under : state_under types objects k ≡ state_of_live t (fin.get objects k)
   under = ap (λ o. state_by o (fin.get objects k)) serves
 
-  stored_writes : (status : ℕ) (s : State) (p : Plan) → IsPlacedState t.shape s → R (state_of_live t (fin.get objects k)) s → IsNamed k → stored t current k status s ≡ Ok p → WritesBy types current objects D R p.change
+  stored_writes : (status : ℕ) (s : State) (p : Plan) → IsPlacedState t.shape s → R (state_of_live t (fin.get objects k)) s → IsNamed k → store_state t current k status s ≡ Ok p → WritesBy types current objects D R p.change
   stored_writes status s p placed keeps named e =
       let sized = passed (size_validated (printed t k (suc current) s)) _ p e in
       let left = passed (revisions_left current) _ p sized.2 in
       subst (WritesBy types current objects D R) (ap change_in left.2)
       (refl, next_left current (ltb-true _ _ (held (nat_lt current last_revision) _ _ left.0 left.1)), (t, serves, s, placed, refl, subst (λ x. R x s) (sym under) keeps, short_enough (printed t k (suc current) s) sized.0 sized.1, named))
 
-  over_writes : (found : Option Object) (s : State) (p : Plan) → IsPlacedState t.shape s → R (state_of_live t (fin.get objects k)) s → IsNamed k → stored_over t current k found s ≡ Ok p → WritesBy types current objects D R p.change
+  over_writes : (found : Option Object) (s : State) (p : Plan) → IsPlacedState t.shape s → R (state_of_live t (fin.get objects k)) s → IsNamed k → store_unless_same t current k found s ≡ Ok p → WritesBy types current objects D R p.change
   over_writes None s p placed keeps named e = stored_writes 201 s p placed keeps named e
   over_writes (Some o) s p placed keeps named e = go (same_state s (state_said t.shape o.body)) e
     where
-      go : (b : Bool) → cond b (Ok (as_it_stands o)) (stored t current k 200 s) ≡ Ok p → WritesBy types current objects D R p.change
+      go : (b : Bool) → cond b (Ok (as_it_stands o)) (store_state t current k 200 s) ≡ Ok p → WritesBy types current objects D R p.change
       go true f = subst (WritesBy types current objects D R) (ap change_in f) tt
       go false f = stored_writes 200 s p placed keeps named f
 
@@ -257,7 +257,7 @@ module _ (types : List ServedShape) (current : ℕ) (objects : Objects) (shapes 
 
   -- a creation: nothing stands under its key
   created_writes : (t : ServedShape) (k : Key) → slice_get types k.kind ≡ Some t → (intent : Intent) (p : Plan) → IsContent t.shape intent.content → IsNamed k
-      → (found : Option Object) → fin.get objects k ≡ found → and_then (not_there t k.name found) (λ u. stored t current k 201 (updated_by intent no_state)) ≡ Ok p → WritesBy types current objects (Unit {0}) (λ old new. Unit {0}) p.change
+      → (found : Option Object) → fin.get objects k ≡ found → and_then (not_there t k.name found) (λ u. store_state t current k 201 (updated_by intent no_state)) ≡ Ok p → WritesBy types current objects (Unit {0}) (λ old new. Unit {0}) p.change
   created_writes t k serves intent p content named (Some o) is e = no_err _ p e
   created_writes t k serves intent p content named None is e =
       stored_writes types current objects t k serves (Unit {0}) (λ old new. Unit {0}) 201 (updated_by intent no_state) p (updated_placed no_state intent.content (manager_of intent.manager update_operation) t.shape refl content (nothing_placed t.shape)) tt named e

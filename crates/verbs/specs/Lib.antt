@@ -20,5 +20,5 @@ pub mod Watching
 pub mod Promise
 pub mod TypeCodes
 pub mod Remembered
-pub mod Written
+pub mod WritePlans
 pub mod Seen

@@ -15,8 +15,8 @@ use Rattle.verbs.specs.declared.change.Change.{Change as TheChange}
 use Rattle.revtable.specs.Read.{object_of as stored_object}
 use Rattle.revtable.specs.declared.row.Object.{Object as TheObject}
 use Rattle.verbs.specs.declared.admitting.Denied.{Denied as TheDenied}
-use Rattle.verbs.specs.declared.admitting.Refusal.{Refusal}
-use Rattle.verbs.specs.declared.admitting.Refusal.TheVariants as refusal
+use Rattle.verbs.specs.declared.admitting.AdmitFault.{AdmitFault}
+use Rattle.verbs.specs.declared.admitting.AdmitFault.TheVariants as refusal
 use Rattle.verbs.specs.declared.call_refusal.CallRefusal.{CallRefusal as TheCallRefusal}
 use Rattle.verbs.specs.declared.fault.CallError.{CallError}
 use Rattle.verbs.specs.declared.fault.CallError.TheVariants as call_error
@@ -88,7 +88,7 @@ abbrev pub denied_of : TheDenied → Denied
 denied_of d = record { reason = d.reason; message = d.message.now; allow = option_map (λ s. s.now) d.allow }
 
 -- what `admit` answered is what is admitted, unless memory ran out
-abbrev pub Admits : Result TheTarget Refusal → Result Target Denied → Type 0
+abbrev pub Admits : Result TheTarget AdmitFault → Result Target Denied → Type 0
 Admits (Ok t) answer = answer ≡ Ok (target_of t)
 Admits (Err (refusal.Denied d)) answer = answer ≡ Err (denied_of d)
 Admits (Err refusal.Memory) answer = Unit {0}

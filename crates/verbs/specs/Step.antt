@@ -139,9 +139,9 @@ at_path t k method = record { served = t; namespace = k.namespace; name = Some k
 abbrev pub revisions_left : ℕ → Validated (Unit {0})
 revisions_left current = require (nat_lt current last_revision) ServiceUnavailable (codes "revisions are used up")
 
--- the object of this value, unless it is too large or revisions are used up
-abbrev pub stored_as : Data → ℕ → Key → ℕ → Validated Plan
-stored_as body current k status =
+-- the plan that stores the object of this value, unless it is too large or revisions are used up
+abbrev pub store_text : Data → ℕ → Key → ℕ → Validated Plan
+store_text body current k status =
     and_then (size_validated body) (λ u.
     and_then (revisions_left current) (λ u.
     Ok (record {
@@ -149,27 +149,27 @@ stored_as body current k status =
       change = Some (record { revision = suc current; key = k; body = Some (compact_text body) });
     })))
 
--- the object with the next revision
-abbrev pub stored : ServedShape → ℕ → Key → ℕ → State → Validated Plan
-stored t current k status s = stored_as (printed t k (suc current) s) current k status
+-- the plan that stores a state, with the next revision
+abbrev pub store_state : ServedShape → ℕ → Key → ℕ → State → Validated Plan
+store_state t current k status s = store_text (printed t k (suc current) s) current k status
 
 -- the object as it stands
 abbrev pub as_it_stands : Object → Plan
 as_it_stands o = record { answer = record { status = 200; body = o.body; watch = None }; change = None }
 
--- a creation, or a change of what stands, unless it changes nothing of what that says
-abbrev pub stored_over : ServedShape → ℕ → Key → Option Object → State → Validated Plan
-stored_over t current k None s = stored t current k 201 s
-stored_over t current k (Some o) s = if same_state s (state_said t.shape o.body) then Ok (as_it_stands o) else stored t current k 200 s
+-- the plan of a creation, or of a change of what stands, unless it changes nothing of what that says
+abbrev pub store_unless_same : ServedShape → ℕ → Key → Option Object → State → Validated Plan
+store_unless_same t current k None s = store_state t current k 201 s
+store_unless_same t current k (Some o) s = if same_state s (state_said t.shape o.body) then Ok (as_it_stands o) else store_state t current k 200 s
 
 -- ---- apply
 
--- version, ownership, size
+-- version, ownership, whether anything changes, size, revisions left
 abbrev pub applied_over : ServedShape → ℕ → Key → Option Object → Intent → Validated Plan
 applied_over t current k live intent =
     and_then (version_checked intent.version live) (λ u.
     and_then (ownership_validated (api_version_of t) (state_of_live t live) intent.content (manager_of intent.manager apply_operation) intent.is_forced) (λ s.
-    stored_over t current k live s))
+    store_unless_same t current k live s))
 
 abbrev pub apply_validated : ServedShape → ℕ → Option Object → Key → List ℕ → Data → Validated Plan
 apply_validated t current live k query body =
@@ -257,7 +257,7 @@ abbrev pub created_as : ServedShape → ℕ → Option Object → Key → Intent
 created_as t current live k intent =
     and_then (names_validated k.namespace k.name intent.rest) (λ u.
     and_then (not_there t k.name live) (λ u.
-    stored t current k 201 (updated_by intent no_state)))
+    store_state t current k 201 (updated_by intent no_state)))
 
 -- the object that a creation is of, and what it intends
 pub record Creation : Type 0 where
@@ -275,12 +275,12 @@ abbrev pub create_validated : ServedShape → ℕ → Objects → ℕ → List �
 create_validated t current objects kind namespace query body =
     and_then (creation_validated t kind namespace query body) (λ c. created_as t current (fin.get objects c.key) c.key c.intent)
 
--- object there or not, version, size
+-- object there or not, version, whether anything changes, size, revisions left
 abbrev pub updated_over : ServedShape → ℕ → Key → Option Object → Intent → Validated Plan
 updated_over t current k live intent =
     and_then (there t k.name live) (λ o.
     and_then (version_checked intent.version live) (λ u.
-    stored_over t current k live (updated_by intent (state_said t.shape o.body))))
+    store_unless_same t current k live (updated_by intent (state_said t.shape o.body))))
 
 abbrev pub update_validated : ServedShape → ℕ → Option Object → Key → List ℕ → Data → Validated Plan
 update_validated t current live k query body =
@@ -297,7 +297,7 @@ deleted t current k o = record {
   change = Some (record { revision = suc current; key = k; body = None });
 }
 
--- object there or not, version; nothing is stored, so no size is validated
+-- object there or not, version, revisions left; nothing is stored, so no size is validated
 abbrev pub deleted_over : ServedShape → ℕ → Key → Option Object → Option ℕ → Validated Plan
 deleted_over t current k live version =
     and_then (there t k.name live) (λ o.

@@ -21,7 +21,8 @@ pub(crate) const NO_PATH: &str = "no such path";
 /// The message where a path doesn't serve a method.
 pub(crate) const NOT_SERVED: &str = "method not served here";
 
-/// Why a request is refused by its route, method or media type.
+/// Why a request is refused before a call is made of it: by its route, method or media type here, and by the same form for its
+/// head, its body, or too many connections.
 #[derive(Clone, Copy, Debug, PartialEq, Eq)]
 pub struct Denied {
     pub reason: Reason,
@@ -32,28 +33,28 @@ pub struct Denied {
 
 /// Why a request was not admitted.
 #[derive(Clone, Copy, Debug, PartialEq, Eq, Error)]
-pub enum Refusal {
+pub enum AdmitFault {
     #[error("the request is refused: {}", .0.message)]
     Denied(Denied),
     #[error("out of memory")]
     Memory,
 }
 
-impl From<AllocError> for Refusal {
+impl From<AllocError> for AdmitFault {
     ghost use Rattle.std.specs.Prelude.{◌≡◌};
-    ghost use Rattle.verbs.specs.declared.admitting.Refusal.TheVariants.{Memory};
+    ghost use Rattle.verbs.specs.declared.admitting.AdmitFault.TheVariants.{Memory};
 
     ghost from_gives = { λ _ e. e ≡ Memory };
 
-    fn from(_: AllocError) -> Refusal {
-        Refusal::Memory
+    fn from(_: AllocError) -> AdmitFault {
+        AdmitFault::Memory
     }
 }
 
-fn refused(reason: Reason, message: &'static str, allow: Option<&'static str>) -> Refusal
+fn refused(reason: Reason, message: &'static str, allow: Option<&'static str>) -> AdmitFault
     ensures { Admits (Err result) (not_admitted reason message.now (option_map (λ s. s.now) allow.entry)) }
 {
-    Refusal::Denied(Denied {
+    AdmitFault::Denied(Denied {
         reason,
         message,
         allow,
@@ -86,7 +87,7 @@ pub fn admitted(
     place: Option<Place<'_>>,
     method: &str,
     media: Option<&[u8]>,
-) -> Result<Target, Refusal>
+) -> Result<Target, AdmitFault>
     ensures { Admits result (place_admitted (option_map place_seen place.entry) method.now (option_map (λ b. b.now) media.entry)) }
 {
     let Some(place) = place else {

@@ -4,14 +4,14 @@ ghost use Rattle.std.specs.Prelude.{◌≡◌, ◌≢◌, ◌≤◌, Err, IfOk};
 ghost use Rattle.history.specs.History.{fresh, last_revision};
 ghost use Rattle.history.specs.View.{view};
 
-use crate::admitting::{Refusal, admitted};
+use crate::admitting::{AdmitFault, admitted};
 use crate::calls::{Call, Plan, Target};
 use crate::catalog::Catalog;
 use crate::fault::Fault;
 use crate::plans::planned;
 use crate::route::Routes;
 use crate::watching::{bookmarked, pumped};
-use crate::writing::written;
+use crate::writing::write_change;
 use revstore::{CompactFault, Store};
 use revtable::Table;
 use schema::Types;
@@ -92,7 +92,12 @@ impl Api {
 
     /// What a request asks, by its method, its path and the value of its `Content-Type`: the route is validated first,
     /// then the method, then the media type.
-    pub fn admit(&self, method: &str, path: &str, media: Option<&[u8]>) -> Result<Target, Refusal>
+    pub fn admit(
+        &self,
+        method: &str,
+        path: &str,
+        media: Option<&[u8]>,
+    ) -> Result<Target, AdmitFault>
         ensures { Admits result (admitted (types_of self.now) method.now path.now (option_map (λ b. b.now) media.entry)) }
     {
         let place = self.routes.place(self.catalog.types(), path);
@@ -123,7 +128,7 @@ impl Api {
         ensures unchanged { OnErr result (self.new ≡ self.old) }
     {
         match &plan.change {
-            Some(change) => written(&mut self.store, change, plan.answer.body.as_str()),
+            Some(change) => write_change(&mut self.store, change, plan.answer.body.as_str()),
             None => Ok(()),
         }
     }

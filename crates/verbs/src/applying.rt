@@ -10,7 +10,7 @@ ghost use Rattle.verbs.specs.Json.{IsJson};
 ghost use Rattle.history.specs.Read.{key_of};
 ghost use Rattle.verbs.specs.Seen.{Gives, intent_seen};
 ghost use Rattle.verbs.specs.Step.{applied_over, apply_validated};
-ghost use Rattle.verbs.specs.Written.{RemembersRight, written_plan};
+ghost use Rattle.verbs.specs.WritePlans.{RemembersRight, written_plan};
 
 use crate::conflicts::applied;
 use crate::fault::CallError;
@@ -18,20 +18,20 @@ use crate::intent::{Intent, at_path, intent_of};
 use crate::live::Live;
 use crate::method::Method;
 use crate::naming::validate_names;
-use crate::storing::{check_version, stored_over};
+use crate::storing::{check_version, store_unless_same};
 use crate::subject::Subject;
-use crate::written::Written;
+use crate::write_plan::WritePlan;
 use params::Asked;
 use serde_json::Value;
 use std::alloc::Global;
 
-/// Checks, in order: version, ownership, size.
+/// Checks, in order: version, ownership, whether anything changes, size, revisions left.
 fn applied_over(
     alloc: Global,
     of: Subject<'_>,
     live: &Live,
     intent: Intent<'_>,
-) -> Result<Written, CallError>
+) -> Result<WritePlan, CallError>
     requires subject { IsSubject of }
     requires content { IsContent (type_of of).shape intent.content }
     requires live { IsLive (type_of of) live.now }
@@ -53,7 +53,7 @@ fn applied_over(
         manager.as_str(),
         is_forced,
     )?;
-    stored_over(alloc, of, live, owned)
+    store_unless_same(alloc, of, live, owned)
 }
 
 /// An apply's body over what stands.
@@ -63,7 +63,7 @@ pub(crate) fn validate_apply(
     live: &Live,
     query: &[u8],
     body: &Value,
-) -> Result<Written, CallError>
+) -> Result<WritePlan, CallError>
     requires subject { IsSubject of }
     requires json { IsJson (view body.now) }
     requires live { IsLive (type_of of) live.now }

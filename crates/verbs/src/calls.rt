@@ -20,7 +20,7 @@ pub struct Target {
     pub method: Method,
 }
 
-/// A whole request.
+/// What a request asks, once it is read.
 #[derive(Debug, Drop)]
 pub struct Call {
     pub target: Target,
@@ -29,7 +29,7 @@ pub struct Call {
     pub body: Option<Body>,
 }
 
-/// A reply: status and body.
+/// What a call answers: status and body, and the watch that begins, if one does.
 #[derive(Debug, Drop)]
 pub struct Answer {
     pub status: u16,

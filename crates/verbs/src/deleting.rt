@@ -51,7 +51,7 @@ fn deleted(alloc: Global, of: Subject<'_>, live: &Object, state: &Owned) -> Resu
     })
 }
 
-/// Checks, in order: whether the object is there, version. Nothing is stored, so no size is validated.
+/// Checks, in order: whether the object is there, version, revisions left. Nothing is stored, so no size is validated.
 fn deleted_over(
     alloc: Global,
     of: Subject<'_>,

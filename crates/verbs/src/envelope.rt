@@ -314,7 +314,7 @@ fn validate_managers_by(
     validate_managers(alloc, member)
 }
 
-/// The version that `metadata` names, if any.
+/// Checks the key, the version and the managers that `metadata` names, and answers that version, if there is one.
 fn validate_metadata(
     alloc: Global,
     expected: Expected<'_>,

@@ -50,10 +50,10 @@ mod subject;
 mod texts;
 mod updating;
 mod watching;
+mod write_plan;
 mod writing;
-mod written;
 
-pub use admitting::{Denied, Refusal};
+pub use admitting::{AdmitFault, Denied};
 pub use api::Api;
 pub use body::{Body, NOT_JSON};
 pub use calls::{Answer, Call, Plan, Target};

@@ -13,7 +13,7 @@ ghost use Rattle.verbs.specs.Seen.{Gives, call_of, object_of, plan_of};
 ghost use Rattle.verbs.specs.Step.{apply_validated, body_of, delete_validated, plan_for, update_validated};
 ghost use Rattle.verbs.specs.Subject.{IsSubject, type_of};
 ghost use Rattle.verbs.specs.Validated.{Validated, and_then};
-ghost use Rattle.verbs.specs.Written.{RemembersRight, written_plan};
+ghost use Rattle.verbs.specs.WritePlans.{RemembersRight, written_plan};
 
 use crate::answering::{body_of, plan_for};
 use crate::applying::validate_apply;
@@ -24,7 +24,7 @@ use crate::live::{Live, live_at};
 use crate::remembered::Remembered;
 use crate::subject::Subject;
 use crate::updating::validate_update;
-use crate::written::Written;
+use crate::write_plan::WritePlan;
 use revtable::Object;
 use std::alloc::Global;
 
@@ -34,7 +34,7 @@ fn validate_put(
     of: Subject<'_>,
     live: &Live,
     call: &Call,
-) -> Result<Written, CallError>
+) -> Result<WritePlan, CallError>
     requires subject { IsSubject of }
     requires live { IsLive (type_of of) live.now }
     ensures plan { let c = call_of call.now in
@@ -51,7 +51,7 @@ fn validate_patch(
     of: Subject<'_>,
     live: &Live,
     call: &Call,
-) -> Result<Written, CallError>
+) -> Result<WritePlan, CallError>
     requires subject { IsSubject of }
     requires live { IsLive (type_of of) live.now }
     ensures plan { let c = call_of call.now in
@@ -66,7 +66,7 @@ fn validate_patch(
 /// what was known stays.
 pub(crate) fn plan_written(
     alloc: Global,
-    written: Result<Written, CallError>,
+    written: Result<WritePlan, CallError>,
     known: &mut Option<Remembered>,
 ) -> Result<Plan, Fault>
     ensures plan_for { (answer : Validated calls.Plan) → Gives written_plan written answer → IfOk result (λ p. plan_of p ≡ plan_for answer) }
@@ -74,7 +74,7 @@ pub(crate) fn plan_written(
     ensures right { (t : ServedShape) → IfOk written (RemembersRight t) → IfSome known.old (IsRight t) → IfSome known.new (IsRight t) }
 {
     match written {
-        Ok(Written { plan, remembered }) => {
+        Ok(WritePlan { plan, remembered }) => {
             if remembered.is_some() {
                 *known = remembered;
             }
@@ -85,10 +85,10 @@ pub(crate) fn plan_written(
 }
 
 /// The plan of a write over what stands: that is what is known, so it is remembered unless the write stores another text.
-fn plan_over(
+fn plan_remembering(
     alloc: Global,
     live: Live,
-    written: Result<Written, CallError>,
+    written: Result<WritePlan, CallError>,
     known: &mut Option<Remembered>,
 ) -> Result<Plan, Fault>
     ensures plan_for { (answer : Validated calls.Plan) → Gives written_plan written answer → IfOk result (λ p. plan_of p ≡ plan_for answer) }
@@ -134,7 +134,7 @@ pub(crate) fn planned_put(
 {
     let live = live_at(alloc, of.served, &of.key, object, known.take())?;
     let updated = validate_put(alloc, of, &live, call);
-    plan_over(alloc, live, updated, known)
+    plan_remembering(alloc, live, updated, known)
 }
 
 /// An apply to the object under the key.
@@ -154,7 +154,7 @@ pub(crate) fn planned_patch(
 {
     let live = live_at(alloc, of.served, &of.key, object, known.take())?;
     let applied = validate_patch(alloc, of, &live, call);
-    plan_over(alloc, live, applied, known)
+    plan_remembering(alloc, live, applied, known)
 }
 
 /// The deletion of the object under the key.

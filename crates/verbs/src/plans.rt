@@ -98,7 +98,7 @@ fn planned_object(
 }
 
 /// What a creation's body says.
-fn validate_collection<'a>(
+fn validate_post<'a>(
     alloc: Global,
     served: &Served,
     namespace: &str,
@@ -164,7 +164,7 @@ fn planned_post(
     ensures right { IfSome known.new (IsRight (types.served served.now)) }
     ensures same { store.new ≡ store.old }
 {
-    match validate_collection(alloc, served, namespace, call) {
+    match validate_post(alloc, served, namespace, call) {
         Ok(creation) => planned_creation(alloc, served, store, creation, known),
         Err(call_error) => plan_for(alloc, Err(call_error)),
     }

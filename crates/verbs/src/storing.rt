@@ -8,6 +8,7 @@ ghost use Rattle.schema.specs.Served as types;
 ghost use Rattle.schema.specs.TypesFile.{ServedShape};
 ghost use Rattle.typed.specs.Fitting.{IsContent};
 ghost use Rattle.schema.specs.ObjectShape.{IsObjectShape};
+ghost use Rattle.objects.specs.Labels.{HasLabels};
 ghost use Rattle.objects.specs.Placed.{IsPlacedState};
 ghost use Rattle.objects.specs.Views.{state_of};
 ghost use Rattle.verbs.specs.Live.{IsSaid, object_in};
@@ -16,9 +17,9 @@ ghost use Rattle.verbs.specs.Seen.{Gives, object_of, plan_of};
 ghost use Rattle.verbs.specs.Naming.{metadata_object};
 ghost use Rattle.verbs.specs.Remembered.{IsSaidBy};
 ghost use Rattle.verbs.specs.Size.{count_if_there};
-ghost use Rattle.verbs.specs.Step.{as_it_stands, no_object_message, other_version_message, revisions_left, stored, stored_as, stored_over, text_at, version_checked};
+ghost use Rattle.verbs.specs.Step.{as_it_stands, no_object_message, other_version_message, revisions_left, store_state, store_text, store_unless_same, text_at, version_checked};
 ghost use Rattle.verbs.specs.Subject.{IsSubject, type_of};
-ghost use Rattle.verbs.specs.Written.{RemembersRight, written_plan};
+ghost use Rattle.verbs.specs.WritePlans.{RemembersRight, written_plan};
 
 use crate::calls::{Answer, Plan};
 use crate::change::Change;
@@ -31,13 +32,31 @@ use crate::remembered::remember;
 use crate::size::validate_size;
 use crate::subject::Subject;
 use crate::texts::joined;
-use crate::written::Written;
+use crate::write_plan::WritePlan;
 use history::{Key, LAST_REVISION};
 use ownership::{Outcome, Owned, written_over};
 use revtable::Object;
 use schema::Served;
 use std::alloc::{AllocError, Global};
 use std::snapshot::Snapshot;
+
+/// The text of the object at the key, as compact JSON, and how many labels it has.
+fn printed_with_labels(
+    alloc: Global,
+    served: &Served,
+    key: &Key,
+    revision: u64,
+    owned: &Owned,
+) -> Result<(String, usize), AllocError>
+    requires shaped { IsObjectShape (types.served served.now).shape }
+    requires content { IsContent (types.served served.now).shape owned.now.tree }
+    ensures text { IfOk result (λ p. string_bytes p.0 ≡ text_at (types.served served.now) (key_of key.now) revision (state_of owned.now)) }
+    ensures labels { IfOk result (λ p. HasLabels p.1 (types.served served.now).shape (state_of owned.now)) }
+{
+    let api_version = api_version_of(alloc, served)?;
+    let identity = identity_of(served, key, api_version.as_str());
+    owned.to_object_with_labels(alloc, &served.schema, identity, revision)
+}
 
 /// The text of the object at the key, as compact JSON.
 pub fn printed_text(
@@ -51,9 +70,8 @@ pub fn printed_text(
     requires content { IsContent (types.served served.now).shape owned.now.tree }
     ensures { IfOk result (λ t. string_bytes t ≡ text_at (types.served served.now) (key_of key.now) revision (state_of owned.now)) }
 {
-    let api_version = api_version_of(alloc, served)?;
-    let identity = identity_of(served, key, api_version.as_str());
-    owned.to_object(alloc, &served.schema, identity, revision)
+    let (text, _) = printed_with_labels(alloc, served, key, revision, owned)?;
+    Ok(text)
 }
 
 fn no_object_message(alloc: Global, given: u64) -> Result<String, AllocError>
@@ -109,8 +127,8 @@ pub fn check_revisions(alloc: Global, current: u64) -> Result<(), CallError>
     Err(CallError::refused_for(alloc, Reason::ServiceUnavailable, "revisions are used up"))
 }
 
-/// The object of this text, which has so many labels, unless it is too large or revisions are used up.
-fn stored_as(
+/// The plan that stores the object of this text, which has so many labels, unless it is too large or revisions are used up.
+fn store_text(
     alloc: Global,
     of: Subject<'_>,
     status: u16,
@@ -119,7 +137,7 @@ fn stored_as(
 ) -> Result<Plan, CallError>
     requires numbered { of.current ≤ last_revision }
     ensures plan { (object : Data) → string_bytes text ≡ compact_text object → labels ≡ count_if_there (metadata_object (codes "labels") object)
-        → Gives plan_of result (stored_as object of.entry.current (key_of of.entry.key) status) }
+        → Gives plan_of result (store_text object of.entry.current (key_of of.entry.key) status) }
     ensures text { IfOk result (λ p. string_bytes p.answer.body ≡ string_bytes text) }
     ensures left { OnOk result (of.entry.current < last_revision) }
 {
@@ -140,8 +158,8 @@ fn stored_as(
     })
 }
 
-/// The object with the next revision.
-fn stored_plan(
+/// The plan that stores a state, with the next revision.
+fn store_state(
     alloc: Global,
     of: Subject<'_>,
     status: u16,
@@ -149,29 +167,28 @@ fn stored_plan(
 ) -> Result<Plan, CallError>
     requires subject { IsSubject of }
     requires placed { IsPlacedState (type_of of).shape (state_of owned.now) }
-    ensures plan { Gives plan_of result (stored (type_of of.entry) of.entry.current (key_of of.entry.key) status (state_of owned.now)) }
+    ensures plan { Gives plan_of result (store_state (type_of of.entry) of.entry.current (key_of of.entry.key) status (state_of owned.now)) }
     ensures says { IfOk result (λ p. IsSaidBy (type_of of.entry) (string_bytes p.answer.body) (state_of owned.now)) }
 {
-    let text = printed_text(alloc, of.served, &of.key, of.current + 1, owned)?;
-    let labels = owned.label_count(alloc, &of.served.schema)?;
-    stored_as(alloc, of, status, text, labels)
+    let (text, labels) = printed_with_labels(alloc, of.served, &of.key, of.current + 1, owned)?;
+    store_text(alloc, of, status, text, labels)
 }
 
-/// The text that is stored of a state, and the state with it, which is remembered.
-pub(crate) fn stored(
+/// The plan that stores a state, and the state under the text that is stored, which is remembered.
+pub(crate) fn store_and_remember(
     alloc: Global,
     of: Subject<'_>,
     status: u16,
     owned: Owned,
-) -> Result<Written, CallError>
+) -> Result<WritePlan, CallError>
     requires subject { IsSubject of }
     requires placed { IsPlacedState (type_of of).shape (state_of owned) }
-    ensures plan { Gives written_plan result (stored (type_of of.entry) of.entry.current (key_of of.entry.key) status (state_of owned)) }
+    ensures plan { Gives written_plan result (store_state (type_of of.entry) of.entry.current (key_of of.entry.key) status (state_of owned)) }
     ensures right { IfOk result (RemembersRight (type_of of.entry)) }
 {
-    let plan = stored_plan(alloc, of, status, &owned)?;
+    let plan = store_state(alloc, of, status, &owned)?;
     let remembered = remember(&plan.answer.body, owned);
-    Ok(Written { plan, remembered })
+    Ok(WritePlan { plan, remembered })
 }
 
 /// The object as it stands.
@@ -189,7 +206,7 @@ pub fn as_it_stands(object: Object) -> Plan
 }
 
 /// The plan that answers what stands and changes nothing. The text is copied, since what stands is remembered.
-fn unchanged(live: &Object) -> Result<Written, AllocError>
+fn unchanged(live: &Object) -> Result<WritePlan, AllocError>
     ensures plan { IfOk result (λ w. written_plan w ≡ as_it_stands (object_of live.now)) }
     ensures right { (t : ServedShape) → IfOk result (RemembersRight t) }
 {
@@ -197,28 +214,29 @@ fn unchanged(live: &Object) -> Result<Written, AllocError>
         revision: live.revision,
         body: live.body.clone()?,
     };
-    Ok(Written {
+    Ok(WritePlan {
         plan: as_it_stands(object),
         remembered: None,
     })
 }
 
-/// A creation, or a change of what stands, unless it changes nothing of the state before.
-pub(crate) fn stored_over(
+/// The plan of a creation, or of a change of what stands; where it changes nothing of the state before, what stands is
+/// answered.
+pub(crate) fn store_unless_same(
     alloc: Global,
     of: Subject<'_>,
     live: &Live,
     owned: Owned,
-) -> Result<Written, CallError>
+) -> Result<WritePlan, CallError>
     requires subject { IsSubject of }
     requires placed { IsPlacedState (type_of of).shape (state_of owned) }
     requires said { IsSaid (type_of of) live.now }
-    ensures plan { Gives written_plan result (stored_over (type_of of.entry) of.entry.current (key_of of.entry.key) (object_in live.now) (state_of owned)) }
+    ensures plan { Gives written_plan result (store_unless_same (type_of of.entry) of.entry.current (key_of of.entry.key) (object_in live.now) (state_of owned)) }
     ensures right { IfOk result (RemembersRight (type_of of.entry)) }
 {
     match written_over(&owned, live.before()) {
-        Outcome::Created => stored(alloc, of, 201, owned),
-        Outcome::Configured => stored(alloc, of, 200, owned),
+        Outcome::Created => store_and_remember(alloc, of, 201, owned),
+        Outcome::Configured => store_and_remember(alloc, of, 200, owned),
         Outcome::Unchanged => match &live.object {
             Some(object) => Ok(unchanged(object)?),
             None => unreachable!(),

@@ -1,4 +1,4 @@
-//! What a write is of: the type and the key of an object, and where the store stands.
+//! What the functions of a write share. What a write starts from stands in `live`.
 
 use history::Key;
 use schema::Served;

@@ -15,7 +15,7 @@ ghost use Rattle.verbs.specs.Json.{IsJson};
 ghost use Rattle.history.specs.Read.{key_of};
 ghost use Rattle.verbs.specs.Seen.{Gives, creation_seen, intent_seen, object_of};
 ghost use Rattle.verbs.specs.Step.{created_as, creation_validated, update_validated, updated_by, updated_over};
-ghost use Rattle.verbs.specs.Written.{RemembersRight, written_plan};
+ghost use Rattle.verbs.specs.WritePlans.{RemembersRight, written_plan};
 
 use crate::envelope::{Expected, name_in};
 use crate::fault::CallError;
@@ -24,9 +24,9 @@ use crate::live::Live;
 use crate::method::Method;
 use crate::naming::{require_name, validate_marks, validate_names};
 use crate::presence::{not_there, there};
-use crate::storing::{check_version, stored, stored_over};
+use crate::storing::{check_version, store_and_remember, store_unless_same};
 use crate::subject::Subject;
-use crate::written::Written;
+use crate::write_plan::WritePlan;
 use history::Key;
 use ownership::{Owned, update};
 use params::Asked;
@@ -53,7 +53,7 @@ pub(crate) fn created_as(
     of: Subject<'_>,
     live: Option<&Object>,
     intent: Intent<'_>,
-) -> Result<Written, CallError>
+) -> Result<WritePlan, CallError>
     requires subject { IsSubject of }
     requires content { IsContent (type_of of).shape intent.content }
     ensures plan { Gives written_plan result (created_as (type_of of.entry) of.entry.current (option_map (λ o. object_of o.now) live.entry) (key_of of.entry.key) (intent_seen intent.entry)) }
@@ -67,7 +67,7 @@ pub(crate) fn created_as(
     )?;
     not_there(alloc, of.served, of.key.name.as_str(), live)?;
     let owned = updated_by(alloc, intent, &Owned::empty(alloc))?;
-    stored(alloc, of, 201, owned)
+    store_and_remember(alloc, of, 201, owned)
 }
 
 /// The key of an object that its body names.
@@ -107,13 +107,13 @@ pub(crate) fn validate_creation<'a>(
     Ok(Creation { key, intent })
 }
 
-/// Checks, in order: whether the object is there, version, size.
+/// Checks, in order: whether the object is there, version, whether anything changes, size, revisions left.
 fn updated_over(
     alloc: Global,
     of: Subject<'_>,
     live: &Live,
     intent: Intent<'_>,
-) -> Result<Written, CallError>
+) -> Result<WritePlan, CallError>
     requires subject { IsSubject of }
     requires content { IsContent (type_of of).shape intent.content }
     requires live { IsLive (type_of of) live.now }
@@ -124,7 +124,7 @@ fn updated_over(
     there(alloc, of.served, of.key.name.as_str(), object)?;
     check_version(alloc, intent.version, object)?;
     let owned = updated_by(alloc, intent, &live.state)?;
-    stored_over(alloc, of, live, owned)
+    store_unless_same(alloc, of, live, owned)
 }
 
 /// An update of an object that is there.
@@ -134,7 +134,7 @@ pub(crate) fn validate_update(
     live: &Live,
     query: &[u8],
     body: &Value,
-) -> Result<Written, CallError>
+) -> Result<WritePlan, CallError>
     requires subject { IsSubject of }
     requires json { IsJson (view body.now) }
     requires live { IsLive (type_of of) live.now }

@@ -29,7 +29,7 @@ fn put(store: &mut Store, key: &Key, body: Option<&str>) -> Result<(), Fault>
 }
 
 /// Adds a change that comes next, whose text is this. On an error nothing is changed.
-pub(crate) fn written(store: &mut Store, change: &Change, text: &str) -> Result<(), Fault>
+pub(crate) fn write_change(store: &mut Store, change: &Change, text: &str) -> Result<(), Fault>
     requires next { ComesAfter store.old (change_of change.now) }
     requires text { Stores text.now change.now }
     ensures ok { OnOk result (store.new ≡ written_in store.old (change_of change.now).key (change_of change.now).body) }

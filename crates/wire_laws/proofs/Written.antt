@@ -265,7 +265,7 @@ if_fine : (b : Bool) (x y : Validated Plan) → IsFine x → IsFine y → IsFine
 if_fine true x y is other = is
 if_fine false x y is other = other
 
-stored_fine : (body : Data) (current : ℕ) (k : Key) (status : ℕ) → IsStatusCode status → IsFine (step.stored_as body current k status)
+stored_fine : (body : Data) (current : ℕ) (k : Key) (status : ℕ) → IsStatusCode status → IsFine (step.store_text body current k status)
 stored_fine body current k status is =
     let plan : Plan = record {
       answer = record { status = status; body = compact_text body; watch = None };
@@ -274,17 +274,17 @@ stored_fine body current k status is =
     let left : Unit {0} → Validated Plan = λ u. validated.and_then (step.revisions_left current) (λ v. Ok plan) in
     checked (size_validated body) left (λ u. checked (step.revisions_left current) (λ v. Ok plan) (λ v. record { is = is }))
 
-over_fine : (t : ServedShape) (current : ℕ) (k : Key) (o : Option Object) (s : State) → IsFine (step.stored_over t current k o s)
+over_fine : (t : ServedShape) (current : ℕ) (k : Key) (o : Option Object) (s : State) → IsFine (step.store_unless_same t current k o s)
 over_fine t current k None s = stored_fine (step.printed t k (suc current) s) current k 201 (omega arith, omega arith)
 over_fine t current k (Some o) s =
-    if_fine (same_state s (state_said t.shape o.body)) (Ok (step.as_it_stands o)) (step.stored t current k 200 s) (record { is = (omega arith, omega arith) })
+    if_fine (same_state s (state_said t.shape o.body)) (Ok (step.as_it_stands o)) (step.store_state t current k 200 s) (record { is = (omega arith, omega arith) })
     (stored_fine (step.printed t k (suc current) s) current k 200 (omega arith, omega arith))
 
 applied_fine : (t : ServedShape) (current : ℕ) (k : Key) (live : Option Object) (intent : step.Intent) → IsFine (step.applied_over t current k live intent)
 applied_fine t current k live intent =
     let owned = step.ownership_validated (api_version_of t) (state_of_live t live) intent.content (manager_of intent.manager apply_operation) intent.is_forced in
-    checked (step.version_checked intent.version live) (λ u. validated.and_then owned (step.stored_over t current k live))
-    (λ u. checked owned (step.stored_over t current k live) (λ s. over_fine t current k live s))
+    checked (step.version_checked intent.version live) (λ u. validated.and_then owned (step.store_unless_same t current k live))
+    (λ u. checked owned (step.store_unless_same t current k live) (λ s. over_fine t current k live s))
 
 fine : (p : Plan) → IsStatusCode p.answer.status → IsFine (Ok p)
 fine p is = record { is = is }
@@ -307,8 +307,8 @@ created_fine : (t : ServedShape) (current : ℕ) (live : Option Object) (k : Key
 created_fine t current live k intent =
     let new = step.updated_by intent no_state in
     checked (names_validated k.namespace k.name intent.rest)
-    (λ u. validated.and_then (step.not_there t k.name live) (λ v. step.stored t current k 201 new))
-    (λ u. checked (step.not_there t k.name live) (λ v. step.stored t current k 201 new)
+    (λ u. validated.and_then (step.not_there t k.name live) (λ v. step.store_state t current k 201 new))
+    (λ u. checked (step.not_there t k.name live) (λ v. step.store_state t current k 201 new)
     (λ v. stored_fine (step.printed t k (suc current) new) current k 201 (omega arith, omega arith)))
 
 create_fine : (t : ServedShape) (current : ℕ) (objects : Objects) (kind : ℕ) (namespace query : List ℕ) (body : Data) → IsFine (step.create_validated t current objects kind namespace query body)
@@ -319,8 +319,8 @@ create_fine t current objects kind namespace query body =
 updated_fine : (t : ServedShape) (current : ℕ) (k : Key) (live : Option Object) (intent : step.Intent) → IsFine (step.updated_over t current k live intent)
 updated_fine t current k live intent =
     checked (step.there t k.name live)
-    (λ o. validated.and_then (step.version_checked intent.version live) (λ u. step.stored_over t current k live (step.updated_by intent (state_said t.shape o.body))))
-    (λ o. checked (step.version_checked intent.version live) (λ u. step.stored_over t current k live (step.updated_by intent (state_said t.shape o.body)))
+    (λ o. validated.and_then (step.version_checked intent.version live) (λ u. step.store_unless_same t current k live (step.updated_by intent (state_said t.shape o.body))))
+    (λ o. checked (step.version_checked intent.version live) (λ u. step.store_unless_same t current k live (step.updated_by intent (state_said t.shape o.body)))
     (λ u. over_fine t current k live (step.updated_by intent (state_said t.shape o.body))))
 
 update_fine : (t : ServedShape) (current : ℕ) (live : Option Object) (k : Key) (query : List ℕ) (body : Data) → IsFine (step.update_validated t current live k query body)

@@ -34,7 +34,7 @@ pub fn replies_are_read()
     wireclient::reply_reads_back();
 }
 
-/// A refusal that the hub writes, of what bytes ask or of a connection too many, is read by the client as its status,
+/// A refusal that the hub writes, of what bytes ask or because too many connections are open, is read by the client as its status,
 /// its Status object and the end.
 pub fn refusals_are_read()
     ensures asked { (types : List ServedShape) (bytes : List ℕ) (d : Denied) → Asks types bytes (refused d)

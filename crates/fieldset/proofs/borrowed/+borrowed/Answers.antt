@@ -9,12 +9,12 @@ use Rattle.pathmap.specs.Contents.{over}
 use Rattle.pathmap.specs.Maps.{content}
 use Rattle.pathmap.proofs.Contents.{nothing-over}
 use Rattle.schema.specs.Spots.{spot}
-use Rattle.fieldset.specs.Reading.{are_due, is_empty, is_marked, read_at, read_members, top}
+use Rattle.fieldset.specs.Reading.{needs_members, is_empty, is_marked, read_at, read_members, top}
 use Rattle.fieldset.specs.Seen.{Fails, IsNamed, member_view}
 use Rattle.fieldset.proofs.Lent.{data_in, data_next, data_past, members_ordered, members_smaller, names_ascend, object_is}
 use Rattle.fieldset.proofs.Taking.{added, at_failed, at_object, begin, failed, finish, is_none, nothing_added, passed_on}
 use Rattle.fieldset.proofs.borrowed.+borrowed.Goals as goal
-use Rattle.fieldset.proofs.borrowed.+borrowed.Goals.{read_at-then-is_marked, read_at-else-is_marked, read_at-else-are_due-via-then-are_due+else-is_empty, read_at-else-are_due-via-else-are_due}
+use Rattle.fieldset.proofs.borrowed.+borrowed.Goals.{read_at-then-is_marked, read_at-else-is_marked, read_at-else-needs_members-via-then-needs_members+else-is_empty, read_at-else-needs_members-via-else-needs_members}
 
 pub read_members-loop-name-init : goal.read_members-loop-name-init
 read_members-loop-name-init t c =
@@ -88,26 +88,26 @@ read_at-returns-in_err-map t c =
     let ms = data_in c.as_slice-members.result.now in
     let p = err_from_is_err_and c.from_residual.result c.from_residual.ensures.1 in
     let f = c.in_err-map.field-0.0 in
-    let is_due : (are_due s && is_empty ms) ≡ false =
-    elim c.else-are_due.branch [
-      | read_at-else-are_due-via-then-are_due+else-is_empty w ↦ sym (ap₂ (λ a b. a && b) w.if-are_due.ensures w.if-is_empty.ensures)
-      | read_at-else-are_due-via-else-are_due w ↦ sym (ap (λ a. a && is_empty ms) w.if-are_due.ensures)
+    let has_needed : (needs_members s && is_empty ms) ≡ false =
+    elim c.else-needs_members.branch [
+      | read_at-else-needs_members-via-then-needs_members+else-is_empty w ↦ sym (ap₂ (λ a b. a && b) w.if-needs_members.ensures w.if-is_empty.ensures)
+      | read_at-else-needs_members-via-else-needs_members w ↦ sym (ap (λ a. a && is_empty ms) w.if-needs_members.ensures)
     ] in
     passed_on content p.0 f c.from_residual.result (read_at s (data_of (value_view c.args.value.now))) p.1 p.2
-    (subst (Fails f) (sym (object_is s c.args.value.now c.in-Object.members c.as_slice-members.result.now c.in-Object.is c.as_slice-members.ensures.value)) (at_failed s ms f is_due c.in_err-map.ensures))
+    (subst (Fails f) (sym (object_is s c.args.value.now c.in-Object.members c.as_slice-members.result.now c.in-Object.is c.as_slice-members.ensures.value)) (at_failed s ms f has_needed c.in_err-map.ensures))
 
 pub read_at-returns : goal.read_at-returns
 read_at-returns t c =
     let s = spot c.args.here in
     let ms = data_in c.as_slice-members.result.now in
-    let is_due : (are_due s && is_empty ms) ≡ false =
-    elim c.else-are_due.branch [
-      | read_at-else-are_due-via-then-are_due+else-is_empty w ↦ sym (ap₂ (λ a b. a && b) w.if-are_due.ensures w.if-is_empty.ensures)
-      | read_at-else-are_due-via-else-are_due w ↦ sym (ap (λ a. a && is_empty ms) w.if-are_due.ensures)
+    let has_needed : (needs_members s && is_empty ms) ≡ false =
+    elim c.else-needs_members.branch [
+      | read_at-else-needs_members-via-then-needs_members+else-is_empty w ↦ sym (ap₂ (λ a b. a && b) w.if-needs_members.ensures w.if-is_empty.ensures)
+      | read_at-else-needs_members-via-else-needs_members w ↦ sym (ap (λ a. a && is_empty ms) w.if-needs_members.ensures)
     ] in
     let topped : c.if-is_marked.map ≡ over (top (is_marked s ms)) c.in_ok-map.map =
     elim c.if-is_marked.branch [
-      | read_at-then-is_marked w ↦ w.map-is ∙ w.mark.ensures ∙ ap (λ b. over (top b) c.in_ok-map.map) w.if-is_marked.ensures
-      | read_at-else-is_marked w ↦ w.map-is ∙ sym (nothing-over c.in_ok-map.map) ∙ ap (λ b. over (top b) c.in_ok-map.map) w.if-is_marked.ensures
+      | read_at-then-is_marked w ↦ w.map-is ∙ w.mark.ensures ∙ ap (λ b. over (top b) c.in_ok-map.map) (w.if-is_marked.ensures ms c.has.ensures)
+      | read_at-else-is_marked w ↦ w.map-is ∙ sym (nothing-over c.in_ok-map.map) ∙ ap (λ b. over (top b) c.in_ok-map.map) (w.if-is_marked.ensures ms c.has.ensures)
     ] in
-    object_is s c.args.value.now c.in-Object.members c.as_slice-members.result.now c.in-Object.is c.as_slice-members.ensures.value ∙ at_object s ms c.in_ok-map.map c.if-is_marked.map is_due c.in_ok-map.ensures topped
+    object_is s c.args.value.now c.in-Object.members c.as_slice-members.result.now c.in-Object.is c.as_slice-members.ensures.value ∙ at_object s ms c.in_ok-map.map c.if-is_marked.map has_needed c.in_ok-map.ensures topped

@@ -6,12 +6,12 @@ use Rattle.pathmap.specs.Contents.{over}
 use Rattle.pathmap.specs.Maps.{content}
 use Rattle.pathmap.proofs.Contents.{nothing-over}
 use Rattle.schema.specs.Spots.{spot}
-use Rattle.fieldset.specs.Reading.{are_due, is_empty, is_marked, read_at, read_members, top}
+use Rattle.fieldset.specs.Reading.{needs_members, is_empty, is_marked, read_at, read_members, top}
 use Rattle.fieldset.specs.Seen.{Fails, IsNamed, member_view, read_named}
 use Rattle.fieldset.proofs.Owning.{names_ascend}
 use Rattle.fieldset.proofs.Taking.{added, at_object, begin, failed, finish, is_none, nothing_added, passed_on}
 use Rattle.fieldset.proofs.read.+read.Goals as goal
-use Rattle.fieldset.proofs.read.+read.Goals.{read_at-then-is_marked, read_at-else-is_marked, read_at-else-are_due-via-then-are_due+else-is_empty, read_at-else-are_due-via-else-are_due}
+use Rattle.fieldset.proofs.read.+read.Goals.{read_at-then-is_marked, read_at-else-is_marked, read_at-else-needs_members-via-then-needs_members+else-is_empty, read_at-else-needs_members-via-else-needs_members}
 
 pub read_members-loop-name-init : goal.read_members-loop-name-init
 read_members-loop-name-init t c =
@@ -58,14 +58,14 @@ pub read_at-returns : goal.read_at-returns
 read_at-returns t c =
     let s = spot c.args.here in
     let ms = members_view c.in-Object.members.entries in
-    let is_due : (are_due s && is_empty ms) ≡ false =
-    elim c.else-are_due.branch [
-      | read_at-else-are_due-via-then-are_due+else-is_empty w ↦ sym (ap₂ (λ a b. a && b) w.if-are_due.ensures w.if-is_empty.ensures)
-      | read_at-else-are_due-via-else-are_due w ↦ sym (ap (λ a. a && is_empty ms) w.if-are_due.ensures)
+    let has_needed : (needs_members s && is_empty ms) ≡ false =
+    elim c.else-needs_members.branch [
+      | read_at-else-needs_members-via-then-needs_members+else-is_empty w ↦ sym (ap₂ (λ a b. a && b) w.if-needs_members.ensures w.if-is_empty.ensures)
+      | read_at-else-needs_members-via-else-needs_members w ↦ sym (ap (λ a. a && is_empty ms) w.if-needs_members.ensures)
     ] in
     let topped : c.if-is_marked.map ≡ over (top (is_marked s ms)) c.in_ok-map.map =
     elim c.if-is_marked.branch [
-      | read_at-then-is_marked w ↦ w.map-is ∙ w.mark.ensures ∙ ap (λ b. over (top b) c.in_ok-map.map) w.if-is_marked.ensures
-      | read_at-else-is_marked w ↦ w.map-is ∙ sym (nothing-over c.in_ok-map.map) ∙ ap (λ b. over (top b) c.in_ok-map.map) w.if-is_marked.ensures
+      | read_at-then-is_marked w ↦ w.map-is ∙ w.mark.ensures ∙ ap (λ b. over (top b) c.in_ok-map.map) (w.if-is_marked.ensures ms c.has.ensures)
+      | read_at-else-is_marked w ↦ w.map-is ∙ sym (nothing-over c.in_ok-map.map) ∙ ap (λ b. over (top b) c.in_ok-map.map) (w.if-is_marked.ensures ms c.has.ensures)
     ] in
-    ap (λ v. read_at s (view v)) c.in-Object.is ∙ ap (read_at s) (view-Object c.in-Object.members) ∙ at_object s ms c.in_ok-map.map c.if-is_marked.map is_due c.in_ok-map.ensures topped
+    ap (λ v. read_at s (view v)) c.in-Object.is ∙ ap (read_at s) (view-Object c.in-Object.members) ∙ at_object s ms c.in_ok-map.map c.if-is_marked.map has_needed c.in_ok-map.ensures topped

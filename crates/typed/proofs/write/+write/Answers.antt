@@ -15,7 +15,7 @@ use Rattle.typed.proofs.ItemTexts as items
 use Rattle.schema.proofs.Shapes.{shape-Struct}
 use Rattle.typed.proofs.Prints.{at_place, one_inside, rest_inside}
 use Rattle.typed.proofs.Rows.{fits_clean, fits_writable, struct_fits, values_fit}
-use Rattle.typed.proofs.Wholes.{all_put, all_wrote, weaker, child_skipped, child_wrote, children_wrote, field_put, field_wrote, map_top, no_member, no_text, object-texts, one_member, scalar_top, struct_top, struct_wrote, text_put, values_wrote}
+use Rattle.typed.proofs.Wholes.{PutsField, all_put, all_wrote, weaker, child_skipped, child_wrote, children_wrote, field_put, field_wrote, map_top, no_member, no_text, object-texts, one_member, scalar_top, struct_top, struct_wrote, text_put, values_wrote}
 use Rattle.typed.proofs.write.+write.Goals as goal
 
 pub write_list-returns-in-Atomic : goal.write_list-returns-in-Atomic
@@ -248,6 +248,17 @@ put_member-returns t c = λ fits.
     (c.in_ok-write_map.ensures there ∙ ap (λ l. l ++ text_or_none (print (shape c.args.schema.now) (content c.args.below.now))) c.new-text.ensures.items))
     c.put_text.ensures
 
+pub put_field-returns-in_default : goal.put_field-returns-in_default
+put_field-returns-in_default t c = λ fits.
+    let bare = sym c.in_ok-below.ensures ∙ ap (λ o. content_or_nothing (option_map (λ m. m.now) o)) c.in_default.is in
+    no_text (shape c.args.schema.now) (inside (name_text c.args.name.now) (content c.args.map.now)) c.args.name.now (texts_in c.args.texts.now.entries) bare
+
+pub put_field-returns : goal.put_field-returns
+put_field-returns t c = λ fits.
+    let s = shape c.args.schema.now in
+    let found = sym (ap (λ o. content_or_nothing (option_map (λ m. m.now) o)) c.in-Some.is) ∙ c.in_ok-below.ensures in
+    weaker c.put_member.result (λ put ms before. put ms before ∙ ap (λ d. texts_of (with_member c.args.name.now (print s d) ms)) found) (c.put_member.ensures (subst (Fits s) (sym found) fits))
+
 pub put_fields-loop-name-init : goal.put_fields-loop-name-init
 put_fields-loop-name-init t c = λ fit. (fit, λ ms begun. (ms, begun, refl))
 
@@ -256,20 +267,10 @@ put_fields-loop-name-preserved t c =
     let f = c.loop-name-item.result in
     let whole = content c.args.map.now in
     let old = texts_in c.loop-name.texts.entries in
-    let new = texts_in c.put_member.new.texts.entries in
-    let name = c.as_str-text.ensures.value in
-    let found = sym (ap (λ o. content_or_nothing (option_map (λ m. m.now) o)) c.in-Some.is) ∙ c.in_ok-below.ensures ∙ ap (λ s. inside (name_text s) whole) name in
+    let new = texts_in c.put_field.new.texts.entries in
     field_put c.args.fields.now c.loop-name.name-index f c.loop-name-test.true c.loop-name-item.is whole (texts_in c.args.texts.now.entries) old new c.loop-name.invariant
-    (λ fits ms before. c.in_ok-put_member.ensures (subst (Fits (shape f.1)) (sym found) fits) ms before ∙ ap₂ (λ k d. texts_of (with_member k (print (shape f.1) d) ms)) name found)
-
-pub put_fields-loop-name-preserved-in_default : goal.put_fields-loop-name-preserved-in_default
-put_fields-loop-name-preserved-in_default t c =
-    let f = c.loop-name-item.result in
-    let whole = content c.args.map.now in
-    let old = texts_in c.loop-name.texts.entries in
-    let bare = ap (λ s. inside (name_text s) whole) (sym c.as_str-text.ensures.value) ∙ sym c.in_ok-below.ensures ∙ ap (λ o. content_or_nothing (option_map (λ m. m.now) o)) c.in_default.is in
-    field_put c.args.fields.now c.loop-name.name-index f c.loop-name-test.true c.loop-name-item.is whole (texts_in c.args.texts.now.entries) old old c.loop-name.invariant
-    (λ fits. no_text (shape f.1) (inside (name_text (string_bytes f.0)) whole) (string_bytes f.0) old bare)
+    (subst (PutsField (shape f.1) whole old new) c.as_str.ensures.value c.in_ok-put_field.ensures)
 
 pub put_fields-returns : goal.put_fields-returns
-put_fields-returns t c = λ fit. all_put c.args.fields.now c.loop-name.name-index (content c.args.map.now) (texts_in c.args.texts.now.entries) (texts_in c.loop-name.texts.entries) c.loop-name-test.false c.loop-name.invariant fit
+put_fields-returns t c = λ fit.
+    all_put (λ fs. fs) c.args.fields.now c.loop-name.name-index (content c.args.map.now) (texts_in c.args.texts.now.entries) (texts_in c.loop-name.texts.entries) refl c.loop-name-test.false c.loop-name.invariant fit

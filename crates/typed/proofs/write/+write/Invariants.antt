@@ -29,4 +29,4 @@ invariant-write_items-loop-element l =
 
 -- what is left of the fields gives the rest
 abbrev pub invariant-put_fields-loop-name : goal.invariant-put_fields-loop-name
-invariant-put_fields-loop-name l = PutAll l.fields l.name-index (content l.map) (texts_in l.fn.texts.entries) (texts_in l.texts.entries)
+invariant-put_fields-loop-name l = PutAll (λ fs. fs) l.fields l.name-index (content l.map) (texts_in l.fn.texts.entries) (texts_in l.texts.entries)

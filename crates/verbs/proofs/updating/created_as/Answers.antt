@@ -2,7 +2,7 @@ use Rattle.verbs.specs.Subject.{type_of}
 use Rattle.verbs.proofs.Said.{empty_placed}
 use Rattle.verbs.proofs.updating.created_as.Goals as goal
 
-pub stored-requires-clause-placed : goal.stored-requires-clause-placed
-stored-requires-clause-placed c =
+pub store_and_remember-requires-clause-placed : goal.store_and_remember-requires-clause-placed
+store_and_remember-requires-clause-placed c =
     let s = (type_of c.args.of).shape in
     c.in_ok-owned.ensures.placed s c.requires.content (empty_placed s c.empty.result.tree c.empty.result.managers c.empty.ensures.tree c.empty.ensures.managers)

@@ -5,7 +5,7 @@ use crate::remembered::Remembered;
 
 /// The plan of a write, and the state that its text says: none where it changes nothing.
 #[derive(Drop)]
-pub struct Written {
+pub struct WritePlan {
     pub plan: Plan,
     pub remembered: Option<Remembered>,
 }

@@ -7,7 +7,7 @@ use Rattle.verbs.specs.Step.{printed, text_at}
 use Rattle.verbs.specs.Subject.{type_of}
 use Rattle.verbs.proofs.Counts.{counted}
 use Rattle.verbs.proofs.Recalling.{answer_says}
-use Rattle.verbs.proofs.storing.stored_plan.Goals as goal
+use Rattle.verbs.proofs.storing.store_state.Goals as goal
 
 pub returns-clause-plan : goal.returns-clause-plan
 returns-clause-plan c =
@@ -15,13 +15,13 @@ returns-clause-plan c =
     let k = key_of c.args.of.key in
     let s = state_of c.args.owned.now in
     let object = printed t k (suc c.args.of.current) s in
-    c.stored_as.ensures.plan object (c.in_ok-text.ensures ∙ ap (λ (n : ℕ). text_at t k n s) (add-one c.args.of.current))
-    (c.in_ok-labels.ensures c.requires.subject.1.1 (identity_of t k) (suc c.args.of.current) ∙ counted object)
+    c.store_text.ensures.plan object (c.in_ok-text.ensures.text ∙ ap (λ (n : ℕ). text_at t k n s) (add-one c.args.of.current))
+    (c.in_ok-text.ensures.labels (identity_of t k) (suc c.args.of.current) ∙ counted object)
 
 pub returns-clause-says : goal.returns-clause-says
 returns-clause-says c =
     let t = type_of c.args.of in
     let k = key_of c.args.of.key in
     let s = state_of c.args.owned.now in
-    answer_says t k c.args.of.current s (string_bytes c.in_ok-text.text) c.stored_as.result c.requires.subject.1 c.requires.placed
-    (c.in_ok-text.ensures ∙ ap (λ (n : ℕ). text_at t k n s) (add-one c.args.of.current)) c.stored_as.ensures.left c.stored_as.ensures.text
+    answer_says t k c.args.of.current s (string_bytes c.in_ok-text.text) c.store_text.result c.requires.subject.1 c.requires.placed
+    (c.in_ok-text.ensures.text ∙ ap (λ (n : ℕ). text_at t k n s) (add-one c.args.of.current)) c.store_text.ensures.left c.store_text.ensures.text

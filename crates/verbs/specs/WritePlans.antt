@@ -4,11 +4,11 @@ use Rattle.schema.specs.TypesFile.{ServedShape}
 use Rattle.verbs.specs.Calls.{Plan}
 use Rattle.verbs.specs.Remembered.{IsRight}
 use Rattle.verbs.specs.Seen.{plan_of}
-use Rattle.verbs.specs.declared.written.Written.{Written}
+use Rattle.verbs.specs.declared.write_plan.WritePlan.{WritePlan}
 
-abbrev pub written_plan : Written → Plan
+abbrev pub written_plan : WritePlan → Plan
 written_plan w = plan_of w.plan
 
 -- what is remembered is what the text says
-abbrev pub RemembersRight : ServedShape → Written → Type 0
+abbrev pub RemembersRight : ServedShape → WritePlan → Type 0
 RemembersRight t w = IfSome w.remembered (IsRight t)

@@ -1,9 +1,0 @@
-use Rattle.std.proofs.Common.{ℕ, Vec, Global, ap, ◌∙◌}
-use Rattle.json.specs.Token.{string}
-use Rattle.fieldset.proofs.Appended.{one_token}
-use Rattle.fieldset.proofs.pushing.push_string.Goals as goal
-
-pub returns : goal.returns
-returns c =
-    one_token c.new-writer.result c.string.new.self (string c.args.text.now) c.args.out.now.items c.into_inner.result.items (c.new-writer.ensures.before ∙ ap (λ (v : Vec ℕ Global). v.items) c.replace.ensures.value) c.new-writer.ensures.tokens
-    c.in_ok-string.ensures.room.0 c.in_ok-string.ensures.ok c.into_inner.ensures.items
