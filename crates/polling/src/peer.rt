@@ -84,7 +84,7 @@ impl<S: Read + Write + Stream + Drop> Peer<S> {
         hub.wants(id) || !hub.out(id).is_empty()
     }
 
-    /// Whether the server waits for the peer since more than so many milliseconds. For a watch on which nothing waits it
+    /// Whether the server has waited for the peer for more than so many milliseconds. For a watch on which nothing waits it
     /// doesn't wait.
     pub fn is_silent(&self, hub: &Hub, id: u64, now: Instant, patience: u64) -> bool
         ensures { (s : State) → IsIn hub.now s → waiting_on s.connections id ≡ false → out_on s.connections id ≡ [] → lingers self.now ≡ false → result ≡ false }

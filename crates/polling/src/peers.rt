@@ -238,7 +238,7 @@ impl Peers {
         }
     }
 
-    /// A connection has its first turn. Out of memory, it has none, and the peer sees it closed.
+    /// A connection has its first turn. Out of memory, it has none and is over: the peer sees it closed.
     fn open(&mut self, stream: TcpStream, now: Instant)
         ensures { Leads self.old.hub self.new.hub }
     {
@@ -247,6 +247,7 @@ impl Peers {
         };
         self.highest = id;
         if !hand(&mut self.hub, Event::Open(id)) {
+            self.count_closed();
             return;
         }
         let entry = Entry {
@@ -256,6 +257,7 @@ impl Peers {
         };
         if self.entries.insert(id, entry).is_err() {
             part(&mut self.hub, id);
+            self.count_closed();
             return;
         }
         self.look(id, now);
@@ -399,7 +401,13 @@ impl Peers {
             return;
         }
         part(&mut self.hub, id);
-        self.closed = self.closed.saturating_add(1);
+        self.count_closed();
         self.accept_anew();
+    }
+
+    fn count_closed(&mut self)
+        ensures { self.new.hub ≡ self.old.hub }
+    {
+        self.closed = self.closed.saturating_add(1);
     }
 }

@@ -5,4 +5,4 @@ pub returns-then-is_none : goal.returns-then-is_none
 returns-then-is_none c = any_none _
 
 pub returns : goal.returns
-returns c = any_then _ _ _ (leads_any _ _ _ c.part.ensures) (any_same _ _ c.accept_anew.ensures)
+returns c = any_then _ _ _ (leads_any _ _ _ c.part.ensures) (any_then _ _ _ (any_same _ _ c.count_closed.ensures) (any_same _ _ c.accept_anew.ensures))
