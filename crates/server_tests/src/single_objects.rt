@@ -54,6 +54,11 @@ told 2 PATCH namespaces/default/widgets/w1?fieldManager=m {"apiVersion":"demo.ex
 told 3 PATCH namespaces/default/widgets/w1?fieldManager=m {"apiVersion":"demo.example/v1","kind":"Widget","spec":{"replicas":4}} => 503 revisions are used up
 told 4 PATCH namespaces/default/widgets/w2?fieldManager=m {"apiVersion":"demo.example/v1","kind":"Widget"} => 503 revisions are used up
 
+empty_apply_of_another_object on widgets
+told 1 PATCH namespaces/default/widgets/w1?fieldManager=alice {"apiVersion":"demo.example/v1","kind":"Widget","spec":{"replicas":1}} => 201 2
+told 2 PATCH namespaces/default/widgets/w1?fieldManager=bob {"apiVersion":"demo.example/v1","kind":"Widget"} => 200 2
+told 3 PATCH namespaces/default/widgets/w1?fieldManager=alice {"apiVersion":"demo.example/v1","kind":"Widget"} => 200 3
+
 refusals_in_their_order on widgets
 told 1 PATCH namespaces/default/widgets/w1?fieldManager=m {"apiVersion":"demo.example/v1","kind":"Widget","spec":{"replicas":3}} => 201 2
 told 2 PATCH namespaces/default/widgets/w1?fieldManager=m&force=yes {"apiVersion":"demo.example/v1","kind":"Widget","spec":{"nope":1}} => 400 .spec.nope: unknown field
