@@ -7,7 +7,7 @@ ghost use Rattle.history.specs.History.{History};
 ghost use Rattle.verbs.specs.Calls.{Answer};
 ghost use Rattle.verbs.specs.Seen.{Stands};
 ghost use Rattle.httpedge.specs.Connections as model;
-ghost use Rattle.httpedge.specs.Connections.{Connections, ended, gone, open_count, opened, with_standing, with_taken};
+ghost use Rattle.httpedge.specs.Connections.{Connections, ended, gone, max_open, open_count, opened, with_standing, with_taken};
 ghost use Rattle.httpedge.specs.Held.{Becomes, Holds, Received, has_ended_in, is_open_in, is_waiting_in, left, out_in};
 ghost use Rattle.requests.specs.Fronts.{front_bytes};
 ghost use Rattle.requests.specs.Pendings.{Awaits, Finds};
@@ -80,7 +80,7 @@ pub(crate) fn has_ended(connection: &Connection) -> bool
 
 /// How many are open once this one is added.
 pub(crate) fn count_with(count: usize, connection: &Connection) -> usize
-    ensures { result ≡ cond (is_open_in connection.now && nat_lt count 1024) (count + 1) count }
+    ensures { result ≡ cond (is_open_in connection.now && nat_lt count max_open) (count + 1) count }
 {
     if is_open(connection) && count < MAX_OPEN {
         count + 1

@@ -358,7 +358,8 @@ fn planned_without(
     }
 }
 
-fn planned_in(
+/// A call on objects of a type that is served: by its path it is of one object, of a namespace, or of all.
+fn planned_of_type(
     alloc: Global,
     served: &Served,
     store: &mut Store,
@@ -404,7 +405,7 @@ fn planned_over(
     let Some(served) = all.get(call.target.kind) else {
         return plan_for(alloc, Err(no_path(alloc)));
     };
-    planned_in(alloc, served, store, call, known)
+    planned_of_type(alloc, served, store, call, known)
 }
 
 /// The plan of a call.

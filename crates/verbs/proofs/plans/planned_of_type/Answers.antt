@@ -4,7 +4,7 @@ use Rattle.schema.specs.Served.{served}
 use Rattle.history.specs.History.{Key}
 use Rattle.verbs.specs.Seen.{objects_in}
 use Rattle.verbs.proofs.Planning.{readable_at}
-use Rattle.verbs.proofs.plans.planned_in.Goals as goal
+use Rattle.verbs.proofs.plans.planned_of_type.Goals as goal
 
 pub returns-clause-readable : goal.returns-clause-readable
 returns-clause-readable c = λ all serves texts.
