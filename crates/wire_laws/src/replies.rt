@@ -34,8 +34,8 @@ pub fn replies_are_read()
     wireclient::reply_reads_back();
 }
 
-/// A refusal that the hub writes, of what bytes ask or because too many connections are open, is read by the client as its status,
-/// its Status object and the end.
+/// A refusal that the hub writes, of what bytes ask or because too many connections are open, is read by the client as its
+/// status, its Status object and the end.
 pub fn refusals_are_read()
     ensures asked { (types : List ServedShape) (bytes : List ℕ) (d : Denied) → Asks types bytes (refused d)
         → Items (refusal_reply d) (head (code_of d.reason) ∷ whole (compact_text (status_value d.reason d.message)) ∷ end ∷ []) }
