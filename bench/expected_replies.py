@@ -236,7 +236,7 @@ def six_lines():
 
 
 def first_apply():
-    """A first apply as bytes, whole and cut in two; what comes after it is read past."""
+    """A first apply as bytes, whole and cut in two; what comes after it is ignored."""
     spec = {"image": "a", "replicas": 3}
     for name, pieces in (("w2", 1), ("w3", 2)):
         body = compact(body_of(metadata={"name": name}, spec=spec))

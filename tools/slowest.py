@@ -1,5 +1,5 @@
 #!/usr/bin/env python3
-"""Prints the functions and lemma files that the prover took longest over, from what checks from nothing left in out/.
+"""Prints the functions and lemma files that the prover took longest over, from what checks from scratch left in out/.
 
     tools/slowest.py [COUNT [CRATE..]]
 
