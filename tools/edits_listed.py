@@ -1,11 +1,11 @@
 #!/usr/bin/env python3
 """Checks docs/EDITS.md against the crates: that each edit stands in the column of its folder and can be applied, and that
-each exported function is named.
+each exported function and each `From` is named, but for that of a refused allocation.
 
     tools/edits_listed.py
 
 Prints what isn't so; the status is then 1. It reads the code by its lines: a function counts as exported where lib.rt
-exports it or its type.
+exports it or its type. A row names an `impl From<A> for B` where it has the words B, From and A.
 """
 import collections
 import glob
@@ -45,6 +45,14 @@ def exported(folder):
                 yield f"{owner}::{function[1]}" if owner else function[1]
 
 
+def conversions(folder):
+    """What each `impl From<A> for B` of the crate has for A and B, but for those of a refused allocation."""
+    for path in sorted(glob.glob(f"{folder}/src/**/*.rt", recursive=True)):
+        for given, made in re.findall(r"^impl(?:<[^>]*>)? From<([\w:]+).*> for (\w+)", text_of(path), re.M):
+            if given not in ("AllocError", "AllocFailed"):
+                yield given.rpartition(":")[2], made
+
+
 def told_of_edit(folder, path):
     """What keeps an edit from being applied."""
     file = ""
@@ -59,6 +67,9 @@ def told_of(name, lines):
     for function in exported(folder):
         if not re.search(rf"\b{function.rpartition(':')[2]}\b", "\n".join(lines)):
             yield f"{function} isn't listed"
+    for given, made in conversions(folder):
+        if not any(re.search(rf"\b{made}\b.*\bFrom of\b.*\b{given}\b", line) for line in lines):
+            yield f"From of {given} for {made} isn't listed"
     rows = [[cell.strip() for cell in line.strip("|").split("|")] for line in lines if line.startswith("| ")]
     for column, place in FOLDERS.items():
         cells = " ".join(re.sub(r"\([^)]*\)", "", row[column]) for row in rows if len(row) == 3 and not row[1].startswith(("none", "in the")))
