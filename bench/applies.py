@@ -1,7 +1,7 @@
 #!/usr/bin/env python3
 """Times applies through the built program ssa_replay, text in and text out.
 
-Usage: bench/applies.py [PROGRAM]   (default: crates/ssa_replay/out/ssa_replay; build it first by ./ssa-replay)
+Usage: bench/applies.py [PROGRAM]   (default: crates/ssa_replay/out/ssa_replay; build it first by `rt run` in crates/ssa_replay)
 
 For objects of 10, 100 and 1,000 map entries (3,000 would be over the 65,536 bytes that a body may have) it writes scripts
 of apply lines, runs the program over them, each line a request to its hub, and prints the processor time of one apply (one core), its growth from size to size, applies a second and the peak memory of the run. Each line
