@@ -1,4 +1,5 @@
-//! Tests of informers and summaries, against replies written by hand, by public calls alone.
+//! Tests of informers and summaries, against replies written by hand, by public calls alone. Replies cut at every place
+//! are tested in `store_client_tests`.
 //!
 //! One function holds an informer; all else are rows that are played on it.
 #![tactic(auto)]

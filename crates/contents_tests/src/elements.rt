@@ -1,4 +1,5 @@
-//! Texts of elements, key fields, paths as conflicts show them, and the order of paths.
+//! Texts of elements, key fields, paths as conflicts show them, and the order of paths. Sets of paths are tested in
+//! `sets`.
 //!
 //! | question | answer |
 //! |---|---|

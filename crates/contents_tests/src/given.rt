@@ -1,4 +1,5 @@
-//! What several tests are given: texts, paths, and a types file of widgets.
+//! What several tests are given: texts, paths, and a types file of widgets. Questions about contents are answered in
+//! `contents`, those about paths in `elements` and `sets`.
 
 use fieldpath::{ElemText, Path};
 use fieldset::FieldSet;

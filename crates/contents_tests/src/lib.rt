@@ -1,4 +1,5 @@
-//! Tests of the contents of objects and of their owners, by public calls alone.
+//! Tests of the contents of objects and of their owners, by public calls alone. The requests that change them are
+//! tested in `server_tests`.
 //!
 //! Each call stands in a helper with no clause, so that a test carries few facts. An example is a name and its rows of text
 //! (`test_rows`), and one test plays the examples of a file: rows cost the prover nothing, and each function some seconds.

@@ -1,4 +1,5 @@
-//! Worked rows as far as owners go, each public call with ample memory, and applies that run out of it.
+//! Worked rows as far as owners go, each public call with ample memory, and applies that run out of it. Contents
+//! without owners are tested in `readings`, objects' texts in `object_texts`.
 //!
 //! Each example begins without an object.
 //!

@@ -1,4 +1,5 @@
-//! Sets of paths and the maps that they are kept in: each public call with ample memory.
+//! Sets of paths and the maps that they are kept in: each public call with ample memory. Single elements and paths are
+//! tested in `elements`, the reading of FieldsV1 in `fields_v1`.
 //!
 //! Paths stand between commas, their elements between blanks; in a map each has a value behind `=`.
 //!

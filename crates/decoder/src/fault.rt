@@ -1,4 +1,4 @@
-//! Why a reply was not read: it is malformed, or out of memory. What may be malformed stands in `malformed`.
+//! The error of reading a reply, and the errors that become it. What may be malformed stands in `malformed`.
 
 use crate::malformed::Malformed;
 use std::alloc::{AllocError, AllocFailed};

@@ -1,5 +1,5 @@
 //! What replies say to a client: the body of a list's answer, and a line of a watch (Kubernetes API Concepts,
-//! "Retrieving large results sets in chunks" and "Efficient detection of changes").
+//! "Retrieving large results sets in chunks" and "Efficient detection of changes"). Framing is `wireclient`'s.
 //!
 //! What is read is of the asked type and namespace; where it isn't, the first thing that is wrong with it is told.
 //!

@@ -1,4 +1,5 @@
-//! Laws of JSON texts, which crates above build on. Each function does nothing; what it promises is the law.
+//! Laws of JSON texts, which crates above build on. Each function does nothing; what it promises is the law. Elements,
+//! whose texts have JSON in them, stand in `elem`.
 ghost use Rattle.fieldpath.specs.Spelled.{CompactTextsReadBack, ReadingsAreSpelled};
 
 /// What a JSON text is read as is spelled: whole numbers within 64 bits, members in byte order of

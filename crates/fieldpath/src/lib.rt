@@ -1,4 +1,4 @@
-//! Paths into objects: elements, their order and their texts (FieldsV1).
+//! Paths into objects: elements, their order and their texts (FieldsV1). Sets of paths are `fieldset`'s.
 //!
 //! Promises: an element's text is the canonical one, exactly the canonical texts are read,
 //! and paths are ordered element by element by the bytes of these texts.

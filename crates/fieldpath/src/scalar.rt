@@ -1,4 +1,5 @@
-//! Scalars: texts, whole numbers and truth values, as key fields and items of sets have them.
+//! Scalars: texts, whole numbers and truth values, as key fields and items of sets have them. The elements that have
+//! them stand in `elem` and `keys`.
 ghost use Rattle.std.specs.Prelude.{◌≡◌, IfOk, is_some, option_map, string_bytes};
 ghost use Rattle.serde_json.specs.View.{view};
 ghost use Rattle.serde_json.specs.Written.{compact_text};

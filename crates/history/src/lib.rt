@@ -1,5 +1,5 @@
-//! Histories: every change of named objects, one after the other, each with its revision ("Resource versions" of
-//! the Kubernetes "API Concepts").
+//! Histories: every change of named objects, one after the other, each with its revision ("Resource versions" of the
+//! Kubernetes "API Concepts"). What an object's text says is `objects`'.
 //!
 //! Here stand the words that the store, the watches and the client share: the objects at a revision, the changes
 //! after one, pages of objects, what a compaction keeps and what is still seen after it. The laws of these words

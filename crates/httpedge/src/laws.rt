@@ -1,4 +1,5 @@
-//! Laws of what a hub does, which crates above build on. Each function does nothing useful; what it promises is the law.
+//! Laws of what a hub does, which crates above build on. Each function does nothing useful; what it promises is the
+//! law. The hub itself stands in `hub`; that clients read what it writes is said in the crate `wire_laws`.
 
 ghost use Rattle.std.specs.Prelude.{◌≡◌, ◌++◌, ℕ, Bool, true, false, List, [], Some, None, drop, option_map, take};
 ghost use Rattle.std.specs.FinMap as fin;

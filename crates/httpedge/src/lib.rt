@@ -1,4 +1,5 @@
-//! The server's side of the wire: the hub, whose connections get bytes and give bytes.
+//! The server's side of the wire: the hub, whose connections get bytes and give bytes. Streams are read and written in
+//! `serving` and `polling`.
 //!
 //! What each event makes of the hub's machine and of its connections is a function of its state and of the event; a watch
 //! writes at a pump or a tick.

@@ -1,4 +1,4 @@
-//! The client's cache of objects, with indexes that follow every change.
+//! The client's cache of objects, with indexes that follow every change. Which objects come in is `reflector`'s.
 //!
 //! After any list of calls the objects are the map of those put and not removed since, and each index has,
 //! for each of its keys, just the objects to which its function gives this key. A refused call leaves the

@@ -1,4 +1,4 @@
-//! A borrowed value as one that owns its texts.
+//! A borrowed value as one that owns its texts. What only looks at one stands in `values` and `members`.
 
 ghost use Rattle.std.specs.Prelude.{◌≡◌, true, IfOk};
 ghost use Rattle.json.specs.Value.{items_view as items_in, members_view as members_in, value_view};

@@ -1,4 +1,5 @@
-//! JSON texts in order (names ascend, numbers are integers within 64 bits), read as values that borrow from them.
+//! JSON texts in order (names ascend, numbers are integers within 64 bits), read as values that borrow from them. Texts
+//! in any order are `serde_json`'s.
 //!
 //! Promises: what is read represents the data that `serde_json` reads from the same text; the compact text of each value
 //! that a text spells without floats, at most 127 deep, is read.

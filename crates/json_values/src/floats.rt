@@ -1,4 +1,5 @@
-//! Whether a value has a float, which has no one text; all that is printed or kept as a text is asked so first.
+//! Whether a value has a float, which has no one text; all that is printed or kept as a text is asked so first. Members
+//! are looked up in `members`.
 
 ghost use Rattle.std.specs.Prelude.{◌≡◌};
 ghost use Rattle.serde_json.specs.View.{items_view, members_view, view};

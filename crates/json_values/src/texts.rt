@@ -1,4 +1,5 @@
-//! Texts that members have: all of an object by their names, as labels are; an empty text as none; a copy.
+//! Texts that members have: all of an object by their names, as labels are; an empty text as none; a copy. The text of
+//! one member is looked up in `members`.
 
 ghost use Rattle.std.specs.Prelude.{◌≡◌, IfOk, OnOk, option_map, string_bytes};
 ghost use Rattle.std.specs.Ordering.{nat_cmp};

@@ -1,5 +1,5 @@
-//! Laws of the labels that selectors see, at the server and at the client. Each function does nothing; what it promises is
-//! the law.
+//! Laws of the labels that selectors see, at the server and at the client. Each function does nothing; what it promises
+//! is the law. Labels are read in the crates `lists` and `decoder`.
 
 ghost use Rattle.label_laws.specs.Labels.{LabelsAreOfContents};
 ghost use Rattle.label_laws.specs.Readers.{ReadersAgree};

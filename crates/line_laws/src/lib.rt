@@ -1,5 +1,6 @@
 //! Laws of the lines of watches and of the pages of lists: what the server prints, the client reads, and what a watch
-//! tells is all there was to tell. Each function does nothing; what it promises is the law.
+//! tells is all there was to tell. Each function does nothing; what it promises is the law. The bytes around lines and
+//! pages are `wire_laws`'.
 //!
 //! Stands on `watchline` for the lines, `lists` for the pages, `decoder` for what either says to a client, `objects`
 //! for the texts of objects.

@@ -1,5 +1,5 @@
 //! Lists of objects: page by page, of a revision, by label selectors (Kubernetes documentation, "Kubernetes API
-//! Concepts", "Retrieving large results sets in chunks").
+//! Concepts", "Retrieving large results sets in chunks"). Watches are `watchline`'s.
 //!
 //! The answer to a list is the text of the page that is asked for: of the objects that are seen at the list's
 //! revision, in the order of keys, those after a key, as many as a page holds; it names a next page exactly where

@@ -1,5 +1,5 @@
-//! Whole numbers as texts, and versions (Kubernetes documentation, "Kubernetes API Concepts", "Resource
-//! versions").
+//! Whole numbers as texts, and versions (Kubernetes documentation, "Kubernetes API Concepts", "Resource versions").
+//! Names are checked in `dns`, labels in `label`.
 
 ghost use Rattle.std.specs.Prelude.{◌≡◌, ◌↔◌, ℕ};
 ghost use Rattle.std.specs.Char.{is_ascii_digit};

@@ -1,4 +1,5 @@
-//! DNS labels and subdomains (Kubernetes documentation, "Object Names and IDs").
+//! DNS labels and subdomains (Kubernetes documentation, "Object Names and IDs"). Keys and values of labels are checked
+//! in `label`.
 
 ghost use Rattle.std.specs.Prelude.{◌≡◌};
 ghost use Rattle.names.specs.Names.{has_alphanumeric_ends, is_dns_byte, is_dns_part, is_dns_label, is_dns_subdomain};

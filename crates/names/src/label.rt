@@ -1,5 +1,6 @@
-//! Keys and values of labels (Kubernetes documentation, "Labels and Selectors", "Syntax and character set"),
-//! and keys of annotations, which are of the same form.
+//! Keys and values of labels (Kubernetes documentation, "Labels and Selectors", "Syntax and character set"), and keys
+//! of annotations, which are of the same form. Names of objects are checked in `dns`, which also has the prefix of a
+//! key.
 
 ghost use Rattle.std.specs.Prelude.{◌≡◌};
 ghost use Rattle.names.specs.Names.{is_name_byte, is_name, is_label_key, is_label_value};

@@ -1,5 +1,6 @@
-//! Names, keys and values of labels, and versions, as the Kubernetes documentation gives them ("Object Names
-//! and IDs"; "Labels and Selectors", "Syntax and character set"; "Annotations"; "Resource versions").
+//! Names, keys and values of labels, and versions, as the Kubernetes documentation gives them ("Object Names and IDs";
+//! "Labels and Selectors", "Syntax and character set"; "Annotations"; "Resource versions"). Where a request has them is
+//! `verbs`'.
 //!
 //! Each call answers exactly whether a text is of its form, or which number it writes; none takes memory.
 //!

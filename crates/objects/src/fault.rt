@@ -1,4 +1,4 @@
-//! Why a text is not read back as an object. Texts are read in `read_back`.
+//! The error of reading a text back, and the errors that become it. Texts are read in `read_back`.
 
 use std::alloc::{AllocError, AllocFailed};
 use thiserror::Error;

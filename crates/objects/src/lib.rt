@@ -1,4 +1,5 @@
-//! An object, its content and who owns which paths of it, and its text both ways.
+//! An object, its content and who owns which paths of it, and its text both ways. What a write does to it is
+//! `ownership`'s.
 //!
 //! Promises: an object's text says one version, content and owners, and every text that is none is refused.
 //! Stands on `fieldset` for sets of paths, on `typed` for contents, on `json_texts` for texts read as values.

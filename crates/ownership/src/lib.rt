@@ -1,4 +1,5 @@
-//! What a write does to an object: Server-Side Apply, update, and when two objects are one.
+//! What a write does to an object: Server-Side Apply, update, and when two objects are one. Which body is a write, and
+//! where its object is stored, is `verbs`'.
 //!
 //! Promises: an apply is refused for all its conflicts or changes content and owners exactly as defined;
 //! without force it changes no path that another manager owns.

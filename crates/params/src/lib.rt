@@ -1,4 +1,5 @@
-//! The parameters of a request's query (Kubernetes documentation, "Kubernetes API Concepts").
+//! The parameters of a request's query (Kubernetes documentation, "Kubernetes API Concepts"). The grammar of label
+//! selectors is `selector`'s.
 //!
 //! A query is read as exactly the values that its verb knows, or refused with the first parameter at fault.
 //! A parameter that the verb doesn't know is ignored; given twice it counts at its first place; an empty

@@ -1,4 +1,5 @@
 //! The parts of a map that another map picks: what both have, what it lacks, what differs; and whether there is any.
+//! All that stands at or below a path is taken out in `without`.
 
 ghost use Rattle.std.specs.Prelude.{ℕ, List, ◌≡◌, ◌++◌, [], IfOk, OnOk, Some, None, string_bytes, if◌then◌else◌};
 ghost use Rattle.std.specs.Option.{option_map};

@@ -1,4 +1,5 @@
-//! Serving many connections at once on one thread, by one hub: the system says which streams are ready.
+//! Serving many connections at once on one thread, by one hub: the system says which streams are ready. One after
+//! another is `serving`'s.
 //!
 //! Promises: what leaves a connection's reader comes on that connection, in order; what its writer gets is taken of that
 //! connection, so it is the first of what was out on it, also where the writer fails; all else that happens to the hub is

@@ -1,4 +1,5 @@
-//! What a server of many connections is asked for: port, what is kept, how many lines at a time, patience.
+//! What a server of many connections is asked for: port, what is kept, how many lines at a time, patience. They are
+//! read from a command line in the crate `ssa_server`, and followed in `peers`.
 
 /// How connections are served.
 #[derive(Clone, Copy, Debug)]

@@ -1,5 +1,5 @@
-//! Laws of what the play of a script is, which crates above build on. Each function does nothing useful; what it promises
-//! is the law.
+//! Laws of what the play of a script is, which crates above build on. Each function does nothing useful; what it
+//! promises is the law. Scripts are played in `replaying`.
 ghost use Rattle.std.specs.Prelude.{ℕ, List, map};
 ghost use Rattle.httpedge.specs.Runs as runs;
 ghost use Rattle.httpedge.specs.Steps as edge;

@@ -1,5 +1,5 @@
-//! The program `ssa-replay`, of which `main` only calls the body, and what both programs share: arguments, command lines,
-//! types files, faults and exit statuses.
+//! The program `ssa-replay`, of which `main` only calls the body, and what both programs share: arguments, command
+//! lines, types files, faults and exit statuses. What only `ssa-server` does stands in its own crate.
 //!
 //! Promises: the values of a program's arguments are those of `clap`'s exact matches; a script reads as exactly the
 //! events of its lines, or as the number of its first bad line; a play of events writes the replies of one hub to the

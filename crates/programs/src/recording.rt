@@ -1,4 +1,5 @@
-//! A hub whose written bytes stay: what was written on a connection is kept when its peer goes.
+//! A hub whose written bytes stay: what was written on a connection is kept when its peer goes. The events come from
+//! `replaying`.
 ghost use Rattle.std.specs.Prelude.{◌≡◌, ℕ, List, false, IfOk, OnOk, is_none, option_map};
 ghost use Rattle.std.specs.BTreeMap.{get};
 ghost use Rattle.std.specs.Ordering.{nat_cmp, eq_by_cmp};

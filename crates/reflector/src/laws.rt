@@ -1,4 +1,5 @@
-//! Laws of the client run, which crates above build on. Each function does nothing; what it promises is the law.
+//! Laws of the client run, which crates above build on. Each function does nothing; what it promises is the law. The
+//! calls on a client stand in `informer`.
 
 ghost use Rattle.std.specs.Prelude.{◌≡◌, ◌≤◌, ℕ, true, List, [], ◌++◌, Some};
 ghost use Rattle.std.specs.FinMap as fin;

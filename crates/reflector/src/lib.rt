@@ -1,5 +1,5 @@
-//! A client that mirrors a server's objects, and the laws by which it follows the server (Kubernetes API Concepts, "Efficient
-//! detection of changes").
+//! A client that mirrors a server's objects, and the laws by which it follows the server (Kubernetes API Concepts,
+//! "Efficient detection of changes"). Sockets are its caller's.
 //!
 //! It lists in pages, then watches from the list's revision. All that doesn't fit the question, or breaks a rule,
 //! ends the request and makes the next one a first page; what is kept stays meanwhile. For bytes in any pieces an

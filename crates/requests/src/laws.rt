@@ -1,4 +1,5 @@
-//! The law of what bytes ask, which crates above build on. The function does nothing useful; what it promises is the law.
+//! The law of what bytes ask, which crates above build on. The function does nothing useful; what it promises is the
+//! law. Bytes are read in `asking`.
 
 ghost use Rattle.std.specs.Prelude.{◌≡◌, ◌≢◌, ◌++◌, ℕ, List};
 ghost use Rattle.schema.specs.TypesFile.{ServedShape};

@@ -7,7 +7,7 @@ ghost use Rattle.verbs.specs.Seen.{denied_of};
 
 use verbs::{Denied, NOT_JSON, Reason};
 
-/// Why a request is refused before a call is made of it.
+/// For its head (RFC 9112, sections 2, 3 and 6), its body, or as too many connections are open.
 #[derive(Clone, Copy, Debug, PartialEq, Eq)]
 pub enum Refusal {
     HeadTooLarge,

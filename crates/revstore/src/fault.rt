@@ -1,4 +1,4 @@
-//! Why a store's call gave no answer. Each of these leaves the store as it was.
+//! Why a store's call gave no answer. Each of these leaves the store as it was. The calls stand in `store`.
 
 use revtable::Fault;
 use thiserror::Error;

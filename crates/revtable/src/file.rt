@@ -1,5 +1,6 @@
 //! A file in memory, which ends with its table: what stands in it is all that a crash could leave. Its bytes are those
 //! that were written, so a read of bytes whose digest is known gives bytes of that digest, and none is taken of them.
+//! The database over two such files is opened in `memory`.
 
 ghost use Rattle.std.specs.Prelude.{◌≡◌, [], length, true, false, refl, is_ok, OnOk};
 ghost use Rattle.sqlite_disk.specs.Disk.{Holds, Torn, Cut, CountsFault};

@@ -1,4 +1,5 @@
-//! The changes of named objects, one after the other, in a table over SQL in memory.
+//! The changes of named objects, one after the other, in a table over SQL in memory. Which revisions a caller may ask
+//! for is `revstore`'s.
 //!
 //! A table is seen as its history: the changes that are kept, oldest first, with the revision that stands now
 //! and the one up to which old changes are forgotten. Each call's answer is a filter of that history, and a call

@@ -103,7 +103,7 @@ impl Table {
         Ok(())
     }
 
-    /// What stands under a key.
+    /// What stands under a key: what stood there at the current revision.
     pub fn latest(&mut self, key: &Key) -> Result<Option<Object>, Fault>
         ensures ok { IfOk result (λ o. option_map object_of o ≡ fin.get (standing self.old) (key_of key.now)) }
         ensures same { self.new ≡ self.old }

@@ -1,4 +1,4 @@
-//! Types and their schemas, as a types file declares them.
+//! Types and their schemas, as a types file declares them. Values under a schema are `typed`'s.
 //!
 //! Promises: a types file reads as exactly the types that it declares, or as its first fault;
 //! a schema gives each path at most one place.

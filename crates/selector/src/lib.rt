@@ -1,5 +1,5 @@
-//! Label selectors: which objects a list or a watch asks for, by their labels (Kubernetes documentation,
-//! "Labels and Selectors").
+//! Label selectors: which objects a list or a watch asks for, by their labels (Kubernetes documentation, "Labels and
+//! Selectors"). The labels of an object are read in `lists` and `decoder`.
 //!
 //! A text is read as its one list of requirements, or refused with its first fault from the left; an object
 //! is selected where its labels meet every requirement.

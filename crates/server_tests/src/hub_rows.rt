@@ -1,6 +1,7 @@
-//! Examples, each of which is played on a hub of its own: a line `NAME on WHAT: WHY`, and rows `STEP => ANSWER` up to the
-//! next blank line. WHAT is `widgets`, `ports` (widgets with a list of ports) or `the last revision` (widgets, where one
-//! revision is left); `: WHY` may be absent.
+//! Plays examples, each on a hub of its own: a line `NAME on WHAT: WHY`, and rows `STEP => ANSWER` up to the next blank
+//! line. WHAT is `widgets`, `ports` (widgets with a list of ports) or `the last revision` (widgets, where one revision
+//! is left); `: WHY` may be absent. The examples stand in `connections`, `single_objects`, `list_rows` and
+//! `watch_rows`.
 //!
 //! | step | what happens |
 //! |---|---|

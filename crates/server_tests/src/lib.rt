@@ -1,4 +1,5 @@
-//! Tests of calls on objects, of the server's side of the wire and of the programs, by public calls alone.
+//! Tests of calls on objects, of the server's side of the wire and of the programs, by public calls alone. Streams and
+//! sockets are tested in `serving_tests`.
 //!
 //! Each call stands in a helper with no clause, so that a test carries few facts. All that is done to hubs are rows of text
 //! that one function plays (`hub_rows`): they cost the prover nothing, and each function some seconds.

@@ -1,4 +1,5 @@
-//! Lists: their pages, versions and selectors, with the replies of the worked examples.
+//! Lists: their pages, versions and selectors, with the replies of the worked examples. Their rows are played in
+//! `hub_rows`.
 
 /// `hub_rows` says what the rows are, and plays them.
 pub const LISTS: &str = r#"fresh_store_lists on widgets

@@ -1,4 +1,5 @@
-//! Runs of `ssa-replay` over files: its exit status and what it prints, and scripts as they are read.
+//! Runs of `ssa-replay` over files: its exit status and what it prints, and scripts as they are read. What a program
+//! prints is kept in `recording`.
 //!
 //! | step | what happens |
 //! |---|---|

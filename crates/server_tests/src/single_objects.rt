@@ -1,5 +1,5 @@
-//! Single objects: got, created, updated, applied and deleted, and what is refused in which order, with the replies of the worked
-//! examples.
+//! Single objects: got, created, updated, applied and deleted, and what is refused in which order, with the replies of
+//! the worked examples. Lists stand in `list_rows`, watches in `watch_rows`.
 
 /// `hub_rows` says what the rows are, and plays them.
 pub const SINGLE_OBJECTS: &str = r#"update_and_version on widgets

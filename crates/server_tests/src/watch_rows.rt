@@ -1,4 +1,5 @@
-//! Watches: what is written on them at their opening, at each pump and at each tick, byte for byte.
+//! Watches: what is written on them at their opening, at each pump and at each tick, byte for byte. Their rows are
+//! played in `hub_rows`.
 
 /// `hub_rows` says what the rows are, and plays them.
 pub const WATCHES: &str =

@@ -1,4 +1,4 @@
--- Pieces that are read and heard, or written and taken, one after another.
+-- Pieces that are read and handed over, or written and taken, one after another.
 use Rattle.std.proofs.Common.{◌≡◌, ℕ, true, false, List, [], ◌++◌, Option, Result, Ok, Err, subst}
 use Rattle.std.specs.Prelude.{IsErrAnd, MatchResult}
 use Rattle.std.specs.Result.{OnOk, is_err}

@@ -11,7 +11,7 @@ use Rattle.serving.specs.declared.server.Limits.{Limits}
 use Rattle.serving.specs.Rounds.{Rounds}
 use Rattle.serving.specs.Turns.{Turns}
 
--- the hub before and after a turn of the connection, by the bytes heard and told
+-- the hub before and after a turn of the connection, by the bytes received and sent
 abbrev pub Serves : ℕ → Hub → List ℕ → List ℕ → Hub → Type 0
 Serves id old heard told new = (s : State) → IsIn old s → (t : State) × Turns id s heard told t × IsIn new t
 

@@ -25,7 +25,7 @@ abbrev pub IsGiven : List ℕ → Option Connection → Type 0
 IsGiven given None = given ≡ []
 IsGiven given (Some c) = (c.taken ≡ length given) × ((rest : List ℕ) × (c.written ≡ given ++ rest))
 
--- events in turn in which the bytes heard come on the connection, and those told are taken of it after the ones that its stream
+-- events in turn in which the bytes received come on the connection, and those sent are taken of it after the ones that its stream
 -- was given before; every other connection stays as it is
 abbrev pub Turns : ℕ → State → List ℕ → List ℕ → State → Type 0
 Turns id s heard told t =

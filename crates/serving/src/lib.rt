@@ -1,4 +1,4 @@
-//! Serving connections of streams by one hub, one after another.
+//! Serving connections of streams by one hub, one after another. Many at once are `polling`'s.
 //!
 //! Promises: what a turn reads from a stream comes on its connection, in order; what it writes on the stream is what is
 //! then taken of the connection, so a front of what the hub wrote on it, and all of it where no write failed; all that

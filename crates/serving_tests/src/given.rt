@@ -1,4 +1,5 @@
-//! What several tests are given: an API of widgets, requests, and the replies that they get.
+//! What several tests are given: an API of widgets, requests, and the replies that they get. Streams over memory stand
+//! in `streams`.
 
 use schema::Types;
 use serde_json::Value;

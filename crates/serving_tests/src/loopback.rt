@@ -1,4 +1,5 @@
 //! Connections over loopback, within this process, one after another: each has sent its request before it is served.
+//! Many at once are tested in `polled_loopback`, streams that fail in `turns`.
 
 use crate::given::{
     ADDED, APPLY, BEFORE, CREATED, EXPIRED, HALF, WATCH, expect_heard, fresh_api, sent,

@@ -1,4 +1,4 @@
-//! Many connections at once over loopback, within this process, as rows:
+//! Many connections at once over loopback, within this process, as rows; one after another are tested in `loopback`.
 //!
 //! | step | what happens |
 //! |---|---|

@@ -1,5 +1,5 @@
-//! A stream over memory that gives its bytes in two parts, takes as many as there is room for, and fails where it is told
-//! to.
+//! A stream over memory that gives its bytes in two parts, takes as many as there is room for, and fails where it is
+//! told to. The turns over it are tested in `turns`.
 
 use polling::Stream;
 use std::alloc::Global;

@@ -1,5 +1,5 @@
 //! Turns over memory, of connections one after another and of many at once: a stream that is cut, has no room or fails
-//! changes no byte of another connection.
+//! changes no byte of another connection. Sockets are tested in `loopback` and `polled_loopback`.
 
 use crate::given::{ADDED, APPLY, CREATED, HALF, LIST, NO_ITEMS, WATCH, expect, fresh_api};
 use crate::streams::{MOST, Memory, PLENTY};

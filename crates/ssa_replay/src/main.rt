@@ -1,4 +1,5 @@
-//! `ssa-replay --types FILE --script FILE` plays a script over the API and prints the replies.
+//! `ssa-replay --types FILE --script FILE` plays a script over the API and prints the replies. Its body stands in the
+//! crate `programs`.
 #![tactic(auto)]
 
 use programs::{end_with, read_arguments, ssa_replay};

@@ -1,5 +1,6 @@
-//! `ssa-server --types FILE [--port N] [--keep N] [--pump N] [--serve N] [--concurrent] [--patience N]` serves the types
-//! of a file on loopback, one connection after another or many at once.
+//! `ssa-server --types FILE [--port N] [--keep N] [--pump N] [--serve N] [--concurrent] [--patience N]` serves the
+//! types of a file on loopback, one connection after another or many at once. What a connection is answered is
+//! `httpedge`'s.
 //!
 //! Stands on `serving` and `polling` for the turns of connections, on `programs` for the types file, on `clap` for the
 //! arguments.

@@ -1,4 +1,4 @@
-//! Puts, changes and removals under two indexes, and each refusal.
+//! Puts, changes and removals under two indexes, and each refusal. Objects are read from replies in `decoded`.
 //!
 //! Each example begins without objects.
 //!

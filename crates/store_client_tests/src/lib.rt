@@ -1,4 +1,5 @@
 //! Tests of names and queries, of the store, and of the client's cache and its side of the wire, by public calls alone.
+//! Informers are tested in `client_tests`.
 //!
 //! Each call stands in a helper with no clause, so that a test carries few facts. An example is a name and its rows of text
 //! (`rows`), and one test plays the examples of a file: rows cost the prover nothing, and each function some seconds. One

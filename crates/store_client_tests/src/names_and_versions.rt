@@ -1,4 +1,5 @@
-//! Names of the Kubernetes documentation, versions, and texts that are none.
+//! Names of the Kubernetes documentation, versions, and texts that are none. The selectors that have such names are
+//! tested in `selectors`.
 //!
 //! | question | answer |
 //! |---|---|

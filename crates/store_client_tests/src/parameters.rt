@@ -1,4 +1,4 @@
-//! Every parameter, what goes together, and which fault comes first.
+//! Every parameter, what goes together, and which fault comes first. Selectors alone are tested in `selectors`.
 //!
 //! | question | answer |
 //! |---|---|

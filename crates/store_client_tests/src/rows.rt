@@ -1,4 +1,5 @@
-//! Examples, which are rows of text: a line with an example's name, and rows `QUESTION => ANSWER` up to the next blank line.
+//! Examples, which are rows of text: a line with an example's name, and rows `QUESTION => ANSWER` up to the next blank
+//! line. What a question means stands with the examples.
 
 use std::alloc::{AllocError, Global};
 use std::fmt::Debug;

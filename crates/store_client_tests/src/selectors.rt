@@ -1,4 +1,5 @@
-//! Examples of the documentation "Labels and Selectors", and texts that are no selector.
+//! Examples of the documentation "Labels and Selectors", and texts that are no selector. The parameter that has one is
+//! tested in `parameters`.
 //!
 //! | question | answer |
 //! |---|---|

@@ -1,4 +1,4 @@
-//! How many objects have each value of one label, by the notices of an informer.
+//! How many objects have each value of one label, by the notices of an informer. The objects are `reflector`'s.
 //!
 //! A summary that was told each notice of some objects has their counts, and the apply that it writes says these.
 //!

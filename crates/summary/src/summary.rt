@@ -95,7 +95,7 @@ impl Summary {
     }
 
     /// Counts what a notice tells: the summary of the objects before it becomes that of the objects after it.
-    /// Refused, it changes nothing.
+    /// Refused, it changes nothing. It stands apart from `tell`, since only its clauses speak of objects.
     pub fn note(&mut self, notice: &Notice) -> Result<(), AllocError>
         ensures noted { (label : List ℕ) (o : Objects) → summed self.old ≡ summed_of label o → fin.len o < 2 ^ 63 → IsOld o (notice_seen notice.now)
             → OnOk result (summed self.new ≡ summed_of label (with_notice o (notice_seen notice.now))) }
@@ -105,7 +105,8 @@ impl Summary {
     }
 
     /// Counts what notices tell, one after the other: the summary of the objects before them becomes that of the
-    /// objects after them. Refused, it has counted some of them, the first ones.
+    /// objects after them. Refused, it has counted some of them, the first ones. It stands apart from `tell_all` as
+    /// `note` does from `tell`.
     pub fn note_all(&mut self, notices: &[Notice]) -> Result<(), AllocError>
         ensures noted { (label : List ℕ) (o : Objects) → summed self.old ≡ summed_of label o → fin.len o + length notices.now < 2 ^ 63 → AreOld o (map notice_seen notices.now)
             → OnOk result (summed self.new ≡ summed_of label (replayed o (map notice_seen notices.now))) }

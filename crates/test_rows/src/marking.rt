@@ -1,4 +1,4 @@
-//! The marks between which memory is refused.
+//! The marks between which memory is refused. What is called between them stands in the crate of the test.
 
 use std::alloc::{AllocError, Global};
 

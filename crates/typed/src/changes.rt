@@ -1,4 +1,5 @@
-//! How a content differs from another: what was added, changed and removed, and whether anything was.
+//! How a content differs from another: what was added, changed and removed, and whether anything was. Contents are read
+//! in `read` and printed in `print`.
 
 ghost use Rattle.std.specs.Prelude.{◌≡◌, IfOk};
 ghost use Rattle.std.specs.FinSet as set;

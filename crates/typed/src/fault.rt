@@ -1,4 +1,4 @@
-//! What is wrong with a value that is no content, and where.
+//! What is wrong with a value that is no content, and where. Values are read in `read` and `borrowed`.
 
 ghost use Rattle.std.specs.Prelude.{◌≡◌, ◌++◌, IfOk, [], Option, Some, option_map, string_bytes};
 ghost use Rattle.typed.specs.Faults.{Fault, Tells, fault_below, shown_name, shown_place};

@@ -1,4 +1,4 @@
-//! Laws: what is printed of a content reads back as it, and has no float.
+//! Laws: what is printed of a content reads back as it, and has no float. Contents are printed in `print`.
 
 ghost use Rattle.typed.specs.Fitting.{ContentsArePlaced, FieldsV1IsTextual, OversAreContents, PrintedIsTextual, ReadingsAreContents, RemainsAreContents};
 ghost use Rattle.typed.specs.Placed.{HavePlaces, PrintedHasNoFloat, ReadingsArePlaced, RoundTrip};

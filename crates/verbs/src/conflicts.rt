@@ -1,4 +1,4 @@
-//! The refusal of an apply that has conflicts. Conflicts are found in the crate `ownership`.
+//! An apply over what stands, and its refusal for conflicts. Conflicts are found in the crate `ownership`.
 
 ghost use Rattle.std.specs.Prelude.{◌≡◌, IfOk, map, string_bytes};
 ghost use Rattle.serde_json.specs.View.{items_view, view};

@@ -1,5 +1,5 @@
-//! The errors of calls: of a check, which refuses the call or is out of memory, and of a whole call, which is no refusal:
-//! memory, the store, or a stored text that is no object's.
+//! The errors of calls: of a check, which refuses the call or is out of memory, and of a whole call, which is no
+//! refusal: memory, the store, or a stored text that is no object's. A refusal itself stands in `call_refusal`.
 
 ghost use Rattle.verbs.specs.Seen.{RefusesFor};
 

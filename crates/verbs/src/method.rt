@@ -3,7 +3,7 @@
 ghost use Rattle.std.specs.Prelude.{◌≡◌};
 ghost use Rattle.verbs.specs.Admit.{method_named};
 
-/// The methods of requests (RFC 9110, section 9; RFC 5789).
+/// RFC 9110, section 9; RFC 5789.
 #[derive(Clone, Copy, Debug, PartialEq, Eq)]
 pub enum Method {
     Get,

@@ -1,4 +1,4 @@
-//! The checks of names and metadata, in paths and bodies. The rest of an envelope is checked in `envelope`.
+//! The checks of names, labels and annotations, in paths and bodies. The rest of an envelope is checked in `envelope`.
 
 ghost use Rattle.std.specs.Prelude.{◌≡◌, codes, option_map};
 ghost use Rattle.serde_json.specs.View.{members_view, view};

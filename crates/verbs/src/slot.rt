@@ -1,7 +1,7 @@
-//! The slots in which states are remembered: a table of a fixed size, in which many objects share a slot. A slot holds the
-//! state of one of them at most, the last that a write left there. What it holds is right for the texts of its type
+//! The slots in which states are remembered: a table of a fixed size, in which many objects share a slot. A slot holds
+//! the state of one of them at most, the last that a write left there. What it holds is right for the texts of its type
 //! alone, so it is returned for no other; which object it is of is not kept, since a state is used only under the very
-//! text that says it.
+//! text that says it. A state is matched with its text in `remembered`.
 
 ghost use Rattle.std.specs.Prelude.{◌≡◌, IfOk, IfSome, List};
 ghost use Rattle.schema.specs.TypesFile.{ServedShape};

@@ -1,4 +1,5 @@
-//! What is stored: versions, limits, and the object as it is printed. The store is written in `writing`.
+//! The checks before a change is stored, the object as it is printed, and the plan that stores it or answers what
+//! stands. The store is written in `writing`.
 
 ghost use Rattle.std.specs.Prelude.{◌≡◌, ◌≤◌, ◌<◌, codes, OnOk, IfOk, option_map, string_bytes};
 ghost use Rattle.serde_json.specs.Data.{Data};
@@ -58,7 +59,7 @@ fn printed_with_labels(
     owned.to_object_with_labels(alloc, &served.schema, identity, revision)
 }
 
-/// The text of the object at the key, as compact JSON.
+/// The text of the object at the key alone, for an answer that isn't stored: its labels need no count.
 pub fn printed_text(
     alloc: Global,
     served: &Served,

@@ -14,7 +14,7 @@ use schema::Types;
 use std::alloc::Global;
 use watchline::{Pumped, WatchCursor};
 
-/// The next lines of a watch, at most so many.
+/// The next lines of a watch, at most so many; here an error of the store becomes one of a call.
 pub(crate) fn pumped(
     alloc: Global,
     store: &mut Store,

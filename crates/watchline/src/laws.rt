@@ -1,4 +1,5 @@
-//! Laws of watches. Each function does nothing; what it promises is the law.
+//! Laws of watches. Each function does nothing; what it promises is the law. The calls of a watch stand in `cursor`;
+//! that a client reads its lines is said in the crate `line_laws`.
 
 ghost use Rattle.std.specs.Prelude.{◌≡◌, ◌≤◌, ◌⊎◌, ℕ, List, Option, drop, map, take};
 ghost use Rattle.history.specs.History.{History, IsHistory, Key, written};

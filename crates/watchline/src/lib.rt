@@ -1,5 +1,5 @@
 //! Watches of objects, line by line (Kubernetes documentation, "Kubernetes API Concepts", "Efficient detection of
-//! changes").
+//! changes"). The chunks around the lines are `requests`'.
 //!
 //! A watch tells first the objects that stood when it was opened, if it names no version, and then each change that
 //! its selection sees after its position. A pump tells the first so many of what is still to be told and moves the

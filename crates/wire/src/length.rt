@@ -1,4 +1,5 @@
-//! Lengths in decimal digits, as a Content-Length has them (RFC 9110, section 8.6).
+//! Lengths in decimal digits, as a Content-Length has them (RFC 9110, section 8.6). The field that has one is found by
+//! its name, in `field`.
 
 ghost use Rattle.std.specs.Prelude.{◌≡◌, ◌<◌, ◌≤◌, MatchOption};
 ghost use Rattle.std.specs.Char.{is_ascii_digit};

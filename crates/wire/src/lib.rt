@@ -1,5 +1,6 @@
 //! What both ends of the wire say alike (RFC 9112): the limits of a head, where it ends, its fields by their names, and
-//! lengths in digits. In `specs/` also how chunks are printed.
+//! lengths in digits. In `specs/` also how chunks are printed. What a request says is `requests`', what a reply says
+//! `wireclient`'s.
 //!
 //! Stands on `httparse` for where a head's fields stand.
 #![tactic(auto)]

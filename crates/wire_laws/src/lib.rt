@@ -1,5 +1,5 @@
 //! Laws that join the two ends of the wire: what each end prints, the other reads. Each function does nothing; what it
-//! promises is the law.
+//! promises is the law. What lines and pages say is `line_laws`'.
 //!
 //! Stands on `httpedge` for the bytes of a reply and of a watch and what a request's bytes say, on `wireclient` for the
 //! bytes of a request and the items that a reply's bytes hold, on `verbs` for what a call is answered, and on

@@ -1,4 +1,5 @@
-//! What the hub writes of an answer, and of the turns of a watch over a machine.
+//! What the hub writes of an answer, and of the turns of a watch over a machine. That a client reads it is said in
+//! `replies` and `watches`.
 
 ghost use Rattle.std.specs.Prelude.{◌≡◌, ◌≤◌, ℕ, IsUtf8, List, [], ◌∷◌, None, Some, length, slice_get};
 ghost use Rattle.std.specs.List.{AllByRecursion};

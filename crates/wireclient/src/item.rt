@@ -1,6 +1,6 @@
 //! The items of a reply, in the order in which they come. What their bytes say is read in the crate `decoder`.
 
-/// A part of a reply, in the order in which they come.
+/// RFC 9112, sections 4, 6.2 and 7.1.
 #[derive(Debug, Drop, PartialEq, Eq)]
 pub enum Item {
     /// The head, with its status code.

@@ -1,4 +1,5 @@
-//! Laws of reading, which crates above build on. Each function does nothing; what it promises is the law.
+//! Laws of reading, which crates above build on. Each function does nothing; what it promises is the law. Replies are
+//! read in `reader`; that those of the server are read is said in the crate `wire_laws`.
 
 ghost use Rattle.std.specs.Prelude.{◌≡◌, ◌≤◌, ℕ, List, [], ◌∷◌, ◌++◌, length, map, Option, Some, IsTrue};
 ghost use Rattle.std.specs.Fmt.{decimal};

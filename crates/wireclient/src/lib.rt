@@ -1,4 +1,5 @@
-//! The client's side of the wire: the bytes of a request, and a reader of replies that is fed in pieces.
+//! The client's side of the wire: the bytes of a request, and a reader of replies that is fed in pieces. What a body or
+//! a line says is `decoder`'s.
 //!
 //! However a reply is cut, the items told so far are those of the bytes that came: a head, then a body or
 //! whole lines, then the end, or what came before a bad byte and then `Malformed`. What is told of a front of the

@@ -24,8 +24,7 @@ pub enum ReadFault {
     Memory,
 }
 
-/// A reader of replies, fed in pieces. Contracts see what has come of the reply, or none once the reader was out of
-/// memory.
+/// Contracts see what has come of the reply, or none once the reader was out of memory.
 #[derive(Debug, Drop)]
 pub struct ReplyReader {
     state: State,
