@@ -24,11 +24,11 @@ bookmark_of wanted d =
     version_in metadata
 
 -- by the line's type; an error ends the watch whatever its Status says
-abbrev pub typed : Wanted → List ℕ → Data → Read Line
-typed wanted name subject =
-    if bytes_eq name (codes "ADDED") || bytes_eq name (codes "MODIFIED") then (object_of wanted subject >>= λ o. Ok (put o))
-    else if bytes_eq name (codes "DELETED") then (object_of wanted subject >>= λ o. Ok (deleted o))
-    else if bytes_eq name (codes "BOOKMARK") then (bookmark_of wanted subject >>= λ r. Ok (bookmark r))
+abbrev pub line_by_type : Wanted → List ℕ → Data → Read Line
+line_by_type wanted name value =
+    if bytes_eq name (codes "ADDED") || bytes_eq name (codes "MODIFIED") then (object_of wanted value >>= λ o. Ok (put o))
+    else if bytes_eq name (codes "DELETED") then (object_of wanted value >>= λ o. Ok (deleted o))
+    else if bytes_eq name (codes "BOOKMARK") then (bookmark_of wanted value >>= λ r. Ok (bookmark r))
     else if bytes_eq name (codes "ERROR") then Ok error
     else Err LineType
 
@@ -36,8 +36,8 @@ abbrev pub line_of : Wanted → Data → Read Line
 line_of wanted d =
     members_of d >>= λ top.
     or_malformed LineType (text_at (codes "type") top) >>= λ name.
-    or_malformed Object (at (codes "object") top) >>= λ subject.
-    typed wanted name subject
+    or_malformed Object (at (codes "object") top) >>= λ value.
+    line_by_type wanted name value
 
 -- what the line says
 abbrev pub line_in : Wanted → List ℕ → Read Line

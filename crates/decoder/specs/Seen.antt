@@ -52,5 +52,5 @@ items_in top = or_malformed malformed.Items (option_and_then as_array (at (codes
 abbrev pub type_in : Members → Read (List ℕ)
 type_in top = or_malformed malformed.LineType (text_at (codes "type") top)
 
-abbrev pub subject_in : Members → Read Data
-subject_in top = or_malformed malformed.Object (at (codes "object") top)
+abbrev pub object_value_in : Members → Read Data
+object_value_in top = or_malformed malformed.Object (at (codes "object") top)

@@ -39,7 +39,7 @@ fn has_list_kind(wanted: &Wanted, top: &Map<String, Value>) -> bool
 }
 
 /// Checks that it is of the wanted type.
-pub(crate) fn is_wanted(wanted: &Wanted, top: &Map<String, Value>) -> Result<(), Malformed>
+pub(crate) fn check_kind(wanted: &Wanted, top: &Map<String, Value>) -> Result<(), Malformed>
     ensures { Says (λ u. u) result (is_of (api_version_of (wanted_of wanted.now)) (wanted_of wanted.now).kind (members_view top.now.entries)) }
 {
     if !has_api_version(wanted, top) {
@@ -52,7 +52,7 @@ pub(crate) fn is_wanted(wanted: &Wanted, top: &Map<String, Value>) -> Result<(),
 }
 
 /// Checks that it is a list of the wanted type.
-pub(crate) fn is_wanted_list(wanted: &Wanted, top: &Map<String, Value>) -> Result<(), Malformed>
+pub(crate) fn check_list_kind(wanted: &Wanted, top: &Map<String, Value>) -> Result<(), Malformed>
     ensures { Says (λ u. u) result (is_of (api_version_of (wanted_of wanted.now)) ((wanted_of wanted.now).kind ++ codes "List") (members_view top.now.entries)) }
 {
     if !has_api_version(wanted, top) {

@@ -3,11 +3,11 @@
 
 ghost use Rattle.std.specs.Prelude.{◌≡◌, option_map};
 ghost use Rattle.serde_json.specs.View.{members_view, view};
-ghost use Rattle.decoder.specs.Lines.{bookmark_of, line_in, line_of, typed};
-ghost use Rattle.decoder.specs.Seen.{Gives, Says, line_seen, subject_in, type_in, wanted_of};
+ghost use Rattle.decoder.specs.Lines.{bookmark_of, line_in, line_of, line_by_type};
+ghost use Rattle.decoder.specs.Seen.{Gives, Says, line_seen, object_value_in, type_in, wanted_of};
 
 use crate::fault::DecodeFault;
-use crate::kinds::is_wanted;
+use crate::kinds::check_kind;
 use crate::malformed::Malformed;
 use crate::members::{at, members_of, metadata_in, text_at, value_in, version_in};
 use crate::object::object_of;
@@ -33,12 +33,17 @@ fn bookmark_of(wanted: &Wanted, value: &Value) -> Result<u64, Malformed>
     ensures { Says (λ n. n) result (bookmark_of (wanted_of wanted.now) (view value.now)) }
 {
     let top = members_of(value)?;
-    is_wanted(wanted, top)?;
+    check_kind(wanted, top)?;
     version_in(metadata_in(top)?)
 }
 
-fn typed(alloc: Global, wanted: &Wanted, name: &str, value: &Value) -> Result<Line, DecodeFault>
-    ensures { Gives line_seen result (typed (wanted_of wanted.now) name.now (view value.now)) }
+fn line_by_type(
+    alloc: Global,
+    wanted: &Wanted,
+    name: &str,
+    value: &Value,
+) -> Result<Line, DecodeFault>
+    ensures { Gives line_seen result (line_by_type (wanted_of wanted.now) name.now (view value.now)) }
 {
     match name {
         "ADDED" | "MODIFIED" => Ok(Line::Put(object_of(alloc, wanted, value)?)),
@@ -55,8 +60,8 @@ fn type_in(top: &Map<String, Value>) -> Result<&str, Malformed>
     text_at(top, "type").ok_or(Malformed::LineType)
 }
 
-fn subject_in(top: &Map<String, Value>) -> Result<&Value, Malformed>
-    ensures { Says (λ v. view v.now) result (subject_in (members_view top.now.entries)) }
+fn object_value_in(top: &Map<String, Value>) -> Result<&Value, Malformed>
+    ensures { Says (λ v. view v.now) result (object_value_in (members_view top.now.entries)) }
 {
     at(top, "object").ok_or(Malformed::Object)
 }
@@ -66,8 +71,8 @@ fn line_of(alloc: Global, wanted: &Wanted, value: &Value) -> Result<Line, Decode
 {
     let top = members_of(value)?;
     let name = type_in(top)?;
-    let subject = subject_in(top)?;
-    typed(alloc, wanted, name, subject)
+    let object = object_value_in(top)?;
+    line_by_type(alloc, wanted, name, object)
 }
 
 /// What a line of a watch says (Kubernetes API Concepts, "Efficient detection of changes"), or its first error.

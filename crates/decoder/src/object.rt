@@ -10,7 +10,7 @@ ghost use Rattle.decoder.specs.Objects.{labels_of, namespace_in, object_of, text
 ghost use Rattle.decoder.specs.Seen.{Gives, Says, name_in, wanted_of};
 
 use crate::fault::DecodeFault;
-use crate::kinds::is_wanted;
+use crate::kinds::check_kind;
 use crate::malformed::Malformed;
 use crate::members::{at, members_of, metadata_in, text_at, version_in};
 use crate::wanted::{Wanted, is_in};
@@ -78,7 +78,7 @@ pub(crate) fn object_of(
     ensures { Gives stored_of result (object_of (wanted_of wanted.now) (view value.now)) }
 {
     let top = members_of(value)?;
-    is_wanted(wanted, top)?;
+    check_kind(wanted, top)?;
     let metadata = metadata_in(top)?;
     let name = name_in(metadata)?;
     let namespace = namespace_in(wanted, metadata)?;

@@ -8,7 +8,7 @@ ghost use Rattle.decoder.specs.Pages.{objects_of, page_in, page_of, token_of};
 ghost use Rattle.decoder.specs.Seen.{Gives, Says, items_in, page_seen, wanted_of};
 
 use crate::fault::DecodeFault;
-use crate::kinds::is_wanted_list;
+use crate::kinds::check_list_kind;
 use crate::malformed::Malformed;
 use crate::members::{at, members_of, metadata_in, value_in, version_in};
 use crate::object::object_of;
@@ -64,7 +64,7 @@ fn page_of(alloc: Global, wanted: &Wanted, value: &Value) -> Result<Page, Decode
     ensures { Gives page_seen result (page_of (wanted_of wanted.now) (view value.now)) }
 {
     let top = members_of(value)?;
-    is_wanted_list(wanted, top)?;
+    check_list_kind(wanted, top)?;
     let metadata = metadata_in(top)?;
     let revision = version_in(metadata)?;
     let token = token_in(at(metadata, "continue"))?;
