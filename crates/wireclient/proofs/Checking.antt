@@ -10,7 +10,7 @@ use Rattle.httparse.specs.Spans.{AreFieldsAt, header_bytes, name_and_value, IsRe
 use Rattle.wire.specs.Heads.{max_fields}
 use Rattle.wire.specs.Lengths.{decimal_value, is_length, length_in}
 use Rattle.wire.proofs.Lengths.{length_is, length_isnt}
-use Rattle.wireclient.specs.Reads.{Judged, framed_by_length, framing_of, max_body}
+use Rattle.wireclient.specs.Reads.{Checked, framed_by_length, framing_of, max_body}
 use Rattle.wireclient.specs.Reply.{Framing, by_length}
 
 -- ---- a length
@@ -43,7 +43,7 @@ fields_fit buf headers count fields at room =
     omega (arith, spans, named, same, taken, room)
 
 pub whole_head : (buf : List ℕ) (headers : List HeaderSpan) (r : ResponseSpans) → IsResponseOf buf headers r → r.len ≡ length buf → length headers ≤ max_fields
-    → (f : Framing) → Some f ≡ framing_of (map (header_bytes buf) (take r.headers headers)) → Judged buf (Some (r.code, f))
+    → (f : Framing) → Some f ≡ framing_of (map (header_bytes buf) (take r.headers headers)) → Checked buf (Some (r.code, f))
 whole_head buf headers r (h, at) whole room f told = (
   h,
   (at.reads.0, at.reads.1 ∙ ap (λ (rest : List ℕ). print_response h ++ rest) (drop_all r.len buf (omega (arith, whole)))),

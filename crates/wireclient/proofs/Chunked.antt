@@ -13,7 +13,7 @@ use Rattle.wire.specs.Chunks.{Chunk, IsChunk, print_chunk, print_chunks}
 use Rattle.wire.specs.Heads.{crlf, max_fields, max_head}
 use Rattle.wire.specs.Lengths.{IsSize}
 use Rattle.wireclient.specs.Lines.{IsLine, print_lines}
-use Rattle.wireclient.specs.Reads.{Items, Judged, Leads, framing_of, start}
+use Rattle.wireclient.specs.Reads.{Items, Checked, Leads, framing_of, start}
 use Rattle.wireclient.specs.Reply.{by_chunks, Told, head, line, end, State, size, size_lf, data_in, data_cr, last_cr, ended, max_line, Next, fails, goes_to, data_after, digit_onto, step}
 use Rattle.wireclient.proofs.Leading.{leads_append}
 use Rattle.wireclient.proofs.Lengthened.{after_more, data_next, none_first, none_rest}
@@ -283,8 +283,8 @@ lines_begun lines rest all is =
 head_then_chunks : (h : ResponseHead) → IsResponseHead h → length (print_response h) ≤ max_head → length h.fields ≤ max_fields → framing_of (map name_and_value h.fields) ≡ Some by_chunks
     → Leads start (print_response h) (size 0 0 []) (head (status_code h) ∷ [])
 head_then_chunks h is fits few framed =
-    let judged : Judged (print_response h) (Some (status_code h, by_chunks)) = (h, (is, sym (append-nil (print_response h))), few, refl, framed) in
-    whole_head_read (print_response h) (Some (status_code h, by_chunks)) fits (head_ends h is) judged
+    let checked : Checked (print_response h) (Some (status_code h, by_chunks)) = (h, (is, sym (append-nil (print_response h))), few, refl, framed) in
+    whole_head_read (print_response h) (Some (status_code h, by_chunks)) fits (head_ends h is) checked
 
 pub watch_read : (h : ResponseHead) (chunks : List Chunk) (lines : List (List ℕ)) (rest : List ℕ) → IsResponseHead h → length (print_response h) ≤ max_head → length h.fields ≤ max_fields
     → framing_of (map name_and_value h.fields) ≡ Some by_chunks → All IsChunk chunks → All IsLine lines → IsLine rest → data_of chunks ≡ print_lines lines ++ rest

@@ -6,7 +6,7 @@ use Rattle.std.specs.List.{list_any}
 use Rattle.wireclient.specs.Reads.{Leads, has_malformed, has_closed}
 use Rattle.wire.specs.declared.place.Place.{Place}
 use Rattle.wire.specs.Heads.{max_head, place_after}
-use Rattle.wireclient.specs.Reply.{by_length, by_chunks, Judgement, Told, head, whole, line, end, malformed, is_malformed, is_last, State, heading, body, size, size_lf, data_in, data_cr, data_lf, last_cr, last_lf, ended, broken, max_line, Next, fails, goes_to, begun, headed, data_after, digit_onto, step}
+use Rattle.wireclient.specs.Reply.{by_length, by_chunks, HeadCheck, Told, head, whole, line, end, malformed, is_malformed, is_last, State, heading, body, size, size_lf, data_in, data_cr, data_lf, last_cr, last_lf, ended, broken, max_line, Next, fails, goes_to, begun, headed, data_after, digit_onto, step}
 use Rattle.wireclient.proofs.Lengthened.{after_broken, after_end}
 
 -- after a bad byte; or, where e, after that or the end
@@ -44,12 +44,12 @@ either e false n m one other = other
 
 -- ---- one byte
 
-begun_told : (e : Bool) (j : Judgement) → Agrees e (begun j)
+begun_told : (e : Bool) (j : HeadCheck) → Agrees e (begun j)
 begun_told e None = refl
 begun_told e (Some (status, by_length n)) = either e (n == 0) (ended, head status ∷ whole [] ∷ end ∷ []) (body n [], head status ∷ []) (or_false e) refl
 begun_told e (Some (status, by_chunks)) = refl
 
-headed_told : (e : Bool) (j : Judgement) (bytes : List ℕ) (o : Option Place) → Agrees e (headed j bytes o)
+headed_told : (e : Bool) (j : HeadCheck) (bytes : List ℕ) (o : Option Place) → Agrees e (headed j bytes o)
 headed_told e j bytes None = begun_told e j
 headed_told e j bytes (Some p) = refl
 
@@ -61,7 +61,7 @@ sized_open : (e t : Bool) (value : ℕ) (text : List ℕ) → is_after e (cond t
 sized_open e true value text = refl
 sized_open e false value text = refl
 
-step_told : (e : Bool) (s : State) (j : Judgement) (b : ℕ) → is_after e (step j s b).0 ≡ (is_after e s || any e (step j s b).1)
+step_told : (e : Bool) (s : State) (j : HeadCheck) (b : ℕ) → is_after e (step j s b).0 ≡ (is_after e s || any e (step j s b).1)
 step_told e (heading bytes p) j b = either e (leb max_head (length bytes)) fails (headed j (bytes ++ b ∷ []) (place_after p b)) refl (headed_told e j (bytes ++ b ∷ []) (place_after p b))
 step_told e (body left bytes) j b = either e (leb left 1) (ended, whole (bytes ++ b ∷ []) ∷ end ∷ []) (goes_to (body (left - 1) (bytes ++ b ∷ []))) (or_false e) refl
 step_told e (size count value text) j b =

@@ -3,32 +3,32 @@ use Rattle.std.proofs.Common.{◌≡◌, ℕ, Bool, true, false, cond, leb, List
 use Rattle.httparse.specs.Grammar.{ResponseHead, status_code}
 use Rattle.httparse.specs.Spans.{name_and_value}
 use Rattle.httparse.proofs.GrammarLemmas.{response_unique}
-use Rattle.wireclient.specs.Reads.{Judged, JudgedWhereEnded, JudgedAt, Items, Leads, Stands, framing_of, start}
+use Rattle.wireclient.specs.Reads.{Checked, CheckedWhereEnded, CheckedAt, Items, Leads, Stands, framing_of, start}
 use Rattle.wire.specs.declared.place.Place.{Place}
 use Rattle.wire.specs.Heads.{max_head, place_after}
-use Rattle.wireclient.specs.Reply.{Framing, Judgement, Told, State, heading, body, size, size_lf, data_in, data_cr, data_lf, last_cr, last_lf, ended, broken, Next, fails, headed, step}
+use Rattle.wireclient.specs.Reply.{Framing, HeadCheck, Told, State, heading, body, size, size_lf, data_in, data_cr, data_lf, last_cr, last_lf, ended, broken, Next, fails, headed, step}
 
 framed_alike : (h k : ResponseHead) → h ≡ k → framing_of (map name_and_value h.fields) ≡ framing_of (map name_and_value k.fields)
 framed_alike h k same = ap (λ (m : ResponseHead). framing_of (map name_and_value m.fields)) same
 
-judged_once : (bytes : List ℕ) (j k : Judgement) → Judged bytes j → Judged bytes k → j ≡ k
-judged_once bytes None None a b = refl
-judged_once bytes None (Some (status, framing)) a b = absurd (let not = a b.0 b.1 b.2 in let is = b.4 in cc)
-judged_once bytes (Some (status, framing)) None a b = absurd (let not = b a.0 a.1 a.2 in let is = a.4 in cc)
-judged_once bytes (Some (s, f)) (Some (t, g)) a b =
+checked_once : (bytes : List ℕ) (j k : HeadCheck) → Checked bytes j → Checked bytes k → j ≡ k
+checked_once bytes None None a b = refl
+checked_once bytes None (Some (status, framing)) a b = absurd (let not = a b.0 b.1 b.2 in let is = b.4 in cc)
+checked_once bytes (Some (status, framing)) None a b = absurd (let not = b a.0 a.1 a.2 in let is = a.4 in cc)
+checked_once bytes (Some (s, f)) (Some (t, g)) a b =
     let same : a.0 ≡ b.0 = (response_unique bytes a.0 b.0 [] [] a.1 b.1).0 in
     let status : s ≡ t = a.3 ∙ ap status_code same ∙ sym b.3 in
     let framing : ◌≡◌ {A = Option Framing} (Some f) (Some g) = sym a.4 ∙ framed_alike a.0 b.0 same ∙ b.4 in
     let framed : f ≡ g = cc in
     ap₂ (λ (n : ℕ) (m : Framing). Some (n, m)) status framed
 
-headed_once : (t : Bool) (bytes : List ℕ) (o : Option Place) (j k : Judgement) → JudgedWhereEnded t bytes o j → JudgedWhereEnded t bytes o k
+headed_once : (t : Bool) (bytes : List ℕ) (o : Option Place) (j k : HeadCheck) → CheckedWhereEnded t bytes o j → CheckedWhereEnded t bytes o k
     → cond t fails (headed j bytes o) ≡ cond t fails (headed k bytes o)
 headed_once true bytes o j k a b = refl
 headed_once false bytes (Some p) j k a b = refl
-headed_once false bytes None j k a b = ap (λ (m : Judgement). headed m bytes None) (judged_once bytes j k a b)
+headed_once false bytes None j k a b = ap (λ (m : HeadCheck). headed m bytes None) (checked_once bytes j k a b)
 
-stepped_once : (s : State) (b : ℕ) (j k : Judgement) → JudgedAt s b j → JudgedAt s b k → step j s b ≡ step k s b
+stepped_once : (s : State) (b : ℕ) (j k : HeadCheck) → CheckedAt s b j → CheckedAt s b k → step j s b ≡ step k s b
 stepped_once (heading bytes p) b j k x y = headed_once (leb max_head (length bytes)) (bytes ++ b ∷ []) (place_after p b) j k x y
 stepped_once (body left bytes) b j k x y = refl
 stepped_once (size count value text) b j k x y = refl

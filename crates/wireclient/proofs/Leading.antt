@@ -3,8 +3,8 @@ use Rattle.std.proofs.Common.{arith, ◌≡◌, ℕ, ◌+◌, ◌-◌, ◌<◌, 
 use Rattle.std.specs.Prelude.{IfOk, OnOk}
 use Rattle.std.proofs.lemmas.List.{length-drop, take_all, take_more}
 use Rattle.std.proofs.Math.Seq.{take-add}
-use Rattle.wireclient.specs.Reads.{Items, JudgedAt, Steps, Leads, Stands, TakesIn, has_malformed, start}
-use Rattle.wireclient.specs.Reply.{Judgement, State, broken, Told, step}
+use Rattle.wireclient.specs.Reads.{Items, CheckedAt, Steps, Leads, Stands, TakesIn, has_malformed, start}
+use Rattle.wireclient.specs.Reply.{HeadCheck, State, broken, Told, step}
 use Rattle.wireclient.specs.Views.{state_of}
 use Rattle.wireclient.specs.declared.state.State as states
 use Rattle.wireclient.specs.declared.state.State.TheVariants as state
@@ -21,8 +21,8 @@ leads_append s m t (x ∷ xs) ys is ks h k = (
   ap (λ (told : List Told). told ++ ks) h.4 ∙ append_assoc (step h.0 s x).1 h.1 ks,
 )
 
-pub one_byte : (s t : State) (b : ℕ) (j : Judgement) → JudgedAt s b j → t ≡ (step j s b).0 → Leads s (b ∷ []) t (step j s b).1
-one_byte s t b j judged is = (j, [], judged, (is, refl), sym (append-nil (step j s b).1))
+pub one_byte : (s t : State) (b : ℕ) (j : HeadCheck) → CheckedAt s b j → t ≡ (step j s b).0 → Leads s (b ∷ []) t (step j s b).1
+one_byte s t b j checked is = (j, [], checked, (is, refl), sym (append-nil (step j s b).1))
 
 pub leads_more : (s m t : State) (piece : List ℕ) (i b d : ℕ) (old new : List Told) → i < length piece → b ≡ get_or piece i d → Leads s (take i piece) m old → Steps m b t old new → Leads s (take (i + 1) piece) t new
 leads_more s m t piece i b d old new lt at before more =
@@ -30,11 +30,11 @@ leads_more s m t piece i b d old new lt at before more =
     (subst (λ (told : List Told). Leads s (take i piece ++ b ∷ []) t told) (sym more.3)
     (leads_append s m t (take i piece) (b ∷ []) old (step more.0 m b).1 before (one_byte m t b more.0 more.1 more.2)))
 
--- a step that asks for no judgement
-pub plain : {A E : Type 0} (view : A → State) (r : Result A E) (s : State) (b : ℕ) (old new : List Told) → JudgedAt s b None
+-- a step that asks for no check
+pub plain : {A E : Type 0} (view : A → State) (r : Result A E) (s : State) (b : ℕ) (old new : List Told) → CheckedAt s b None
     → IfOk r (λ t. view t ≡ (step None s b).0) → OnOk r (new ≡ old ++ (step None s b).1) → IfOk r (λ t. Steps s b (view t) old new)
-plain view (Ok t) s b old new judged is told = (None, judged, is, told)
-plain view (Err e) s b old new judged is told = tt
+plain view (Ok t) s b old new checked is told = (None, checked, is, told)
+plain view (Err e) s b old new checked is told = tt
 
 same_state : {s t : State} → Some s ≡ Some t → s ≡ t
 same_state is = cc

@@ -6,7 +6,7 @@ use Rattle.std.proofs.lemmas.List.Sums.{prefix_len-le-length, position_or_len_is
 use Rattle.std.specs.Prelude.{◌||◌, ◌==◌, not}
 use Rattle.std.specs.List.{list_any, position_or_len}
 use Rattle.memchr.specs.Find.{IsFirstByte, is_byte}
-use Rattle.wireclient.specs.Reads.{JudgedAt, Leads, TakesIn}
+use Rattle.wireclient.specs.Reads.{CheckedAt, Leads, TakesIn}
 use Rattle.wireclient.specs.Reply.{whole, line, end, State, body, data_in, data_cr, ended, broken, max_line, Next, fails, goes_to, data_after, step}
 
 pub none_first : (a b : Bool) → (a || b) ≡ false → a ≡ false
@@ -18,11 +18,11 @@ none_rest true b is = absurd cc
 none_rest false b is = is
 
 -- a byte of which nothing is told
-quiet : (s m t : State) (b : ℕ) (bytes : List ℕ) → step None s b ≡ goes_to m → JudgedAt s b None → Leads m bytes t [] → Leads s (b ∷ bytes) t []
-quiet s m t b bytes next judged rest = (
+quiet : (s m t : State) (b : ℕ) (bytes : List ℕ) → step None s b ≡ goes_to m → CheckedAt s b None → Leads m bytes t [] → Leads s (b ∷ bytes) t []
+quiet s m t b bytes next checked rest = (
   None,
   [],
-  judged,
+  checked,
   subst (λ (n : Next). Leads n.0 bytes t []) (sym next) rest,
   sym (ap (λ (n : Next). n.1 ++ []) next),
 )

@@ -3,7 +3,7 @@ mod Closing
 mod Determined
 mod Fronts
 pub mod Heads
-mod Judging
+mod Checking
 pub mod Leading
 mod Lengthened
 mod Printed

@@ -12,20 +12,20 @@ use Rattle.wire.specs.Heads.{max_fields, max_head, place_after}
 use Rattle.wire.specs.Lengths.{length_in}
 use Rattle.wire.proofs.Lengths.{decimal_read}
 use Rattle.wire.proofs.Lines.{Goes, EndsAtLast}
-use Rattle.wireclient.specs.Reads.{Items, Judged, JudgedWhereEnded, Leads, framed_by_length, framing_of, max_body, start}
-use Rattle.wireclient.specs.Reply.{by_length, Judgement, Told, head, whole, end, heading, body, ended, Next, fails, goes_to, begun, headed, step}
+use Rattle.wireclient.specs.Reads.{Items, Checked, CheckedWhereEnded, Leads, framed_by_length, framing_of, max_body, start}
+use Rattle.wireclient.specs.Reply.{by_length, HeadCheck, Told, head, whole, end, heading, body, ended, Next, fails, goes_to, begun, headed, step}
 use Rattle.wireclient.proofs.Leading.{leads_append, one_byte}
 use Rattle.wireclient.proofs.Lengthened.{more_of_body}
-use Rattle.wireclient.proofs.Heads.{judged_so, next_so}
-use Rattle.wireclient.proofs.Judging.{within_limit}
+use Rattle.wireclient.proofs.Heads.{checked_so, next_so}
+use Rattle.wireclient.proofs.Checking.{within_limit}
 use Rattle.wireclient.proofs.Printed.{head_ends}
 
 -- ---- a byte that doesn't end the head
 
-unjudged : (t : Bool) (bytes : List ℕ) (o : Option Place) (m : Place) → o ≡ Some m → JudgedWhereEnded t bytes o None
-unjudged true bytes o m is = tt
-unjudged false bytes (Some p) m is = tt
-unjudged false bytes None m is = absurd cc
+unchecked : (t : Bool) (bytes : List ℕ) (o : Option Place) (m : Place) → o ≡ Some m → CheckedWhereEnded t bytes o None
+unchecked true bytes o m is = tt
+unchecked false bytes (Some p) m is = tt
+unchecked false bytes None m is = absurd cc
 
 goes_on : (t : Bool) (bytes : List ℕ) (o : Option Place) (m : Place) → t ≡ false → o ≡ Some m → cond t fails (headed None bytes o) ≡ goes_to (heading bytes m)
 goes_on true bytes o m t-is o-is = absurd cc
@@ -42,24 +42,24 @@ walked seen p q (b ∷ bytes) fits goes =
     let same : Leads (heading (seen ++ b ∷ []) goes.0) bytes (heading (seen ++ b ∷ bytes) q) [] = subst (λ (xs : List ℕ). Leads (heading (seen ++ b ∷ []) goes.0) bytes (heading xs q) []) (append_assoc seen (b ∷ []) bytes) rest in (
       None,
       [],
-      unjudged (leb max_head (length seen)) (seen ++ b ∷ []) (place_after p b) goes.0 goes.1,
+      unchecked (leb max_head (length seen)) (seen ++ b ∷ []) (place_after p b) goes.0 goes.1,
       subst (λ (n : Next). Leads n.0 bytes (heading (seen ++ b ∷ bytes) q) []) (sym next) same,
       sym (ap (λ (n : Next). n.1 ++ []) next),
     )
 
 -- ---- the byte that ends it
 
-head_read : (seen : List ℕ) (p : Place) (j : Judgement) → length seen < max_head → place_after p 10 ≡ None → Judged (seen ++ 10 ∷ []) j → Leads (heading seen p) (10 ∷ []) (begun j).0 (begun j).1
-head_read seen p j fits ends judged =
+head_read : (seen : List ℕ) (p : Place) (j : HeadCheck) → length seen < max_head → place_after p 10 ≡ None → Checked (seen ++ 10 ∷ []) j → Leads (heading seen p) (10 ∷ []) (begun j).0 (begun j).1
+head_read seen p j fits ends checked =
     let next : step j (heading seen p) 10 ≡ begun j = next_so (leb max_head (length seen)) (seen ++ 10 ∷ []) (place_after p 10) j (lt-leb _ _ fits) ends in
     subst (λ (n : Next). Leads (heading seen p) (10 ∷ []) n.0 n.1) next
-    (one_byte (heading seen p) (step j (heading seen p) 10).0 10 j (judged_so (leb max_head (length seen)) (seen ++ 10 ∷ []) (place_after p 10) j judged) refl)
+    (one_byte (heading seen p) (step j (heading seen p) 10).0 10 j (checked_so (leb max_head (length seen)) (seen ++ 10 ∷ []) (place_after p 10) j checked) refl)
 
-pub whole_head_read : (bytes : List ℕ) (j : Judgement) → length bytes ≤ max_head → EndsAtLast bytes → Judged bytes j → Leads start bytes (begun j).0 (begun j).1
-whole_head_read bytes j fits e judged =
+pub whole_head_read : (bytes : List ℕ) (j : HeadCheck) → length bytes ≤ max_head → EndsAtLast bytes → Checked bytes j → Leads start bytes (begun j).0 (begun j).1
+whole_head_read bytes j fits e checked =
     let long : length bytes ≡ length e.seen + 1 = ap (λ (xs : List ℕ). length xs) e.is ∙ length-append e.seen (10 ∷ []) in
     let before : Leads start e.seen (heading e.seen e.place) [] = walked [] Leading e.place e.seen (omega (arith, long, fits)) e.goes in
-    let last : Leads (heading e.seen e.place) (10 ∷ []) (begun j).0 (begun j).1 = head_read e.seen e.place j (omega (arith, long, fits)) e.ends (subst (λ (xs : List ℕ). Judged xs j) e.is judged) in
+    let last : Leads (heading e.seen e.place) (10 ∷ []) (begun j).0 (begun j).1 = head_read e.seen e.place j (omega (arith, long, fits)) e.ends (subst (λ (xs : List ℕ). Checked xs j) e.is checked) in
     subst (λ (xs : List ℕ). Leads start xs (begun j).0 (begun j).1) (sym e.is)
     (leads_append start (heading e.seen e.place) (begun j).0 e.seen (10 ∷ []) [] (begun j).1 before last)
 
@@ -104,9 +104,9 @@ pub reply_read : (h : ResponseHead) (bytes : List ℕ) → IsResponseHead h → 
     → framing_of (map name_and_value h.fields) ≡ Some (by_length (length bytes))
     → Items (print_response h ++ bytes) (head (status_code h) ∷ whole bytes ∷ end ∷ [])
 reply_read h bytes is fits few framed =
-    let j : Judgement = Some (status_code h, by_length (length bytes)) in
-    let judged : Judged (print_response h) (Some (status_code h, by_length (length bytes))) = (h, (is, sym (append-nil (print_response h))), few, refl, framed) in
-    let first = whole_head_read (print_response h) (Some (status_code h, by_length (length bytes))) fits (head_ends h is) judged in
+    let j : HeadCheck = Some (status_code h, by_length (length bytes)) in
+    let checked : Checked (print_response h) (Some (status_code h, by_length (length bytes))) = (h, (is, sym (append-nil (print_response h))), few, refl, framed) in
+    let first = whole_head_read (print_response h) (Some (status_code h, by_length (length bytes))) fits (head_ends h is) checked in
     (ended, after bytes first)
   where
     after : (bytes : List ℕ) → Leads start (print_response h) (begun (Some (status_code h, by_length (length bytes)))).0 (begun (Some (status_code h, by_length (length bytes)))).1

@@ -8,7 +8,7 @@ use Rattle.wire.specs.declared.place.Place.{Place}
 use Rattle.wire.specs.declared.place.Place.TheVariants.{Leading}
 use Rattle.wire.specs.Heads.{Named, is_content_length, is_transfer_encoding, max_fields, max_head, place_after}
 use Rattle.wire.specs.Lengths.{length_in}
-use Rattle.wireclient.specs.Reply.{Framing, by_length, by_chunks, Judgement, Told, is_malformed, is_last, State, heading, step}
+use Rattle.wireclient.specs.Reply.{Framing, by_length, by_chunks, HeadCheck, Told, is_malformed, is_last, State, heading, step}
 
 -- ---- the head
 
@@ -43,24 +43,24 @@ abbrev pub framing_of : List Named → Option Framing
 framing_of fs = framing_with None fs
 
 -- what the bytes of a whole head say: it is a head of the grammar with at most so many fields, one of which frames the body
-abbrev pub Judged : List ℕ → Judgement → Type 0
-Judged bytes None = (h : ResponseHead) → ReadsResponse bytes h [] → length h.fields ≤ max_fields → framing_of (map name_and_value h.fields) ≡ None
-Judged bytes (Some (status, framing)) =
+abbrev pub Checked : List ℕ → HeadCheck → Type 0
+Checked bytes None = (h : ResponseHead) → ReadsResponse bytes h [] → length h.fields ≤ max_fields → framing_of (map name_and_value h.fields) ≡ None
+Checked bytes (Some (status, framing)) =
     (h : ResponseHead) × ReadsResponse bytes h [] × (length h.fields ≤ max_fields) × (status ≡ status_code h) × (framing_of (map name_and_value h.fields) ≡ Some framing)
 
--- j is the judgement of a head that this byte ends; where none ends, or too many bytes came, it may be anything
-abbrev pub JudgedWhereEnded : Bool → List ℕ → Option Place → Judgement → Type 0
-JudgedWhereEnded true bytes p j = Unit {0}
-JudgedWhereEnded false bytes (Some p) j = Unit {0}
-JudgedWhereEnded false bytes None j = Judged bytes j
+-- j is the check of a head that this byte ends; where none ends, or too many bytes came, it may be anything
+abbrev pub CheckedWhereEnded : Bool → List ℕ → Option Place → HeadCheck → Type 0
+CheckedWhereEnded true bytes p j = Unit {0}
+CheckedWhereEnded false bytes (Some p) j = Unit {0}
+CheckedWhereEnded false bytes None j = Checked bytes j
 
-abbrev pub JudgedAt : State → ℕ → Judgement → Type 0
-JudgedAt (heading bytes p) b j = JudgedWhereEnded (nat_le max_head (length bytes)) (bytes ++ b ∷ []) (place_after p b) j
-JudgedAt _ b j = Unit {0}
+abbrev pub CheckedAt : State → ℕ → HeadCheck → Type 0
+CheckedAt (heading bytes p) b j = CheckedWhereEnded (nat_le max_head (length bytes)) (bytes ++ b ∷ []) (place_after p b) j
+CheckedAt _ b j = Unit {0}
 
 -- one byte leads from a state to another, with the items told before and after it
 abbrev pub Steps : State → ℕ → State → List Told → List Told → Type 0
-Steps s b t old new = (j : Judgement) × JudgedAt s b j × (t ≡ (step j s b).0) × (new ≡ old ++ (step j s b).1)
+Steps s b t old new = (j : HeadCheck) × CheckedAt s b j × (t ≡ (step j s b).0) × (new ≡ old ++ (step j s b).1)
 
 -- ---- the whole
 
@@ -70,7 +70,7 @@ start = heading [] Leading
 -- these bytes lead from one state to another, with these items told
 abbrev pub Leads : State → List ℕ → State → List Told → Type 0
 Leads s [] t items = (t ≡ s) × (items ≡ [])
-Leads s (b ∷ bytes) t items = (j : Judgement) × (rest : List Told) × JudgedAt s b j × Leads (step j s b).0 bytes t rest × (items ≡ (step j s b).1 ++ rest)
+Leads s (b ∷ bytes) t items = (j : HeadCheck) × (rest : List Told) × CheckedAt s b j × Leads (step j s b).0 bytes t rest × (items ≡ (step j s b).1 ++ rest)
 
 -- the items that these bytes hold: head, body or whole lines, and end; or those before a bad byte, and then malformed
 abbrev pub Items : List ℕ → List Told → Type 0

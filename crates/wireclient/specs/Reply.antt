@@ -10,8 +10,8 @@ pub data Framing : Type 0 where
   by_chunks : Framing
 
 -- what a head says: its status and the framing; none where it is malformed
-abbrev pub Judgement : Type 0
-Judgement = Option (ℕ × Framing)
+abbrev pub HeadCheck : Type 0
+HeadCheck = Option (ℕ × Framing)
 
 pub data Told : Type 0 where
   head : ℕ → Told
@@ -54,12 +54,12 @@ fails = (broken, malformed ∷ [])
 abbrev pub goes_to : State → Next
 goes_to s = (s, [])
 
-abbrev pub begun : Judgement → Next
+abbrev pub begun : HeadCheck → Next
 begun None = fails
 begun (Some (status, by_length n)) = if n == 0 then (ended, head status ∷ whole [] ∷ end ∷ []) else (body n [], head status ∷ [])
 begun (Some (status, by_chunks)) = (size 0 0 [], head status ∷ [])
 
-abbrev pub headed : Judgement → List ℕ → Option Place → Next
+abbrev pub headed : HeadCheck → List ℕ → Option Place → Next
 headed j bytes None = begun j
 headed j bytes (Some p) = goes_to (heading bytes p)
 
@@ -71,8 +71,8 @@ data_after left text = if left == 0 then data_cr text else data_in left text
 abbrev pub digit_onto : ℕ → ℕ → ℕ
 digit_onto value digit = min (min (value * 16) 18446744073709551615 + digit) 18446744073709551615
 
--- one byte more; j is the judgement of the head, should it end here
-abbrev pub step : Judgement → State → ℕ → Next
+-- one byte more; j is the check of the head, should it end here
+abbrev pub step : HeadCheck → State → ℕ → Next
 step j (heading bytes p) b = if nat_le max_head (length bytes) then fails else headed j (bytes ++ b ∷ []) (place_after p b)
 step j (body left bytes) b = if nat_le left 1 then (ended, whole (bytes ++ b ∷ []) ∷ end ∷ []) else goes_to (body (left - 1) (bytes ++ b ∷ []))
 step j (size count value text) b =

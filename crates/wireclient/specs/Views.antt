@@ -6,7 +6,7 @@ use Rattle.wireclient.specs.declared.state.Framing as framings
 use Rattle.wireclient.specs.declared.state.Framing.TheVariants as framing
 use Rattle.wireclient.specs.declared.state.State as states
 use Rattle.wireclient.specs.declared.state.State.TheVariants as state
-use Rattle.wireclient.specs.Reply.{Judgement, Framing, by_length, by_chunks, Told, head, whole, line, end, malformed, State, heading, body, size, size_lf, data_in, data_cr, data_lf, last_cr, last_lf, ended, broken}
+use Rattle.wireclient.specs.Reply.{HeadCheck, Framing, by_length, by_chunks, Told, head, whole, line, end, malformed, State, heading, body, size, size_lf, data_in, data_cr, data_lf, last_cr, last_lf, ended, broken}
 
 abbrev pub framing_in : framings.Framing → Framing
 framing_in (framing.Length n) = by_length n
@@ -32,5 +32,5 @@ state_of (state.LastLf text) = last_lf text.items
 state_of state.Ended = ended
 state_of state.Broken = broken
 
-abbrev pub judgement_of : Option (ℕ × framings.Framing) → Judgement
-judgement_of o = option_map (λ r. (r.0, framing_in r.1)) o
+abbrev pub check_of : Option (ℕ × framings.Framing) → HeadCheck
+check_of o = option_map (λ r. (r.0, framing_in r.1)) o

@@ -4,15 +4,15 @@ ghost use Rattle.std.specs.Prelude.{◌≡◌, map, length, option_map};
 ghost use Rattle.std.specs.List.{All};
 ghost use Rattle.httparse.specs.Spans.{header_bytes, IsHeaderWithin};
 ghost use Rattle.wire.specs.Lengths.{length_in};
-ghost use Rattle.wireclient.specs.Reads.{Judged, framed_by_length, frames, framing_by, framing_of};
-ghost use Rattle.wireclient.specs.Views.{framing_in, judgement_of};
+ghost use Rattle.wireclient.specs.Reads.{Checked, framed_by_length, frames, framing_by, framing_of};
+ghost use Rattle.wireclient.specs.Views.{framing_in, check_of};
 
 use crate::state::Framing;
 use httparse::Status;
 use httparse::spans::{EMPTY_HEADER_SPAN, HeaderSpan, parse_response};
 use wire::{MAX_FIELDS, decimal_value, has_name, is_length};
 
-const MAX_BODY: usize = 1_073_741_824;
+const MAX_REPLY_BODY: usize = 1_073_741_824;
 
 fn framed_by_length(value: &[u8]) -> Option<Framing>
     ensures { option_map framing_in result ≡ framed_by_length (length_in value.now) }
@@ -20,7 +20,7 @@ fn framed_by_length(value: &[u8]) -> Option<Framing>
     if !is_length(value) {
         return None;
     }
-    match decimal_value(value, MAX_BODY) {
+    match decimal_value(value, MAX_REPLY_BODY) {
         Some(length) => Some(Framing::Length(length as u64)),
         None => None,
     }
@@ -63,8 +63,8 @@ fn framing_of(head: &[u8], fields: &[HeaderSpan]) -> Option<Framing>
 }
 
 /// The status of a whole head and how its body is framed, if it is no more than the reader takes.
-pub(crate) fn judge(head: &[u8]) -> Option<(u16, Framing)>
-    ensures { Judged head.now (judgement_of result) }
+pub(crate) fn check_head(head: &[u8]) -> Option<(u16, Framing)>
+    ensures { Checked head.now (check_of result) }
 {
     let mut spans = [EMPTY_HEADER_SPAN; MAX_FIELDS];
     match parse_response(head, &mut spans) {

@@ -9,7 +9,7 @@ fn without_body(alloc: Global, method: &str, target: &str) -> Result<Vec<u8>, Al
     ensures { IfOk result (λ v. v.items ≡ request method.now target.now None) }
 {
     let head = format!(in alloc; "{method} {target} HTTP/1.1\r\nHost: localhost\r\n\r\n")?;
-    Vec::from_slice(alloc, head.as_bytes())
+    Ok(head.into_bytes())
 }
 
 fn with_body(
@@ -25,7 +25,7 @@ fn with_body(
     let head = format!(in alloc;
         "{method} {target} HTTP/1.1\r\nHost: localhost\r\nContent-Type: {media}\r\nContent-Length: {length}\r\n\r\n"
     )?;
-    let mut bytes = Vec::from_slice(alloc, head.as_bytes())?;
+    let mut bytes = head.into_bytes();
     bytes.extend_from_slice(body)?;
     Ok(bytes)
 }

@@ -2,10 +2,10 @@
 
 ghost use Rattle.std.specs.Prelude.{◌≡◌, ◌++◌, [], ◌∷◌, None, map, IfOk, OnOk, ◌==◌, if◌then◌else◌};
 ghost use Rattle.wireclient.specs.Reads.{Steps};
-ghost use Rattle.wireclient.specs.Reply.{heading, Judgement, data_after, step, begun, fails, goes_to, broken, body, size, size_lf, data_in, last_lf, malformed};
-ghost use Rattle.wireclient.specs.Views.{state_of, told_of, judgement_of};
+ghost use Rattle.wireclient.specs.Reply.{heading, HeadCheck, data_after, step, begun, fails, goes_to, broken, body, size, size_lf, data_in, last_lf, malformed};
+ghost use Rattle.wireclient.specs.Views.{state_of, told_of, check_of};
 
-use crate::head::judge;
+use crate::head::check_head;
 use crate::item::Item;
 use httparse::parse_hex_digit;
 use std::alloc::{AllocError, Global};
@@ -159,13 +159,13 @@ fn expect(next: State, wanted: u8, byte: u8, told: &mut Vec<Item>) -> Result<Sta
 
 fn begun(
     alloc: Global,
-    judged: Option<(u16, Framing)>,
+    checked: Option<(u16, Framing)>,
     told: &mut Vec<Item>,
 ) -> Result<State, AllocError>
-    ensures state { IfOk result (λ s. state_of s ≡ (begun (judgement_of judged)).0) }
-    ensures told { OnOk result (map told_of told.new.items ≡ map told_of told.old.items ++ (begun (judgement_of judged)).1) }
+    ensures state { IfOk result (λ s. state_of s ≡ (begun (check_of checked)).0) }
+    ensures told { OnOk result (map told_of told.new.items ≡ map told_of told.old.items ++ (begun (check_of checked)).1) }
 {
-    let Some((status, framing)) = judged else {
+    let Some((status, framing)) = checked else {
         return fails(told);
     };
     told.push(Item::Head(status))?;
@@ -195,7 +195,7 @@ fn heading_step(
     bytes.push(byte)?;
     match place_after(place, byte) {
         Some(place) => Ok(State::Heading(bytes, place)),
-        None => begun(alloc, judge(&bytes), told),
+        None => begun(alloc, check_head(&bytes), told),
     }
 }
 

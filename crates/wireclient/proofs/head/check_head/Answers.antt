@@ -5,8 +5,8 @@ use Rattle.httparse.specs.declared.spans.ResponseSpans.{ResponseSpans}
 use Rattle.httparse.specs.Outcome.{IfComplete}
 use Rattle.httparse.specs.Spans.{IsResponseOf}
 use Rattle.wireclient.specs.Views.{framing_in}
-use Rattle.wireclient.proofs.Judging.{whole_head}
-use Rattle.wireclient.proofs.head.judge.Goals as goal
+use Rattle.wireclient.proofs.Checking.{whole_head}
+use Rattle.wireclient.proofs.head.check_head.Goals as goal
 
 pub returns-in-Some : goal.returns-in-Some
 returns-in-Some c =

@@ -1,5 +1,5 @@
 use Rattle.std.proofs.Common.{sym, ◌∙◌}
-use Rattle.wireclient.proofs.Judging.{framed_above, framed_so, unframed}
+use Rattle.wireclient.proofs.Checking.{framed_above, framed_so, unframed}
 use Rattle.wireclient.proofs.head.framed_by_length.Goals as goal
 
 pub returns-then-not-is_length : goal.returns-then-not-is_length
