@@ -3,7 +3,7 @@
 ghost use Rattle.std.specs.Prelude.{◌≡◌, false, IfOk, None, Ok, OnErr, Some, option_map, string_bytes};
 ghost use Rattle.watchline.specs.Opening.{begun, left_of, told_of};
 ghost use Rattle.watchline.specs.Watches.{bookmarked, from_view, is_bookmark_due, pumped};
-ghost use Rattle.watchline.specs.Views.{cursor_of, left_at, marking_of, turn_of, watch_from};
+ghost use Rattle.watchline.specs.Views.{left_at, marking_of, turn_of, watch_from};
 
 use crate::lines::bookmark_line;
 use crate::opening::{Initial, WatchFrom};
@@ -103,13 +103,6 @@ fn left_of(initial: Initial) -> Option<Start>
     }
 }
 
-/// Whether the watch stands past what the client was told, and no object is left to be told.
-fn is_bookmark_due(scope: &Scope, standing: &Standing) -> bool
-    ensures { result ≡ is_bookmark_due (cursor_of scope.now standing.now) }
-{
-    scope.bookmarks && standing.left.is_none() && standing.told < standing.position
-}
-
 impl WatchCursor {
     /// The cursor of a watch that has told nothing yet. Its time is not its own: who pumps it ends it.
     pub fn new(from: WatchFrom) -> WatchCursor
@@ -141,7 +134,8 @@ impl WatchCursor {
     pub fn is_bookmark_due(&self) -> bool
         ensures { result ≡ is_bookmark_due self.now }
     {
-        is_bookmark_due(&self.scope, &self.standing)
+        let standing = &self.standing;
+        self.scope.bookmarks && standing.left.is_none() && standing.told < standing.position
     }
 
     /// The next lines, at most `max`: of objects that are left, each as added, then of changes that are seen after
@@ -173,7 +167,7 @@ impl WatchCursor {
         ensures stays { is_bookmark_due self.old ≡ false → self.new ≡ self.old }
         ensures err { OnErr result (self.new ≡ self.old) }
     {
-        if !is_bookmark_due(&self.scope, &self.standing) {
+        if !self.is_bookmark_due() {
             return Ok(None);
         }
         let line = bookmark_line(alloc, api_version, kind, self.standing.position)?;
