@@ -60,6 +60,8 @@ impl fmt::Display for ReadError {
     }
 }
 
+impl Error for Fault {}
+
 impl Error for ReadError {}
 
 impl From<AllocError> for ReadError {
