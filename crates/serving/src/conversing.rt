@@ -22,7 +22,7 @@ fn open(hub: &mut Hub, id: u64) -> io::Result<()>
     Ok(())
 }
 
-/// The peer of a connection has gone, which isn't open any more.
+/// The peer of a connection has gone, which isn't open any more: proved once for all that end a turn.
 pub(crate) fn leave(hub: &mut Hub, id: u64)
     ensures { Goes id hub.old hub.new }
 {
