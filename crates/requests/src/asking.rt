@@ -80,7 +80,7 @@ pub fn ask_on(alloc: Global, pending: Pending, bytes: &[u8]) -> Result<Progress,
     Ok(asked)
 }
 
-/// A body of so many bytes, of which these came with the head.
+/// The same of bytes that came with the head, which are copied only where more of them are needed.
 fn ask_sized(
     alloc: Global,
     target: Target,
@@ -107,7 +107,8 @@ fn ask_sized(
     }
 }
 
-fn ask_declared(
+/// What a request asks whose head says that its body has so many bytes, or that there is none.
+fn ask_by_length(
     alloc: Global,
     target: Target,
     head: &Head<'_>,
@@ -127,17 +128,19 @@ fn ask_declared(
     }
 }
 
-fn ask_of(alloc: Global, target: Target, head: &Head<'_>) -> Result<Progress, AllocError>
+/// What a request asks that was admitted to this target.
+fn ask_admitted(alloc: Global, target: Target, head: &Head<'_>) -> Result<Progress, AllocError>
     ensures asks { IfOk result (λ a. asked_of a ≡ call_with (request_in head.now) (target_of target) (body_in (request_in head.now) head.now.rest.now)) }
     ensures carries { IfOk result (Carries (λ rest. call_with (request_in head.now) (target_of target) (body_in (request_in head.now) rest)) head.now.rest.now) }
 {
     match declared_length(head) {
-        Ok(length) => ask_declared(alloc, target, head, length),
+        Ok(length) => ask_by_length(alloc, target, head, length),
         Err(denied) => Ok(Progress::Refused(denied)),
     }
 }
 
-fn ask_in(alloc: Global, api: &Api, head: &Head<'_>) -> Result<Progress, AllocError>
+/// What a request asks that has this head; it is admitted before its body is read.
+fn ask_by_head(alloc: Global, api: &Api, head: &Head<'_>) -> Result<Progress, AllocError>
     ensures asks { IfOk result (λ a. asked_of a ≡ call_in (types_of api.now) (request_in head.now) head.now.rest.now) }
     ensures carries { IfOk result (Carries (call_in (types_of api.now) (request_in head.now)) head.now.rest.now) }
 {
@@ -146,7 +149,7 @@ fn ask_in(alloc: Global, api: &Api, head: &Head<'_>) -> Result<Progress, AllocEr
         path_of(head.request_target),
         checked_media(head),
     ) {
-        Ok(target) => ask_of(alloc, target, head),
+        Ok(target) => ask_admitted(alloc, target, head),
         Err(verbs::AdmitFault::Denied(denied)) => Ok(Progress::Refused(denied)),
         Err(verbs::AdmitFault::Memory) => Err(AllocError),
     }
@@ -166,6 +169,6 @@ pub fn ask(
     match read_to(bytes, end) {
         Decision::Undecided => Ok(None),
         Decision::Refused(denied) => Ok(Some(Progress::Refused(denied))),
-        Decision::Accepted(head) => Ok(Some(ask_in(alloc, api, &head)?)),
+        Decision::Accepted(head) => Ok(Some(ask_by_head(alloc, api, &head)?)),
     }
 }

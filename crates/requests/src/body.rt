@@ -62,10 +62,9 @@ fn optional_length(length: Length<'_>) -> Result<Option<usize>, Denied>
     match length {
         Length::Missing => Ok(None),
         Length::Malformed => Err(Refusal::BadLength.denied()),
-        Length::Digits(digits) => match decimal_value(digits, MAX_BODY) {
-            None => Err(Refusal::BodyTooLarge.denied()),
-            Some(0) => Ok(None),
-            Some(length) => Ok(Some(length)),
+        Length::Digits(digits) => match sized(digits) {
+            Ok(Some(0)) => Ok(None),
+            sized => sized,
         },
     }
 }

@@ -4,7 +4,7 @@ ghost use Rattle.std.specs.Prelude.{take};
 ghost use Rattle.wire.specs.Heads.{max_head};
 ghost use Rattle.requests.specs.HeadEnds.{IsSearchedTo, IsWithin};
 
-use crate::head_end::{Searched, front_of, search};
+use crate::head_end::{Searched, front_of, search_from};
 use std::alloc::{AllocError, Global};
 use wire::Place;
 
@@ -60,7 +60,11 @@ impl Front {
         ensures end { result ≡ head_end (take max_head (front_bytes self.old)) }
         ensures bytes { front_bytes self.new ≡ front_bytes self.old }
     {
-        let found = search(front_of(&self.bytes), self.searched);
+        let found = search_from(
+            front_of(&self.bytes),
+            self.searched.count,
+            self.searched.place,
+        );
         self.searched = found.searched;
         found.end
     }

@@ -6,7 +6,7 @@ ghost use Rattle.httparse.specs.Grammar.{RequestHead, ReadsRequest};
 ghost use Rattle.httparse.specs.Spans.{header_bytes, span_bytes, IsHeaderWithin, IsWithin, IsRequestWithin};
 ghost use Rattle.wire.specs.Heads.{head_end, max_head};
 ghost use Rattle.wire.specs.Lengths.{decimal_value, length_in};
-ghost use Rattle.requests.specs.Heads.{is_host, media_in, is_transfer_encoded, agreed, length_after, length_said, missing, number, validated, ReadsWholeHead, ReadsHeadAt, HeadDecision, ReadsHead, with_more};
+ghost use Rattle.requests.specs.Heads.{is_host, media_in, is_transfer_encoded, agreed, length_after, length_said, missing, number, validated, ReadsWholeHead, HeadDecision, ReadsHead, with_more};
 ghost use Rattle.requests.specs.Decision.{undecided};
 ghost use Rattle.requests.specs.Views.{decision_of, head_of, is_plain, length_of, without_zeros, IsPlain, IsWholeAt};
 
@@ -240,21 +240,16 @@ fn validate<'b>(head: &'b [u8], rest: &'b [u8]) -> Decision<Head<'b>>
     }
 }
 
-fn validate_at(bytes: &[u8], end: usize) -> Decision<Head<'_>>
-    requires within { end ≤ length bytes.now }
-    requires short { end ≤ max_head }
-    ensures { ReadsHeadAt bytes.now (Some end) (decision_of head_of result) }
-{
-    validate(&bytes[..end], &bytes[end..])
-}
-
 /// What these bytes say of a head that has so many bytes, or none while it hasn't come whole.
 pub(crate) fn read_to(bytes: &[u8], end: Option<usize>) -> Decision<Head<'_>>
     requires { end ≡ head_end (take max_head bytes.now) }
     ensures { ReadsHead bytes.now (decision_of head_of result) }
 {
     match end {
-        Some(end) => validate_at(bytes, end),
+        Some(end) => {
+            let (head, rest) = bytes.split_at(end);
+            validate(head, rest)
+        }
         None if bytes.len() > MAX_HEAD => Decision::Refused(Refusal::HeadTooLarge.denied()),
         None => Decision::Undecided,
     }

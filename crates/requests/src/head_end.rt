@@ -3,7 +3,7 @@
 
 ghost use Rattle.std.specs.Prelude.{◌≡◌, ◌≤◌, ◌++◌, ℕ, List, length, take, drop};
 ghost use Rattle.wire.specs.Heads.{end_from, head_end, max_head};
-ghost use Rattle.requests.specs.HeadEnds.{FindsAlike, IsWithin, end_after};
+ghost use Rattle.requests.specs.HeadEnds.{IsWithin, end_after};
 
 use wire::{MAX_HEAD, Place, place_after};
 
@@ -26,7 +26,7 @@ pub(crate) struct Found {
 }
 
 /// Searches from a byte on, before which the head stands at this place.
-fn search_from(bytes: &[u8], from: usize, begin: Place) -> Found
+pub(crate) fn search_from(bytes: &[u8], from: usize, begin: Place) -> Found
     requires { from ≤ length bytes.now }
     ensures end { result.end ≡ end_from begin from (drop from bytes.now) }
     ensures within { IsWithin bytes.now result.searched }
@@ -51,16 +51,6 @@ fn search_from(bytes: &[u8], from: usize, begin: Place) -> Found
             place,
         },
     }
-}
-
-/// Goes on searching for the head's end.
-pub(crate) fn search(bytes: &[u8], searched: Searched) -> Found
-    requires { IsWithin bytes.now searched }
-    ensures end { result.end ≡ end_after searched bytes.now }
-    ensures within { IsWithin bytes.now result.searched }
-    ensures alike { FindsAlike bytes.now searched result.searched }
-{
-    search_from(bytes, searched.count, searched.place)
 }
 
 pub(crate) fn front_of(bytes: &[u8]) -> &[u8]

@@ -1,22 +1,30 @@
-use Rattle.std.proofs.Common.{Bool, cond, Some, None, sym, ap, ◌∙◌}
+use Rattle.std.proofs.Common.{arith, ℕ, List, Bool, cond, Some, None, sym, ap, subst, ◌∙◌}
 use Rattle.std.proofs.lemmas.Bool.{le-ltb, lt-ltb}
-use Rattle.std.specs.Prelude.{length}
+use Rattle.std.specs.Prelude.{length, drop}
 use Rattle.requests.specs.Decision.{undecided, refused}
 use Rattle.wire.specs.Heads.{max_head}
-use Rattle.requests.specs.Heads.{HeadDecision}
+use Rattle.requests.specs.Heads.{HeadDecision, ReadsWholeHead}
 use Rattle.requests.specs.Refusals.{head_too_large, refuse}
 use Rattle.requests.specs.Views.{decision_of, head_of}
 use Rattle.requests.proofs.Cuts.{front_short, front_within, reads_at}
 use Rattle.requests.proofs.head.read_to.Goals as goal
 
-pub validate_at-requires-clause-within : goal.validate_at-requires-clause-within
-validate_at-requires-clause-within c = front_within c.args.bytes.now c.in-Some.end (sym c.requires ∙ c.in-Some.is)
+pub split_at-requires : goal.split_at-requires
+split_at-requires c = front_within c.args.bytes.now c.in-Some.end (sym c.requires ∙ c.in-Some.is)
 
-pub validate_at-requires-clause-short : goal.validate_at-requires-clause-short
-validate_at-requires-clause-short c = front_short c.args.bytes.now c.in-Some.end (sym c.requires ∙ c.in-Some.is)
+pub validate-requires : goal.validate-requires
+validate-requires c =
+    let short = front_short c.args.bytes.now c.in-Some.end (sym c.requires ∙ c.in-Some.is) in
+    let same = c.split_at.ensures.front_len in
+    omega (arith, short, same)
 
 pub returns-in-Some : goal.returns-in-Some
-returns-in-Some c = reads_at c.args.bytes.now (Some c.in-Some.end) (decision_of head_of c.validate_at.result) (sym c.in-Some.is ∙ c.requires) c.validate_at.ensures
+returns-in-Some c =
+    let said = decision_of head_of c.validate.result in
+    let cut = c.split_at.result in
+    reads_at c.args.bytes.now (Some c.in-Some.end) said (sym c.in-Some.is ∙ c.requires)
+    (subst (λ (head : List ℕ). ReadsWholeHead head (drop c.in-Some.end c.args.bytes.now) said) c.split_at.ensures.front
+    (subst (λ (rest : List ℕ). ReadsWholeHead cut.0.now rest said) c.split_at.ensures.back c.validate.ensures))
 
 abbrev too_long : Bool → HeadDecision
 too_long b = cond b (refuse head_too_large) undecided

@@ -7,7 +7,7 @@ use Rattle.requests.proofs.front.Front.find_end.Goals as goal
 pub invariant_of-self : goal.invariant_of-self
 invariant_of-self c =
     let self = c.args.self.now in
-    let found = c.search-found in
+    let found = c.search_from-found in
     let front = c.front_of.ensures ∙ ap (take max_head) c.deref.ensures.value in
     record {
       within = subst (λ (bytes : List ℕ). IsWithin bytes found.result.searched) front found.ensures.within;
@@ -19,4 +19,4 @@ pub returns-clause-end : goal.returns-clause-end
 returns-clause-end c =
     let self = c.args.self.now in
     let front = c.front_of.ensures ∙ ap (take max_head) c.deref.ensures.value in
-    c.search-found.ensures.end ∙ ap (end_after self.searched) front ∙ found_here self.bytes.items self.searched self.goes_on
+    c.search_from-found.ensures.end ∙ ap (end_after self.searched) front ∙ found_here self.bytes.items self.searched self.goes_on
