@@ -4,8 +4,8 @@
 //! What each event makes of the hub's machine and of its connections is a function of its state and of the event; a watch
 //! writes at a pump or a tick.
 //!
-//! Stands on `requests` for what a connection's bytes ask and for the bytes of a reply (what it exports of these is exported
-//! here too), on `verbs` for the machine and on `watchline` for what a watch tells.
+//! Stands on `requests` for what a connection's bytes ask and for the bytes of a reply, on `verbs` for the machine and on
+//! `watchline` for what a watch tells.
 #![tactic(auto)]
 
 mod connection;
@@ -26,9 +26,5 @@ pub use hub::Hub;
 pub use laws::{
     all_is_out, bytes_are_taken, each_changes, each_steps, ends_stay, gone_stays, machines_last,
     one_outcome, others_stay, pieces, ticks_are_for_watches, written_stays,
-};
-pub use requests::{
-    Decision, Head, Length, Refusal, checked_media, one_asked, path_of, query_of, read_body,
-    read_head, reply_bytes,
 };
 pub use streams::{LINGER, PIECE, compact, hand, read_piece};

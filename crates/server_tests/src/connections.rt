@@ -1,7 +1,7 @@
 //! Requests and replies by their bytes, and connections over an API of widgets. Calls on objects stand in
 //! `single_objects`, lists in `list_rows`, watches in `watch_rows`.
 
-use httpedge::{
+use requests::{
     Decision, Head, Refusal, checked_media, path_of, query_of, read_body, read_head, reply_bytes,
 };
 use std::alloc::Global;
