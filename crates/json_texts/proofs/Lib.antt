@@ -4,3 +4,4 @@ mod Whole
 mod Places
 mod Copies
 mod Seen
+mod Tokens

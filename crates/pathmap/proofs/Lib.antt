@@ -16,3 +16,4 @@ pub mod Cutting
 pub mod Putting
 pub mod Adding
 pub mod Halving
+pub mod FieldTexts

@@ -6,6 +6,7 @@
 #![tactic(auto)]
 
 mod copying;
+mod fields;
 mod find;
 mod held;
 mod insert;

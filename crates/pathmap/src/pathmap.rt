@@ -1,6 +1,6 @@
 //! The map itself, as a trie over the texts of elements. Each call on it stands in a module of its own.
 
-ghost use Rattle.std.specs.Prelude.{◌≡◌, map, []};
+ghost use Rattle.std.specs.Prelude.{◌≡◌, map, [], IfOk};
 ghost use Rattle.std.specs.Option.{option_map};
 ghost use Rattle.std.specs.FinMap as fin;
 ghost use Rattle.pathmap.specs.Contents.{gather, here, nothing, over};
@@ -10,7 +10,7 @@ ghost use Rattle.pathmap.specs.Maps.{at_top, content, contents_in, standing};
 
 use crate::held::Held;
 use fieldpath::ElemText;
-use std::alloc::Global;
+use std::alloc::{AllocError, Global};
 use std::marker::Model;
 
 /// A finite map from paths to what stands there, as a trie over the texts of elements.
@@ -53,6 +53,15 @@ impl PathMap {
             held: None,
             below: Vec::new(alloc),
         }
+    }
+
+    /// The map of no path, with room for so many children.
+    pub fn with_room(alloc: Global, children: usize) -> Result<PathMap, AllocError>
+        ensures { IfOk result (λ m. content m ≡ nothing) }
+    {
+        let mut map = PathMap::empty(alloc);
+        map.below.reserve(children)?;
+        Ok(map)
     }
 
     /// What stands at the empty path alone.

@@ -1,0 +1,14 @@
+use Rattle.std.proofs.Common.{◌≡◌, ℕ, Bool, true, false, List, [], ◌∷◌, ◌++◌, Ok, Err, OnOk, refl, sym, ap, subst, ◌∙◌}
+use Rattle.std.proofs.lemmas.List.{append-nil}
+use Rattle.json.specs.Token.{begin_object, end_object, begin_array, end_array, key, string}
+use Rattle.json.specs.Print.{ends_value, quoted, print}
+use Rattle.serde_json.specs.Data as json
+use Rattle.serde_json.specs.Written.{comma_if, compact_text}
+use Rattle.json_texts.specs.Writing.{Follows, Writing, blank, bytes_of, with_closing, with_name, with_opening, with_text}
+use Rattle.json_texts.proofs.Tokens.{begun, ended, ended_none, no_tokens, weaker}
+use Rattle.json_texts.proofs.writing.TextWriter.begin_object.Goals as goal
+
+pub returns : goal.returns
+returns c =
+    let text = begun c.self.inside.writer c.settle.new.writer c.begin_object.new.self c.self.inside.is_later (begin_object) refl (c.in_ok-settle.ensures.settled c.self.inside.is_later c.self.invariant) c.in_ok-begin_object.ensures.room.0 c.in_ok-begin_object.ensures.ok in
+    (λ i. record { text = text i; later = false }) ∙ ap (with_opening 123) c.self.view_is
