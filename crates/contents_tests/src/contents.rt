@@ -19,6 +19,7 @@
 use crate::borrowed::answer_borrowed;
 use crate::given::{first_schema, path, printed, push_paths, shown_paths, tree, types_of};
 use fieldset::FieldSet;
+use json_texts::TextWriter;
 use ownership::{Identity, ObjectFault, Owned};
 use schema::{Schema, Types};
 use serde_json::Value;
@@ -83,10 +84,11 @@ fn fields_v1(alloc: Global, schema: &Schema, call: &str, text: &str) -> Result<S
     }
 }
 
-/// What is written of a set, the same as a value and directly into bytes.
+/// What is written of a set, the same as a value and directly as text.
 pub fn written(alloc: Global, schema: &Schema, set: &FieldSet) -> Result<String, Fail> {
-    let mut bytes = Vec::new(alloc);
-    set.push_fields_v1(&mut bytes, alloc, schema)?;
+    let mut out = TextWriter::with_capacity(alloc, 0)?;
+    set.write_fields_v1(&mut out, alloc, schema)?;
+    let bytes = out.into_bytes();
     let text = set.to_fields_v1(alloc, schema)?.to_string(alloc)?;
     if text.as_bytes() != bytes.as_slice() {
         return Err("other bytes are written".into());

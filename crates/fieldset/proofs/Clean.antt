@@ -15,7 +15,7 @@ use Rattle.fieldset.specs.FieldsV1.{each, fields_v1_of, is_name, leaf, members_o
 abbrev pub IsClean : Members → Type 0
 IsClean ms = members_have_float ms ≡ false
 
-neither : (a b : Bool) → (a || b) ≡ false → (a ≡ false) × (b ≡ false)
+pub neither : (a b : Bool) → (a || b) ≡ false → (a ≡ false) × (b ≡ false)
 neither true b h = absurd (true≢false h)
 neither false b h = (refl, h)
 

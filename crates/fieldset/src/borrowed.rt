@@ -115,7 +115,7 @@ fn read_members<'a>(
     requires { are_ordered (members_view members.now) ≡ true }
     ensures { Gives content result (read_members (spot here.entry) (members_data (members_view members.now)) (members_data (members_view members.now))) }
 {
-    let mut map = PathMap::empty(alloc);
+    let mut map = PathMap::with_room(alloc, members.len())?;
     for (name, value) in members {
         let Some(member) = read_member(value, alloc, here, members, name)? else {
             continue;

@@ -1,13 +1,14 @@
 //! Finite sets of paths, and what each call makes of them. FieldsV1 is printed in `fields_v1` and `write`, and read in
 //! `read` and `borrowed`.
 
-ghost use Rattle.std.specs.Prelude.{◌≡◌, ◌++◌, true, IfOk, OnOk, OnErr, IsTrue, ◌↔◌};
+ghost use Rattle.std.specs.Prelude.{◌≡◌, true, IfOk, OnOk, OnErr, IsTrue, ◌↔◌};
 ghost use Rattle.std.specs.FinSet as set;
 ghost use Rattle.pathmap.specs.Contents.{dom, in_order};
 ghost use Rattle.pathmap.specs.Beside.{clear_of, has_at_or_below, is_within};
 ghost use Rattle.pathmap.specs.Maps.{content};
 ghost use Rattle.json.specs.Value.{value_view};
 ghost use Rattle.json_texts.specs.InOrder.{data_of, is_ordered};
+ghost use Rattle.json_texts.specs.Writing.{with_text};
 ghost use Rattle.serde_json.specs.View.{view};
 ghost use Rattle.serde_json.specs.Written.{compact_text};
 ghost use Rattle.schema.specs.Shape.{shape};
@@ -19,8 +20,9 @@ use crate::borrowed;
 use crate::fault::FieldsV1Fault;
 use crate::fields_v1::members;
 use crate::read::read_paths;
-use crate::write::push_members;
+use crate::write::write_members;
 use fieldpath::Path;
+use json_texts::TextWriter;
 use pathmap::{Held, PathMap, put_under};
 use schema::Schema;
 use serde_json::Value;
@@ -159,16 +161,16 @@ impl FieldSet {
         Ok(Value::Object(members(&self.map, alloc, Some(schema))?))
     }
 
-    /// Appends the text of its FieldsV1 value: that of `to_fields_v1` as compact JSON.
-    pub fn push_fields_v1(
+    /// Writes its FieldsV1 value: the text is that of `to_fields_v1` as compact JSON.
+    pub fn write_fields_v1(
         &self,
-        out: &mut Vec<u8>,
+        out: &mut TextWriter,
         alloc: Global,
         schema: &Schema,
     ) -> Result<(), AllocError>
-        ensures { OnOk result (out.new.items ≡ out.old.items ++ compact_text (fields_v1_of (shape schema.now) self.now)) }
+        ensures { OnOk result (out.new ≡ with_text (compact_text (fields_v1_of (shape schema.now) self.now)) out.old) }
     {
-        push_members(&self.map, alloc, Some(schema), out)
+        write_members(&self.map, alloc, Some(schema), out)
     }
 
     /// The set of paths whose FieldsV1 value this is, or the first fault (Kubernetes API reference, ObjectMeta v1).

@@ -11,11 +11,10 @@ mod fault;
 mod fields_v1;
 mod fieldset;
 mod member;
-mod pushing;
 mod read;
+mod values;
 mod write;
 
 pub use both_ways::{readings_are_written, readings_have_places, written_is_read};
 pub use fault::FieldsV1Fault;
 pub use fieldset::FieldSet;
-pub use pushing::{push_comma, push_name, push_string, push_value};

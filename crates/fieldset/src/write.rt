@@ -1,18 +1,20 @@
-//! FieldsV1 written as text, with no value in between but for items that are in the set. The value stands in `fields_v1`.
-ghost use Rattle.std.specs.Prelude.{◌≡◌, ◌++◌, false, option_map, string_bytes, OnOk};
+//! FieldsV1 written by a text writer, with no value in between but for items that are in the set. The value stands in
+//! `fields_v1`.
+ghost use Rattle.std.specs.Prelude.{◌≡◌, false, option_map, string_bytes, OnOk};
 ghost use Rattle.serde_json.specs.Data.{Members, object};
 ghost use Rattle.serde_json.specs.Written.{compact_text};
+ghost use Rattle.json_texts.specs.Writing.{with_text};
 ghost use Rattle.pathmap.specs.Contents.{dom, marked};
 ghost use Rattle.pathmap.specs.Maps.{content};
 ghost use Rattle.schema.specs.Shape.{shape};
 ghost use Rattle.fieldset.specs.Below.{as_item, members_some, members_under};
 
 use crate::fields_v1::{members, put_as_item, schema_below};
-use crate::pushing::{push_comma, push_name, push_value};
+use crate::values;
 use fieldpath::ElemText;
+use json_texts::TextWriter;
 use pathmap::PathMap;
 use schema::{ListKind, Schema};
-use serde_json::Value;
 use std::alloc::{AllocError, Global};
 
 /// Whether `.` and key fields stand beside what is below an element.
@@ -25,61 +27,58 @@ fn has_more(schema: &Schema, is_there: bool) -> bool
     }
 }
 
-/// Appends the object at an element, by its value: key fields stand anywhere among the members.
-fn push_by_value(
+/// Writes the object at an element, by its value: key fields stand anywhere among the members.
+fn write_by_value(
     map: &PathMap,
     alloc: Global,
     schema: &Schema,
     name: &ElemText,
-    out: &mut Vec<u8>,
+    out: &mut TextWriter,
 ) -> Result<(), AllocError>
-    ensures { OnOk result (out.new.items ≡ out.old.items ++ compact_text (object (members_under (shape schema.now) (string_bytes name.now) (marked (dom (content map.now)))))) }
+    ensures { OnOk result (out.new ≡ with_text (compact_text (object (members_under (shape schema.now) (string_bytes name.now) (marked (dom (content map.now)))))) out.old) }
 {
     let mut all = members(map, alloc, schema_below(schema, name))?;
     put_as_item(&mut all, alloc, schema, map.held().is_some())?;
-    push_value(out, alloc, &Value::Object(all))
+    values::write_object(&all, alloc, out)
 }
 
-/// Appends the object at an element.
+/// Writes the object at an element.
 #[cycle(write)]
-fn push_object(
+fn write_object(
     map: &PathMap,
     alloc: Global,
     schema: &Schema,
     name: &ElemText,
-    out: &mut Vec<u8>,
+    out: &mut TextWriter,
 ) -> Result<(), AllocError>
-    ensures { OnOk result (out.new.items ≡ out.old.items ++ compact_text (object (members_under (shape schema.now) (string_bytes name.now) (marked (dom (content map.now)))))) }
+    ensures { OnOk result (out.new ≡ with_text (compact_text (object (members_under (shape schema.now) (string_bytes name.now) (marked (dom (content map.now)))))) out.old) }
 {
     if has_more(schema, map.held().is_some()) {
-        return push_by_value(map, alloc, schema, name, out);
+        return write_by_value(map, alloc, schema, name, out);
     }
-    push_members(map, alloc, schema_below(schema, name), out)
+    write_members(map, alloc, schema_below(schema, name), out)
 }
 
-/// Appends the object of the members of a map's paths, under the schema that stands there, if any does.
+/// Writes the object of the members of a map's paths, under the schema that stands there, if any does.
 #[cycle(write)]
-pub(crate) fn push_members(
+pub(crate) fn write_members(
     map: &PathMap,
     alloc: Global,
     schema: Option<&Schema>,
-    out: &mut Vec<u8>,
+    out: &mut TextWriter,
 ) -> Result<(), AllocError>
-    ensures { OnOk result (out.new.items ≡ out.old.items ++ compact_text (object (members_some (option_map (λ s. shape s.now) schema.entry) (marked (dom (content map.now)))))) }
+    ensures { OnOk result (out.new ≡ with_text (compact_text (object (members_some (option_map (λ s. shape s.now) schema.entry) (marked (dom (content map.now)))))) out.old) }
 {
-    out.push(b'{')?;
+    out.begin_object(alloc)?;
     let Some(schema) = schema else {
-        return Ok(out.push(b'}')?);
+        return out.end_object();
     };
     if schema.is_leaf() {
-        return Ok(out.push(b'}')?);
+        return out.end_object();
     }
-    let mut later = false;
     for (name, inner) in map.children() {
-        push_comma(out, later)?;
-        push_name(out, alloc, name.as_str())?;
-        push_object(inner, alloc, schema, name, out)?;
-        later = true;
+        out.name(alloc, name.as_str())?;
+        write_object(inner, alloc, schema, name, out)?;
     }
-    Ok(out.push(b'}')?)
+    out.end_object()
 }

@@ -43,7 +43,7 @@ use Rattle.objects.specs.Parts.{if_read, own_members, split, version_in, metadat
 use Rattle.objects.specs.Ranks.{have_paths, rising}
 use Rattle.objects.specs.ReadBack.{IsObjectText, OneForOne, max_version}
 use Rattle.objects.proofs.Entered.{AllPlaced, entries_there, items_put, owners_back}
-use Rattle.objects.proofs.Envelopes.{found_field, absent_field, metadata_printed, members_back, with_name, labels_back, version_there, items_there, with_metadata, whole as the_whole, whole_split, fields_back, content_back}
+use Rattle.objects.proofs.Envelopes.{found_field, absent_field, metadata_printed, members_back, with_name, metadata_back, version_there, items_there, with_metadata, whole as the_whole, whole_split, fields_back, content_back}
 use Rattle.objects.proofs.Entries.{Pairs}
 use Rattle.objects.proofs.Rising.{all_found, owners_by_none, owners_have_paths}
 use Rattle.objects.proofs.Within.{right_true}
@@ -76,20 +76,20 @@ module _ (all : Fields) (of : Identity) (v : ℕ) (state : State) where
     abbrev pub in_metadata : Content
     in_metadata = inside (name_text (codes "metadata")) state.content
 
-    abbrev pub own_labels : Members
-    own_labels = (metadata_printed in_metadata).0
+    abbrev pub printed_of_metadata : Members
+    printed_of_metadata = (metadata_printed in_metadata).0
 
-    metadata_there : get_member (codes "metadata") fields_printed ≡ object_or_none own_labels
+    metadata_there : get_member (codes "metadata") fields_printed ≡ object_or_none printed_of_metadata
     metadata_there = found_field (codes "metadata") metadata all state.content no_members up has_metadata refl ∙ (metadata_printed in_metadata).1
 
-    labels_are : metadata_members (print type_of_all state.content) ≡ own_labels
-    labels_are = ap (λ ms. members_printed (get_member (codes "metadata") ms)) (members_back fields_printed) ∙ ap members_printed metadata_there ∙ members_back own_labels
+    members_are : metadata_members (print type_of_all state.content) ≡ printed_of_metadata
+    members_are = ap (λ ms. members_printed (get_member (codes "metadata") ms)) (members_back fields_printed) ∙ ap members_printed metadata_there ∙ members_back printed_of_metadata
 
     abbrev pub listed : Items
     listed = entry_items type_of_all of.api_version (fin.entries state.owners)
 
     abbrev pub meta : Members
-    meta = with_name of.name of.namespace (decimal v) listed own_labels (metadata_printed in_metadata).2
+    meta = with_name of.name of.namespace (decimal v) listed printed_of_metadata (metadata_printed in_metadata).2
 
     pub version_free : get_member (codes "apiVersion") fields_printed ≡ None
     version_free = absent_field (codes "apiVersion") all state.content no_members no_version
@@ -103,7 +103,7 @@ module _ (all : Fields) (of : Identity) (v : ℕ) (state : State) where
     value_is : object_value type_of_all of v state ≡ object (the_whole of.api_version of.kind meta fields_printed version_free kind_free)
     unfolding object_value
     value_is =
-        ap₂ (λ ls ms. object (put (codes "apiVersion") (string of.api_version) (put (codes "kind") (string of.kind) (put (codes "metadata") (object (metadata_of type_of_all of v state.owners ls)) ms)))) labels_are (members_back fields_printed)
+        ap₂ (λ ls ms. object (put (codes "apiVersion") (string of.api_version) (put (codes "kind") (string of.kind) (put (codes "metadata") (object (metadata_of type_of_all of v state.owners ls)) ms)))) members_are (members_back fields_printed)
 
     print_ascends : (ms : Members) → print type_of_all state.content ≡ object_or_none ms → ascend (member_names ms) ≡ true
     print_ascends no_members is = refl
@@ -111,7 +111,7 @@ module _ (all : Fields) (of : Identity) (v : ℕ) (state : State) where
 
     content_there : content_of type_of_all (fields_of beside meta) ≡ Ok state.content
     content_there =
-        ap (content_of type_of_all) (fields_back of.api_version of.kind meta fields_printed version_free kind_free own_labels (print_ascends fields_printed refl) metadata_there (labels_back of.name of.namespace (decimal v) listed own_labels (metadata_printed in_metadata).2))
+        ap (content_of type_of_all) (fields_back of.api_version of.kind meta fields_printed version_free kind_free printed_of_metadata (print_ascends fields_printed refl) metadata_there (metadata_back of.name of.namespace (decimal v) listed printed_of_metadata (metadata_printed in_metadata).2))
         ∙ content_back all state.content (round type_of_all state.content formed (content_placed type_of_all formed state.content placed.0))
 
     all_placed : AllPlaced type_of_all (fin.entries state.owners)
@@ -121,13 +121,13 @@ module _ (all : Fields) (of : Identity) (v : ℕ) (state : State) where
 
     owners_there : owners_in type_of_all meta ≡ Some state.owners
     owners_there =
-        ap (λ o. option_and_then owners_of (option_and_then (entries_in type_of_all) (items_or_none o))) (items_there of.name of.namespace (decimal v) listed own_labels (metadata_printed in_metadata).2)
-        ∙ ap (λ o. option_and_then owners_of (option_and_then (entries_in type_of_all) o)) (items_put listed own_labels (metadata_printed in_metadata).2.3)
+        ap (λ o. option_and_then owners_of (option_and_then (entries_in type_of_all) (items_or_none o))) (items_there of.name of.namespace (decimal v) listed printed_of_metadata (metadata_printed in_metadata).2)
+        ∙ ap (λ o. option_and_then owners_of (option_and_then (entries_in type_of_all) o)) (items_put listed printed_of_metadata (metadata_printed in_metadata).2.3)
         ∙ ap (option_and_then owners_of) (entries_there type_of_all of.api_version (fin.entries state.owners) (λ paths have. written type_of_all paths lawful have) all_placed)
         ∙ owners_back state.owners placed.1.0
 
     version_read : version_in meta ≡ Some v
-    version_read = ap (λ o. option_and_then version_of (option_and_then as_str o)) (version_there of.name of.namespace (decimal v) listed own_labels (metadata_printed in_metadata).2) ∙ version_back v low
+    version_read = ap (λ o. option_and_then version_of (option_and_then as_str o)) (version_there of.name of.namespace (decimal v) listed printed_of_metadata (metadata_printed in_metadata).2) ∙ version_back v low
 
     pub struct_back : parts_in type_of_all (object_value type_of_all of v state) ≡ Some (state, v)
     struct_back =
@@ -194,9 +194,9 @@ put_kept n k d ms spelled deep h = (put_ascend k d ms h.0, put_spelled k d ms sp
 at_most : (a m n : ℕ) → suc a ≤ suc m → suc m ≤ n → suc a ≤ n
 at_most a m n h k = omega (arith, h, k)
 
-metadata_kept : (n : ℕ) (labels ms : Members) (m : ℕ) → suc m ≤ n → Kept m labels → Kept n ms → Kept n (put_metadata labels ms)
+metadata_kept : (n : ℕ) (members ms : Members) (m : ℕ) → suc m ≤ n → Kept m members → Kept n ms → Kept n (put_metadata members ms)
 metadata_kept n no_members ms m low l h = h
-metadata_kept n (member k d labels) ms m low l h = put_kept n (codes "metadata") (object (member k d labels)) ms (l.0, l.1) (at_most (members_depth (member k d labels)) m n (one_deeper (members_depth (member k d labels)) m l.2) low) h
+metadata_kept n (member k d members) ms m low l h = put_kept n (codes "metadata") (object (member k d members)) ms (l.0, l.1) (at_most (members_depth (member k d members)) m n (one_deeper (members_depth (member k d members)) m l.2) low) h
 
 fields_kept : (ms others envelope : Members) → Kept (members_depth ms) ms → split_off (codes "metadata") (own_members ms) ≡ Some (others, envelope) → Kept (members_depth ms) (put_metadata (metadata_left envelope) others)
 fields_kept ms others envelope kept is =

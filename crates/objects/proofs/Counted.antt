@@ -1,4 +1,4 @@
--- How many labels an object is printed with.
+-- How many members an object is printed with.
 use Rattle.std.proofs.Common.{◌≡◌, ℕ, refl, sym, ap, ◌∙◌}
 use Rattle.std.specs.Prelude.{codes, decimal, option_and_then}
 use Rattle.serde_json.specs.Data.{string, array, object, Items, no_items, item, Members, put}
@@ -21,11 +21,11 @@ pub labels_counted : (s : Shape) (of : Identity) (version : ℕ) (state : State)
 unfolding object_value
 labels_counted s of version state =
     let base = members_printed (print s state.content) in
-    let labels = metadata_members (print s state.content) in
-    let entries = put_entries (entry_items s of.api_version (fin.entries state.owners)) labels in
+    let members = metadata_members (print s state.content) in
+    let entries = put_entries (entry_items s of.api_version (fin.entries state.owners)) members in
     let numbered = put (codes "resourceVersion") (string (decimal version)) entries in
     let spaced = put (codes "namespace") (string of.namespace) numbered in
-    let metadata = metadata_of s of version state.owners labels in
+    let metadata = metadata_of s of version state.owners members in
     let one = put (codes "metadata") (object metadata) base in
     let two = put (codes "kind") (string of.kind) one in
     let found =
@@ -35,9 +35,9 @@ labels_counted s of version state =
     get_member-put_other (codes "labels") (codes "name") (string of.name) spaced (apart (codes "labels") (codes "name") refl)
     ∙ get_member-put_other (codes "labels") (codes "namespace") (string of.namespace) numbered (apart (codes "labels") (codes "namespace") refl)
     ∙ get_member-put_other (codes "labels") (codes "resourceVersion") (string (decimal version)) entries (apart (codes "labels") (codes "resourceVersion") refl)
-    ∙ past_entries (entry_items s of.api_version (fin.entries state.owners)) labels in
+    ∙ past_entries (entry_items s of.api_version (fin.entries state.owners)) members in
     ap (λ o. size (option_and_then labels_of o)) found ∙ ap (λ o. size (option_and_then as_object o)) kept
 
--- a count of the labels in what is printed as `metadata`
+-- a count of the members in what is printed as `metadata`
 pub has_labels : (s : Shape) (state : State) (n : ℕ) (metadata : Members) → n ≡ size (members_at (codes "labels") metadata) → metadata ≡ metadata_members (print s state.content) → HasLabels n s state
 has_labels s state n metadata counted are = λ of version. counted ∙ ap (λ ms. size (members_at (codes "labels") ms)) are ∙ sym (labels_counted s of version state)

@@ -59,9 +59,9 @@ entries_there s api_version (e ∷ es) back all =
     ap (λ x. one_more x (entries_in s (entry_items s api_version es))) (entry_there s api_version e.1 e.0 all.0.0 (back e.1 all.0.1)) ∙ ap (one_more (Some e)) (entries_there s api_version es back all.1)
 
 -- `managedFields`, as it is put
-pub items_put : (ds : Items) (labels : Members) → get_member (codes "managedFields") labels ≡ None → items_or_none (get_member (codes "managedFields") (put_entries ds labels)) ≡ Some ds
-items_put no_items labels none = ap items_or_none none
-items_put (item d ds) labels none = ap items_or_none (get_member-put (codes "managedFields") (array (item d ds)) labels)
+pub items_put : (ds : Items) (members : Members) → get_member (codes "managedFields") members ≡ None → items_or_none (get_member (codes "managedFields") (put_entries ds members)) ≡ Some ds
+items_put no_items members none = ap items_or_none none
+items_put (item d ds) members none = ap items_or_none (get_member-put (codes "managedFields") (array (item d ds)) members)
 
 -- owners have their entries
 pub owners_back : (w : Owners) → HavePaths w → owners_of (fin.entries w) ≡ Some w

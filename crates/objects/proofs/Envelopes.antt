@@ -84,10 +84,10 @@ two_have_none (Some a) None = (refl, refl, refl, refl)
 two_have_none (Some a) (Some l) = (refl, refl, refl, refl)
 
 -- nothing, or the object of these members
-abbrev pub IsLabels : Option Data → Type 0
-IsLabels o = (labels : Members) × (o ≡ object_or_none labels) × HasNone labels
+abbrev pub IsPrinted : Option Data → Type 0
+IsPrinted o = (members : Members) × (o ≡ object_or_none members) × HasNone members
 
-pub metadata_printed : (c : Content) → IsLabels (print metadata c)
+pub metadata_printed : (c : Content) → IsPrinted (print metadata c)
 metadata_printed c =
     let a = print (map_of text false) (inside (name_text (codes "annotations")) c) in
     let l = print (map_of text false) (inside (name_text (codes "labels")) c) in
@@ -99,9 +99,9 @@ members_back (member k d ms) = refl
 
 -- ---- `metadata`
 
-module _ (name namespace version : List ℕ) (items : Items) (labels : Members) (none : HasNone labels) where
+module _ (name namespace version : List ℕ) (items : Items) (members : Members) (none : HasNone members) where
   abbrev with_items : Members
-  with_items = put_entries items labels
+  with_items = put_entries items members
 
   abbrev with_version : Members
   with_version = put (codes "resourceVersion") (string version) with_items
@@ -112,13 +112,13 @@ module _ (name namespace version : List ℕ) (items : Items) (labels : Members) 
   abbrev pub with_name : Members
   with_name = put (codes "name") (string name) with_namespace
 
-  items_other : (ds : Items) (k : List ℕ) → (k ≡ codes "managedFields" → ⊥) → get_member k labels ≡ None → get_member k (put_entries ds labels) ≡ None
+  items_other : (ds : Items) (k : List ℕ) → (k ≡ codes "managedFields" → ⊥) → get_member k members ≡ None → get_member k (put_entries ds members) ≡ None
   items_other no_items k other h = h
-  items_other (item d ds) k other h = get_member-put_other k (codes "managedFields") _ labels other ∙ h
+  items_other (item d ds) k other h = get_member-put_other k (codes "managedFields") _ members other ∙ h
 
-  items_off : (ds : Items) → less (codes "managedFields") (put_entries ds labels) ≡ labels
-  items_off no_items = less_absent (codes "managedFields") labels none.3
-  items_off (item d ds) = less_put (codes "managedFields") _ labels none.3
+  items_off : (ds : Items) → less (codes "managedFields") (put_entries ds members) ≡ members
+  items_off no_items = less_absent (codes "managedFields") members none.3
+  items_off (item d ds) = less_put (codes "managedFields") _ members none.3
 
   version_free : get_member (codes "resourceVersion") with_items ≡ None
   version_free = items_other items (codes "resourceVersion") (apart (codes "resourceVersion") (codes "managedFields") refl) none.2
@@ -134,8 +134,8 @@ module _ (name namespace version : List ℕ) (items : Items) (labels : Members) 
       ∙ get_member-put_other (codes "name") (codes "resourceVersion") (string version) with_items (apart (codes "name") (codes "resourceVersion") refl)
       ∙ items_other items (codes "name") (apart (codes "name") (codes "managedFields") refl) none.0
 
-  pub labels_back : metadata_left with_name ≡ labels
-  labels_back =
+  pub metadata_back : metadata_left with_name ≡ members
+  metadata_back =
       ap (λ ms. less (codes "managedFields") (less (codes "resourceVersion") (less (codes "namespace") ms))) (less_put (codes "name") (string name) with_namespace name_free)
       ∙ ap (λ ms. less (codes "managedFields") (less (codes "resourceVersion") ms)) (less_put (codes "namespace") (string namespace) with_version namespace_free)
       ∙ ap (less (codes "managedFields")) (less_put (codes "resourceVersion") (string version) with_items version_free) ∙ items_off items
@@ -181,13 +181,13 @@ module _ (api_version kind : List ℕ) (meta base : Members) (no_version : get_m
       ap (split_off (codes "metadata")) own_back ∙ ap (λ o. option_map (λ m. (less (codes "metadata") with_metadata, m)) (option_and_then as_object o)) (get_member-put (codes "metadata") (object meta) base)
 
   -- the fields as they were printed
-  pub fields_back : (labels : Members) → ascend (member_names base) ≡ true → get_member (codes "metadata") base ≡ object_or_none labels → metadata_left meta ≡ labels
+  pub fields_back : (members : Members) → ascend (member_names base) ≡ true → get_member (codes "metadata") base ≡ object_or_none members → metadata_left meta ≡ members
       → fields_of (less (codes "metadata") with_metadata) meta ≡ object base
-  fields_back labels up is left = ap (λ l. object (put_metadata l (less (codes "metadata") with_metadata))) left ∙ by_labels labels is
+  fields_back members up is left = ap (λ l. object (put_metadata l (less (codes "metadata") with_metadata))) left ∙ by_members members is
     where
-      by_labels : (l : Members) → get_member (codes "metadata") base ≡ object_or_none l → object (put_metadata l (less (codes "metadata") with_metadata)) ≡ object base
-      by_labels no_members none = ap object (less_put (codes "metadata") (object meta) base none)
-      by_labels (member k d l) some = ap object (put_back (codes "metadata") (object meta) (object (member k d l)) base up some)
+      by_members : (l : Members) → get_member (codes "metadata") base ≡ object_or_none l → object (put_metadata l (less (codes "metadata") with_metadata)) ≡ object base
+      by_members no_members none = ap object (less_put (codes "metadata") (object meta) base none)
+      by_members (member k d l) some = ap object (put_back (codes "metadata") (object meta) (object (member k d l)) base up some)
 
 -- ---- what the fields are read as
 

@@ -9,6 +9,8 @@ pub mod Standing
 pub mod Envelopes
 pub mod Entered
 pub mod Textual
+pub mod Appended
+pub mod Between
 pub mod Wholly
 pub mod Counted
 pub mod Back

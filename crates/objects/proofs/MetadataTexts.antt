@@ -1,103 +1,107 @@
--- The text of `metadata`, put together of its members' texts.
-use Rattle.std.proofs.Common.{◌≡◌, ℕ, true, false, ◌==◌, string_cmp, List, [], ◌∷◌, length, Less, String, Global, string_bytes, refl, sym, ap, ap₂, ◌∙◌, true≢false}
+-- `metadata`, member by member.
+use Rattle.std.proofs.Common.{◌≡◌, ◌++◌, ℕ, true, false, ◌&&◌, ◌==◌, nat_cmp, List, [], ◌∷◌, length, Less, String, Global, string_bytes, refl, sym, ap, ap₂, ◌∙◌, true≢false}
 use Rattle.std.specs.Prelude.{codes, decimal}
-use Rattle.std.specs.List.{AllByRecursion}
-use Rattle.std.specs.List.Sorted.{IsStrictlySortedBy}
-use Rattle.std.specs.Map.{keys_of}
-use Rattle.std.specs.Ordering.{match_ordering}
-use Rattle.std.proofs.lemmas.Map.Keys.{sorted_head, sorted_tail}
-use Rattle.serde_json.specs.Data.{Data, string, array, object, Items, Members, no_members, member, put}
+use Rattle.std.specs.Cmp.Lexicographic.{slice_cmp}
+use Rattle.std.specs.Ordering.{is_lt, match_ordering, ordering_reverse}
+use Rattle.std.proofs.lemmas.Bool.{and_parts}
+use Rattle.std.proofs.lemmas.Cmp.{nat_list_cmp_total}
+use Rattle.serde_json.specs.Data.{Data, string, array, object, Items, no_items, item, Members, no_members, member, put}
 use Rattle.serde_json.specs.View.{members_view, view}
-use Rattle.serde_json.specs.Written.{compact_text, has_float, members_have_float}
+use Rattle.serde_json.specs.Written.{compact_text, has_float, members_have_float, members_text}
 use Rattle.serde_json.specs.declared.value.Value.{Value}
-use Rattle.schema.proofs.Members.{put_turned}
+use Rattle.fieldpath.proofs.Names.{lt_is}
+use Rattle.json_texts.specs.Writing.{Writing, with_closing, with_name, with_opening, with_text}
 use Rattle.schema.specs.Shape.{Shape}
-use Rattle.typed.specs.Texts.{Texts, object_of, put_text, texts_of}
 use Rattle.typed.proofs.Floats.{neither}
-use Rattle.typed.proofs.Putting.{below_differs}
-use Rattle.typed.proofs.Wholes.{object-texts, texts_of-put}
+use Rattle.objects.specs.Appended.{Appends, then_members}
+use Rattle.objects.specs.InOrder.{are_below, then_entries, then_key}
 use Rattle.objects.specs.Managers.{pairs}
 use Rattle.objects.specs.ObjectText.{Identity, entry_items, metadata_with, put_entries}
 use Rattle.objects.specs.declared.managers.Entry.{Entry}
+use Rattle.objects.proofs.Appended.{member_appended, object_written}
 use Rattle.objects.proofs.EntryTexts.{none_long}
-use Rattle.objects.proofs.Wholly.{put_more}
 
 abbrev pub Valued : Type 0
 Valued = List (String Global × Value)
 
--- ---- members put in turn, in the order of their names, are these members
+-- ---- members written one after another
 
-abbrev puts : Valued → Members → Members
-puts [] ms = ms
-puts (e ∷ es) ms = puts es (put (string_bytes e.0) (view e.1) ms)
+-- what is left has no float, and written behind what is there gives all
+abbrev pub AreWritten : Valued → Valued → Writing → Writing → Type 0
+AreWritten all left start w = members_have_float (members_view all) ≡ false
+    → (members_have_float (members_view left) ≡ false) × ((rest : Members) → w.text ++ members_text w.later (then_members (members_view left) rest) ≡ start.text ++ members_text start.later (then_members (members_view all) rest))
 
-abbrev AreAbove : String Global → Valued → Type 0
-AreAbove k es = AllByRecursion (λ y. string_cmp k y ≡ Less) (keys_of es)
+pub first_written : (all it : Valued) (start : Writing) → it ≡ all → AreWritten all it start start
+first_written all it start started clean =
+    (ap (λ es. members_have_float (members_view es)) started ∙ clean, λ rest. ap (λ es. start.text ++ members_text start.later (then_members (members_view es) rest)) started)
 
-put_first : (k : String Global) (d : Data) (es : Valued) → AreAbove k es → put (string_bytes k) d (members_view es) ≡ member (string_bytes k) d (members_view es)
-put_first k d [] above = refl
-put_first k d (e ∷ es) above =
-    ap (λ o. match_ordering o (member (string_bytes k) d (members_view (e ∷ es))) (member (string_bytes e.0) d (members_view es)) (member (string_bytes e.0) (view e.1) (put (string_bytes k) d (members_view es)))) above.0
-
-puts_put : (k : String Global) (d : Data) (es : Valued) (ms : Members) → AreAbove k es → puts es (put (string_bytes k) d ms) ≡ put (string_bytes k) d (puts es ms)
-puts_put k d [] ms above = refl
-puts_put k d (e ∷ es) ms above =
-    ap (puts es) (sym (put_turned (string_bytes k) (string_bytes e.0) d (view e.1) ms (λ same. absurd (below_differs (string_bytes k) (string_bytes e.0) above.0 (sym same)))))
-    ∙ puts_put k d es (put (string_bytes e.0) (view e.1) ms) above.1
-
-puts_all : (es : Valued) → IsStrictlySortedBy string_cmp (keys_of es) → puts es no_members ≡ members_view es
-puts_all [] sorted = refl
-puts_all (e ∷ es) sorted =
-    let above = sorted_head string_cmp e.0 (keys_of es) sorted in
-    puts_put e.0 (view e.1) es no_members above ∙ ap (put (string_bytes e.0) (view e.1)) (puts_all es (sorted_tail string_cmp e.0 (keys_of es) sorted)) ∙ put_first e.0 (view e.1) es above
-
--- ---- and so are their texts
-
-abbrev pub put_all : Valued → Texts → Texts
-put_all [] ts = ts
-put_all (e ∷ es) ts = put_all es (put_text (string_bytes e.0) (compact_text (view e.1)) ts)
-
-put_all-texts : (es : Valued) (ms : Members) → put_all es (texts_of ms) ≡ texts_of (puts es ms)
-put_all-texts [] ms = refl
-put_all-texts (e ∷ es) ms = ap (put_all es) (sym (texts_of-put (string_bytes e.0) (view e.1) ms)) ∙ put_all-texts es (put (string_bytes e.0) (view e.1) ms)
-
--- what is left has no float, and put to what is there gives all
-abbrev pub ArePut : Valued → Valued → Texts → Type 0
-ArePut all left texts = members_have_float (members_view all) ≡ false → (members_have_float (members_view left) ≡ false) × (put_all left texts ≡ put_all all [])
-
-pub first_put : (all it : Valued) (texts : Texts) → it ≡ all → texts ≡ [] → ArePut all it texts
-first_put all it texts started none clean = (ap (λ es. members_have_float (members_view es)) started ∙ clean, ap₂ put_all started none)
-
-module _ (all it left : Valued) (e : String Global × Value) (steps : it ≡ e ∷ left) (texts : Texts) (before : ArePut all it texts) where
-  pub one_put : (new : Texts) → (has_float (view e.1) ≡ false → new ≡ put_text (string_bytes e.0) (compact_text (view e.1)) texts) → ArePut all left new
-  one_put new step clean =
+module _ (all it left : Valued) (e : String Global × Value) (steps : it ≡ e ∷ left) (start w : Writing) (before : AreWritten all it start w) where
+  pub member_written : (one new : Writing) → one ≡ with_name (string_bytes e.0) w → (has_float (view e.1) ≡ false → new ≡ with_text (compact_text (view e.1)) one) → AreWritten all left start new
+  member_written one new name value clean =
       let so_far = before clean in
-      let parts = neither (has_float (view e.1)) (members_have_float (members_view left)) (sym (ap (λ es. members_have_float (members_view es)) steps) ∙ so_far.0) in
-      (parts.1, ap (put_all left) (step parts.0) ∙ sym (ap (λ es. put_all es texts) steps) ∙ so_far.1)
+      let parts = neither (has_float (view e.1)) (members_have_float (members_view left)) (sym (ap (λ es. members_have_float (members_view es)) steps) ∙ so_far.0) in (
+        parts.1,
+        λ rest. member_appended (string_bytes e.0) (view e.1) w one new name (value parts.0) (then_members (members_view left) rest)
+            ∙ sym (ap (λ es. w.text ++ members_text w.later (then_members (members_view es) rest)) steps) ∙ so_far.1 rest,
+      )
 
-pub are_put : (all it : Valued) (texts : Texts) → IsStrictlySortedBy string_cmp (keys_of all) → it ≡ [] → ArePut all it texts → members_have_float (members_view all) ≡ false → texts ≡ texts_of (members_view all)
-are_put all it texts sorted none before clean = sym (ap (λ es. put_all es texts) none) ∙ (before clean).1 ∙ put_all-texts all no_members ∙ ap texts_of (puts_all all sorted)
+pub members_written : (all it : Valued) (start w : Writing) → it ≡ [] → AreWritten all it start w → members_have_float (members_view all) ≡ false → Appends (then_members (members_view all)) start w
+members_written all it start w none before clean rest = sym (ap (λ es. w.text ++ members_text w.later (then_members (members_view es) rest)) none) ∙ (before clean).1 rest
 
 -- ---- `managedFields`
 
-pub nobody : (s : Shape) (a : List ℕ) (es : List Entry) (ms : Members) → (length es == 0) ≡ true → put_entries (entry_items s a (pairs es)) ms ≡ ms
-nobody s a [] ms none = refl
-nobody s a (e ∷ es) ms none = absurd (none_long (length es) none)
+pub nobody : (s : Shape) (a : List ℕ) (es : List Entry) (rest : Members) → (length es == 0) ≡ true → then_entries (entry_items s a (pairs es)) rest ≡ rest
+nobody s a [] rest none = refl
+nobody s a (e ∷ es) rest none = absurd (none_long (length es) none)
 
-pub somebody : (s : Shape) (a : List ℕ) (es : List Entry) (ms : Members) → (length es == 0) ≡ false → put_entries (entry_items s a (pairs es)) ms ≡ put (codes "managedFields") (array (entry_items s a (pairs es))) ms
-somebody s a [] ms some = absurd (true≢false some)
-somebody s a (e ∷ es) ms some = refl
+pub somebody : (s : Shape) (a : List ℕ) (es : List Entry) (rest : Members) → (length es == 0) ≡ false → then_entries (entry_items s a (pairs es)) rest ≡ member (codes "managedFields") (array (entry_items s a (pairs es))) rest
+somebody s a [] rest some = absurd (true≢false some)
+somebody s a (e ∷ es) rest some = refl
 
--- ---- the text
+-- ---- members put behind others
 
-pub metadata_is : (of : Identity) (version : ℕ) (items : Items) (labels : Members) (one two three four : Texts) (text : List ℕ) → one ≡ texts_of (put_entries items labels)
-    → two ≡ put_text (codes "resourceVersion") (compact_text (string (decimal version))) one → three ≡ put_text (codes "namespace") (compact_text (string of.namespace)) two
-    → four ≡ put_text (codes "name") (compact_text (string of.name)) three → text ≡ object_of four → text ≡ compact_text (object (metadata_with of version items labels))
-metadata_is of version items labels one two three four text entries numbered placed named is =
-    let base = put_entries items labels in
-    let second = put_more (codes "resourceVersion") (string (decimal version)) base one two entries numbered in
-    let with_version = put (codes "resourceVersion") (string (decimal version)) base in
-    let third = put_more (codes "namespace") (string of.namespace) with_version two three second placed in
-    let with_namespace = put (codes "namespace") (string of.namespace) with_version in
-    let fourth = put_more (codes "name") (string of.name) with_namespace three four third named in
-    is ∙ ap object_of fourth ∙ object-texts (put (codes "name") (string of.name) with_namespace)
+then_none : (ms : Members) → then_members ms no_members ≡ ms
+then_none no_members = refl
+then_none (member k d ms) = ap (member k d) (then_none ms)
+
+put_behind : (k : List ℕ) (d : Data) (ms rest : Members) → are_below k ms ≡ true → put k d (then_members ms rest) ≡ then_members ms (put k d rest)
+put_behind k d no_members rest below = refl
+put_behind k d (member l e ms) rest below =
+    let parts = and_parts (is_lt (slice_cmp nat_cmp l k)) (are_below k ms) below in
+    let above = nat_list_cmp_total.antisymm k l ∙ ap ordering_reverse (lt_is (slice_cmp nat_cmp l k) parts.0) in
+    ap (λ o. match_ordering o (member k d (member l e (then_members ms rest))) (member l d (then_members ms rest)) (member l e (put k d (then_members ms rest)))) above ∙ ap (member l e) (put_behind k d ms rest parts.1)
+
+-- what is below a name is below those above it
+below_more : (k n : List ℕ) → slice_cmp nat_cmp k n ≡ Less → (ms : Members) → are_below k ms ≡ true → are_below n ms ≡ true
+below_more k n less no_members below = refl
+below_more k n less (member l e ms) below =
+    let parts = and_parts (is_lt (slice_cmp nat_cmp l k)) (are_below k ms) below in
+    ap₂ (λ a b. a && b) (ap is_lt (nat_list_cmp_total.trans l k n (lt_is (slice_cmp nat_cmp l k) parts.0) less)) (below_more k n less ms parts.1)
+
+entries_behind : (ds : Items) (ms : Members) → are_below (codes "managedFields") ms ≡ true → put_entries ds ms ≡ then_members ms (then_entries ds no_members)
+entries_behind no_items ms below = sym (then_none ms)
+entries_behind (item d ds) ms below = ap (put (codes "managedFields") (array (item d ds))) (sym (then_none ms)) ∙ put_behind (codes "managedFields") (array (item d ds)) ms no_members below
+
+key_row : (of : Identity) (version : ℕ) (ds : Items)
+    → put (codes "name") (string of.name) (put (codes "namespace") (string of.namespace) (put (codes "resourceVersion") (string (decimal version)) (then_entries ds no_members))) ≡ then_entries ds (then_key of version no_members)
+key_row of version no_items = refl
+key_row of version (item d ds) = refl
+
+metadata_row : (of : Identity) (version : ℕ) (ds : Items) (ms : Members) → are_below (codes "managedFields") ms ≡ true → metadata_with of version ds ms ≡ then_members ms (then_entries ds (then_key of version no_members))
+metadata_row of version ds ms below =
+    let entries = then_entries ds no_members in
+    let numbered = put (codes "resourceVersion") (string (decimal version)) entries in
+    let spaced = put (codes "namespace") (string of.namespace) numbered in
+    ap (λ x. put (codes "name") (string of.name) (put (codes "namespace") (string of.namespace) (put (codes "resourceVersion") (string (decimal version)) x))) (entries_behind ds ms below)
+    ∙ ap (λ x. put (codes "name") (string of.name) (put (codes "namespace") (string of.namespace) x)) (put_behind (codes "resourceVersion") (string (decimal version)) ms entries (below_more (codes "managedFields") (codes "resourceVersion") refl ms below))
+    ∙ ap (put (codes "name") (string of.name)) (put_behind (codes "namespace") (string of.namespace) ms numbered (below_more (codes "managedFields") (codes "namespace") refl ms below))
+    ∙ put_behind (codes "name") (string of.name) ms spaced (below_more (codes "managedFields") (codes "name") refl ms below) ∙ ap (then_members ms) (key_row of version ds)
+
+-- ---- the whole
+
+pub metadata_written : (of : Identity) (version : ℕ) (ds : Items) (ms : Members) → are_below (codes "managedFields") ms ≡ true → (old one two three four new : Writing) → one ≡ with_opening 123 old
+    → Appends (then_members ms) one two → Appends (then_entries ds) two three → Appends (then_key of version) three four → new ≡ with_closing 125 four → new ≡ with_text (compact_text (object (metadata_with of version ds ms))) old
+metadata_written of version ds ms below old one two three four new opened members entries key closed =
+    object_written (λ rest. then_members ms (then_entries ds (then_key of version rest))) old one four new opened
+    (λ rest. key rest ∙ entries (then_key of version rest) ∙ members (then_entries ds (then_key of version rest))) closed
+    ∙ ap (λ x. with_text (compact_text (object x)) old) (sym (metadata_row of version ds ms below))

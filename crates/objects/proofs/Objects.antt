@@ -23,10 +23,10 @@ put_some [] ms e = absurd (true≢false e)
 put_some (v ∷ vs) ms e = refl
 
 -- the envelope round what is printed
-pub envelope : (s : Shape) (of : Identity) (version : ℕ) (state : State) (printed : Option Data) (labels metadata base one two three : Members) → printed ≡ print s state.content
-    → labels ≡ metadata_members printed → metadata ≡ metadata_of s of version state.owners labels → base ≡ members_printed printed
+pub envelope : (s : Shape) (of : Identity) (version : ℕ) (state : State) (printed : Option Data) (members metadata base one two three : Members) → printed ≡ print s state.content
+    → members ≡ metadata_members printed → metadata ≡ metadata_of s of version state.owners members → base ≡ members_printed printed
     → one ≡ put (codes "metadata") (object metadata) base → two ≡ put (codes "kind") (string of.kind) one → three ≡ put (codes "apiVersion") (string of.api_version) two → object three ≡ object_value s of version state
 unfolding object_value
-envelope s of version state printed labels metadata base one two three is labels_are metadata_is base_is one_is two_is three_is =
-    ap object (three_is ∙ ap (put (codes "apiVersion") (string of.api_version)) (two_is ∙ ap (put (codes "kind") (string of.kind)) (one_is ∙ ap₂ (λ m b. put (codes "metadata") (object m) b) (metadata_is ∙ ap (metadata_of s of version state.owners) labels_are) base_is)))
+envelope s of version state printed members metadata base one two three is members_are metadata_is base_is one_is two_is three_is =
+    ap object (three_is ∙ ap (put (codes "apiVersion") (string of.api_version)) (two_is ∙ ap (put (codes "kind") (string of.kind)) (one_is ∙ ap₂ (λ m b. put (codes "metadata") (object m) b) (metadata_is ∙ ap (metadata_of s of version state.owners) members_are) base_is)))
     ∙ ap (with_envelope s of version state.owners) is

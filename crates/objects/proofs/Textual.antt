@@ -112,16 +112,16 @@ module _ (s : Shape) (lawful : is_lawful s ≡ true) where
         no_deeper (depth (entry_value s api_version e.0 e.1)) (items_depth (entry_items s api_version es)) 101 one.2 rest.2,
       )
 
-  entries_fine : (ds : Items) (labels : Members) → FineItems 101 ds → Fine 102 labels → Fine 102 (put_entries ds labels)
-  entries_fine no_items labels h fine = fine
-  entries_fine (item d ds) labels h fine = fine_put 102 (codes "managedFields") (array (item d ds)) labels (h.0, h.1, one_deeper (items_depth (item d ds)) 101 h.2) fine
+  entries_fine : (ds : Items) (members : Members) → FineItems 101 ds → Fine 102 members → Fine 102 (put_entries ds members)
+  entries_fine no_items members h fine = fine
+  entries_fine (item d ds) members h fine = fine_put 102 (codes "managedFields") (array (item d ds)) members (h.0, h.1, one_deeper (items_depth (item d ds)) 101 h.2) fine
 
-  metadata_fine : (of : Identity) (version : ℕ) (owners : Owners) (labels : Members) → Fine 102 labels → IsFine 103 (object (metadata_of s of version owners labels))
-  metadata_fine of version owners labels fine =
-      let entries = entries_fine (entry_items s of.api_version (fin.entries owners)) labels (items_fine of.api_version (fin.entries owners)) fine in
+  pub metadata_fine : (of : Identity) (version : ℕ) (owners : Owners) (members : Members) → Fine 102 members → IsFine 103 (object (metadata_of s of version owners members))
+  metadata_fine of version owners members fine =
+      let entries = entries_fine (entry_items s of.api_version (fin.entries owners)) members (items_fine of.api_version (fin.entries owners)) fine in
       let numbered = fine_put 102 (codes "resourceVersion") (string (decimal version)) _ (fine_text 102 (decimal version)) entries in
       let placed = fine_put 102 (codes "namespace") (string of.namespace) _ (fine_text 102 of.namespace) numbered in
-      fine_object 102 (metadata_of s of version owners labels) (fine_put 102 (codes "name") (string of.name) _ (fine_text 102 of.name) placed)
+      fine_object 102 (metadata_of s of version owners members) (fine_put 102 (codes "name") (string of.name) _ (fine_text 102 of.name) placed)
 
   -- ---- the object
 
@@ -136,8 +136,8 @@ module _ (s : Shape) (lawful : is_lawful s ≡ true) where
     base_fine : Fine 100 (members_printed (print s state.content))
     base_fine = fine_printed 100 (print s state.content) printed_fine
 
-    pub labels_fine : Fine 102 (metadata_members (print s state.content))
-    labels_fine =
+    pub metadata_members_fine : Fine 102 (metadata_members (print s state.content))
+    metadata_members_fine =
         let base = members_printed (print s state.content) in
         fine_more 100 102 (metadata_members (print s state.content)) (omega arith) (fine_printed 100 (get_member (codes "metadata") base) (fine_found 100 (codes "metadata") base base_fine))
 
@@ -145,7 +145,7 @@ module _ (s : Shape) (lawful : is_lawful s ≡ true) where
     unfolding object_value
     value_textual =
         let base = members_printed (print s state.content) in
-        let metadata = metadata_fine of version state.owners (metadata_members (print s state.content)) labels_fine in
+        let metadata = metadata_fine of version state.owners (metadata_members (print s state.content)) metadata_members_fine in
         let one = fine_put 103 (codes "metadata") _ base metadata (fine_more 100 103 base (omega arith) base_fine) in
         let two = fine_put 103 (codes "kind") (string of.kind) _ (fine_text 103 of.kind) one in
         let whole = fine_object 103 _ (fine_put 103 (codes "apiVersion") (string of.api_version) _ (fine_text 103 of.api_version) two) in

@@ -11,3 +11,5 @@ pub mod Parts
 pub mod Borrowed
 pub mod Labels
 pub mod EntryTexts
+pub mod Appended
+pub mod InOrder

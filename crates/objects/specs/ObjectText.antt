@@ -53,11 +53,11 @@ put_entries (item d ds) ms = put (codes "managedFields") (array (item d ds)) ms
 
 -- `metadata` with these entries
 abbrev pub metadata_with : Identity → ℕ → Items → Members → Members
-metadata_with of version entries labels =
-    put (codes "name") (string of.name) (put (codes "namespace") (string of.namespace) (put (codes "resourceVersion") (string (decimal version)) (put_entries entries labels)))
+metadata_with of version entries members =
+    put (codes "name") (string of.name) (put (codes "namespace") (string of.namespace) (put (codes "resourceVersion") (string (decimal version)) (put_entries entries members)))
 
 abbrev pub metadata_of : Shape → Identity → ℕ → Owners → Members → Members
-metadata_of s of version owners labels = metadata_with of version (entry_items s of.api_version (fin.entries owners)) labels
+metadata_of s of version owners members = metadata_with of version (entry_items s of.api_version (fin.entries owners)) members
 
 -- the members of what is printed; none where nothing is
 abbrev pub members_printed : Option Data → Members

@@ -5,11 +5,10 @@ ghost use Rattle.schema.specs.Shape.{shape};
 ghost use Rattle.serde_json.specs.View.{members_view};
 ghost use Rattle.json_values.specs.Members.{members_at};
 ghost use Rattle.typed.specs.Printing.{print};
-ghost use Rattle.objects.specs.Labels.{HasLabels, size};
+ghost use Rattle.objects.specs.Labels.{size};
 ghost use Rattle.objects.specs.ObjectText.{metadata_members};
-ghost use Rattle.objects.specs.Views.{state_of};
 
-use crate::object::{labels_of, members_of};
+use crate::object::{members_of, metadata_members};
 use crate::owned::Owned;
 use json_values::members_at;
 use schema::Schema;
@@ -27,8 +26,8 @@ pub(crate) fn count_labels(metadata: &Map<String, Value>) -> usize
 }
 
 impl Owned {
-    /// The labels and annotations that are printed.
-    fn printed_metadata(
+    /// What is printed of `metadata`: labels and annotations.
+    pub(crate) fn printed_metadata(
         &self,
         alloc: Global,
         schema: &Schema,
@@ -42,16 +41,8 @@ impl Owned {
             }
             None => {
                 let value = self.tree.to_value(alloc, schema)?;
-                labels_of(alloc, &value)
+                metadata_members(alloc, &value)
             }
         }
-    }
-
-    /// How many labels the object is printed with, whatever its key and version.
-    pub(crate) fn label_count(&self, alloc: Global, schema: &Schema) -> Result<usize, AllocError>
-        ensures { is_lawful (shape schema.now) ≡ true → IfOk result (λ n. HasLabels n (shape schema.now) (state_of self.now)) }
-    {
-        let metadata = self.printed_metadata(alloc, schema)?;
-        Ok(count_labels(&metadata))
     }
 }

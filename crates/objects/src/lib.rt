@@ -2,7 +2,7 @@
 //! `ownership`'s.
 //!
 //! Promises: an object's text says one version, content and owners, and every text that is none is refused.
-//! Stands on `fieldset` for sets of paths, on `typed` for contents, on `json_texts` for texts read as values.
+//! Stands on `fieldset` for sets of paths, on `typed` for contents, on `json_texts` for texts read as values, and written.
 #![tactic(auto)]
 
 mod envelope;
@@ -15,6 +15,7 @@ mod manager;
 mod managers;
 mod metadata;
 mod object;
+mod object_text;
 mod owned;
 mod read_back;
 

@@ -1,108 +1,116 @@
 //! `managedFields` written as text, entry after entry. It is read in `managed_fields`.
-ghost use Rattle.std.specs.Prelude.{◌≡◌, ◌++◌, false, true, IfOk, OnOk};
-ghost use Rattle.serde_json.specs.Data.{Data, Members, array, member, no_members, object, string};
-ghost use Rattle.serde_json.specs.Written.{compact_text, items_text, members_text};
+ghost use Rattle.std.specs.Prelude.{◌≡◌, OnOk};
+ghost use Rattle.serde_json.specs.Data.{array, member, string};
+ghost use Rattle.serde_json.specs.Written.{compact_text};
+ghost use Rattle.fieldset.specs.FieldsV1.{fields_v1_of};
+ghost use Rattle.json_texts.specs.Writing.{with_text};
 ghost use Rattle.schema.specs.Shape.{shape};
-ghost use Rattle.objects.specs.EntryTexts.{front_of, manager_members};
+ghost use Rattle.objects.specs.Appended.{Appends, with_items};
+ghost use Rattle.objects.specs.EntryTexts.{then_filled, then_front, then_manager};
 ghost use Rattle.objects.specs.Managers.{manager_view, pairs};
-ghost use Rattle.objects.specs.ObjectText.{entry_items, entry_value, put_filled};
+ghost use Rattle.objects.specs.ObjectText.{entry_items, entry_value};
 
 use crate::manager::Manager;
 use crate::managers::Entry;
-use fieldset::{push_comma, push_name, push_string};
+use fieldset::FieldSet;
+use json_texts::TextWriter;
 use schema::Schema;
 use std::alloc::{AllocError, Global};
 
-/// Appends a member that is a text.
-fn push_text(
-    out: &mut Vec<u8>,
+/// Writes a member that is a text.
+pub(crate) fn write_text(
+    out: &mut TextWriter,
     alloc: Global,
-    later: bool,
     name: &str,
     text: &str,
 ) -> Result<(), AllocError>
-    ensures { OnOk result ((rest : Members) → out.new.items ++ members_text true rest ≡ out.old.items ++ members_text later (member name.now (string text.now) rest)) }
+    ensures { OnOk result (Appends (member name.now (string text.now)) out.old out.new) }
 {
-    push_comma(out, later)?;
-    push_name(out, alloc, name)?;
-    push_string(out, alloc, text)
+    out.name(alloc, name)?;
+    out.string(alloc, text)
 }
 
-/// Appends an entry up to its FieldsV1 value.
-fn push_front(out: &mut Vec<u8>, alloc: Global, api_version: &str) -> Result<(), AllocError>
-    ensures { OnOk result ((d : Data) (rest : Members) → out.new.items ++ (compact_text d ++ members_text true rest) ≡ out.old.items ++ compact_text (object (front_of api_version.now d rest))) }
+/// Writes an entry's members up to its FieldsV1 value.
+fn write_front(
+    out: &mut TextWriter,
+    alloc: Global,
+    schema: &Schema,
+    api_version: &str,
+    paths: &FieldSet,
+) -> Result<(), AllocError>
+    ensures { OnOk result (Appends (then_front api_version.now (fields_v1_of (shape schema.now) paths.now)) out.old out.new) }
 {
-    out.push(b'{')?;
-    push_text(out, alloc, false, "apiVersion", api_version)?;
-    push_text(out, alloc, true, "fieldsType", "FieldsV1")?;
-    push_comma(out, true)?;
-    push_name(out, alloc, "fieldsV1")
+    write_text(out, alloc, "apiVersion", api_version)?;
+    write_text(out, alloc, "fieldsType", "FieldsV1")?;
+    out.name(alloc, "fieldsV1")?;
+    paths.write_fields_v1(out, alloc, schema)
 }
 
-/// Appends a last member that is a text, unless it is empty, and the closing brace.
-fn push_filled(out: &mut Vec<u8>, alloc: Global, name: &str, text: &str) -> Result<(), AllocError>
-    ensures { OnOk result (out.new.items ≡ out.old.items ++ members_text true (put_filled name.now text.now no_members)) }
+/// Writes a member that is a text, unless it is empty.
+fn write_filled(
+    out: &mut TextWriter,
+    alloc: Global,
+    name: &str,
+    text: &str,
+) -> Result<(), AllocError>
+    ensures { OnOk result (Appends (then_filled name.now text.now) out.old out.new) }
 {
     if text.is_empty() {
-        return Ok(out.push(b'}')?);
+        return Ok(());
     }
-    push_text(out, alloc, true, name, text)?;
-    Ok(out.push(b'}')?)
+    write_text(out, alloc, name, text)
 }
 
-/// Appends what an entry has of its manager, and the closing brace.
-fn push_manager(out: &mut Vec<u8>, alloc: Global, manager: &Manager) -> Result<(), AllocError>
-    ensures { OnOk result (out.new.items ≡ out.old.items ++ members_text true (manager_members (manager_view manager.now))) }
+/// Writes what an entry has of its manager.
+fn write_manager(out: &mut TextWriter, alloc: Global, manager: &Manager) -> Result<(), AllocError>
+    ensures { OnOk result (Appends (then_manager (manager_view manager.now)) out.old out.new) }
 {
-    push_text(out, alloc, true, "manager", manager.name.as_str())?;
-    push_text(out, alloc, true, "operation", manager.operation.text())?;
-    push_filled(out, alloc, "subresource", manager.subresource.as_str())
+    write_text(out, alloc, "manager", manager.name.as_str())?;
+    write_text(out, alloc, "operation", manager.operation.text())?;
+    write_filled(out, alloc, "subresource", manager.subresource.as_str())
 }
 
-fn push_entry(
-    out: &mut Vec<u8>,
+fn write_entry(
+    out: &mut TextWriter,
     alloc: Global,
     schema: &Schema,
     api_version: &str,
     entry: &Entry,
 ) -> Result<(), AllocError>
-    ensures { OnOk result (out.new.items ≡ out.old.items ++ compact_text (entry_value (shape schema.now) api_version.now (manager_view entry.now.manager) entry.now.paths)) }
+    ensures { OnOk result (out.new ≡ with_text (compact_text (entry_value (shape schema.now) api_version.now (manager_view entry.now.manager) entry.now.paths)) out.old) }
 {
-    push_front(out, alloc, api_version)?;
-    entry.paths.push_fields_v1(out, alloc, schema)?;
-    push_manager(out, alloc, &entry.manager)
+    out.begin_object(alloc)?;
+    write_front(out, alloc, schema, api_version, &entry.paths)?;
+    write_manager(out, alloc, &entry.manager)?;
+    out.end_object()
 }
 
-/// Appends the entries and the closing bracket.
-fn push_entries(
-    out: &mut Vec<u8>,
+fn write_each(
+    out: &mut TextWriter,
     alloc: Global,
     schema: &Schema,
     api_version: &str,
     entries: &[Entry],
 ) -> Result<(), AllocError>
-    ensures { OnOk result (out.new.items ≡ out.old.items ++ items_text false (entry_items (shape schema.now) api_version.now (pairs entries.now))) }
+    ensures { OnOk result (out.new ≡ with_items (entry_items (shape schema.now) api_version.now (pairs entries.now)) out.old) }
 {
-    let mut later = false;
     for entry in entries {
-        push_comma(out, later)?;
-        push_entry(out, alloc, schema, api_version, entry)?;
-        later = true;
+        write_entry(out, alloc, schema, api_version, entry)?;
     }
-    Ok(out.push(b']')?)
+    Ok(())
 }
 
-/// The text of `managedFields`.
-pub(crate) fn entries_text(
+/// Writes the entries of `managedFields`, in brackets.
+pub(crate) fn write_entries(
+    out: &mut TextWriter,
     alloc: Global,
     schema: &Schema,
     api_version: &str,
     entries: &[Entry],
-) -> Result<Vec<u8>, AllocError>
-    ensures { IfOk result (λ v. v.items ≡ compact_text (array (entry_items (shape schema.now) api_version.now (pairs entries.now)))) }
+) -> Result<(), AllocError>
+    ensures { OnOk result (out.new ≡ with_text (compact_text (array (entry_items (shape schema.now) api_version.now (pairs entries.now)))) out.old) }
 {
-    let mut out = Vec::with_capacity(alloc, 1024)?;
-    out.push(b'[')?;
-    push_entries(&mut out, alloc, schema, api_version, entries)?;
-    Ok(out)
+    out.begin_array(alloc)?;
+    write_each(out, alloc, schema, api_version, entries)?;
+    out.end_array()
 }

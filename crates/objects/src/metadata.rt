@@ -1,76 +1,144 @@
-//! The text of `metadata`, put together from the texts of its members. The text of the whole object stands in `object`.
-ghost use Rattle.std.specs.Prelude.{◌≡◌, List, ℕ, codes, decimal, false, IfOk, OnOk};
-ghost use Rattle.std.specs.FinMap as fin;
-ghost use Rattle.serde_json.specs.Data.{Members, array, object, string};
-ghost use Rattle.serde_json.specs.View.{members_view};
-ghost use Rattle.serde_json.specs.Written.{compact_text, members_have_float};
-ghost use Rattle.schema.specs.Shape.{Shape};
-ghost use Rattle.typed.specs.Texts.{put_text, texts_in, texts_of};
+//! `metadata` written as text, member after member. The text of the whole object stands in `object_text`.
+ghost use Rattle.std.specs.Prelude.{◌≡◌, true, codes, false, OnOk};
+ghost use Rattle.serde_json.specs.Data.{object};
+ghost use Rattle.serde_json.specs.View.{items_view, members_view};
+ghost use Rattle.serde_json.specs.Written.{compact_text, has_float, members_have_float};
+ghost use Rattle.json_texts.specs.Writing.{with_text};
+ghost use Rattle.schema.specs.Shape.{shape};
+ghost use Rattle.objects.specs.Appended.{Appends, then_members};
+ghost use Rattle.objects.specs.InOrder.{are_below, then_entries, then_key};
 ghost use Rattle.objects.specs.Managers.{pairs};
-ghost use Rattle.objects.specs.ObjectText.{entry_items, metadata_with, put_entries};
+ghost use Rattle.objects.specs.ObjectText.{entry_items, metadata_of, metadata_with};
 ghost use Rattle.objects.specs.Views.{identity_of};
 
+use crate::managed_text::{write_entries, write_text};
 use crate::managers::Entry;
-use crate::object::Identity;
+use crate::object::{Envelope, metadata_with};
 use crate::owned::Owned;
+use json_texts::TextWriter;
+use schema::Schema;
 use serde_json::{Map, Value};
 use std::alloc::{AllocError, Global};
-use std::collections::BTreeMap;
-use typed::{Texts, put_string, put_text, put_value};
+use std::cmp::Ordering;
 
-/// The texts of these members.
-fn texts_of(alloc: Global, members: &Map<String, Value>) -> Result<Texts, AllocError>
-    ensures { members_have_float (members_view members.now.entries) ≡ false → IfOk result (λ m. texts_in m.entries ≡ texts_of (members_view members.now.entries)) }
+/// Whether each name lies below this one.
+fn are_below(members: &Map<String, Value>, name: &str) -> bool
+    ensures { result ≡ are_below name.now (members_view members.now.entries) }
 {
-    let mut texts = BTreeMap::new(alloc);
-    for (name, value) in members.iter() {
-        put_value(&mut texts, alloc, name.as_str(), value)?;
+    for (known, _) in members.iter() {
+        if known.as_str().cmp(name) != Ordering::Less {
+            return false;
+        }
     }
-    Ok(texts)
+    true
 }
 
-/// Puts `managedFields`, where somebody owns something.
-fn put_managed(
-    texts: &mut Texts,
+/// Writes members, one after another.
+fn write_members(
+    out: &mut TextWriter,
     alloc: Global,
-    entries: &[Entry],
-    managed: Vec<u8>,
+    members: &Map<String, Value>,
 ) -> Result<(), AllocError>
-    ensures { OnOk result ((s : Shape) (a : List ℕ) (ms : Members) → managed.items ≡ compact_text (array (entry_items s a (pairs entries.now)))
-        → texts_in texts.old.entries ≡ texts_of ms → texts_in texts.new.entries ≡ texts_of (put_entries (entry_items s a (pairs entries.now)) ms)) }
+    ensures { members_have_float (members_view members.now.entries) ≡ false → OnOk result (Appends (then_members (members_view members.now.entries)) out.old out.new) }
+{
+    for (name, value) in members.iter() {
+        out.name(alloc, name.as_str())?;
+        out.value(alloc, value)?;
+    }
+    Ok(())
+}
+
+/// Writes `managedFields`, where somebody owns something.
+fn write_managed(
+    out: &mut TextWriter,
+    alloc: Global,
+    schema: &Schema,
+    api_version: &str,
+    entries: &[Entry],
+) -> Result<(), AllocError>
+    ensures { OnOk result (Appends (then_entries (entry_items (shape schema.now) api_version.now (pairs entries.now))) out.old out.new) }
 {
     if entries.is_empty() {
         return Ok(());
     }
-    put_text(texts, alloc, "managedFields", managed)
+    out.name(alloc, "managedFields")?;
+    write_entries(out, alloc, schema, api_version, entries)
 }
 
-fn put_version(texts: &mut Texts, alloc: Global, version: u64) -> Result<(), AllocError>
-    ensures { OnOk result (texts_in texts.new.entries ≡ put_text (codes "resourceVersion") (compact_text (string (decimal version))) (texts_in texts.old.entries)) }
+/// Writes key and version.
+fn write_key(out: &mut TextWriter, alloc: Global, envelope: Envelope<'_>) -> Result<(), AllocError>
+    ensures { OnOk result (Appends (then_key (identity_of envelope.entry.of) envelope.entry.version) out.old out.new) }
 {
-    let text = version.to_string(alloc)?;
-    put_string(texts, alloc, "resourceVersion", text.as_str())
+    write_text(out, alloc, "name", envelope.of.name)?;
+    write_text(out, alloc, "namespace", envelope.of.namespace)?;
+    let version = envelope.version.to_string(alloc)?;
+    write_text(out, alloc, "resourceVersion", version.as_str())
+}
+
+/// Writes `metadata`, put together as a value.
+fn write_put_together(
+    out: &mut TextWriter,
+    alloc: Global,
+    envelope: Envelope<'_>,
+    items: Vec<Value>,
+    metadata_members: Map<String, Value>,
+) -> Result<(), AllocError>
+    ensures { has_float (object (metadata_with (identity_of envelope.entry.of) envelope.entry.version (items_view items.items) (members_view metadata_members.entries))) ≡ false
+        → OnOk result (out.new ≡ with_text (compact_text (object (metadata_with (identity_of envelope.entry.of) envelope.entry.version (items_view items.items) (members_view metadata_members.entries)))) out.old) }
+{
+    let metadata = metadata_with(
+        alloc,
+        envelope.of,
+        envelope.version,
+        items,
+        metadata_members,
+    )?;
+    out.value(alloc, &Value::Object(metadata))
 }
 
 impl Owned {
-    /// `metadata`, where the text of `managedFields` is at hand. The others are labels and annotations.
-    pub(crate) fn metadata_text(
+    /// Writes `metadata`, where the names of what is printed of it lie below those of the envelope.
+    fn write_in_order(
         &self,
+        out: &mut TextWriter,
         alloc: Global,
-        of: Identity<'_>,
-        version: u64,
-        managed: Vec<u8>,
-        others: &Map<String, Value>,
-    ) -> Result<Vec<u8>, AllocError>
-        ensures { members_have_float (members_view others.now.entries) ≡ false → IfOk result (λ v. (s : Shape)
-            → managed.items ≡ compact_text (array (entry_items s of.entry.api_version.now (fin.entries self.now.managers)))
-            → v.items ≡ compact_text (object (metadata_with (identity_of of.entry) version (entry_items s of.entry.api_version.now (fin.entries self.now.managers)) (members_view others.now.entries)))) }
+        schema: &Schema,
+        envelope: Envelope<'_>,
+        metadata_members: &Map<String, Value>,
+    ) -> Result<(), AllocError>
+        ensures { are_below (codes "managedFields") (members_view metadata_members.now.entries) ≡ true → members_have_float (members_view metadata_members.now.entries) ≡ false
+            → OnOk result (out.new ≡ with_text (compact_text (object (metadata_of (shape schema.now) (identity_of envelope.entry.of) envelope.entry.version self.now.managers (members_view metadata_members.now.entries)))) out.old) }
     {
-        let mut texts = texts_of(alloc, others)?;
-        put_managed(&mut texts, alloc, self.managers.entries(), managed)?;
-        put_version(&mut texts, alloc, version)?;
-        put_string(&mut texts, alloc, "namespace", of.namespace)?;
-        put_string(&mut texts, alloc, "name", of.name)?;
-        typed::object_bytes(alloc, &texts)
+        out.begin_object(alloc)?;
+        write_members(out, alloc, metadata_members)?;
+        write_managed(
+            out,
+            alloc,
+            schema,
+            envelope.of.api_version,
+            self.managers.entries(),
+        )?;
+        write_key(out, alloc, envelope)?;
+        out.end_object()
+    }
+
+    /// Writes `metadata` round what is printed of it: labels and annotations.
+    pub(crate) fn write_metadata(
+        &self,
+        out: &mut TextWriter,
+        alloc: Global,
+        schema: &Schema,
+        envelope: Envelope<'_>,
+        metadata_members: Map<String, Value>,
+    ) -> Result<(), AllocError>
+        ensures { members_have_float (members_view metadata_members.entries) ≡ false
+            → has_float (object (metadata_of (shape schema.now) (identity_of envelope.entry.of) envelope.entry.version self.now.managers (members_view metadata_members.entries))) ≡ false
+            → OnOk result (out.new ≡ with_text (compact_text (object (metadata_of (shape schema.now) (identity_of envelope.entry.of) envelope.entry.version self.now.managers (members_view metadata_members.entries)))) out.old) }
+    {
+        if are_below(&metadata_members, "managedFields") {
+            return self.write_in_order(out, alloc, schema, envelope, &metadata_members);
+        }
+        let items = self.items(alloc, schema, envelope.of.api_version)?;
+        write_put_together(out, alloc, envelope, items, metadata_members)
     }
 }

@@ -1,21 +1,15 @@
-//! An object, printed as a value or a text: its version, its content and who owns what. It is read in `read_back`.
+//! An object, printed as a value: its version, its content and who owns what. Its text is written in `object_text`.
 
-ghost use Rattle.std.specs.Prelude.{◌≡◌, true, false, IfOk, OnOk, option_map, option_and_then, string_bytes};
+ghost use Rattle.std.specs.Prelude.{◌≡◌, IfOk, OnOk, option_map, option_and_then};
 ghost use Rattle.std.specs.FinMap as fin;
-ghost use Rattle.serde_json.specs.Data.{array, object, put, string};
+ghost use Rattle.serde_json.specs.Data.{object, put, string};
 ghost use Rattle.serde_json.specs.Find.{as_object};
 ghost use Rattle.serde_json.specs.View.{items_view, members_view, view};
-ghost use Rattle.serde_json.specs.Written.{compact_text};
-ghost use Rattle.schema.specs.Lawful.{is_lawful};
-ghost use Rattle.schema.specs.Shape.{fields_in, shape, struct_of};
-ghost use Rattle.typed.specs.Fitting.{IsContent};
-ghost use Rattle.objects.specs.Labels.{HasLabels};
+ghost use Rattle.schema.specs.Shape.{shape};
 ghost use Rattle.objects.specs.Managers.{pair, pairs, manager_view};
-ghost use Rattle.objects.specs.ObjectText.{entry_items, entry_value, members_or_none, members_with, metadata_members, metadata_with, object_text, object_value, put_entries, put_filled, put_manager};
+ghost use Rattle.objects.specs.ObjectText.{entry_items, entry_value, members_or_none, members_with, metadata_members, metadata_with, object_value, put_entries, put_filled, put_manager};
 ghost use Rattle.objects.specs.Views.{identity_of, state_of};
 
-use crate::labels::count_labels;
-use crate::managed_text::entries_text;
 use crate::manager::Manager;
 use crate::managers::Entry;
 use crate::owned::Owned;
@@ -31,6 +25,13 @@ pub struct Identity<'a> {
     pub kind: &'a str,
     pub namespace: &'a str,
     pub name: &'a str,
+}
+
+/// What stands round an object's fields: its type, its key and its version.
+#[derive(Clone, Copy)]
+pub(crate) struct Envelope<'a> {
+    pub(crate) of: Identity<'a>,
+    pub(crate) version: u64,
 }
 
 /// Puts a text, unless it is empty.
@@ -107,7 +108,7 @@ fn entry_items(
 }
 
 /// The labels and annotations that were printed, if any.
-pub(crate) fn labels_of(
+pub(crate) fn metadata_members(
     alloc: Global,
     printed: &Option<Value>,
 ) -> Result<Map<String, Value>, AllocError>
@@ -168,16 +169,16 @@ fn put_entries(
 }
 
 /// `metadata` with these items of `managedFields`.
-fn metadata_with(
+pub(crate) fn metadata_with(
     alloc: Global,
     of: Identity<'_>,
     version: u64,
     items: Vec<Value>,
-    labels: Map<String, Value>,
+    metadata_members: Map<String, Value>,
 ) -> Result<Map<String, Value>, AllocError>
-    ensures { IfOk result (λ m. members_view m.entries ≡ metadata_with (identity_of of.entry) version (items_view items.items) (members_view labels.entries)) }
+    ensures { IfOk result (λ m. members_view m.entries ≡ metadata_with (identity_of of.entry) version (items_view items.items) (members_view metadata_members.entries)) }
 {
-    let mut metadata = labels;
+    let mut metadata = metadata_members;
     put_entries(&mut metadata, alloc, items)?;
     let version = version.to_string(alloc)?;
     put_text(&mut metadata, alloc, "resourceVersion", version.as_str())?;
@@ -188,7 +189,7 @@ fn metadata_with(
 
 impl Owned {
     /// The items of `managedFields`.
-    fn items(
+    pub(crate) fn items(
         &self,
         alloc: Global,
         schema: &Schema,
@@ -213,8 +214,8 @@ impl Owned {
             → IfOk result (λ v. view v ≡ object_value (shape schema.now) (identity_of of.entry) version (state_of self.now)) }
     {
         let printed = self.tree.to_value(alloc, schema)?;
-        let labels = labels_of(alloc, &printed)?;
-        let metadata = metadata_with(alloc, of, version, items, labels)?;
+        let metadata_members = metadata_members(alloc, &printed)?;
+        let metadata = metadata_with(alloc, of, version, items, metadata_members)?;
         let mut members = members_of(alloc, printed);
         serde_json::put(&mut members, alloc, "metadata", Value::Object(metadata))?;
         put_text(&mut members, alloc, "kind", of.kind)?;
@@ -234,102 +235,5 @@ impl Owned {
     {
         let items = self.items(alloc, schema, of.api_version)?;
         self.value_with(alloc, schema, of, version, items)
-    }
-
-    /// The object's text under a struct of these fields, where that of `managedFields` is at hand, and how many labels it
-    /// has: the texts of its members, put together. `metadata` is printed as a value, once, since its labels are counted.
-    fn fields_text(
-        &self,
-        alloc: Global,
-        fields: &[(String, Schema)],
-        of: Identity<'_>,
-        version: u64,
-        managed: Vec<u8>,
-    ) -> Result<(String, usize), AllocError>
-        ensures text { managed.items ≡ compact_text (array (entry_items (struct_of (fields_in fields.now) false) of.entry.api_version.now (fin.entries self.now.managers)))
-            → is_lawful (struct_of (fields_in fields.now) false) ≡ true → IsContent (struct_of (fields_in fields.now) false) self.now.tree
-            → IfOk result (λ p. string_bytes p.0 ≡ object_text (struct_of (fields_in fields.now) false) (identity_of of.entry) version (state_of self.now)) }
-        ensures labels { is_lawful (struct_of (fields_in fields.now) false) ≡ true → IfOk result (λ p. HasLabels p.1 (struct_of (fields_in fields.now) false) (state_of self.now)) }
-    {
-        let printed = self.tree.field_value(alloc, fields, "metadata")?;
-        let labels = members_of(alloc, printed);
-        let count = count_labels(&labels);
-        let metadata = self.metadata_text(alloc, of, version, managed, &labels)?;
-        let mut texts = self.tree.texts_without(alloc, fields, "metadata")?;
-        typed::put_text(&mut texts, alloc, "metadata", metadata)?;
-        typed::put_string(&mut texts, alloc, "kind", of.kind)?;
-        typed::put_string(&mut texts, alloc, "apiVersion", of.api_version)?;
-        let text = typed::object_text(alloc, &texts)?;
-        Ok((text, count))
-    }
-
-    /// The object's text under a schema that is no granular struct: that of its value.
-    fn value_text(
-        &self,
-        alloc: Global,
-        schema: &Schema,
-        of: Identity<'_>,
-        version: u64,
-    ) -> Result<String, AllocError>
-        ensures { is_lawful (shape schema.now) ≡ true → IsContent (shape schema.now) self.now.tree
-            → IfOk result (λ t. string_bytes t ≡ object_text (shape schema.now) (identity_of of.entry) version (state_of self.now)) }
-    {
-        let value = self.to_value(alloc, schema, of, version)?;
-        value.to_string(alloc)
-    }
-
-    /// The object's text, where that of `managedFields` is at hand, and how many labels it has.
-    fn text_with(
-        &self,
-        alloc: Global,
-        schema: &Schema,
-        of: Identity<'_>,
-        version: u64,
-        managed: Vec<u8>,
-    ) -> Result<(String, usize), AllocError>
-        ensures text { managed.items ≡ compact_text (array (entry_items (shape schema.now) of.entry.api_version.now (fin.entries self.now.managers)))
-            → is_lawful (shape schema.now) ≡ true → IsContent (shape schema.now) self.now.tree
-            → IfOk result (λ p. string_bytes p.0 ≡ object_text (shape schema.now) (identity_of of.entry) version (state_of self.now)) }
-        ensures labels { is_lawful (shape schema.now) ≡ true → IfOk result (λ p. HasLabels p.1 (shape schema.now) (state_of self.now)) }
-    {
-        match schema.granular_fields() {
-            Some(fields) => self.fields_text(alloc, fields, of, version, managed),
-            None => {
-                let text = self.value_text(alloc, schema, of, version)?;
-                let labels = self.label_count(alloc, schema)?;
-                Ok((text, labels))
-            }
-        }
-    }
-
-    /// The object's text as `to_object` answers it, and how many labels it has, whatever its key and version: of one print.
-    pub fn to_object_with_labels(
-        &self,
-        alloc: Global,
-        schema: &Schema,
-        of: Identity<'_>,
-        version: u64,
-    ) -> Result<(String, usize), AllocError>
-        ensures text { is_lawful (shape schema.now) ≡ true → IsContent (shape schema.now) self.now.tree
-            → IfOk result (λ p. string_bytes p.0 ≡ object_text (shape schema.now) (identity_of of.entry) version (state_of self.now)) }
-        ensures labels { is_lawful (shape schema.now) ≡ true → IfOk result (λ p. HasLabels p.1 (shape schema.now) (state_of self.now)) }
-    {
-        let managed = entries_text(alloc, schema, of.api_version, self.managers.entries())?;
-        self.text_with(alloc, schema, of, version, managed)
-    }
-
-    /// The object's text: its value as compact JSON.
-    pub fn to_object(
-        &self,
-        alloc: Global,
-        schema: &Schema,
-        of: Identity<'_>,
-        version: u64,
-    ) -> Result<String, AllocError>
-        ensures { is_lawful (shape schema.now) ≡ true → IsContent (shape schema.now) self.now.tree
-            → IfOk result (λ t. string_bytes t ≡ object_text (shape schema.now) (identity_of of.entry) version (state_of self.now)) }
-    {
-        let (text, _) = self.to_object_with_labels(alloc, schema, of, version)?;
-        Ok(text)
     }
 }

@@ -1,5 +1,6 @@
-//! Objects read back from their texts, which are printed in `object`. The envelope is separated in `envelope`.
+//! Objects read back from their texts, which are written in `object_text`. The envelope is separated in `envelope`.
 ghost use Rattle.std.specs.Prelude.{◌≡◌, ℕ, true, IfOk};
+ghost use Rattle.std.specs.Str.{bytes_eq};
 ghost use Rattle.json.specs.Value.{value_view};
 ghost use Rattle.json_texts.specs.InOrder.{data_of, in_order, is_ordered};
 ghost use Rattle.schema.specs.ObjectShape.{IsObjectShape};
@@ -17,7 +18,7 @@ use crate::envelope::{fields_of, split, version_in};
 use crate::fault::ObjectFault;
 use crate::managed_fields::read_owners;
 use crate::managers::Entry;
-use crate::object::Identity;
+use crate::object::{Envelope, Identity};
 use crate::owned::Owned;
 use json::{Scratch, Value};
 use schema::Schema;
@@ -79,6 +80,16 @@ fn all_stand_in(tree: &Tree, entries: &[Entry]) -> bool
     true
 }
 
+/// How many bytes the JSON library's writer wants free behind a whole text, so that it doesn't grow at its end.
+const AHEAD: usize = 8;
+
+/// Whether these bytes are the text's.
+fn are_of(bytes: &[u8], text: &str) -> bool
+    ensures { result ≡ bytes_eq bytes.now text.now }
+{
+    bytes == text.as_bytes()
+}
+
 impl Owned {
     ghost use Rattle.std.specs.Prelude.{◌↔◌, IsTrue};
 
@@ -105,8 +116,9 @@ impl Owned {
         if !owned.owned_stand() {
             return Err(ObjectFault::NotCanonical);
         }
-        let printed = owned.to_object(alloc, schema, of, version)?;
-        if printed.as_str() == text {
+        let room = text.len().saturating_add(AHEAD);
+        let printed = owned.object_bytes(alloc, schema, Envelope { of, version }, room)?;
+        if are_of(printed.as_slice(), text) {
             return Ok((owned, version));
         }
         Err(ObjectFault::NotCanonical)

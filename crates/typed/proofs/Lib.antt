@@ -27,6 +27,7 @@ pub mod Depths
 pub mod Spelling
 pub mod FieldTexts
 pub mod Rows
+pub mod Between
+pub mod Writes
 pub mod Wholes
-pub mod FieldsBut
 pub mod ItemTexts

@@ -1,46 +1,45 @@
 -- Members that are put in the order of their names stand one after another.
-use Rattle.std.proofs.Common.{◌≡◌, ℕ, Bool, true, false, cond, drop, ◌⊎◌, inl, inr, nat_cmp, List, [], ◌∷◌, Option, Some, None, Less, string_bytes, refl, sym, ap, ap₂, ◌∙◌, subst, true≢false}
+use Rattle.std.proofs.Common.{◌≡◌, ℕ, Bool, true, false, cond, drop, ◌⊎◌, inl, inr, nat_cmp, List, [], ◌∷◌, Option, Some, None, Less, refl, sym, ap, ◌∙◌, subst, true≢false}
 use Rattle.std.specs.Cmp.Lexicographic.{slice_cmp}
 use Rattle.std.specs.FinMap as fin
 use Rattle.std.specs.List.{AllByRecursion}
 use Rattle.std.specs.Ordering.{match_ordering}
 use Rattle.std.proofs.lemmas.Bool.{and_parts}
 use Rattle.serde_json.specs.Data.{Data, Members, no_members, member, put}
-use Rattle.serde_json.specs.Written.{compact_text, members_text}
+use Rattle.serde_json.specs.Written.{compact_text}
 use Rattle.fieldpath.specs.Elements.{field_name, has_prefix, name_text}
 use Rattle.fieldpath.specs.Scalars.{ascend}
 use Rattle.pathmap.specs.Contents.{Standing, Content, here, nothing}
 use Rattle.pathmap.specs.Contents as standing
-use Rattle.pathmap.specs.Insides.{inside, heads}
-use Rattle.pathmap.specs.Maps.{contents_in}
+use Rattle.pathmap.specs.Insides.{inside}
 use Rattle.pathmap.proofs.Contents.{get-nothing}
 use Rattle.pathmap.proofs.Levels.{get-here-top}
 use Rattle.schema.proofs.Members.{put_turned}
 use Rattle.schema.specs.Lawful.{names_of, is_well_formed, are_well_formed}
 use Rattle.schema.specs.Shape.{atomic, set, keyed, Shape, text, whole, truth, Fields, no_fields, field, map_of, struct_of, list_of}
 use Rattle.typed.specs.Placed.{IsAtomic, IsPlaced, ArePlaced, ReadsBack}
-use Rattle.typed.specs.Printing.{each_member, object_or_none, print, print_fields, value_at, with_member, with_named}
+use Rattle.typed.specs.Printing.{each_member, print, print_fields, value_at, with_member, with_named}
 use Rattle.typed.specs.Reading.{leaf}
-use Rattle.typed.specs.Rows.{AllFit, EachFits, Fits, HasNoFloat, IsCompact, IsThere, IsWritable, row_of_children, row_of_fields, text_or_none, then_member, then_named}
+use Rattle.typed.specs.Between.{then_fields, then_member}
+use Rattle.typed.specs.Rows.{AllFit, EachFits, Fits, HasNoFloat, IsCompact, IsThere, IsWritable, row_of_fields, then_named}
 use Rattle.typed.proofs.Floats.{content_clean}
-use Rattle.typed.proofs.Insides.{AreInside, Children, child_names, children-inside, children_of, heads-names}
 use Rattle.typed.proofs.KeyFields.{AreRising, ascend_rising}
 use Rattle.typed.proofs.Putting.{below_differs}
-use Rattle.typed.proofs.RoundTrip.{heads_rise, leaf_is, prefix_name, round}
+use Rattle.typed.proofs.RoundTrip.{leaf_is, prefix_name, round}
 
 -- every name is above k
-abbrev AllAbove : List ℕ → List (List ℕ) → Type 0
+abbrev pub AllAbove : List ℕ → List (List ℕ) → Type 0
 AllAbove k ns = AllByRecursion (λ n. slice_cmp nat_cmp k n ≡ Less) ns
 
-abbrev IsFront : List ℕ → Members → Type 0
+abbrev pub IsFront : List ℕ → Members → Type 0
 IsFront k no_members = Unit {0}
 IsFront k (member l e ms) = slice_cmp nat_cmp k l ≡ Less
 
-put_front : (k : List ℕ) (d : Data) (ms : Members) → IsFront k ms → put k d ms ≡ member k d ms
+pub put_front : (k : List ℕ) (d : Data) (ms : Members) → IsFront k ms → put k d ms ≡ member k d ms
 put_front k d no_members front = refl
 put_front k d (member l e ms) front = ap (λ o. match_ordering o (member k d (member l e ms)) (member l d ms) (member l e (put k d ms))) front
 
-then_front : (k l : List ℕ) (o : Option Data) (ms : Members) → slice_cmp nat_cmp k l ≡ Less → IsFront k ms → IsFront k (then_member l o ms)
+pub then_front : (k l : List ℕ) (o : Option Data) (ms : Members) → slice_cmp nat_cmp k l ≡ Less → IsFront k ms → IsFront k (then_member l o ms)
 then_front k l None ms less front = front
 then_front k l (Some d) ms less front = less
 
@@ -55,9 +54,9 @@ fields_put no_fields c k d ms above = refl
 fields_put (field f s more) c k d ms above =
     ap (print_fields more c) (put_with k f d (print s (inside (name_text f) c)) ms above.0) ∙ fields_put more c k d (with_member f (print s (inside (name_text f) c)) ms) above.1
 
-fields_front : (fs : Fields) (c : Content) (k : List ℕ) → AllAbove k (names_of fs) → IsFront k (row_of_fields fs c)
-fields_front no_fields c k above = tt
-fields_front (field f s more) c k above = then_front k f (print s (inside (name_text f) c)) (row_of_fields more c) above.0 (fields_front more c k above.1)
+pub fields_front : (fs : Fields) (c : Content) (k : List ℕ) (rest : Members) → AllAbove k (names_of fs) → IsFront k rest → IsFront k (then_fields fs c rest)
+fields_front no_fields c k rest above front = front
+fields_front (field f s more) c k rest above front = then_front k f (print s (inside (name_text f) c)) (then_fields more c rest) above.0 (fields_front more c k rest above.1 front)
 
 pub fields_row : (fs : Fields) (c : Content) → AreRising (names_of fs) → print_fields fs c no_members ≡ row_of_fields fs c
 fields_row no_fields c rise = refl
@@ -65,7 +64,7 @@ fields_row (field f s more) c rise = by_printed (print s (inside (name_text f) c
   where
     by_printed : (o : Option Data) → print_fields more c no_members ≡ row_of_fields more c → print_fields more c (with_member f o no_members) ≡ then_member f o (row_of_fields more c)
     by_printed None later = later
-    by_printed (Some d) later = fields_put more c f d no_members rise.0 ∙ ap (put f d) later ∙ put_front f d (row_of_fields more c) (fields_front more c f rise.0)
+    by_printed (Some d) later = fields_put more c f d no_members rise.0 ∙ ap (put f d) later ∙ put_front f d (row_of_fields more c) (fields_front more c f no_members rise.0 tt)
 
 -- ---- elements
 
@@ -118,17 +117,6 @@ module _ (inner : List ℕ → Option Data) where
           let above = subst (λ g. AllAbove g es) (name_of e k is) rise.0 in
           each_put es k d no_members above ∙ ap (put k d) later ∙ put_front k d (row_each inner es) (each_front es k above)
 
--- ---- children
-
-children_each : (s : Shape) (c : Content) (it : Children) → AreInside c it → row_each (λ e. print s (inside e c)) (child_names it) ≡ row_of_children s it
-children_each s c [] inside_all = refl
-children_each s c (e ∷ es) inside_all = ap₂ (λ d ms. then_named (field_name (string_bytes e.0)) (print s d) ms) inside_all.0 (children_each s c es inside_all.1)
-
-pub children_row : (s : Shape) (c : Content) (it : Children) → contents_in it ≡ children_of c → each_member (λ e. print s (inside e c)) (heads c) no_members ≡ row_of_children s it
-children_row s c it are =
-    let inner = λ (e : List ℕ). print s (inside e c) in
-    each_row inner (heads c) (heads_rise c) ∙ ap (row_each inner) (heads-names c it are) ∙ children_each s c it (children-inside c it are)
-
 -- ---- what fits
 
 pub fits_clean : (s : Shape) (c : Content) → Fits s c → HasNoFloat (print s c)
@@ -154,7 +142,7 @@ atomic_compact s c (inr (d, plain, reads, is)) = by_leaf (leaf_is d)
   where
     by_leaf : (leaf d ≡ nothing) ⊎ (leaf d ≡ here (standing.plain (compact_text d))) → IsCompact (fin.get c [])
     by_leaf (inl none) = empty_compact c (is ∙ none)
-    by_leaf (inr there) = here_compact c (standing.plain (compact_text d)) (is ∙ there) (sym (ap text_or_none reads))
+    by_leaf (inr there) = here_compact c (standing.plain (compact_text d)) (is ∙ there) (d, reads, refl)
 
 top_compact : (s : Shape) (c : Content) → IsPlaced s c → IsCompact (fin.get c [])
 top_compact text c (inl none) = empty_compact c none
@@ -180,11 +168,6 @@ there s c is_there = by_printed (print s c) refl
     by_printed : (o : Option Data) → print s c ≡ o → (d : Data) × (print s c ≡ Some d)
     by_printed None is = absurd (is_there.1 (subst (λ o. ReadsBack s o c) is (round s c is_there.0.0 is_there.0.1)))
     by_printed (Some d) is = (d, is)
-
--- something is printed with brackets round its members
-pub opened : (s : Shape) (c : Content) (ms : Members) → IsThere s c → print s c ≡ object_or_none ms → text_or_none (print s c) ≡ 123 ∷ members_text false ms
-opened s c no_members is_there is = absurd (is_there.1 (subst (λ o. ReadsBack s o c) is (round s c is_there.0.0 is_there.0.1)))
-opened s c (member k d ms) is_there is = ap text_or_none is
 
 pub all_fit : (fs : Fields) (c : Content) → are_well_formed fs ≡ true → ArePlaced fs c → AllFit fs c
 all_fit no_fields c formed placed = tt

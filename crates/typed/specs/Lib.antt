@@ -5,6 +5,7 @@ pub mod Steps
 pub mod Keyed
 pub mod Placed
 pub mod Fitting
+pub mod Between
 pub mod Rows
-pub mod Texts
+pub mod Writes
 pub mod Without

@@ -62,7 +62,7 @@ fn read_list(
     ensures { Gives content result
         (items_at (keyed_item (names_in names.now) (λ ms. content_of_item (shape inner.now) (names_in names.now) ms)) 0 [] (items_data (items_view items.now))) }
 {
-    let mut map = PathMap::empty(alloc);
+    let mut map = PathMap::with_room(alloc, items.len())?;
     for (place, item) in items.iter().enumerate() {
         let read = read_item(inner, alloc, names, item);
         add_item(alloc, &mut map, place, read)?;
@@ -120,7 +120,7 @@ fn read_values<'a>(
     ensures { Gives content result
         (members_at (λ k e. content_of (shape inner.now) e) (members_data (members_view members.now))) }
 {
-    let mut map = PathMap::empty(alloc);
+    let mut map = PathMap::with_room(alloc, members.len())?;
     for (name, member) in members {
         if is_null(member) {
             continue;
@@ -160,7 +160,7 @@ fn read_struct<'a>(
     ensures { Gives content result
         (members_at (beside_keys (names_in names.now) (λ k e. content_of_field (fields_in fields.now) k e)) (members_data (members_view members.now))) }
 {
-    let mut map = PathMap::empty(alloc);
+    let mut map = PathMap::with_room(alloc, members.len())?;
     for (name, member) in members {
         if is_null(member) {
             continue;

@@ -7,6 +7,7 @@
 
 mod borrowed;
 mod borrowed_items;
+mod bounds;
 mod changes;
 mod fault;
 mod items;
@@ -17,7 +18,6 @@ mod print_law;
 mod print_parts;
 mod pushing;
 mod read;
-mod texts;
 mod tree;
 mod without;
 mod write;
@@ -30,5 +30,4 @@ pub use print_law::{
     contents_are_kept, contents_are_placed, contents_have_places, printed_has_no_float,
     printed_is_textual, printed_reads_back, readings_are_placed,
 };
-pub use texts::{Texts, object_bytes, object_text, put_string, put_text, put_value};
 pub use tree::Tree;

@@ -6,7 +6,7 @@ ghost use Rattle.serde_json.specs.Data.{object};
 ghost use Rattle.serde_json.specs.View.{view, items_view, members_view};
 ghost use Rattle.fieldpath.specs.Elements.{field_name, name_text};
 ghost use Rattle.pathmap.specs.Insides.{inside, heads};
-ghost use Rattle.pathmap.specs.Maps.{content, content_or_nothing};
+ghost use Rattle.pathmap.specs.Maps.{content};
 ghost use Rattle.schema.specs.Shape.{fields_in, kind_of, list_of, map_of, shape, shape_at, struct_of};
 ghost use Rattle.typed.specs.Printing.{each_item, each_member, keys_in, print, print_fields, print_item, scalar_in, with_named};
 
@@ -33,18 +33,6 @@ fn put_named(
     }
 }
 
-/// What stands at and below a field.
-pub(crate) fn field_in<'a>(
-    map: &'a PathMap,
-    alloc: Global,
-    name: &str,
-) -> Result<Option<&'a PathMap>, AllocError>
-    ensures { IfOk result (λ o. content_or_nothing (option_map (λ m. m.now) o) ≡ inside (name_text name.now) (content map.now)) }
-{
-    let element = ElemText::of_field(alloc, name)?;
-    Ok(map.child(&element))
-}
-
 #[cycle(print)]
 fn put_fields(
     fields: &[(String, Schema)],
@@ -56,7 +44,7 @@ fn put_fields(
 {
     for (name, inner) in fields {
         let text = name.as_str();
-        let Some(below) = field_in(map, alloc, text)? else {
+        let Some(below) = map.field(text) else {
             continue;
         };
         let value = print_map(inner, alloc, below)?;
@@ -230,7 +218,7 @@ fn print_below(
 ) -> Result<Option<Value>, AllocError>
     ensures { IfOk result (λ o. option_map view o ≡ print (shape inner.now) (inside (name_text name.now) (content map.now))) }
 {
-    match field_in(map, alloc, name)? {
+    match map.field(name) {
         Some(below) => print_map(inner, alloc, below),
         None => Ok(None),
     }

@@ -1,39 +1,40 @@
-//! JSON texts of what stands at a path, appended. A whole content is written in `write`.
-ghost use Rattle.std.specs.Prelude.{◌≡◌, ◌++◌, [], OnOk, Some, option_map};
+//! What stands at a path, written behind what is written already. A whole content is written in `write`.
+ghost use Rattle.std.specs.Prelude.{◌≡◌, [], OnOk, Some, option_map};
 ghost use Rattle.std.specs.FinMap as fin;
 ghost use Rattle.pathmap.specs.Maps.{content, standing};
 ghost use Rattle.serde_json.specs.View.{view};
 ghost use Rattle.typed.specs.Printing.{value_at, value_of};
-ghost use Rattle.typed.specs.Rows.{HasNoFloat, IsWritable, text_or_none};
+ghost use Rattle.typed.specs.Rows.{HasNoFloat, IsWritable};
+ghost use Rattle.typed.specs.Writes.{with_value};
 
 use crate::print_parts::print_held;
-use fieldset::{push_string, push_value};
+use json_texts::TextWriter;
 use pathmap::{Held, PathMap};
 use serde_json::Value;
 use std::alloc::{AllocError, Global};
 
 /// Appends a value, if there is one.
 pub(crate) fn push_some(
-    out: &mut Vec<u8>,
+    out: &mut TextWriter,
     alloc: Global,
     value: &Option<Value>,
 ) -> Result<(), AllocError>
-    ensures { HasNoFloat (option_map view value.now) → OnOk result (out.new.items ≡ out.old.items ++ text_or_none (option_map view value.now)) }
+    ensures { HasNoFloat (option_map view value.now) → OnOk result (out.new ≡ with_value (option_map view value.now) out.old) }
 {
     match value {
-        Some(value) => push_value(out, alloc, value),
+        Some(value) => out.value(alloc, value),
         None => Ok(()),
     }
 }
 
 /// Appends what is held: an atomic value as it is kept, since that is compact JSON; of a number or a truth value a JSON
 /// value is made first.
-fn push_held(out: &mut Vec<u8>, alloc: Global, held: &Held) -> Result<(), AllocError>
-    ensures { IsWritable (Some (standing held.now)) → OnOk result (out.new.items ≡ out.old.items ++ text_or_none (value_of (standing held.now))) }
+fn push_held(out: &mut TextWriter, alloc: Global, held: &Held) -> Result<(), AllocError>
+    ensures { IsWritable (Some (standing held.now)) → OnOk result (out.new ≡ with_value (value_of (standing held.now)) out.old) }
 {
     match held {
-        Held::Text(text) => push_string(out, alloc, text.as_str()),
-        Held::Plain(text) => Ok(out.extend_from_slice(text.as_str().as_bytes())?),
+        Held::Text(text) => out.string(alloc, text.as_str()),
+        Held::Plain(text) => out.text(alloc, text.as_str().as_bytes()),
         _ => {
             let value = print_held(alloc, held)?;
             push_some(out, alloc, &value)
@@ -42,8 +43,8 @@ fn push_held(out: &mut Vec<u8>, alloc: Global, held: &Held) -> Result<(), AllocE
 }
 
 /// Appends the value at the top.
-pub(crate) fn push_top(map: &PathMap, alloc: Global, out: &mut Vec<u8>) -> Result<(), AllocError>
-    ensures { IsWritable (fin.get (content map.now) []) → OnOk result (out.new.items ≡ out.old.items ++ text_or_none (value_at (content map.now))) }
+pub(crate) fn push_top(map: &PathMap, alloc: Global, out: &mut TextWriter) -> Result<(), AllocError>
+    ensures { IsWritable (fin.get (content map.now) []) → OnOk result (out.new ≡ with_value (value_at (content map.now)) out.old) }
 {
     match map.held() {
         Some(held) => push_held(out, alloc, held),

@@ -1,17 +1,16 @@
 //! Contents of objects, and the calls on them. They are read in `read`, printed in `print` and written in `write`.
 
-ghost use Rattle.std.specs.Prelude.{◌≡◌, true, false, IfOk, option_and_then, option_map};
+ghost use Rattle.std.specs.Prelude.{◌≡◌, true, false, IfOk, OnOk, option_and_then, option_map};
 ghost use Rattle.fieldpath.specs.Elements.{name_text};
 ghost use Rattle.pathmap.specs.Insides.{inside};
-ghost use Rattle.serde_json.specs.Data.{no_members};
 ghost use Rattle.serde_json.specs.View.{view};
 ghost use Rattle.json.specs.Value.{value_view};
 ghost use Rattle.json_texts.specs.InOrder.{data_of, is_ordered};
 ghost use Rattle.schema.specs.Lawful.{is_well_formed};
 ghost use Rattle.schema.specs.Shape.{fields_in, shape, shape_at, struct_of};
 ghost use Rattle.typed.specs.Fitting.{IsContent};
-ghost use Rattle.typed.specs.Printing.{print, print_fields};
-ghost use Rattle.typed.specs.Texts.{fields_but, texts_in, texts_of};
+ghost use Rattle.typed.specs.Between.{AppendsFields, fields_between};
+ghost use Rattle.typed.specs.Printing.{print};
 ghost use Rattle.pathmap.specs.Contents.{nothing, over};
 ghost use Rattle.pathmap.specs.Maps.{content};
 ghost use Rattle.typed.specs.Faults.{Gives};
@@ -23,14 +22,13 @@ use crate::fault::ReadFault;
 use crate::omitted::Omitted;
 use crate::print::{print_field, print_map};
 use crate::read::read_map;
-use crate::texts::Texts;
 use crate::without::read_without;
-use crate::write::put_fields_but;
+use crate::write::write_fields;
+use json_texts::TextWriter;
 use pathmap::{PathMap, put_under};
 use schema::Schema;
 use serde_json::Value;
 use std::alloc::{AllocError, Global};
-use std::collections::BTreeMap;
 use std::marker::Model;
 
 /// The content of an object: a finite map from paths to what stands there.
@@ -163,19 +161,20 @@ impl Tree {
         print_field(fields, alloc, name, &self.map)
     }
 
-    /// The texts of the members that the content is printed with under a struct of these fields, by name, but for the
-    /// field of this name.
-    pub fn texts_without(
+    /// Appends a member for each field in which something stands, of those whose names lie above the one and below the
+    /// other, where there are such: with neither, all members that the content is printed with under a struct of these
+    /// fields.
+    pub fn write_between(
         &self,
+        out: &mut TextWriter,
         alloc: Global,
         fields: &[(String, Schema)],
-        name: &str,
-    ) -> Result<Texts, AllocError>
+        low: Option<&str>,
+        high: Option<&str>,
+    ) -> Result<(), AllocError>
         ensures { is_well_formed (struct_of (fields_in fields.now) false) ≡ true → IsContent (struct_of (fields_in fields.now) false) self.now
-            → IfOk result (λ m. texts_in m.entries ≡ texts_of (print_fields (fields_but name.now (fields_in fields.now)) self.now no_members)) }
+            → OnOk result (AppendsFields (fields_between (option_map (λ b. b.now) low.entry) (option_map (λ b. b.now) high.entry) (fields_in fields.now)) self.now out.old out.new) }
     {
-        let mut texts = BTreeMap::new(alloc);
-        put_fields_but(&mut texts, alloc, fields, name, &self.map)?;
-        Ok(texts)
+        write_fields(fields, alloc, low, high, &self.map, out)
     }
 }

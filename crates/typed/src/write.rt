@@ -1,21 +1,22 @@
 //! Contents written as JSON texts. Of numbers, truth values and map lists of several key fields a JSON value is made first
 //! (`print`); all else is written directly.
-ghost use Rattle.std.specs.Prelude.{◌≡◌, [], ◌∷◌, ◌++◌, false, IfOk, OnOk};
-ghost use Rattle.fieldpath.specs.Elements.{name_text};
+ghost use Rattle.std.specs.Prelude.{◌≡◌, [], ◌∷◌, OnOk, option_map};
 ghost use Rattle.pathmap.specs.Insides.{heads, inside};
 ghost use Rattle.pathmap.specs.Maps.{content};
 ghost use Rattle.schema.specs.Shape.{fields_in, keyed, kind_of, list_of, map_of, shape, struct_of};
-ghost use Rattle.serde_json.specs.Data.{Data, Members, member, no_members, object};
-ghost use Rattle.serde_json.specs.Written.{compact_text, items_text, members_text};
-ghost use Rattle.typed.specs.Printing.{each_item, each_member, print, print_fields, print_item, with_member};
-ghost use Rattle.typed.specs.Rows.{AllFit, EachFits, FieldsFit, Fits, IsThere, item_of, row_of_fields, text_or_none, then_member};
-ghost use Rattle.typed.specs.Texts.{fields_but, texts_in, texts_of};
+ghost use Rattle.serde_json.specs.Data.{Data, member, no_members, object};
+ghost use Rattle.serde_json.specs.Written.{compact_text};
+ghost use Rattle.json_texts.specs.Writing.{with_text};
+ghost use Rattle.typed.specs.Between.{fields_between};
+ghost use Rattle.typed.specs.Printing.{print, print_fields, print_item};
+ghost use Rattle.typed.specs.Rows.{AllFit, EachFits, FieldsFit, FitBesideKey, Fits, IsThere, item_of};
+ghost use Rattle.typed.specs.Writes.{with_fields, with_pair, with_pairs, with_value, with_values};
 
-use crate::print::{field_in, print_list};
+use crate::bounds::is_between;
+use crate::print::print_list;
 use crate::pushing::{push_some, push_top};
-use crate::texts::{Texts, object_bytes, put_text};
-use crate::write_items::{key_texts, write_set};
-use fieldset::{push_comma, push_name};
+use crate::write_items::{within_braces, write_set};
+use json_texts::TextWriter;
 use pathmap::PathMap;
 use schema::{ListKind, Schema};
 use std::alloc::{AllocError, Global};
@@ -27,14 +28,14 @@ fn write_list(
     alloc: Global,
     kind: &ListKind,
     map: &PathMap,
-    out: &mut Vec<u8>,
+    out: &mut TextWriter,
 ) -> Result<(), AllocError>
     ensures { IsThere (list_of (shape inner.now) (kind_of kind.now)) (content map.now)
-        → OnOk result (out.new.items ≡ out.old.items ++ text_or_none (print (list_of (shape inner.now) (kind_of kind.now)) (content map.now))) }
+        → OnOk result (out.new ≡ with_value (print (list_of (shape inner.now) (kind_of kind.now)) (content map.now)) out.old) }
 {
     match kind {
         ListKind::Atomic => push_top(map, alloc, out),
-        ListKind::Set => write_set(map, out),
+        ListKind::Set => write_set(map, alloc, out),
         ListKind::Keyed(names) => match names.as_slice() {
             [name] => write_keyed(inner, alloc, name.as_str(), map, out),
             _ => {
@@ -52,38 +53,36 @@ fn write_keyed(
     alloc: Global,
     name: &str,
     map: &PathMap,
-    out: &mut Vec<u8>,
+    out: &mut TextWriter,
 ) -> Result<(), AllocError>
     ensures { IsThere (list_of (shape inner.now) (keyed (name.now ∷ []))) (content map.now)
-        → OnOk result (out.new.items ≡ out.old.items ++ text_or_none (print (list_of (shape inner.now) (keyed (name.now ∷ []))) (content map.now))) }
+        → OnOk result (out.new ≡ with_value (print (list_of (shape inner.now) (keyed (name.now ∷ []))) (content map.now)) out.old) }
 {
-    out.push(b'[')?;
-    write_items(inner, alloc, name, map, out)
+    out.begin_array(alloc)?;
+    write_items(inner, alloc, name, map, out)?;
+    out.end_array()
 }
 
-/// Appends an item for each child of a map list of one key field, and the closing bracket.
+/// Appends an item for each child of a map list of one key field.
 #[cycle(write)]
 fn write_items(
     inner: &Schema,
     alloc: Global,
     name: &str,
     map: &PathMap,
-    out: &mut Vec<u8>,
+    out: &mut TextWriter,
 ) -> Result<(), AllocError>
     ensures { Fits (list_of (shape inner.now) (keyed (name.now ∷ []))) (content map.now)
-        → OnOk result (out.new.items ≡ out.old.items ++ items_text false (each_item (item_of (shape inner.now) (content map.now)) (heads (content map.now)))) }
+        → OnOk result (out.new ≡ with_values (item_of (shape inner.now) (content map.now)) (heads (content map.now)) out.old) }
 {
     let children = map.children();
-    let mut later = false;
     for (element, below) in children {
         let Some(keys) = element.keys_json() else {
             continue;
         };
-        push_comma(out, later)?;
         write_item(inner, alloc, name, keys, below, out)?;
-        later = true;
     }
-    Ok(out.push(b']')?)
+    Ok(())
 }
 
 /// Appends an item of a map list, by the JSON object of its one key field.
@@ -94,18 +93,19 @@ fn write_item(
     name: &str,
     keys: &str,
     below: &PathMap,
-    out: &mut Vec<u8>,
+    out: &mut TextWriter,
 ) -> Result<(), AllocError>
-    ensures { (d : Data) → keys.now ≡ compact_text (object (member name.now d no_members)) → FieldsFit (shape inner.now) (content below.now)
-        → OnOk result (out.new.items ≡ out.old.items ++ compact_text (object (print_item (shape inner.now) (content below.now) (member name.now d no_members)))) }
+    ensures { (d : Data) → keys.now ≡ compact_text (object (member name.now d no_members)) → FieldsFit name.now (shape inner.now) (content below.now)
+        → OnOk result (out.new ≡ with_text (compact_text (object (print_item (shape inner.now) (content below.now) (member name.now d no_members)))) out.old) }
 {
     match inner {
         Schema::Struct(fields, _) => write_object(fields, alloc, name, keys, below, out),
-        _ => Ok(out.extend_from_slice(keys.as_bytes())?),
+        _ => out.text(alloc, keys.as_bytes()),
     }
 }
 
-/// Appends the object of an item that is a struct: its key field's alone where nothing else stands in it.
+/// Appends the object of an item that is a struct: its key field's alone where nothing else stands in it, else its key
+/// field's member in its place among the fields.
 #[cycle(write)]
 fn write_object(
     fields: &[(String, Schema)],
@@ -113,83 +113,83 @@ fn write_object(
     name: &str,
     keys: &str,
     below: &PathMap,
-    out: &mut Vec<u8>,
+    out: &mut TextWriter,
 ) -> Result<(), AllocError>
-    ensures { (d : Data) → keys.now ≡ compact_text (object (member name.now d no_members)) → AllFit (fields_in fields.now) (content below.now)
-        → OnOk result (out.new.items ≡ out.old.items ++ compact_text (object (print_fields (fields_in fields.now) (content below.now) (member name.now d no_members)))) }
+    ensures { (d : Data) → keys.now ≡ compact_text (object (member name.now d no_members)) → FitBesideKey name.now (fields_in fields.now) (content below.now)
+        → OnOk result (out.new ≡ with_text (compact_text (object (print_fields (fields_in fields.now) (content below.now) (member name.now d no_members)))) out.old) }
 {
     if below.children().len() == 0 {
-        return Ok(out.extend_from_slice(keys.as_bytes())?);
+        return out.text(alloc, keys.as_bytes());
     }
-    let mut texts = key_texts(alloc, name, keys)?;
-    put_fields(&mut texts, alloc, fields, below)?;
-    let text = object_bytes(alloc, &texts)?;
-    Ok(out.extend_from_slice(text.as_slice())?)
+    out.begin_object(alloc)?;
+    write_fields(fields, alloc, None, Some(name), below, out)?;
+    out.text(alloc, within_braces(keys.as_bytes()))?;
+    write_fields(fields, alloc, Some(name), None, below, out)?;
+    out.end_object()
 }
 
-/// Appends a member after the others, if anything stands in it; whether there are members then.
+/// Appends a member, if anything stands in it.
 #[cycle(write)]
 fn write_member(
     inner: &Schema,
     alloc: Global,
     name: &str,
     below: &PathMap,
-    later: bool,
-    out: &mut Vec<u8>,
-) -> Result<bool, AllocError>
-    ensures { Fits (shape inner.now) (content below.now) → IfOk result (λ more. (rest : Members)
-        → out.new.items ++ members_text more rest ≡ out.old.items ++ members_text later (then_member name.now (print (shape inner.now) (content below.now)) rest)) }
+    out: &mut TextWriter,
+) -> Result<(), AllocError>
+    ensures { Fits (shape inner.now) (content below.now) → OnOk result (out.new ≡ with_pair name.now (print (shape inner.now) (content below.now)) out.old) }
 {
     if below.is_bare() {
-        return Ok(later);
+        return Ok(());
     }
-    push_comma(out, later)?;
-    push_name(out, alloc, name)?;
-    write_map(inner, alloc, below, out)?;
-    Ok(true)
+    out.name(alloc, name)?;
+    write_map(inner, alloc, below, out)
 }
 
-/// Appends a member for each field in which something stands, and the closing brace.
+/// Appends a member for each field in which something stands, of those whose names lie between two others.
 #[cycle(write)]
-fn write_fields(
+pub(crate) fn write_fields(
     fields: &[(String, Schema)],
     alloc: Global,
+    low: Option<&str>,
+    high: Option<&str>,
     map: &PathMap,
-    out: &mut Vec<u8>,
+    out: &mut TextWriter,
 ) -> Result<(), AllocError>
-    ensures { AllFit (fields_in fields.now) (content map.now) → OnOk result (out.new.items ≡ out.old.items ++ members_text false (row_of_fields (fields_in fields.now) (content map.now))) }
+    ensures { AllFit (fields_in fields.now) (content map.now)
+        → OnOk result (out.new ≡ with_fields (fields_between (option_map (λ b. b.now) low.entry) (option_map (λ b. b.now) high.entry) (fields_in fields.now)) (content map.now) out.old) }
 {
-    let mut later = false;
     for (name, inner) in fields {
         let text = name.as_str();
-        let Some(below) = field_in(map, alloc, text)? else {
+        if !is_between(text, low, high) {
+            continue;
+        }
+        let Some(below) = map.field(text) else {
             continue;
         };
-        later = write_member(inner, alloc, text, below, later, out)?;
+        write_member(inner, alloc, text, below, out)?;
     }
-    Ok(out.push(b'}')?)
+    Ok(())
 }
 
-/// Appends a member for each child in which something stands, and the closing brace.
+/// Appends a member for each child in which something stands.
 #[cycle(write)]
 fn write_children(
     inner: &Schema,
     alloc: Global,
     map: &PathMap,
-    out: &mut Vec<u8>,
+    out: &mut TextWriter,
 ) -> Result<(), AllocError>
-    ensures { EachFits (shape inner.now) (content map.now) → OnOk result (out.new.items
-        ≡ out.old.items ++ members_text false (each_member (λ e. print (shape inner.now) (inside e (content map.now))) (heads (content map.now)) no_members)) }
+    ensures { EachFits (shape inner.now) (content map.now) → OnOk result (out.new ≡ with_pairs (λ e. print (shape inner.now) (inside e (content map.now))) (heads (content map.now)) out.old) }
 {
     let children = map.children();
-    let mut later = false;
     for (element, below) in children {
         let Some(name) = element.field_name() else {
             continue;
         };
-        later = write_member(inner, alloc, name, below, later, out)?;
+        write_member(inner, alloc, name, below, out)?;
     }
-    Ok(out.push(b'}')?)
+    Ok(())
 }
 
 #[cycle(write)]
@@ -198,16 +198,17 @@ fn write_struct(
     alloc: Global,
     is_atomic: bool,
     map: &PathMap,
-    out: &mut Vec<u8>,
+    out: &mut TextWriter,
 ) -> Result<(), AllocError>
     ensures { IsThere (struct_of (fields_in fields.now) is_atomic) (content map.now)
-        → OnOk result (out.new.items ≡ out.old.items ++ text_or_none (print (struct_of (fields_in fields.now) is_atomic) (content map.now))) }
+        → OnOk result (out.new ≡ with_value (print (struct_of (fields_in fields.now) is_atomic) (content map.now)) out.old) }
 {
     if is_atomic {
         return push_top(map, alloc, out);
     }
-    out.push(b'{')?;
-    write_fields(fields, alloc, map, out)
+    out.begin_object(alloc)?;
+    write_fields(fields, alloc, None, None, map, out)?;
+    out.end_object()
 }
 
 #[cycle(write)]
@@ -216,27 +217,28 @@ fn write_values(
     alloc: Global,
     is_atomic: bool,
     map: &PathMap,
-    out: &mut Vec<u8>,
+    out: &mut TextWriter,
 ) -> Result<(), AllocError>
     ensures { IsThere (map_of (shape inner.now) is_atomic) (content map.now)
-        → OnOk result (out.new.items ≡ out.old.items ++ text_or_none (print (map_of (shape inner.now) is_atomic) (content map.now))) }
+        → OnOk result (out.new ≡ with_value (print (map_of (shape inner.now) is_atomic) (content map.now)) out.old) }
 {
     if is_atomic {
         return push_top(map, alloc, out);
     }
-    out.push(b'{')?;
-    write_children(inner, alloc, map, out)
+    out.begin_object(alloc)?;
+    write_children(inner, alloc, map, out)?;
+    out.end_object()
 }
 
-/// Appends the text of a content in which something stands.
+/// Appends a content in which something stands.
 #[cycle(write)]
 fn write_map(
     schema: &Schema,
     alloc: Global,
     map: &PathMap,
-    out: &mut Vec<u8>,
+    out: &mut TextWriter,
 ) -> Result<(), AllocError>
-    ensures { IsThere (shape schema.now) (content map.now) → OnOk result (out.new.items ≡ out.old.items ++ text_or_none (print (shape schema.now) (content map.now))) }
+    ensures { IsThere (shape schema.now) (content map.now) → OnOk result (out.new ≡ with_value (print (shape schema.now) (content map.now)) out.old) }
 {
     match schema {
         Schema::Struct(fields, is_atomic) => write_struct(fields, alloc, *is_atomic, map, out),
@@ -244,80 +246,4 @@ fn write_map(
         Schema::List(inner, kind) => write_list(inner, alloc, kind, map, out),
         Schema::Text | Schema::Whole | Schema::Truth => push_top(map, alloc, out),
     }
-}
-
-/// Puts a member's text, if anything stands in it.
-#[cycle(write)]
-fn put_member(
-    texts: &mut Texts,
-    alloc: Global,
-    schema: &Schema,
-    name: &str,
-    below: &PathMap,
-) -> Result<(), AllocError>
-    ensures { Fits (shape schema.now) (content below.now) → OnOk result ((ms : Members) → texts_in texts.old.entries ≡ texts_of ms
-        → texts_in texts.new.entries ≡ texts_of (with_member name.now (print (shape schema.now) (content below.now)) ms)) }
-{
-    if below.is_bare() {
-        return Ok(());
-    }
-    let mut text = Vec::new(alloc);
-    write_map(schema, alloc, below, &mut text)?;
-    put_text(texts, alloc, name, text)
-}
-
-/// Puts the text of the member that a field is printed as, if anything stands in it.
-#[cycle(write)]
-fn put_field(
-    texts: &mut Texts,
-    alloc: Global,
-    schema: &Schema,
-    name: &str,
-    map: &PathMap,
-) -> Result<(), AllocError>
-    ensures { Fits (shape schema.now) (inside (name_text name.now) (content map.now)) → OnOk result ((ms : Members) → texts_in texts.old.entries ≡ texts_of ms
-        → texts_in texts.new.entries ≡ texts_of (with_member name.now (print (shape schema.now) (inside (name_text name.now) (content map.now))) ms)) }
-{
-    let Some(below) = field_in(map, alloc, name)? else {
-        return Ok(());
-    };
-    put_member(texts, alloc, schema, name, below)
-}
-
-/// Puts the texts of the members that a struct's fields are printed as.
-#[cycle(write)]
-fn put_fields(
-    texts: &mut Texts,
-    alloc: Global,
-    fields: &[(String, Schema)],
-    map: &PathMap,
-) -> Result<(), AllocError>
-    ensures { AllFit (fields_in fields.now) (content map.now) → OnOk result ((ms : Members) → texts_in texts.old.entries ≡ texts_of ms
-        → texts_in texts.new.entries ≡ texts_of (print_fields (fields_in fields.now) (content map.now) ms)) }
-{
-    for (name, inner) in fields {
-        put_field(texts, alloc, inner, name.as_str(), map)?;
-    }
-    Ok(())
-}
-
-/// Puts the texts of the members that the fields of other names than this are printed as.
-pub(crate) fn put_fields_but(
-    texts: &mut Texts,
-    alloc: Global,
-    fields: &[(String, Schema)],
-    left_out: &str,
-    map: &PathMap,
-) -> Result<(), AllocError>
-    ensures { AllFit (fields_in fields.now) (content map.now) → OnOk result ((ms : Members) → texts_in texts.old.entries ≡ texts_of ms
-        → texts_in texts.new.entries ≡ texts_of (print_fields (fields_but left_out.now (fields_in fields.now)) (content map.now) ms)) }
-{
-    for (name, inner) in fields {
-        let name = name.as_str();
-        if name == left_out {
-            continue;
-        }
-        put_field(texts, alloc, inner, name, map)?;
-    }
-    Ok(())
 }

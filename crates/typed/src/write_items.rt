@@ -1,85 +1,58 @@
-//! Items of lists written as JSON texts, from their elements' texts, which are JSON behind a prefix.
-ghost use Rattle.std.specs.Prelude.{◌≡◌, ℕ, List, [], ◌∷◌, ◌++◌, false, IfOk, OnOk, string_bytes};
+//! Items of sets written from their elements' texts, which are JSON behind a prefix; the members in an object's text.
+ghost use Rattle.std.specs.Prelude.{◌≡◌, ℕ, List, [], ◌∷◌, ◌++◌, OnOk, string_bytes};
 ghost use Rattle.std.specs.List.{AllByRecursion};
-ghost use Rattle.json.specs.Print.{quoted};
 ghost use Rattle.pathmap.specs.Insides.{heads};
 ghost use Rattle.pathmap.specs.Maps.{content};
 ghost use Rattle.schema.specs.Shape.{Shape, list_of, set};
-ghost use Rattle.serde_json.specs.Data.{Data, Items, member, no_members, object};
-ghost use Rattle.serde_json.specs.Written.{compact_text, items_text};
-ghost use Rattle.typed.specs.Printing.{each_item, print, scalar_in, with_item};
-ghost use Rattle.typed.specs.Rows.{IsScalarElement, IsThere, text_or_none};
-ghost use Rattle.typed.specs.Texts.{texts_in, texts_of};
+ghost use Rattle.typed.specs.Printing.{print, scalar_in};
+ghost use Rattle.typed.specs.Rows.{IsScalarElement, IsThere};
+ghost use Rattle.typed.specs.Writes.{with_value, with_values};
 
-use crate::texts::{Texts, put_text};
 use fieldpath::ElemText;
-use fieldset::{push_comma, push_name};
+use json_texts::TextWriter;
 use pathmap::PathMap;
 use std::alloc::{AllocError, Global};
-use std::collections::BTreeMap;
 
-/// Appends an item of a set after the others; whether there are items then.
-fn push_scalar(element: &ElemText, later: bool, out: &mut Vec<u8>) -> Result<bool, AllocError>
-    ensures { IsScalarElement (string_bytes element.now) → IfOk result (λ more. (rest : Items)
-        → out.new.items ++ items_text more rest ≡ out.old.items ++ items_text later (with_item (scalar_in (string_bytes element.now)) rest)) }
+/// Appends an item of a set.
+fn push_scalar(out: &mut TextWriter, alloc: Global, element: &ElemText) -> Result<(), AllocError>
+    ensures { IsScalarElement (string_bytes element.now) → OnOk result (out.new ≡ with_value (scalar_in (string_bytes element.now)) out.old) }
 {
-    let Some(text) = element.scalar_json() else {
-        return Ok(later);
-    };
-    push_comma(out, later)?;
-    out.extend_from_slice(text.as_bytes())?;
-    Ok(true)
+    match element.scalar_json() {
+        Some(text) => out.text(alloc, text.as_bytes()),
+        None => Ok(()),
+    }
 }
 
-/// Appends the items of a set, and the closing bracket.
-fn push_scalars(map: &PathMap, out: &mut Vec<u8>) -> Result<(), AllocError>
-    ensures { AllByRecursion IsScalarElement (heads (content map.now)) → OnOk result (out.new.items ≡ out.old.items ++ items_text false (each_item scalar_in (heads (content map.now)))) }
+/// Appends the items of a set.
+fn push_scalars(map: &PathMap, alloc: Global, out: &mut TextWriter) -> Result<(), AllocError>
+    ensures { AllByRecursion IsScalarElement (heads (content map.now)) → OnOk result (out.new ≡ with_values scalar_in (heads (content map.now)) out.old) }
 {
     let children = map.children();
-    let mut later = false;
     for (element, _) in children {
-        later = push_scalar(element, later, out)?;
+        push_scalar(out, alloc, element)?;
     }
-    Ok(out.push(b']')?)
+    Ok(())
 }
 
 /// Appends a set in which something stands.
-pub(crate) fn write_set(map: &PathMap, out: &mut Vec<u8>) -> Result<(), AllocError>
-    ensures { (s : Shape) → IsThere (list_of s set) (content map.now) → OnOk result (out.new.items ≡ out.old.items ++ text_or_none (print (list_of s set) (content map.now))) }
+pub(crate) fn write_set(
+    map: &PathMap,
+    alloc: Global,
+    out: &mut TextWriter,
+) -> Result<(), AllocError>
+    ensures { (s : Shape) → IsThere (list_of s set) (content map.now) → OnOk result (out.new ≡ with_value (print (list_of s set) (content map.now)) out.old) }
 {
-    out.push(b'[')?;
-    push_scalars(map, out)
+    out.begin_array(alloc)?;
+    push_scalars(map, alloc, out)?;
+    out.end_array()
 }
 
-/// What stands before the value in an object of one member of this name.
-fn front_of(alloc: Global, name: &str) -> Result<Vec<u8>, AllocError>
-    ensures { IfOk result (λ v. v.items ≡ 123 ∷ (quoted name.now ++ 58 ∷ [])) }
+/// What stands between the braces of an object's text.
+pub(crate) fn within_braces(text: &[u8]) -> &[u8]
+    ensures { (members : List ℕ) → text.now ≡ 123 ∷ (members ++ 125 ∷ []) → result.now ≡ members }
 {
-    let mut front = Vec::new(alloc);
-    front.push(b'{')?;
-    push_name(&mut front, alloc, name)?;
-    Ok(front)
-}
-
-/// What stands between a front and the last byte.
-fn between<'a>(text: &'a [u8], front: &[u8]) -> &'a [u8]
-    ensures { (value : List ℕ) → text.now ≡ front.now ++ (value ++ 125 ∷ []) → result.now ≡ value }
-{
-    let begin = front.len();
-    if text.len() <= begin {
+    if text.len() < 2 {
         return text;
     }
-    &text[begin..text.len() - 1]
-}
-
-/// The text of an item's one key field, by its name.
-pub(crate) fn key_texts(alloc: Global, name: &str, keys: &str) -> Result<Texts, AllocError>
-    ensures { (d : Data) → keys.now ≡ compact_text (object (member name.now d no_members)) → IfOk result (λ m. texts_in m.entries ≡ texts_of (member name.now d no_members)) }
-{
-    let front = front_of(alloc, name)?;
-    let mut text = Vec::new(alloc);
-    text.extend_from_slice(between(keys.as_bytes(), front.as_slice()))?;
-    let mut texts = BTreeMap::new(alloc);
-    put_text(&mut texts, alloc, name, text)?;
-    Ok(texts)
+    &text[1..text.len() - 1]
 }

@@ -18,7 +18,7 @@ use Rattle.fieldset.proofs.borrowed.+borrowed.Goals.{read_at-then-is_marked, rea
 
 pub read_members-loop-name-init : goal.read_members-loop-name-init
 read_members-loop-name-init t c =
-    let ms = data_in c.args.members.now in begin (spot c.args.here) ms (content c.empty-map.result) ms ms c.empty-map.ensures refl (names_ascend c.args.members.now c.requires)
+    let ms = data_in c.args.members.now in begin (spot c.args.here) ms (content c.in_ok-map.map) ms ms c.in_ok-map.ensures refl (names_ascend c.args.members.now c.requires)
 
 pub read_members-returns-in_err-member : goal.read_members-returns-in_err-member
 read_members-returns-in_err-member t c =
@@ -28,9 +28,9 @@ read_members-returns-in_err-member t c =
     let i = c.loop-name.name-index in
     let e = c.loop-name-item.result in
     let d = data_of (value_view e.1) in
-    let p = err_from_is_err_and c.from_residual.result c.from_residual.ensures.1 in
+    let p = err_from_is_err_and c.from_residual-in_err-member.result c.from_residual-in_err-member.ensures.1 in
     let f = c.in_err-member.field-0.0 in
-    passed_on content p.0 f c.from_residual.result (read_members s ms ms) p.1 p.2
+    passed_on content p.0 f c.from_residual-in_err-member.result (read_members s ms ms) p.1 p.2
     (failed s ms (read_members s ms ms) (content c.loop-name.map) (data_in (drop i es)) e.0.now d (data_in (drop (i + 1) es)) (data_next es i e c.loop-name-test.true c.loop-name-item.is) c.loop-name.invariant f c.in_err-member.ensures.read)
 
 pub read_members-loop-name-preserved-in_default : goal.read_members-loop-name-preserved-in_default

@@ -29,7 +29,7 @@ data_left ms i = members_data (members_view (drop i ms))
 pub read_values-loop-name-init : goal.read_values-loop-name-init
 read_values-loop-name-init t c =
     let ms = members_view c.args.members.now in
-    read_begin (λ k e. content_of (shape c.args.inner.now) e) (content c.empty-map.result) (members_data ms) (members_data ms) c.empty-map.ensures refl (ap ascend (names-data ms) ∙ (ordered_parts ms c.requires).0)
+    read_begin (λ k e. content_of (shape c.args.inner.now) e) (content c.in_ok-map.map) (members_data ms) (members_data ms) c.in_ok-map.ensures refl (ap ascend (names-data ms) ∙ (ordered_parts ms c.requires).0)
 
 pub read_values-is_null-requires : goal.read_values-is_null-requires
 read_values-is_null-requires t c = member_ordered c.args.members.now c.loop-name.name-index c.loop-name-item.result c.loop-name-test.true c.loop-name-item.is (ordered_parts (members_view c.args.members.now) c.requires).1
@@ -74,9 +74,9 @@ read_values-returns-in_err-add_member t c =
     let x = c.loop-name-item.result in
     let steps = ap (λ l. members_data (members_view l)) (at_place xs i x c.loop-name-test.true c.loop-name-item.is) in
     let free = one_free inner whole (content c.loop-name.map) (data_left xs i) x.0.now (data_of (value_view x.1)) (data_left xs (i + 1)) steps c.loop-name.invariant in
-    let p = err_from_is_err_and c.from_residual.result c.from_residual.ensures.1 in
+    let p = err_from_is_err_and c.from_residual-in_err-add_member.result c.from_residual-in_err-add_member.ensures.1 in
     let f = c.in_err-add_member.field-0.0 in
-    passed_on content p.0 f c.from_residual.result whole p.1 p.2
+    passed_on content p.0 f c.from_residual-in_err-add_member.result whole p.1 p.2
     (one_failed inner whole (content c.loop-name.map) (data_left xs i) x.0.now (data_of (value_view x.1)) (data_left xs (i + 1)) steps c.loop-name.invariant (sym c.is_null.ensures ∙ c.if-is_null.false) f (c.in_err-add_member.ensures (inner x.0.now (data_of (value_view x.1))) free c.read_borrowed-read.ensures))
 
 pub read_values-returns : goal.read_values-returns
@@ -89,7 +89,7 @@ read_values-returns t c =
 pub read_struct-loop-name-init : goal.read_struct-loop-name-init
 read_struct-loop-name-init t c =
     let ms = members_view c.args.members.now in
-    read_begin (beside_keys (names_in c.args.names.now) (λ k e. content_of_field (fields_in c.args.fields.now) k e)) (content c.empty-map.result) (members_data ms) (members_data ms) c.empty-map.ensures refl (ap ascend (names-data ms) ∙ (ordered_parts ms c.requires).0)
+    read_begin (beside_keys (names_in c.args.names.now) (λ k e. content_of_field (fields_in c.args.fields.now) k e)) (content c.in_ok-map.map) (members_data ms) (members_data ms) c.in_ok-map.ensures refl (ap ascend (names-data ms) ∙ (ordered_parts ms c.requires).0)
 
 pub read_struct-is_null-requires : goal.read_struct-is_null-requires
 read_struct-is_null-requires t c = member_ordered c.args.members.now c.loop-name.name-index c.loop-name-item.result c.loop-name-test.true c.loop-name-item.is (ordered_parts (members_view c.args.members.now) c.requires).1
@@ -134,9 +134,9 @@ read_struct-returns-in_err-add_member t c =
     let x = c.loop-name-item.result in
     let steps = ap (λ l. members_data (members_view l)) (at_place xs i x c.loop-name-test.true c.loop-name-item.is) in
     let free = one_free inner whole (content c.loop-name.map) (data_left xs i) x.0.now (data_of (value_view x.1)) (data_left xs (i + 1)) steps c.loop-name.invariant in
-    let p = err_from_is_err_and c.from_residual.result c.from_residual.ensures.1 in
+    let p = err_from_is_err_and c.from_residual-in_err-add_member.result c.from_residual-in_err-add_member.ensures.1 in
     let f = c.in_err-add_member.field-0.0 in
-    passed_on content p.0 f c.from_residual.result whole p.1 p.2
+    passed_on content p.0 f c.from_residual-in_err-add_member.result whole p.1 p.2
     (one_failed inner whole (content c.loop-name.map) (data_left xs i) x.0.now (data_of (value_view x.1)) (data_left xs (i + 1)) steps c.loop-name.invariant (sym c.is_null.ensures ∙ c.if-is_null.false) f (c.in_err-add_member.ensures (content_of_field (fields_in c.args.fields.now) x.0.now (data_of (value_view x.1))) free c.read_field-read.ensures))
 
 pub read_struct-returns : goal.read_struct-returns
@@ -151,7 +151,7 @@ items_left vs i = items_data (items_view (drop i vs))
 
 pub read_list-loop-place-init : goal.read_list-loop-place-init
 read_list-loop-place-init t c =
-    list_begin (keyed_item (names_in c.args.names.now) (λ ms. content_of_item (shape c.args.inner.now) (names_in c.args.names.now) ms)) (content c.empty-map.result) (items_data (items_view c.args.items.now)) c.empty-map.ensures
+    list_begin (keyed_item (names_in c.args.names.now) (λ ms. content_of_item (shape c.args.inner.now) (names_in c.args.names.now) ms)) (content c.in_ok-map.map) (items_data (items_view c.args.items.now)) c.in_ok-map.ensures
 
 pub read_list-read_item-read-requires : goal.read_list-read_item-read-requires
 read_list-read_item-read-requires t c =
@@ -180,9 +180,9 @@ read_list-returns-in_err-add_item t c =
     let x = c.index-items-place.result in
     let whole = items_at inner 0 [] (items_data (items_view xs)) in
     let steps = ap (λ l. items_data (items_view l)) (at_place xs i x c.loop-place-test.true c.index-items-place.is) in
-    let p = err_from_is_err_and c.from_residual.result c.from_residual.ensures.1 in
+    let p = err_from_is_err_and c.from_residual-in_err-add_item.result c.from_residual-in_err-add_item.ensures.1 in
     let f = c.in_err-add_item.field-0.0 in
-    passed_on content p.0 f c.from_residual.result whole p.1 p.2
+    passed_on content p.0 f c.from_residual-in_err-add_item.result whole p.1 p.2
     (next_failed inner whole (content c.loop-place.map) i (items_left xs i) (data_of (value_view x)) (items_left xs (i + 1)) steps c.loop-place.invariant f
     (c.in_err-add_item.ensures (inner (data_of (value_view x))) c.loop-place.invariant.0 c.loop-place.invariant.2 c.read_item-read.ensures))
 

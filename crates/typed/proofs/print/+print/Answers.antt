@@ -24,7 +24,7 @@ put_fields-loop-name-preserved t c =
     let name = c.as_str-text.ensures.value in
     let inner = shape c.loop-name-item.result.1 in
     let ms = members_view c.loop-name.members.entries in
-    let found = sym (ap (λ o. content_or_nothing (option_map (λ m. m.now) o)) c.in-Some.is) ∙ c.in_ok-below.ensures ∙ ap (λ s. inside (name_text s) (content c.args.map.now)) name in
+    let found = sym (ap (λ o. content_or_nothing (option_map (λ m. m.now) o)) c.in-Some.is) ∙ c.field.ensures.inside ∙ ap (λ s. inside (name_text s) (content c.args.map.now)) name in
     fields_more c.args.fields.now c.loop-name.name-index c.loop-name-item.result c.loop-name-test.true c.loop-name-item.is (content c.args.map.now) ms (members_view c.put_member.new.members.entries)
     (c.in_ok-put_member.ensures ∙ ap₂ (λ s o. with_member s o ms) name (c.in_ok-value.ensures ∙ ap (print inner) found))
     ∙ c.loop-name.invariant
@@ -96,7 +96,7 @@ put_fields-loop-name-preserved-in_default t c =
     let inner = shape c.loop-name-item.result.1 in
     let ms = members_view c.loop-name.members.entries in
     let whole = content c.args.map.now in
-    let bare = ap (λ s. inside (name_text s) whole) (sym c.as_str-text.ensures.value) ∙ sym c.in_ok-below.ensures ∙ ap (λ o. content_or_nothing (option_map (λ m. m.now) o)) c.in_default.is in
+    let bare = ap (λ s. inside (name_text s) whole) (sym c.as_str-text.ensures.value) ∙ sym c.field.ensures.inside ∙ ap (λ o. content_or_nothing (option_map (λ m. m.now) o)) c.in_default.is in
     fields_more c.args.fields.now c.loop-name.name-index c.loop-name-item.result c.loop-name-test.true c.loop-name-item.is whole ms ms
     (sym (ap (λ o. with_member name o ms) (ap (print inner) bare ∙ print-nothing inner)))
     ∙ c.loop-name.invariant

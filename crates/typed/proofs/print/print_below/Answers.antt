@@ -8,4 +8,4 @@ use Rattle.typed.proofs.print.print_below.Goals as goal
 pub returns-in-None : goal.returns-in-None
 returns-in-None c =
     let s = shape c.args.inner.now in
-    sym (ap (print s) (sym c.in_ok-below.ensures ∙ ap (λ o. content_or_nothing (option_map (λ m. m.now) o)) c.in-None.is) ∙ print-nothing s)
+    sym (ap (print s) (sym c.field.ensures.inside ∙ ap (λ o. content_or_nothing (option_map (λ m. m.now) o)) c.in-None.is) ∙ print-nothing s)

@@ -1,11 +1,16 @@
-use Rattle.std.proofs.Common.{◌++◌, Some, ap, sym, subst, ◌∙◌}
+use Rattle.std.proofs.Common.{Some, ap, sym, subst, ◌∙◌}
+use Rattle.json_texts.specs.Writing.{with_text}
 use Rattle.pathmap.specs.Maps.{standing}
 use Rattle.typed.specs.Printing.{value_of}
-use Rattle.typed.specs.Rows.{IsWritable, text_or_none}
+use Rattle.typed.specs.Rows.{IsWritable}
+use Rattle.typed.specs.Writes.{with_value}
+use Rattle.typed.proofs.Wholes.{weaker}
 use Rattle.typed.proofs.pushing.push_held.Goals as goal
 
-pub returns-in_ok-extend_from_slice-in-Plain : goal.returns-in_ok-extend_from_slice-in-Plain
-returns-in_ok-extend_from_slice-in-Plain c = λ writable.
+pub returns-in-Plain : goal.returns-in-Plain
+returns-in-Plain c = λ writable.
     let compact = (subst (λ h. IsWritable (Some (standing h))) c.in-Plain.is writable).1 in
-    c.in_ok-extend_from_slice-in-Plain.ensures.items
-    ∙ ap (λ t. c.args.out.now.items ++ t) (c.as_bytes.ensures.value ∙ c.as_str-in-Plain.ensures.value ∙ compact ∙ sym (ap (λ h. text_or_none (value_of (standing h))) c.in-Plain.is))
+    let out = c.args.out.now in
+    weaker c.text.result
+    (λ wrote. wrote ∙ ap (λ t. with_text t out) (c.as_bytes.ensures.value ∙ c.as_str-in-Plain.ensures.value ∙ compact.2) ∙ sym (ap (λ o. with_value o out) compact.1)
+    ∙ sym (ap (λ h. with_value (value_of (standing h)) out) c.in-Plain.is)) c.text.ensures

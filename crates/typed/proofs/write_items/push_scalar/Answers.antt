@@ -1,9 +1,10 @@
-use Rattle.std.proofs.Common.{◌++◌, ap, sym, ◌∙◌, option_map, string_bytes}
+use Rattle.std.proofs.Common.{ap, sym, ◌∙◌, option_map, string_bytes}
+use Rattle.json_texts.specs.Writing.{with_text}
 use Rattle.typed.proofs.ItemTexts.{scalar_wrote}
+use Rattle.typed.proofs.Wholes.{weaker}
 use Rattle.typed.proofs.write_items.push_scalar.Goals as goal
 
-pub returns : goal.returns
-returns c = λ is_scalar.
-    scalar_wrote (string_bytes c.args.element.now) c.in-Some.text.now c.args.out.now.items c.push_comma.new.out.items c.extend_from_slice.new.self.items c.args.later is_scalar
-    (sym c.scalar_json.ensures ∙ ap (option_map (λ s. s.now)) c.in-Some.is) c.in_ok-push_comma.ensures
-    (c.in_ok-extend_from_slice.ensures.items ∙ ap (λ t. c.push_comma.new.out.items ++ t) c.as_bytes.ensures.value)
+pub returns-in-Some : goal.returns-in-Some
+returns-in-Some c = λ is_scalar.
+    let has = sym c.scalar_json.ensures ∙ ap (option_map (λ s. s.now)) c.in-Some.is in
+    weaker c.text.result (λ wrote. wrote ∙ ap (λ t. with_text t c.args.out.now) c.as_bytes.ensures.value ∙ scalar_wrote (string_bytes c.args.element.now) c.in-Some.text.now c.args.out.now is_scalar has) c.text.ensures

@@ -9,4 +9,4 @@ use Rattle.typed.proofs.write_items.push_scalars.Given as goal
 
 -- what is there with what is left is all
 abbrev pub invariant-loop-element : goal.invariant-loop-element
-invariant-loop-element l = AllByRecursion IsScalarElement (heads (content l.map)) → Wrote IsScalarElement scalar_in l.children (drop l.element-index l.children) l.later l.fn.out.items l.out.items
+invariant-loop-element l = AllByRecursion IsScalarElement (heads (content l.map)) → Wrote IsScalarElement scalar_in (content l.map) (drop l.element-index l.children) l.fn.out l.out

@@ -13,7 +13,7 @@ pub returns : goal.returns
 returns c = λ listed.
     view-Object c.put_text-2.new.members
     ∙ envelope (shape c.args.schema.now) (identity_of c.args.of) c.args.version (state_of c.args.self.now) (option_map view c.in_ok-printed.printed)
-    (members_view c.in_ok-labels.labels.entries) (members_view c.in_ok-metadata.metadata.entries) (members_view c.members_of-members.result.entries)
+    (members_view c.in_ok-metadata_members.metadata_members.entries) (members_view c.in_ok-metadata.metadata.entries) (members_view c.members_of-members.result.entries)
     (members_view c.put.new.map.entries) (members_view c.put_text.new.members.entries) (members_view c.put_text-2.new.members.entries)
-    c.in_ok-printed.ensures c.in_ok-labels.ensures (c.in_ok-metadata.ensures ∙ ap (λ (items : Items). metadata_with (identity_of c.args.of) c.args.version items (members_view c.in_ok-labels.labels.entries)) listed) c.members_of-members.ensures
+    c.in_ok-printed.ensures c.in_ok-metadata_members.ensures (c.in_ok-metadata.ensures ∙ ap (λ (items : Items). metadata_with (identity_of c.args.of) c.args.version items (members_view c.in_ok-metadata_members.metadata_members.entries)) listed) c.members_of-members.ensures
     (c.in_ok-put.ensures.ok ∙ ap (λ d. put (codes "metadata") d (members_view c.members_of-members.result.entries)) (view-Object c.in_ok-metadata.metadata)) c.in_ok-put_text.ensures c.in_ok-put_text-2.ensures
