@@ -160,10 +160,13 @@ made {"type":"object","title":5,"properties":{"apiVersion":{"enum":[]},"kind":5,
 const PLACES: &str = r#"widget_places
 place f:spec => None
 place f:spec f:image => Some(Leaf)
+place f:spec f:nope => None
 place f:spec f:args => Some(Leaf)
+place f:spec f:args v:"x" => None
 place f:spec f:config f:any => Some(Leaf)
 place f:spec f:tags v:"a" => Some(SetItem)
 place f:spec f:tags v:1 => None
+place f:spec f:tags k:{"name":"a"} => None
 place f:spec f:ports k:{"name":"web"} => Some(MapItem)
 place f:spec f:ports k:{"name":"web"} f:port => Some(Leaf)
 place f:spec f:ports k:{"name":"web"} f:name => None
