@@ -54,4 +54,10 @@ ask 4 POST namespaces/default/widgets {"apiVersion":"demo.example/v1","kind":"Wi
 ask 5 GET widgets?limit=2 => -
 out 5 => HTTP/1.1 200 OK|$Content-Type: application/json|$Content-Length: 359|$Connection: close|$|${"apiVersion":"demo.example/v1","items":[{"apiVersion":"demo.example/v1","kind":"Widget","metadata":{"name":"w1","namespace":"default","resourceVersion":"2"}},{"apiVersion":"demo.example/v1","kind":"Widget","metadata":{"name":"w2","namespace":"default","resourceVersion":"3"}}],"kind":"WidgetList","metadata":{"continue":"4.default.w2","resourceVersion":"4"}}
 ask 6 GET widgets?limit=2&continue=4.default.w2 => -
-out 6 => HTTP/1.1 200 OK|$Content-Type: application/json|$Content-Length: 215|$Connection: close|$|${"apiVersion":"demo.example/v1","items":[{"apiVersion":"demo.example/v1","kind":"Widget","metadata":{"name":"w3","namespace":"default","resourceVersion":"4"}}],"kind":"WidgetList","metadata":{"resourceVersion":"4"}}"#;
+out 6 => HTTP/1.1 200 OK|$Content-Type: application/json|$Content-Length: 215|$Connection: close|$|${"apiVersion":"demo.example/v1","items":[{"apiVersion":"demo.example/v1","kind":"Widget","metadata":{"name":"w3","namespace":"default","resourceVersion":"4"}}],"kind":"WidgetList","metadata":{"resourceVersion":"4"}}
+
+pages_over_namespaces on widgets: the first page ends in one namespace, and the second goes on in the next
+ask 2 POST namespaces/b/widgets {"apiVersion":"demo.example/v1","kind":"Widget","metadata":{"name":"y"},"spec":{}} => -
+ask 3 POST namespaces/a/widgets {"apiVersion":"demo.example/v1","kind":"Widget","metadata":{"name":"x"},"spec":{}} => -
+got 4 GET widgets?limit=1 => 200 {"apiVersion":"demo.example/v1","items":[{"apiVersion":"demo.example/v1","kind":"Widget","metadata":{"name":"x","namespace":"a","resourceVersion":"3"}}],"kind":"WidgetList","metadata":{"continue":"3.a.x","resourceVersion":"3"}}
+got 5 GET widgets?limit=1&continue=3.a.x => 200 {"apiVersion":"demo.example/v1","items":[{"apiVersion":"demo.example/v1","kind":"Widget","metadata":{"name":"y","namespace":"b","resourceVersion":"2"}}],"kind":"WidgetList","metadata":{"resourceVersion":"3"}}"#;

@@ -1,9 +1,0 @@
-//! The marks between which memory is refused. The calls between them stand in `cached`, `stores` and `tables`.
-
-use std::alloc::{AllocError, Global};
-
-/// Where the calls that `bench/failing_memory.py` refuses memory begin and end.
-pub fn mark(alloc: Global) -> Result<(), AllocError> {
-    Vec::<u8>::with_capacity(alloc, 1_000_003)?;
-    Ok(())
-}
