@@ -1,5 +1,5 @@
 //! Questions about contents and their texts under a schema; the examples stand in `readings`, `object_texts`, `fields_v1`
-//! and `key_names`. Those about texts in order are answered in `borrowed`.
+//! and `key_names`. Those about texts in order are answered in `borrowed`, those about two contents in `two_contents`.
 //!
 //! | question | answer |
 //! |---|---|
@@ -11,22 +11,19 @@
 //! | `set VALUE` | the paths that the FieldsV1 value says, or why it says none |
 //! | `fields VALUE` | what is written of these paths |
 //! | `object TEXT` | `same` where the text of the object `w1` is read and printed again |
-//! | `merge TEXT and TEXT` | a copy of the second content over the first |
-//! | `lay TEXT and TEXT` | the first content laid over the second |
-//! | `less TEXT and TEXT` | the first content without the paths of the second |
-//! | `compare TEXT and TEXT` | the paths of the first content, those changed from the second, and those added, modified and removed |
 
 use crate::borrowed::answer_borrowed;
-use crate::given::{first_schema, path, printed, push_paths, shown_paths, tree, types_of};
+use crate::given::{first_schema, path, printed, shown_paths, tree, types_of};
+use crate::two_contents::answer_of_two;
 use fieldset::FieldSet;
 use json_texts::TextWriter;
 use ownership::{Identity, ObjectFault, Owned};
 use schema::{Schema, Types};
 use serde_json::Value;
-use std::alloc::{AllocError, Global};
+use std::alloc::Global;
 use std::test::Fail;
 use test_rows::{Answers, first_word, play_all, told};
-use typed::{Changes, ReadFault, Tree};
+use typed::{ReadFault, Tree};
 
 /// Contents under the first schema of a types file.
 #[derive(Drop)]
@@ -55,12 +52,12 @@ pub fn answer_under(alloc: Global, schema: &Schema, question: &str) -> Result<St
         "lawful" => told(alloc, schema.lawful()),
         "place" => placed(alloc, schema, text),
         "read" => read(alloc, schema, text),
-        "paths" => shown_paths(alloc, &tree(alloc, schema, text)?.paths(alloc)?),
-        "print" => printed(alloc, schema, &tree(alloc, schema, text)?),
+        "paths" => paths(alloc, schema, text),
+        "print" => print(alloc, schema, text),
         "set" | "fields" => fields_v1(alloc, schema, call, text),
         "object" => again(alloc, schema, text),
         "in-order" | "borrowed" | "borrowed-set" => answer_borrowed(alloc, schema, call, text),
-        _ => of_two(alloc, schema, call, text),
+        _ => answer_of_two(alloc, schema, call, text),
     }
 }
 
@@ -74,6 +71,14 @@ fn read(alloc: Global, schema: &Schema, text: &str) -> Result<String, Fail> {
         Err(ReadFault::Shape(cause, path)) => Ok(format!(in alloc; "{path}: {cause}")?),
         Err(ReadFault::Memory) => Err("no memory".into()),
     }
+}
+
+fn paths(alloc: Global, schema: &Schema, text: &str) -> Result<String, Fail> {
+    shown_paths(alloc, &tree(alloc, schema, text)?.paths(alloc)?)
+}
+
+fn print(alloc: Global, schema: &Schema, text: &str) -> Result<String, Fail> {
+    printed(alloc, schema, &tree(alloc, schema, text)?)
 }
 
 fn fields_v1(alloc: Global, schema: &Schema, call: &str, text: &str) -> Result<String, Fail> {
@@ -115,56 +120,4 @@ fn again(alloc: Global, schema: &Schema, text: &str) -> Result<String, Fail> {
         Err(ObjectFault::NotCanonical) => Ok(String::from_str(alloc, "refused")?),
         Err(ObjectFault::Memory) => Err("no memory".into()),
     }
-}
-
-fn of_two(alloc: Global, schema: &Schema, call: &str, texts: &str) -> Result<String, Fail> {
-    let (one, other) = texts.split_once(" and ").ok_or("no other text")?;
-    let one = tree(alloc, schema, one)?;
-    let other = tree(alloc, schema, other)?;
-    match call {
-        "compare" => Ok(compared(alloc, &one, &other)?),
-        _ => printed(alloc, schema, &made(alloc, call, one, &other)?),
-    }
-}
-
-fn made(alloc: Global, call: &str, one: Tree, other: &Tree) -> Result<Tree, Fail> {
-    match call {
-        "merge" => Ok(one.merge(alloc, other)?.try_copy(alloc)?),
-        "lay" => Ok(one.laid_over(alloc, other)?),
-        "less" => Ok(one.without(&other.paths(alloc)?)),
-        _ => Err("no such call".into()),
-    }
-}
-
-/// Puts the paths as conflicts show them, each behind a blank, and a bar.
-fn push_part(alloc: Global, text: &mut String, set: &FieldSet) -> Result<(), AllocError> {
-    push_paths(alloc, text, set)?;
-    text.push_str(" |")
-}
-
-fn push_own(alloc: Global, text: &mut String, new: &Tree) -> Result<(), AllocError> {
-    push_part(alloc, text, &new.paths(alloc)?)
-}
-
-fn push_changed(
-    alloc: Global,
-    text: &mut String,
-    new: &Tree,
-    old: &Tree,
-) -> Result<(), AllocError> {
-    push_part(alloc, text, &new.changed_from(alloc, old)?)
-}
-
-fn push_changes(alloc: Global, text: &mut String, changes: &Changes) -> Result<(), AllocError> {
-    push_part(alloc, text, &changes.added)?;
-    push_part(alloc, text, &changes.modified)?;
-    push_part(alloc, text, &changes.removed)
-}
-
-fn compared(alloc: Global, new: &Tree, old: &Tree) -> Result<String, AllocError> {
-    let mut text = String::from_str(alloc, "|")?;
-    push_own(alloc, &mut text, new)?;
-    push_changed(alloc, &mut text, new, old)?;
-    push_changes(alloc, &mut text, &new.compare(alloc, old)?)?;
-    Ok(text)
 }

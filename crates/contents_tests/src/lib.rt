@@ -26,4 +26,6 @@ mod readings;
 #[cfg(test)]
 mod sets;
 #[cfg(test)]
+mod two_contents;
+#[cfg(test)]
 mod types_files;

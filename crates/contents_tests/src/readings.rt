@@ -1,4 +1,5 @@
-//! Contents as they are read under a schema, put over one another, and printed; `contents` says what the questions are.
+//! Contents as they are read under a schema, put over one another, and printed; `contents` and `two_contents` say what the
+//! questions are.
 
 use crate::contents::play_under;
 use std::test::Fail;
