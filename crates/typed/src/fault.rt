@@ -34,6 +34,8 @@ impl fmt::Display for Cause {
     }
 }
 
+impl std::error::Error for Cause {}
+
 /// Why a value has no content: the first fault, with its path as shown, or out of memory.
 /// The path of the value itself is the empty text.
 #[derive(Debug, Drop, Error)]
