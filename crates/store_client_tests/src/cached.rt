@@ -14,12 +14,12 @@
 //! | `keys INDEX` | how many keys the index has |
 //! | `twice` | whether two indexes with one name are refused |
 
-use crate::marking::mark;
-use crate::rows::{Answers, done, first_word, number, play, told};
+use crate::rows::{Answers, done, play};
 use indexer::{IndexBy, Indexer, NewError, Object, ObjectKey};
 use std::alloc::{AllocError, Global};
 use std::collections::BTreeMap;
 use std::test::Fail;
+use test_rows::{first_word, mark, number, told};
 
 /// By the object's text, told twice, or by its namespace.
 #[derive(Drop)]

@@ -3,11 +3,12 @@
 //! `line` is a line of a watch, `any` one of any namespace, `object` an object that is added, and `page` a list's body. The
 //! answer is what it says, or what is wrong with it.
 
-use crate::rows::{Answers, first_word, play_all, told};
+use crate::rows::{Answers, play_all};
 use decoder::{DecodeFault, Line, Page, Wanted, read_line, read_page};
 use indexer::Object;
 use std::alloc::{AllocError, Global};
 use std::test::Fail;
+use test_rows::{first_word, told};
 
 #[derive(Drop)]
 struct Decoded;

@@ -11,8 +11,6 @@ mod cached;
 #[cfg(test)]
 mod decoded;
 #[cfg(test)]
-mod marking;
-#[cfg(test)]
 mod names_and_versions;
 #[cfg(test)]
 mod parameters;

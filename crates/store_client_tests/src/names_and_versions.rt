@@ -10,12 +10,13 @@
 //! | `version TEXT` | the version that it says |
 //! | `decimal MAX TEXT` | the decimal that it says, at most this one |
 
-use crate::rows::{Answers, first_word, number, play_all, repeated, told};
+use crate::rows::{Answers, play_all, repeated};
 use names::{
     decimal_up_to, is_dns_label, is_dns_subdomain, is_label_key, is_label_value, version_of,
 };
 use std::alloc::Global;
 use std::test::Fail;
+use test_rows::{first_word, number, told};
 
 #[derive(Drop)]
 struct Names;

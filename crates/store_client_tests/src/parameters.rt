@@ -8,11 +8,12 @@
 //! | `values ?QUERY` | the limit of a list, its version and how that is matched |
 //! | `fault ?QUERY` | how a list's fault is printed |
 
-use crate::rows::{Answers, play_all, told};
+use crate::rows::{Answers, play_all};
 use params::{Asked, Params, ParamsFault, Token, Watch};
 use std::alloc::{AllocError, Global};
 use std::collections::BTreeMap;
 use std::test::Fail;
+use test_rows::told;
 
 #[derive(Drop)]
 struct Readings;

@@ -12,9 +12,10 @@
 //! | `bad` | whether a piece, and one of no bytes, are malformed once a bad byte was told |
 //! | `request METHOD TARGET`, `request METHOD TARGET TYPE BODY` | the bytes of the request |
 
-use crate::rows::{Answers, first_word, number, play_all, repeated, told};
+use crate::rows::{Answers, play_all, repeated};
 use std::alloc::{AllocError, Global};
 use std::test::Fail;
+use test_rows::{first_word, number, told};
 use wireclient::{Item, ReadFault, ReplyReader, request_bytes};
 
 const LENGTH: &str = "HTTP/1.1 200 OK\r\nContent-Length: ";

@@ -2,7 +2,6 @@
 //! line. What a question means stands with the examples.
 
 use std::alloc::{AllocError, Global};
-use std::fmt::Debug;
 use std::test::Fail;
 
 /// What answers the questions of an example, one after another.
@@ -40,20 +39,6 @@ pub fn repeated(alloc: Global, piece: &str, times: u64) -> Result<String, AllocE
     Ok(text)
 }
 
-/// A text up to its first blank, and what is behind it.
-pub fn first_word(text: &str) -> (&str, &str) {
-    text.split_once(' ').unwrap_or((text, ""))
-}
-
-pub fn number(text: &str) -> Result<u64, Fail> {
-    Ok(text.parse::<u64>().ok().ok_or("no number")?)
-}
-
 pub fn done(alloc: Global) -> Result<String, Fail> {
     Ok(String::from_str(alloc, "done")?)
-}
-
-/// An answer as it is shown.
-pub fn told<T: Debug + Drop>(alloc: Global, answer: T) -> Result<String, Fail> {
-    Ok(format!(in alloc; "{answer:?}")?)
 }

@@ -7,11 +7,12 @@
 //! | `fault {TEXT}` | the fault of the selector |
 //! | `filled {TEXT}` | the same with a prefix of 253 bytes in place of each `P`, and a name of 63 in place of each `N` |
 
-use crate::rows::{Answers, first_word, play_all, repeated, told};
+use crate::rows::{Answers, play_all, repeated};
 use selector::{ReadError, Selector};
 use std::alloc::{AllocError, Global};
 use std::collections::BTreeMap;
 use std::test::Fail;
+use test_rows::{first_word, told};
 
 #[derive(Drop)]
 struct Selectors;

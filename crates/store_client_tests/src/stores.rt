@@ -11,8 +11,7 @@
 //! | `list REVISION`, `changes REVISION` | how many objects stand at it; how many changes came in `default` after it |
 //! | `numbers`, `seen` | the current and the compacted revision; all that there is to be seen |
 
-use crate::marking::mark;
-use crate::rows::{Answers, done, first_word, number, play, told};
+use crate::rows::{Answers, done, play};
 use crate::tables::{first_of, key, push_changes, push_page, table_at};
 use history::Key;
 use revstore::{ChangesFault, CompactFault, ListFault, Store, WriteFault};
@@ -20,6 +19,7 @@ use revtable::{Entry, Fault, Object};
 use std::alloc::{AllocError, Global};
 use std::mem;
 use std::test::Fail;
+use test_rows::{first_word, mark, number, told};
 
 fn write(store: &mut Store, key: &Key, body: &str) -> Result<u64, WriteFault> {
     store.write(key, Some(body))

@@ -12,13 +12,13 @@
 //! | `changes NAMESPACE FROM TO MAX` | the changes of a namespace or of all |
 //! | `marks`, `rows`, `seen` | the current and the compacted revision; how many rows there are; all that there is to be seen |
 
-use crate::marking::mark;
-use crate::rows::{Answers, done, first_word, number, play, told};
+use crate::rows::{Answers, done, play};
 use history::Key;
 use revtable::{Change, Entry, Fault, Marks, Object, Table};
 use std::alloc::{AllocError, Global};
 use std::mem;
 use std::test::Fail;
+use test_rows::{first_word, mark, number, told};
 
 pub const LAST_REVISION: u64 = i64::MAX as u64;
 
