@@ -1,5 +1,5 @@
 //! Finite maps from paths, as tries: what contents of objects and sets of paths are made of. Which paths a schema has
-//! is `typed`'s.
+//! is `schema`'s.
 //!
 //! Promises: each call is its equation over whole maps (`over`, `without`, `changed` ..).
 //! Stands on `fieldpath` for paths and their order.
