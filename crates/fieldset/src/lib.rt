@@ -12,7 +12,6 @@ mod fields_v1;
 mod fieldset;
 mod member;
 mod read;
-mod values;
 mod write;
 
 pub use both_ways::{readings_are_written, readings_have_places, written_is_read};

@@ -10,7 +10,6 @@ ghost use Rattle.schema.specs.Shape.{shape};
 ghost use Rattle.fieldset.specs.Below.{as_item, members_some, members_under};
 
 use crate::fields_v1::{members, put_as_item, schema_below};
-use crate::values;
 use fieldpath::ElemText;
 use json_texts::TextWriter;
 use pathmap::PathMap;
@@ -39,7 +38,7 @@ fn write_by_value(
 {
     let mut all = members(map, alloc, schema_below(schema, name))?;
     put_as_item(&mut all, alloc, schema, map.held().is_some())?;
-    values::write_object(&all, alloc, out)
+    out.object(alloc, &all)
 }
 
 /// Writes the object at an element.

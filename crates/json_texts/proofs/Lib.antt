@@ -5,3 +5,4 @@ mod Places
 mod Copies
 mod Seen
 mod Tokens
+pub mod Appended

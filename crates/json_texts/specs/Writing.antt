@@ -4,7 +4,8 @@ use Rattle.std.specs.Coded.{Coded, code_by, coded×, coded_list, coded_ℕ, code
 use Rattle.json.specs.Print.{quoted, print, ends_value}
 use Rattle.json.specs.Token.{Token}
 use Rattle.json.specs.Written.{Written}
-use Rattle.serde_json.specs.Written.{comma_if}
+use Rattle.serde_json.specs.Data.{Members}
+use Rattle.serde_json.specs.Written.{comma_if, members_text}
 
 -- the bytes so far, and whether a value ends there, behind which a comma stands before the next
 pub record Writing : Type 0 where
@@ -33,6 +34,10 @@ with_opening b w = record { text = w.text ++ (comma_if w.later ++ b ∷ []); lat
 -- a closing brace or bracket
 abbrev pub with_closing : ℕ → Writing → Writing
 with_closing b w = record { text = w.text ++ b ∷ []; later = true }
+
+-- the text goes on by the members that `front` puts before others, whatever these are
+abbrev pub AppendsMembers : (Members → Members) → Writing → Writing → Type 0
+AppendsMembers front old new = (rest : Members) → new.text ++ members_text new.later rest ≡ old.text ++ members_text old.later (front rest)
 
 -- ---- for private clauses: what the library's writer holds
 

@@ -3,13 +3,13 @@
 
 ghost use Rattle.std.specs.Prelude.{◌≡◌, ◌++◌, ◌∷◌, [], false, Bool, IfOk, OnOk};
 ghost use Rattle.json.specs.Print.{ends_value};
-ghost use Rattle.serde_json.specs.Data.{string};
-ghost use Rattle.serde_json.specs.View.{view};
-ghost use Rattle.serde_json.specs.Written.{comma_if, compact_text, has_float};
+ghost use Rattle.serde_json.specs.Data.{object, string};
+ghost use Rattle.serde_json.specs.View.{members_view, view};
+ghost use Rattle.serde_json.specs.Written.{comma_if, compact_text, has_float, members_have_float};
 ghost use Rattle.json_texts.specs.Writing.{Follows, blank, bytes_of, with_closing, with_name, with_opening, with_text};
 
 use json::Writer;
-use serde_json::Value;
+use serde_json::{Map, Value};
 use std::alloc::{AllocError, Global};
 use std::marker::Model;
 use std::mem;
@@ -153,7 +153,7 @@ impl TextWriter {
     }
 
     /// Appends a value by its text, which is taken as it is.
-    pub fn text(&mut self, alloc: Global, text: &[u8]) -> Result<(), AllocError>
+    pub fn raw(&mut self, alloc: Global, text: &[u8]) -> Result<(), AllocError>
         ensures { OnOk result (self.new ≡ with_text text.now self.old) }
     {
         let later = self.is_later;
@@ -162,12 +162,32 @@ impl TextWriter {
         append(&mut self.writer, alloc, later, text)
     }
 
-    /// Appends a value.
+    /// Appends a value. Of an object each member is appended, since behind a text taken as it is the library's writer begins
+    /// anew.
+    #[cycle(values)]
     pub fn value(&mut self, alloc: Global, value: &Value) -> Result<(), AllocError>
-        ensures { has_float (view value.now) ≡ false → OnOk result (self.new ≡ with_text (compact_text (view value.now)) self.old) }
+        ensures { OnOk result (has_float (view value.now) ≡ false → self.new ≡ with_text (compact_text (view value.now)) self.old) }
     {
-        let text = value.to_vec(alloc)?;
-        self.text(alloc, text.as_slice())
+        match value {
+            Value::Object(members) => self.object(alloc, members),
+            _ => {
+                let text = value.to_vec(alloc)?;
+                self.raw(alloc, text.as_slice())
+            }
+        }
+    }
+
+    /// Appends the object of these members.
+    #[cycle(values)]
+    pub fn object(&mut self, alloc: Global, members: &Map<String, Value>) -> Result<(), AllocError>
+        ensures { OnOk result (members_have_float (members_view members.now.entries) ≡ false → self.new ≡ with_text (compact_text (object (members_view members.now.entries))) self.old) }
+    {
+        self.begin_object(alloc)?;
+        for (name, value) in members.iter() {
+            self.name(alloc, name.as_str())?;
+            self.value(alloc, value)?;
+        }
+        self.end_object()
     }
 
     /// The bytes.

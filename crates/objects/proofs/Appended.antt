@@ -3,9 +3,9 @@ use Rattle.std.proofs.Common.{◌≡◌, ℕ, true, false, List, [], ◌∷◌, 
 use Rattle.json.specs.Print.{quoted}
 use Rattle.serde_json.specs.Data.{Data, array, object, Items, no_items, item, Members, no_members, member}
 use Rattle.serde_json.specs.Written.{comma_if, compact_text, items_text, members_text}
-use Rattle.json_texts.specs.Writing.{Writing, with_closing, with_name, with_opening, with_text}
+use Rattle.json_texts.specs.Writing.{AppendsMembers, Writing, with_closing, with_name, with_opening, with_text}
 use Rattle.typed.proofs.Writes.{braced}
-use Rattle.objects.specs.Appended.{Appends, with_items}
+use Rattle.objects.specs.Appended.{with_items}
 
 -- old text, comma, quoted name, text and rest
 regroup : (o c q t r : List ℕ) → ((o ++ (c ++ (q ++ 58 ∷ []))) ++ t) ++ r ≡ o ++ (c ++ (q ++ 58 ∷ (t ++ r)))
@@ -18,15 +18,15 @@ bracketed : (o c r : List ℕ) (b : ℕ) → (o ++ (c ++ b ∷ [])) ++ r ≡ o +
 bracketed o c r b = append_assoc o (c ++ b ∷ []) r ∙ ap (λ x. o ++ x) (append_assoc c (b ∷ []) r)
 
 module _ (k : List ℕ) (d : Data) (old : Writing) where
-  named : Appends (member k d) old (with_text (compact_text d) (with_name k old))
+  named : AppendsMembers (member k d) old (with_text (compact_text d) (with_name k old))
   named rest = regroup old.text (comma_if old.later) (quoted k) (compact_text d) (members_text true rest)
 
   -- a name and a value are a member
-  pub member_appended : (one new : Writing) → one ≡ with_name k old → new ≡ with_text (compact_text d) one → Appends (member k d) old new
+  pub member_appended : (one new : Writing) → one ≡ with_name k old → new ≡ with_text (compact_text d) one → AppendsMembers (member k d) old new
   member_appended one new name value rest = ap (λ w. w.text ++ members_text w.later rest) (value ∙ ap (with_text (compact_text d)) name) ∙ named rest
 
 -- members in braces are an object
-pub object_written : (front : Members → Members) (old one two new : Writing) → one ≡ with_opening 123 old → Appends front one two → new ≡ with_closing 125 two → new ≡ with_text (compact_text (object (front no_members))) old
+pub object_written : (front : Members → Members) (old one two new : Writing) → one ≡ with_opening 123 old → AppendsMembers front one two → new ≡ with_closing 125 two → new ≡ with_text (compact_text (object (front no_members))) old
 object_written front old one two new opened members closed =
     closed ∙ braced (front no_members) old two (members no_members ∙ ap (λ w. w.text ++ members_text w.later (front no_members)) opened)
 

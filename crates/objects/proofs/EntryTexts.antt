@@ -4,9 +4,9 @@ use Rattle.std.specs.Prelude.{codes}
 use Rattle.std.proofs.lemmas.List.{drop_all, drop_more}
 use Rattle.serde_json.specs.Data.{Data, object, string, Members, member, no_members, put}
 use Rattle.serde_json.specs.Written.{compact_text}
-use Rattle.json_texts.specs.Writing.{Writing, with_closing, with_opening, with_text}
+use Rattle.json_texts.specs.Writing.{AppendsMembers, Writing, with_closing, with_opening, with_text}
 use Rattle.schema.specs.Shape.{Shape}
-use Rattle.objects.specs.Appended.{Appends, with_items}
+use Rattle.objects.specs.Appended.{with_items}
 use Rattle.objects.specs.EntryTexts.{then_filled, then_front, then_manager}
 use Rattle.objects.specs.Managers.{pair, pairs}
 use Rattle.objects.specs.ObjectText.{entry_items, entry_value, members_with, put_filled}
@@ -33,7 +33,7 @@ entry_row : (a name operation sub : List ℕ) (d : Data)
 entry_row a name operation [] d = refl
 entry_row a name operation (b ∷ bs) d = refl
 
-pub entry_written : (a : List ℕ) (m : Manager) (d : Data) (old one two three new : Writing) → one ≡ with_opening 123 old → Appends (then_front a d) one two → Appends (then_manager m) two three → new ≡ with_closing 125 three
+pub entry_written : (a : List ℕ) (m : Manager) (d : Data) (old one two three new : Writing) → one ≡ with_opening 123 old → AppendsMembers (then_front a d) one two → AppendsMembers (then_manager m) two three → new ≡ with_closing 125 three
     → new ≡ with_text (compact_text (object (members_with a m d))) old
 entry_written a m d old one two three new opened front manager closed =
     object_written (λ rest. then_front a d (then_manager m rest)) old one three new opened (λ rest. manager rest ∙ front (then_manager m rest)) closed

@@ -10,11 +10,11 @@ use Rattle.serde_json.specs.View.{members_view, view}
 use Rattle.serde_json.specs.Written.{compact_text, has_float, members_have_float, members_text}
 use Rattle.serde_json.specs.declared.value.Value.{Value}
 use Rattle.fieldpath.proofs.Names.{lt_is}
-use Rattle.json_texts.specs.Writing.{Writing, with_closing, with_name, with_opening, with_text}
+use Rattle.json_texts.specs.Writing.{AppendsMembers, Writing, with_closing, with_name, with_opening, with_text}
 use Rattle.schema.specs.Shape.{Shape}
 use Rattle.typed.proofs.Floats.{neither}
-use Rattle.objects.specs.Appended.{Appends, then_members}
-use Rattle.objects.specs.InOrder.{are_below, then_entries, then_key}
+use Rattle.objects.specs.Appended.{then_members}
+use Rattle.objects.specs.InOrder.{are_below, then_entries, then_key_and_version}
 use Rattle.objects.specs.Managers.{pairs}
 use Rattle.objects.specs.ObjectText.{Identity, entry_items, metadata_with, put_entries}
 use Rattle.objects.specs.declared.managers.Entry.{Entry}
@@ -45,7 +45,7 @@ module _ (all it left : Valued) (e : String Global × Value) (steps : it ≡ e �
             ∙ sym (ap (λ es. w.text ++ members_text w.later (then_members (members_view es) rest)) steps) ∙ so_far.1 rest,
       )
 
-pub members_written : (all it : Valued) (start w : Writing) → it ≡ [] → AreWritten all it start w → members_have_float (members_view all) ≡ false → Appends (then_members (members_view all)) start w
+pub members_written : (all it : Valued) (start w : Writing) → it ≡ [] → AreWritten all it start w → members_have_float (members_view all) ≡ false → AppendsMembers (then_members (members_view all)) start w
 members_written all it start w none before clean rest = sym (ap (λ es. w.text ++ members_text w.later (then_members (members_view es) rest)) none) ∙ (before clean).1 rest
 
 -- ---- `managedFields`
@@ -83,11 +83,11 @@ entries_behind no_items ms below = sym (then_none ms)
 entries_behind (item d ds) ms below = ap (put (codes "managedFields") (array (item d ds))) (sym (then_none ms)) ∙ put_behind (codes "managedFields") (array (item d ds)) ms no_members below
 
 key_row : (of : Identity) (version : ℕ) (ds : Items)
-    → put (codes "name") (string of.name) (put (codes "namespace") (string of.namespace) (put (codes "resourceVersion") (string (decimal version)) (then_entries ds no_members))) ≡ then_entries ds (then_key of version no_members)
+    → put (codes "name") (string of.name) (put (codes "namespace") (string of.namespace) (put (codes "resourceVersion") (string (decimal version)) (then_entries ds no_members))) ≡ then_entries ds (then_key_and_version of version no_members)
 key_row of version no_items = refl
 key_row of version (item d ds) = refl
 
-metadata_row : (of : Identity) (version : ℕ) (ds : Items) (ms : Members) → are_below (codes "managedFields") ms ≡ true → metadata_with of version ds ms ≡ then_members ms (then_entries ds (then_key of version no_members))
+metadata_row : (of : Identity) (version : ℕ) (ds : Items) (ms : Members) → are_below (codes "managedFields") ms ≡ true → metadata_with of version ds ms ≡ then_members ms (then_entries ds (then_key_and_version of version no_members))
 metadata_row of version ds ms below =
     let entries = then_entries ds no_members in
     let numbered = put (codes "resourceVersion") (string (decimal version)) entries in
@@ -100,8 +100,8 @@ metadata_row of version ds ms below =
 -- ---- the whole
 
 pub metadata_written : (of : Identity) (version : ℕ) (ds : Items) (ms : Members) → are_below (codes "managedFields") ms ≡ true → (old one two three four new : Writing) → one ≡ with_opening 123 old
-    → Appends (then_members ms) one two → Appends (then_entries ds) two three → Appends (then_key of version) three four → new ≡ with_closing 125 four → new ≡ with_text (compact_text (object (metadata_with of version ds ms))) old
+    → AppendsMembers (then_members ms) one two → AppendsMembers (then_entries ds) two three → AppendsMembers (then_key_and_version of version) three four → new ≡ with_closing 125 four → new ≡ with_text (compact_text (object (metadata_with of version ds ms))) old
 metadata_written of version ds ms below old one two three four new opened members entries key closed =
-    object_written (λ rest. then_members ms (then_entries ds (then_key of version rest))) old one four new opened
-    (λ rest. key rest ∙ entries (then_key of version rest) ∙ members (then_entries ds (then_key of version rest))) closed
+    object_written (λ rest. then_members ms (then_entries ds (then_key_and_version of version rest))) old one four new opened
+    (λ rest. key rest ∙ entries (then_key_and_version of version rest) ∙ members (then_entries ds (then_key_and_version of version rest))) closed
     ∙ ap (λ x. with_text (compact_text (object x)) old) (sym (metadata_row of version ds ms below))

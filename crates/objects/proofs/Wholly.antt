@@ -7,7 +7,7 @@ use Rattle.serde_json.specs.Find.{get_member}
 use Rattle.serde_json.specs.Written.{compact_text}
 use Rattle.fieldpath.specs.Elements.{name_text}
 use Rattle.fieldpath.specs.Scalars.{ascend}
-use Rattle.json_texts.specs.Writing.{Writing, with_closing, with_name, with_opening, with_text}
+use Rattle.json_texts.specs.Writing.{AppendsMembers, Writing, with_closing, with_name, with_opening, with_text}
 use Rattle.pathmap.specs.Contents.{Content}
 use Rattle.pathmap.specs.Insides.{inside}
 use Rattle.schema.specs.Lawful.{are_well_formed, is_lawful, is_well_formed, names_of}
@@ -17,7 +17,6 @@ use Rattle.typed.specs.Printing.{object_or_none, print, print_fields}
 use Rattle.typed.proofs.Between.{put_between}
 use Rattle.typed.proofs.KeyFields.{AreRising, ascend_rising}
 use Rattle.typed.proofs.Rows.{struct_row}
-use Rattle.objects.specs.Appended.{Appends}
 use Rattle.objects.specs.InOrder.{then_type}
 use Rattle.objects.specs.State.{State}
 use Rattle.objects.specs.ObjectText.{Identity, members_printed, metadata_members, metadata_of, object_text, object_value}
@@ -78,9 +77,9 @@ module _ (all : Fields) (formed : is_well_formed (struct_of all false) ≡ true)
       ∙ ap (put (codes "apiVersion") (string of.api_version)) kind_put ∙ version_put
 
 pub struct_written : (all : Fields) (of : Identity) (version : ℕ) (state : State) → is_well_formed (struct_of all false) ≡ true → (old one two three four five new : Writing) → one ≡ with_opening 123 old
-    → Appends (then_type of all state.content) one two → three ≡ with_name (codes "metadata") two
+    → AppendsMembers (then_type of all state.content) one two → three ≡ with_name (codes "metadata") two
     → four ≡ with_text (compact_text (object (metadata_of (struct_of all false) of version state.owners (metadata_members (print (struct_of all false) state.content))))) three
-    → Appends (then_fields (fields_between (Some (codes "metadata")) None all) state.content) four five → new ≡ with_closing 125 five → new ≡ with_text (object_text (struct_of all false) of version state) old
+    → AppendsMembers (then_fields (fields_between (Some (codes "metadata")) None all) state.content) four five → new ≡ with_closing 125 five → new ≡ with_text (object_text (struct_of all false) of version state) old
 unfolding object_text object_value
 struct_written all of version state formed old one two three four five new opened types name value last closed =
     let s = struct_of all false in

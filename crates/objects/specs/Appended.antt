@@ -1,12 +1,7 @@
--- For private clauses: a JSON text that goes on by members or items.
-use Rattle.std.specs.Prelude.{◌≡◌, ◌++◌}
+-- For private clauses: members and items that a JSON text goes on by.
 use Rattle.serde_json.specs.Data.{Items, no_items, item, Members, no_members, member}
-use Rattle.serde_json.specs.Written.{compact_text, members_text}
+use Rattle.serde_json.specs.Written.{compact_text}
 use Rattle.json_texts.specs.Writing.{Writing, with_text}
-
--- the text goes on by the members that `front` puts before others, whatever these are
-abbrev pub Appends : (Members → Members) → Writing → Writing → Type 0
-Appends front old new = (rest : Members) → new.text ++ members_text new.later rest ≡ old.text ++ members_text old.later (front rest)
 
 -- these members, and the others behind them
 abbrev pub then_members : Members → Members → Members

@@ -19,8 +19,8 @@ then_entries no_items rest = rest
 then_entries (item d ds) rest = member (codes "managedFields") (array (item d ds)) rest
 
 -- key and version
-abbrev pub then_key : Identity → ℕ → Members → Members
-then_key of version rest = member (codes "name") (string of.name) (member (codes "namespace") (string of.namespace) (member (codes "resourceVersion") (string (decimal version)) rest))
+abbrev pub then_key_and_version : Identity → ℕ → Members → Members
+then_key_and_version of version rest = member (codes "name") (string of.name) (member (codes "namespace") (string of.namespace) (member (codes "resourceVersion") (string (decimal version)) rest))
 
 -- the fields up to `metadata`, with the type among them
 abbrev pub then_type : Identity → Fields → Content → Members → Members

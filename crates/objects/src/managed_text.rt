@@ -3,9 +3,9 @@ ghost use Rattle.std.specs.Prelude.{◌≡◌, OnOk};
 ghost use Rattle.serde_json.specs.Data.{array, member, string};
 ghost use Rattle.serde_json.specs.Written.{compact_text};
 ghost use Rattle.fieldset.specs.FieldsV1.{fields_v1_of};
-ghost use Rattle.json_texts.specs.Writing.{with_text};
+ghost use Rattle.json_texts.specs.Writing.{AppendsMembers, with_text};
 ghost use Rattle.schema.specs.Shape.{shape};
-ghost use Rattle.objects.specs.Appended.{Appends, with_items};
+ghost use Rattle.objects.specs.Appended.{with_items};
 ghost use Rattle.objects.specs.EntryTexts.{then_filled, then_front, then_manager};
 ghost use Rattle.objects.specs.Managers.{manager_view, pairs};
 ghost use Rattle.objects.specs.ObjectText.{entry_items, entry_value};
@@ -17,14 +17,14 @@ use json_texts::TextWriter;
 use schema::Schema;
 use std::alloc::{AllocError, Global};
 
-/// Writes a member that is a text.
-pub(crate) fn write_text(
+/// Writes a member that is a string.
+pub(crate) fn write_string(
     out: &mut TextWriter,
     alloc: Global,
     name: &str,
     text: &str,
 ) -> Result<(), AllocError>
-    ensures { OnOk result (Appends (member name.now (string text.now)) out.old out.new) }
+    ensures { OnOk result (AppendsMembers (member name.now (string text.now)) out.old out.new) }
 {
     out.name(alloc, name)?;
     out.string(alloc, text)
@@ -38,35 +38,35 @@ fn write_front(
     api_version: &str,
     paths: &FieldSet,
 ) -> Result<(), AllocError>
-    ensures { OnOk result (Appends (then_front api_version.now (fields_v1_of (shape schema.now) paths.now)) out.old out.new) }
+    ensures { OnOk result (AppendsMembers (then_front api_version.now (fields_v1_of (shape schema.now) paths.now)) out.old out.new) }
 {
-    write_text(out, alloc, "apiVersion", api_version)?;
-    write_text(out, alloc, "fieldsType", "FieldsV1")?;
+    write_string(out, alloc, "apiVersion", api_version)?;
+    write_string(out, alloc, "fieldsType", "FieldsV1")?;
     out.name(alloc, "fieldsV1")?;
     paths.write_fields_v1(out, alloc, schema)
 }
 
-/// Writes a member that is a text, unless it is empty.
+/// Writes a member that is a string, unless it is empty.
 fn write_filled(
     out: &mut TextWriter,
     alloc: Global,
     name: &str,
     text: &str,
 ) -> Result<(), AllocError>
-    ensures { OnOk result (Appends (then_filled name.now text.now) out.old out.new) }
+    ensures { OnOk result (AppendsMembers (then_filled name.now text.now) out.old out.new) }
 {
     if text.is_empty() {
         return Ok(());
     }
-    write_text(out, alloc, name, text)
+    write_string(out, alloc, name, text)
 }
 
 /// Writes what an entry has of its manager.
 fn write_manager(out: &mut TextWriter, alloc: Global, manager: &Manager) -> Result<(), AllocError>
-    ensures { OnOk result (Appends (then_manager (manager_view manager.now)) out.old out.new) }
+    ensures { OnOk result (AppendsMembers (then_manager (manager_view manager.now)) out.old out.new) }
 {
-    write_text(out, alloc, "manager", manager.name.as_str())?;
-    write_text(out, alloc, "operation", manager.operation.text())?;
+    write_string(out, alloc, "manager", manager.name.as_str())?;
+    write_string(out, alloc, "operation", manager.operation.text())?;
     write_filled(out, alloc, "subresource", manager.subresource.as_str())
 }
 

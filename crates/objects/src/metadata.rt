@@ -3,15 +3,15 @@ ghost use Rattle.std.specs.Prelude.{◌≡◌, true, codes, false, OnOk};
 ghost use Rattle.serde_json.specs.Data.{object};
 ghost use Rattle.serde_json.specs.View.{items_view, members_view};
 ghost use Rattle.serde_json.specs.Written.{compact_text, has_float, members_have_float};
-ghost use Rattle.json_texts.specs.Writing.{with_text};
+ghost use Rattle.json_texts.specs.Writing.{AppendsMembers, with_text};
 ghost use Rattle.schema.specs.Shape.{shape};
-ghost use Rattle.objects.specs.Appended.{Appends, then_members};
-ghost use Rattle.objects.specs.InOrder.{are_below, then_entries, then_key};
+ghost use Rattle.objects.specs.Appended.{then_members};
+ghost use Rattle.objects.specs.InOrder.{are_below, then_entries, then_key_and_version};
 ghost use Rattle.objects.specs.Managers.{pairs};
 ghost use Rattle.objects.specs.ObjectText.{entry_items, metadata_of, metadata_with};
 ghost use Rattle.objects.specs.Views.{identity_of};
 
-use crate::managed_text::{write_entries, write_text};
+use crate::managed_text::{write_entries, write_string};
 use crate::managers::Entry;
 use crate::object::{Envelope, metadata_with};
 use crate::owned::Owned;
@@ -39,7 +39,7 @@ fn write_members(
     alloc: Global,
     members: &Map<String, Value>,
 ) -> Result<(), AllocError>
-    ensures { members_have_float (members_view members.now.entries) ≡ false → OnOk result (Appends (then_members (members_view members.now.entries)) out.old out.new) }
+    ensures { members_have_float (members_view members.now.entries) ≡ false → OnOk result (AppendsMembers (then_members (members_view members.now.entries)) out.old out.new) }
 {
     for (name, value) in members.iter() {
         out.name(alloc, name.as_str())?;
@@ -56,7 +56,7 @@ fn write_managed(
     api_version: &str,
     entries: &[Entry],
 ) -> Result<(), AllocError>
-    ensures { OnOk result (Appends (then_entries (entry_items (shape schema.now) api_version.now (pairs entries.now))) out.old out.new) }
+    ensures { OnOk result (AppendsMembers (then_entries (entry_items (shape schema.now) api_version.now (pairs entries.now))) out.old out.new) }
 {
     if entries.is_empty() {
         return Ok(());
@@ -66,13 +66,13 @@ fn write_managed(
 }
 
 /// Writes key and version.
-fn write_key(out: &mut TextWriter, alloc: Global, envelope: Envelope<'_>) -> Result<(), AllocError>
-    ensures { OnOk result (Appends (then_key (identity_of envelope.entry.of) envelope.entry.version) out.old out.new) }
+fn write_key_and_version(out: &mut TextWriter, alloc: Global, envelope: Envelope<'_>) -> Result<(), AllocError>
+    ensures { OnOk result (AppendsMembers (then_key_and_version (identity_of envelope.entry.of) envelope.entry.version) out.old out.new) }
 {
-    write_text(out, alloc, "name", envelope.of.name)?;
-    write_text(out, alloc, "namespace", envelope.of.namespace)?;
+    write_string(out, alloc, "name", envelope.of.name)?;
+    write_string(out, alloc, "namespace", envelope.of.namespace)?;
     let version = envelope.version.to_string(alloc)?;
-    write_text(out, alloc, "resourceVersion", version.as_str())
+    write_string(out, alloc, "resourceVersion", version.as_str())
 }
 
 /// Writes `metadata`, put together as a value.
@@ -118,7 +118,7 @@ impl Owned {
             envelope.of.api_version,
             self.managers.entries(),
         )?;
-        write_key(out, alloc, envelope)?;
+        write_key_and_version(out, alloc, envelope)?;
         out.end_object()
     }
 

@@ -2,12 +2,11 @@
 
 ghost use Rattle.std.specs.Prelude.{◌≡◌, false, true, IfOk, OnOk, string_bytes};
 ghost use Rattle.serde_json.specs.View.{members_view};
-ghost use Rattle.json_texts.specs.Writing.{with_text};
+ghost use Rattle.json_texts.specs.Writing.{AppendsMembers, with_text};
 ghost use Rattle.schema.specs.Lawful.{is_lawful, is_well_formed};
 ghost use Rattle.schema.specs.Shape.{fields_in, shape, struct_of};
 ghost use Rattle.typed.specs.Fitting.{IsContent};
 ghost use Rattle.typed.specs.Printing.{print};
-ghost use Rattle.objects.specs.Appended.{Appends};
 ghost use Rattle.objects.specs.InOrder.{then_type};
 ghost use Rattle.objects.specs.Labels.{HasLabels};
 ghost use Rattle.objects.specs.ObjectText as texts;
@@ -15,7 +14,7 @@ ghost use Rattle.objects.specs.ObjectText.{object_text};
 ghost use Rattle.objects.specs.Views.{identity_of, state_of};
 
 use crate::labels::count_labels;
-use crate::managed_text::write_text;
+use crate::managed_text::write_string;
 use crate::object::{Envelope, Identity};
 use crate::owned::Owned;
 use json_texts::TextWriter;
@@ -26,7 +25,8 @@ use std::alloc::{AllocError, Global};
 /// Room for the text of most objects.
 const ROOM: usize = 1024;
 
-/// The text of these bytes. All that is written here is a text, so the other case never occurs.
+/// The text of these bytes. Each part that is written here is UTF-8, so that they are; no contract says so, and the other
+/// case answers out of memory.
 fn text_of(bytes: Vec<u8>) -> Result<String, AllocError>
     ensures { IfOk result (λ t. string_bytes t ≡ bytes.items) }
 {
@@ -46,13 +46,13 @@ impl Owned {
         of: Identity<'_>,
     ) -> Result<(), AllocError>
         ensures { is_well_formed (struct_of (fields_in fields.now) false) ≡ true → IsContent (struct_of (fields_in fields.now) false) self.now.tree
-            → OnOk result (Appends (then_type (identity_of of.entry) (fields_in fields.now) self.now.tree) out.old out.new) }
+            → OnOk result (AppendsMembers (then_type (identity_of of.entry) (fields_in fields.now) self.now.tree) out.old out.new) }
     {
         let tree = &self.tree;
         tree.write_between(out, alloc, fields, None, Some("apiVersion"))?;
-        write_text(out, alloc, "apiVersion", of.api_version)?;
+        write_string(out, alloc, "apiVersion", of.api_version)?;
         tree.write_between(out, alloc, fields, Some("apiVersion"), Some("kind"))?;
-        write_text(out, alloc, "kind", of.kind)?;
+        write_string(out, alloc, "kind", of.kind)?;
         tree.write_between(out, alloc, fields, Some("kind"), Some("metadata"))
     }
 

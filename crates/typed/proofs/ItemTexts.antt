@@ -23,7 +23,7 @@ use Rattle.fieldpath.specs.Scalars.{ascend}
 use Rattle.typed.specs.Placed.{HasKeys, IsItem, IsSetItem}
 use Rattle.typed.specs.Printing.{keys_in, print as printed, print_fields, print_item, scalar_in, with_member}
 use Rattle.typed.specs.Rows.{FieldsFit, Fits, IsScalarElement, item_of}
-use Rattle.typed.specs.Writes.{with_value, with_values}
+use Rattle.typed.specs.Writes.{with_value, with_items}
 use Rattle.typed.proofs.ElementTexts.{key_element, scalar_same, value_element}
 use Rattle.typed.proofs.Insides.{Children, child_names, children_of, heads-names}
 use Rattle.typed.proofs.KeyFields.{AreKeys, keys_fit, keys_text}
@@ -35,7 +35,7 @@ use Rattle.typed.proofs.Rows.{all_fit}
 
 -- what is there with what is left is all, where each element that is left is one of these
 abbrev pub Wrote : (List ℕ → Type 0) → (List ℕ → Option Data) → Content → Children → Writing → Writing → Type 0
-Wrote P inner c it start out = AllByRecursion P (child_names it) × (with_values inner (child_names it) out ≡ with_values inner (heads c) start)
+Wrote P inner c it start out = AllByRecursion P (child_names it) × (with_items inner (child_names it) out ≡ with_items inner (heads c) start)
 
 module _ (P : List ℕ → Type 0) (inner : List ℕ → Option Data) (c : Content) (it left : Children) (e : String Global × PathMap) (steps : it ≡ e ∷ left) (start out : Writing) (wrote : Wrote P inner c it start out) where
   -- one that is left
@@ -45,15 +45,15 @@ module _ (P : List ℕ → Type 0) (inner : List ℕ → Option Data) (c : Conte
   pub then_wrote : (new : Writing) → new ≡ with_value (inner (string_bytes e.0)) out → Wrote P inner c left start new
   then_wrote new step = (
     (subst (λ l. AllByRecursion P (child_names l)) steps wrote.0).1,
-    ap (with_values inner (child_names left)) step ∙ sym (ap (λ l. with_values inner (child_names l) out) steps) ∙ wrote.1,
+    ap (with_items inner (child_names left)) step ∙ sym (ap (λ l. with_items inner (child_names l) out) steps) ∙ wrote.1,
   )
 
 pub first_wrote : (P : List ℕ → Type 0) (inner : List ℕ → Option Data) (c : Content) (all : Children) (start : Writing) → contents_in all ≡ children_of c → AllByRecursion P (heads c) → Wrote P inner c all start start
 first_wrote P inner c all start are each =
-    let names = heads-names c all are in (subst (AllByRecursion P) names each, ap (λ hs. with_values inner hs start) (sym names))
+    let names = heads-names c all are in (subst (AllByRecursion P) names each, ap (λ hs. with_items inner hs start) (sym names))
 
-pub all_wrote : (P : List ℕ → Type 0) (inner : List ℕ → Option Data) (c : Content) (it : Children) (start out : Writing) → it ≡ [] → Wrote P inner c it start out → out ≡ with_values inner (heads c) start
-all_wrote P inner c it start out none wrote = sym (ap (λ l. with_values inner (child_names l) out) none) ∙ wrote.1
+pub all_wrote : (P : List ℕ → Type 0) (inner : List ℕ → Option Data) (c : Content) (it : Children) (start out : Writing) → it ≡ [] → Wrote P inner c it start out → out ≡ with_items inner (heads c) start
+all_wrote P inner c it start out none wrote = sym (ap (λ l. with_items inner (child_names l) out) none) ∙ wrote.1
 
 -- ---- scalars
 

@@ -12,7 +12,7 @@ use Rattle.typed.specs.Between.{then_fields, then_member}
 use Rattle.typed.specs.Placed.{ReadsBack}
 use Rattle.typed.specs.Printing.{array_or_none, each_item, object_or_none, print as printed, with_item}
 use Rattle.typed.specs.Rows.{IsThere, then_named}
-use Rattle.typed.specs.Writes.{with_fields, with_named_pair, with_pair, with_pairs, with_value, with_values}
+use Rattle.typed.specs.Writes.{with_fields, with_named_pair, with_pair, with_pairs, with_value, with_items}
 use Rattle.typed.proofs.RoundTrip.{round}
 use Rattle.typed.proofs.Rows.{row_each, there}
 
@@ -65,7 +65,7 @@ value_closed None w rest = refl
 value_closed (Some d) w rest =
     append_assoc w.text (comma_if w.later ++ compact_text d) (items_text true rest) ∙ ap (λ x. w.text ++ x) (append_assoc (comma_if w.later) (compact_text d) (items_text true rest))
 
-values_closed : (inner : List ℕ → Option Data) (es : List (List ℕ)) (w : Writing) → closed_items no_items (with_values inner es w) ≡ closed_items (each_item inner es) w
+values_closed : (inner : List ℕ → Option Data) (es : List (List ℕ)) (w : Writing) → closed_items no_items (with_items inner es w) ≡ closed_items (each_item inner es) w
 values_closed inner [] w = refl
 values_closed inner (e ∷ es) w = values_closed inner es (with_value (inner e) w) ∙ value_closed (inner e) w (each_item inner es)
 
@@ -99,7 +99,7 @@ module _ (s : Shape) (c : Content) (is_there : IsThere s c) where
   pub object_wrote : (ms : Members) (old now : Writing) → printed s c ≡ object_or_none ms → closed no_members now ≡ closed ms (with_opening 123 old) → with_closing 125 now ≡ with_value (printed s c) old
   object_wrote ms old now is members = braced ms old now members ∙ object_there ms old is
 
-  pub array_wrote : (inner : List ℕ → Option Data) (es : List (List ℕ)) (old now : Writing) → printed s c ≡ array_or_none (each_item inner es) → now ≡ with_values inner es (with_opening 91 old)
+  pub array_wrote : (inner : List ℕ → Option Data) (es : List (List ℕ)) (old now : Writing) → printed s c ≡ array_or_none (each_item inner es) → now ≡ with_items inner es (with_opening 91 old)
       → with_closing 93 now ≡ with_value (printed s c) old
   array_wrote inner es old now is items =
       bracketed (each_item inner es) old now (ap (closed_items no_items) items ∙ values_closed inner es (with_opening 91 old)) ∙ array_there (each_item inner es) old is

@@ -1,11 +1,9 @@
 -- The members that a struct's fields are printed as, a stretch of the fields at a time (RFC 8259, section 4, "Objects").
-use Rattle.std.specs.Prelude.{◌≡◌, ℕ, Bool, true, ◌&&◌, List, ◌++◌, Option, Some, None, if◌then◌else◌}
+use Rattle.std.specs.Prelude.{ℕ, Bool, true, ◌&&◌, List, Option, Some, None, if◌then◌else◌}
 use Rattle.std.specs.Ordering.{is_lt, nat_cmp}
 use Rattle.std.specs.Cmp.Lexicographic.{slice_cmp}
 use Rattle.serde_json.specs.Data.{Data, Members, member}
-use Rattle.serde_json.specs.Written.{members_text}
 use Rattle.fieldpath.specs.Elements.{name_text}
-use Rattle.json_texts.specs.Writing.{Writing}
 use Rattle.pathmap.specs.Contents.{Content}
 use Rattle.pathmap.specs.Insides.{inside}
 use Rattle.schema.specs.Shape.{Fields, no_fields, field}
@@ -33,7 +31,3 @@ is_below (Some k) f = is_lt (slice_cmp nat_cmp f k)
 abbrev pub fields_between : Option (List ℕ) → Option (List ℕ) → Fields → Fields
 fields_between low high no_fields = no_fields
 fields_between low high (field f s more) = if is_above low f && is_below high f then field f s (fields_between low high more) else fields_between low high more
-
--- the text goes on by these members, whatever follows
-abbrev pub AppendsFields : Fields → Content → Writing → Writing → Type 0
-AppendsFields all c old new = (rest : Members) → new.text ++ members_text new.later rest ≡ old.text ++ members_text old.later (then_fields all c rest)

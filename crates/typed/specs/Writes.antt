@@ -30,9 +30,9 @@ with_pairs inner [] w = w
 with_pairs inner (e ∷ es) w = with_pairs inner es (with_named_pair (field_name e) (inner e) w)
 
 -- an item for each element
-abbrev pub with_values : (List ℕ → Option Data) → List (List ℕ) → Writing → Writing
-with_values inner [] w = w
-with_values inner (e ∷ es) w = with_values inner es (with_value (inner e) w)
+abbrev pub with_items : (List ℕ → Option Data) → List (List ℕ) → Writing → Writing
+with_items inner [] w = w
+with_items inner (e ∷ es) w = with_items inner es (with_value (inner e) w)
 
 -- a member for each field
 abbrev pub with_fields : Fields → Content → Writing → Writing

@@ -6,10 +6,11 @@ ghost use Rattle.pathmap.specs.Insides.{inside};
 ghost use Rattle.serde_json.specs.View.{view};
 ghost use Rattle.json.specs.Value.{value_view};
 ghost use Rattle.json_texts.specs.InOrder.{data_of, is_ordered};
+ghost use Rattle.json_texts.specs.Writing.{AppendsMembers};
 ghost use Rattle.schema.specs.Lawful.{is_well_formed};
 ghost use Rattle.schema.specs.Shape.{fields_in, shape, shape_at, struct_of};
 ghost use Rattle.typed.specs.Fitting.{IsContent};
-ghost use Rattle.typed.specs.Between.{AppendsFields, fields_between};
+ghost use Rattle.typed.specs.Between.{fields_between, then_fields};
 ghost use Rattle.typed.specs.Printing.{print};
 ghost use Rattle.pathmap.specs.Contents.{nothing, over};
 ghost use Rattle.pathmap.specs.Maps.{content};
@@ -173,7 +174,7 @@ impl Tree {
         high: Option<&str>,
     ) -> Result<(), AllocError>
         ensures { is_well_formed (struct_of (fields_in fields.now) false) ≡ true → IsContent (struct_of (fields_in fields.now) false) self.now
-            → OnOk result (AppendsFields (fields_between (option_map (λ b. b.now) low.entry) (option_map (λ b. b.now) high.entry) (fields_in fields.now)) self.now out.old out.new) }
+            → OnOk result (AppendsMembers (then_fields (fields_between (option_map (λ b. b.now) low.entry) (option_map (λ b. b.now) high.entry) (fields_in fields.now)) self.now) out.old out.new) }
     {
         write_fields(fields, alloc, low, high, &self.map, out)
     }

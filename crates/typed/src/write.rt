@@ -10,7 +10,7 @@ ghost use Rattle.json_texts.specs.Writing.{with_text};
 ghost use Rattle.typed.specs.Between.{fields_between};
 ghost use Rattle.typed.specs.Printing.{print, print_fields, print_item};
 ghost use Rattle.typed.specs.Rows.{AllFit, EachFits, FieldsFit, FitBesideKey, Fits, IsThere, item_of};
-ghost use Rattle.typed.specs.Writes.{with_fields, with_pair, with_pairs, with_value, with_values};
+ghost use Rattle.typed.specs.Writes.{with_fields, with_pair, with_pairs, with_value, with_items};
 
 use crate::bounds::is_between;
 use crate::print::print_list;
@@ -73,7 +73,7 @@ fn write_items(
     out: &mut TextWriter,
 ) -> Result<(), AllocError>
     ensures { Fits (list_of (shape inner.now) (keyed (name.now ∷ []))) (content map.now)
-        → OnOk result (out.new ≡ with_values (item_of (shape inner.now) (content map.now)) (heads (content map.now)) out.old) }
+        → OnOk result (out.new ≡ with_items (item_of (shape inner.now) (content map.now)) (heads (content map.now)) out.old) }
 {
     let children = map.children();
     for (element, below) in children {
@@ -100,7 +100,7 @@ fn write_item(
 {
     match inner {
         Schema::Struct(fields, _) => write_object(fields, alloc, name, keys, below, out),
-        _ => out.text(alloc, keys.as_bytes()),
+        _ => out.raw(alloc, keys.as_bytes()),
     }
 }
 
@@ -119,11 +119,11 @@ fn write_object(
         → OnOk result (out.new ≡ with_text (compact_text (object (print_fields (fields_in fields.now) (content below.now) (member name.now d no_members)))) out.old) }
 {
     if below.children().len() == 0 {
-        return out.text(alloc, keys.as_bytes());
+        return out.raw(alloc, keys.as_bytes());
     }
     out.begin_object(alloc)?;
     write_fields(fields, alloc, None, Some(name), below, out)?;
-    out.text(alloc, within_braces(keys.as_bytes()))?;
+    out.raw(alloc, within_braces(keys.as_bytes()))?;
     write_fields(fields, alloc, Some(name), None, below, out)?;
     out.end_object()
 }
@@ -143,7 +143,7 @@ fn write_member(
         return Ok(());
     }
     out.name(alloc, name)?;
-    write_map(inner, alloc, below, out)
+    write_content(inner, alloc, below, out)
 }
 
 /// Appends a member for each field in which something stands, of those whose names lie between two others.
@@ -212,7 +212,7 @@ fn write_struct(
 }
 
 #[cycle(write)]
-fn write_values(
+fn write_map_of(
     inner: &Schema,
     alloc: Global,
     is_atomic: bool,
@@ -232,7 +232,7 @@ fn write_values(
 
 /// Appends a content in which something stands.
 #[cycle(write)]
-fn write_map(
+fn write_content(
     schema: &Schema,
     alloc: Global,
     map: &PathMap,
@@ -242,7 +242,7 @@ fn write_map(
 {
     match schema {
         Schema::Struct(fields, is_atomic) => write_struct(fields, alloc, *is_atomic, map, out),
-        Schema::MapOf(inner, is_atomic) => write_values(inner, alloc, *is_atomic, map, out),
+        Schema::MapOf(inner, is_atomic) => write_map_of(inner, alloc, *is_atomic, map, out),
         Schema::List(inner, kind) => write_list(inner, alloc, kind, map, out),
         Schema::Text | Schema::Whole | Schema::Truth => push_top(map, alloc, out),
     }

@@ -6,7 +6,7 @@ ghost use Rattle.pathmap.specs.Maps.{content};
 ghost use Rattle.schema.specs.Shape.{Shape, list_of, set};
 ghost use Rattle.typed.specs.Printing.{print, scalar_in};
 ghost use Rattle.typed.specs.Rows.{IsScalarElement, IsThere};
-ghost use Rattle.typed.specs.Writes.{with_value, with_values};
+ghost use Rattle.typed.specs.Writes.{with_value, with_items};
 
 use fieldpath::ElemText;
 use json_texts::TextWriter;
@@ -18,14 +18,14 @@ fn push_scalar(out: &mut TextWriter, alloc: Global, element: &ElemText) -> Resul
     ensures { IsScalarElement (string_bytes element.now) → OnOk result (out.new ≡ with_value (scalar_in (string_bytes element.now)) out.old) }
 {
     match element.scalar_json() {
-        Some(text) => out.text(alloc, text.as_bytes()),
+        Some(text) => out.raw(alloc, text.as_bytes()),
         None => Ok(()),
     }
 }
 
 /// Appends the items of a set.
 fn push_scalars(map: &PathMap, alloc: Global, out: &mut TextWriter) -> Result<(), AllocError>
-    ensures { AllByRecursion IsScalarElement (heads (content map.now)) → OnOk result (out.new ≡ with_values scalar_in (heads (content map.now)) out.old) }
+    ensures { AllByRecursion IsScalarElement (heads (content map.now)) → OnOk result (out.new ≡ with_items scalar_in (heads (content map.now)) out.old) }
 {
     let children = map.children();
     for (element, _) in children {

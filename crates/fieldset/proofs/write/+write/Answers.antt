@@ -9,7 +9,8 @@ use Rattle.schema.specs.Shape.{shape}
 use Rattle.serde_json.specs.Data.{object}
 use Rattle.serde_json.specs.Written.{compact_text, members_text}
 use Rattle.fieldset.specs.Below.{as_item, members_some, members_under, shape_below}
-use Rattle.fieldset.proofs.Appended.{child_written, closed, opened}
+use Rattle.json_texts.proofs.Appended.{closed, opened}
+use Rattle.fieldset.proofs.Appended.{child_written}
 use Rattle.fieldset.proofs.Walks.{children_all, each_child, held_marks, marks_in, members-each}
 use Rattle.fieldset.proofs.write.+write.Goals as goal
 

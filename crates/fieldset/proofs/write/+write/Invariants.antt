@@ -4,7 +4,7 @@ use Rattle.pathmap.specs.Maps.{contents_in}
 use Rattle.schema.specs.Shape.{shape}
 use Rattle.serde_json.specs.Data.{object}
 use Rattle.fieldset.specs.Below.{members_under}
-use Rattle.fieldset.proofs.Appended.{AreLeft}
+use Rattle.json_texts.proofs.Appended.{AreLeft}
 use Rattle.fieldset.proofs.Walks.{each_child}
 use Rattle.fieldset.proofs.write.+write.Given as goal
 

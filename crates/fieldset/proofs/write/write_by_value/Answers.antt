@@ -16,4 +16,4 @@ returns c =
     let whole = marks_in c.args.map.now in
     let old = c.args.out.now in
     let members = c.in_ok-put_as_item.ensures ∙ ap₂ (as_item s) (c.is_some.ensures ∙ sym (held_marks c.args.map.now c.held.result c.held.ensures)) (c.in_ok-all.ensures ∙ ap (λ o. members_some o whole) c.schema_below.ensures) in
-    on_ok_weaker c.write_object.result (λ written. written (ap members_have_float members ∙ under_clean s k whole) ∙ ap (λ ms. with_text (compact_text (object ms)) old) members) c.write_object.ensures
+    on_ok_weaker c.object.result (λ written. written (ap members_have_float members ∙ under_clean s k whole) ∙ ap (λ ms. with_text (compact_text (object ms)) old) members) c.object.ensures

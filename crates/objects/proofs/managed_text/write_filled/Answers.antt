@@ -9,5 +9,5 @@ returns-then-is_empty c = λ rest. ap (λ ms. c.args.out.now.text ++ members_tex
 
 pub returns : goal.returns
 returns c =
-    on_ok_weaker c.write_text.result (λ written rest. written rest
-    ∙ ap (λ ms. c.args.out.now.text ++ members_text c.args.out.now.later ms) (sym (filled_some c.args.name.now c.args.text.now rest (sym c.is_empty.ensures ∙ c.if-is_empty.false)))) c.write_text.ensures
+    on_ok_weaker c.write_string.result (λ written rest. written rest
+    ∙ ap (λ ms. c.args.out.now.text ++ members_text c.args.out.now.later ms) (sym (filled_some c.args.name.now c.args.text.now rest (sym c.is_empty.ensures ∙ c.if-is_empty.false)))) c.write_string.ensures

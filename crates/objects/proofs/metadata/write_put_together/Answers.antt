@@ -9,4 +9,4 @@ use Rattle.objects.proofs.metadata.write_put_together.Goals as goal
 pub returns : goal.returns
 returns c = λ clean.
     let is = view-Object c.in_ok-metadata.metadata ∙ ap object c.in_ok-metadata.ensures in
-    on_ok_weaker c.value.result (λ written. written ∙ ap (λ d. with_text (compact_text d) c.args.out.now) is) (c.value.ensures (ap has_float is ∙ clean))
+    on_ok_weaker c.value.result (λ written. written (ap has_float is ∙ clean) ∙ ap (λ d. with_text (compact_text d) c.args.out.now) is) c.value.ensures

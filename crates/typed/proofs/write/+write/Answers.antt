@@ -12,7 +12,7 @@ use Rattle.serde_json.specs.Written.{compact_text}
 use Rattle.typed.specs.Between.{fields_between, is_above, is_below}
 use Rattle.typed.specs.Printing.{print, print_item, value_at}
 use Rattle.typed.specs.Rows.{FieldsFit, Fits, HasNoFloat, IsThere, item_of}
-use Rattle.typed.specs.Writes.{with_fields, with_pair, with_pairs, with_value, with_values}
+use Rattle.typed.specs.Writes.{with_fields, with_pair, with_pairs, with_value, with_items}
 use Rattle.typed.proofs.Insides.{child_names, children-inside, heads-names}
 use Rattle.typed.proofs.ItemTexts.{ItemFits, all_items, first_left, first_wrote, item_skipped, item_wrote, no_fields_below, none_left, then_wrote}
 use Rattle.typed.proofs.ItemTexts as items
@@ -40,7 +40,7 @@ pub write_keyed-returns : goal.write_keyed-returns
 write_keyed-returns t c = λ there.
     let s = shape c.args.inner.now in
     let whole = content c.args.map.now in
-    let wrote = c.in_ok-write_items.ensures there.0 ∙ ap (with_values (item_of s whole) (heads whole)) c.in_ok-begin_array.ensures in
+    let wrote = c.in_ok-write_items.ensures there.0 ∙ ap (with_items (item_of s whole) (heads whole)) c.in_ok-begin_array.ensures in
     weaker c.end_array.result (λ closed. closed ∙ array_wrote (list_of s (keyed (c.args.name.now ∷ []))) whole there (item_of s whole) (heads whole) c.args.out.now c.write_items.new.out refl wrote) c.end_array.ensures
 
 pub write_items-loop-element-init : goal.write_items-loop-element-init
@@ -114,7 +114,7 @@ write_object-returns-then-children-eq0 t c = λ d is fit.
     let below = content c.args.below.now in
     let alone = no_fields_below (fields_in c.args.fields.now) below c.children.result.now (member c.args.name.now d no_members) c.children.ensures (none_left c.children.result.now c.if-children-eq0.true) in
     let whole = c.as_bytes.ensures.value ∙ is ∙ ap (λ ms. compact_text (object ms)) (sym alone) in
-    weaker c.text.result (λ wrote. wrote ∙ ap (λ t. with_text t c.args.out.now) whole) c.text.ensures
+    weaker c.raw.result (λ wrote. wrote ∙ ap (λ t. with_text t c.args.out.now) whole) c.raw.ensures
 
 pub write_object-returns : goal.write_object-returns
 write_object-returns t c = λ d is fit.
@@ -123,9 +123,9 @@ write_object-returns t c = λ d is fit.
     let below = content c.args.below.now in
     let lower = c.in_ok-write_fields.ensures fit.0 ∙ ap (with_fields (fields_between None (Some n) all) below) c.in_ok-begin_object.ensures in
     let within = c.within_braces.ensures (quoted n ++ 58 ∷ compact_text d) (c.as_bytes-2.ensures.value ∙ member_within n c.args.keys.now d is) in
-    let key = c.in_ok-text.ensures ∙ ap (λ t. with_text t c.write_fields.new.out) within in
+    let key = c.in_ok-raw.ensures ∙ ap (λ t. with_text t c.write_fields.new.out) within in
     weaker c.end_object.result
-    (λ closed. closed ∙ key_wrote n d all below c.args.out.now c.write_fields.new.out c.text-2.new.self c.write_fields-2.new.out fit lower key (c.in_ok-write_fields-2.ensures fit.0))
+    (λ closed. closed ∙ key_wrote n d all below c.args.out.now c.write_fields.new.out c.raw-2.new.self c.write_fields-2.new.out fit lower key (c.in_ok-write_fields-2.ensures fit.0))
     c.end_object.ensures
 
 pub write_member-returns-then-is_bare : goal.write_member-returns-then-is_bare
@@ -136,7 +136,7 @@ write_member-returns t c = λ fits.
     let s = shape c.args.inner.now in
     let below = content c.args.below.now in
     let there : IsThere s below = (fits, λ bare. true≢false (sym (c.is_bare.ensures.1 bare) ∙ c.if-is_bare.false)) in
-    weaker c.write_map.result (λ wrote. wrote ∙ ap (with_value (print s below)) c.in_ok-name.ensures ∙ pair_wrote s below there c.args.name.now c.args.out.now) (c.write_map.ensures there)
+    weaker c.write_content.result (λ wrote. wrote ∙ ap (with_value (print s below)) c.in_ok-name.ensures ∙ pair_wrote s below there c.args.name.now c.args.out.now) (c.write_content.ensures there)
 
 pub write_fields-loop-name-preserved : goal.write_fields-loop-name-preserved
 write_fields-loop-name-preserved t c =
@@ -243,28 +243,28 @@ write_struct-returns t c = λ there.
     let wrote = c.in_ok-write_fields.ensures (struct_fits all c.args.is_atomic whole c.if-is_atomic.false there.0) ∙ ap (with_fields (fields_between None None all) whole) c.in_ok-begin_object.ensures in
     weaker c.end_object.result (λ closed. closed ∙ struct_wrote all c.args.is_atomic whole c.args.out.now c.write_fields.new.out c.if-is_atomic.false there wrote) c.end_object.ensures
 
-pub write_values-returns-then-is_atomic : goal.write_values-returns-then-is_atomic
-write_values-returns-then-is_atomic t c = λ there.
+pub write_map_of-returns-then-is_atomic : goal.write_map_of-returns-then-is_atomic
+write_map_of-returns-then-is_atomic t c = λ there.
     let s = shape c.args.inner.now in
     let whole = content c.args.map.now in
     let top = map_top s c.args.is_atomic whole c.if-is_atomic.true in
     subst (λ o. OnOk c.push_top.result (c.push_top.new.out ≡ with_value o c.args.out.now)) top (c.push_top.ensures (fits_writable (map_of s c.args.is_atomic) whole top there.0))
 
-pub write_values-returns : goal.write_values-returns
-write_values-returns t c = λ there.
+pub write_map_of-returns : goal.write_map_of-returns
+write_map_of-returns t c = λ there.
     let s = shape c.args.inner.now in
     let whole = content c.args.map.now in
     let wrote = c.in_ok-write_children.ensures (values_fit s c.args.is_atomic whole c.if-is_atomic.false there.0) ∙ ap (with_pairs (λ e. print s (inside e whole)) (heads whole)) c.in_ok-begin_object.ensures in
     weaker c.end_object.result (λ closed. closed ∙ values_wrote s c.args.is_atomic whole c.args.out.now c.write_children.new.out c.if-is_atomic.false there wrote) c.end_object.ensures
 
-pub write_map-returns-in-Struct : goal.write_map-returns-in-Struct
-write_map-returns-in-Struct t c =
+pub write_content-returns-in-Struct : goal.write_content-returns-in-Struct
+write_content-returns-in-Struct t c =
     let whole = content c.args.map.now in
     let same = ap shape c.in-Struct.is ∙ shape-Struct c.in-Struct.fields c.in-Struct.is_atomic ∙ ap (λ fs. struct_of (fields_in fs) c.in-Struct.is_atomic) (sym c.deref.ensures.value) in
     subst (λ s. IsThere s whole → OnOk c.write_struct.result (c.write_struct.new.out ≡ with_value (print s whole) c.args.out.now)) (sym same) c.write_struct.ensures
 
-pub write_map-returns-in-Text : goal.write_map-returns-in-Text
-write_map-returns-in-Text t c = λ there.
+pub write_content-returns-in-Text : goal.write_content-returns-in-Text
+write_content-returns-in-Text t c = λ there.
     let whole = content c.args.map.now in
     let top = scalar_top c.args.schema.now whole c.in-Text.is in
     subst (λ o. OnOk c.push_top.result (c.push_top.new.out ≡ with_value o c.args.out.now)) top (c.push_top.ensures (fits_writable (shape c.args.schema.now) whole top there.0))

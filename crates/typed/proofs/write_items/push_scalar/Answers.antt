@@ -7,4 +7,4 @@ use Rattle.typed.proofs.write_items.push_scalar.Goals as goal
 pub returns-in-Some : goal.returns-in-Some
 returns-in-Some c = λ is_scalar.
     let has = sym c.scalar_json.ensures ∙ ap (option_map (λ s. s.now)) c.in-Some.is in
-    weaker c.text.result (λ wrote. wrote ∙ ap (λ t. with_text t c.args.out.now) c.as_bytes.ensures.value ∙ scalar_wrote (string_bytes c.args.element.now) c.in-Some.text.now c.args.out.now is_scalar has) c.text.ensures
+    weaker c.raw.result (λ wrote. wrote ∙ ap (λ t. with_text t c.args.out.now) c.as_bytes.ensures.value ∙ scalar_wrote (string_bytes c.args.element.now) c.in-Some.text.now c.args.out.now is_scalar has) c.raw.ensures

@@ -15,5 +15,5 @@ returns c = λ formed content.
     let below_metadata = then_fields (fields_between (Some (codes "kind")) (Some (codes "metadata")) all) whole rest in
     let from_kind = member (codes "kind") (string of.kind) below_metadata in
     let below_kind = then_fields (fields_between (Some (codes "apiVersion")) (Some (codes "kind")) all) whole from_kind in
-    last rest ∙ c.in_ok-write_text-2.ensures below_metadata ∙ c.in_ok-write_between-2.ensures formed content from_kind ∙ c.in_ok-write_text.ensures below_kind
+    last rest ∙ c.in_ok-write_string-2.ensures below_metadata ∙ c.in_ok-write_between-2.ensures formed content from_kind ∙ c.in_ok-write_string.ensures below_kind
     ∙ c.in_ok-write_between.ensures formed content (member (codes "apiVersion") (string of.api_version) below_kind)) (c.write_between-3.ensures formed content)

@@ -13,4 +13,4 @@ unfolding object_text
 returns c = λ lawful content.
     let is = c.in_ok-value.ensures in
     let clean = ap has_float is ∙ (value_textual (shape c.args.schema.now) lawful (identity_of c.args.envelope.of) c.args.envelope.version (state_of c.args.self.now) content).1 in
-    on_ok_weaker c.value.result (λ written. written ∙ ap (λ d. with_text (compact_text d) c.args.out.now) is) (c.value.ensures clean)
+    on_ok_weaker c.value.result (λ written. written clean ∙ ap (λ d. with_text (compact_text d) c.args.out.now) is) c.value.ensures

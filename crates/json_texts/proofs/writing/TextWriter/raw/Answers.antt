@@ -6,7 +6,7 @@ use Rattle.serde_json.specs.Data as json
 use Rattle.serde_json.specs.Written.{comma_if, compact_text}
 use Rattle.json_texts.specs.Writing.{Follows, Writing, blank, bytes_of, with_closing, with_name, with_opening, with_text}
 use Rattle.json_texts.proofs.Tokens.{begun, ended, ended_none, no_tokens, weaker}
-use Rattle.json_texts.proofs.writing.TextWriter.text.Goals as goal
+use Rattle.json_texts.proofs.writing.TextWriter.raw.Goals as goal
 
 pub returns : goal.returns
 returns c = weaker c.append.result (λ is. (λ i. record { text = is i; later = true }) ∙ ap (with_text c.args.text.now) c.self.view_is) c.append.ensures.bytes
