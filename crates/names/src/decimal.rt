@@ -7,7 +7,7 @@ ghost use Rattle.std.specs.List.{list_all};
 ghost use Rattle.names.specs.Decimals.{IsDecimalOf, is_decimal, decimal_up_to, version_of};
 
 /// The highest version that a text can name: the highest 64-bit signed integer.
-pub const LAST_VERSION: u64 = 9223372036854775807;
+pub const LAST_VERSION: u64 = i64::MAX as u64;
 
 fn has_digits(text: &str) -> bool
     ensures { result ≡ list_all is_ascii_digit text.now }

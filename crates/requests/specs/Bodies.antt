@@ -1,13 +1,16 @@
 -- The body of a request by its length (RFC 9112, section 6.3), and the parts of its request target (section 3.2.1).
 -- A length is needed where a body is (RFC 9110, section 15.5.12), and no transfer coding is served (RFC 9112, section 6.1).
-use Rattle.std.specs.Prelude.{ℕ, Bool, true, false, ◌&&◌, ◌||◌, ◌==◌, not, nat_lt, if◌then◌else◌, List, length, take, Option, Some, None, codes}
+use Rattle.std.specs.Prelude.{ℕ, Bool, true, false, ◌&&◌, ◌==◌, not, nat_lt, if◌then◌else◌, List, length, take, Option, Some, None}
 use Rattle.std.specs.List.{before_first, after_first}
-use Rattle.std.specs.Str.{bytes_eq, is_utf8}
+use Rattle.std.specs.Str.{is_utf8}
 use Rattle.serde_json.specs.Data.{Data}
 use Rattle.serde_json.specs.Read.{read}
 use Rattle.std.specs.declared.result.Result.{Result}
 use Rattle.std.specs.declared.result.Result.TheVariants.{Ok, Err}
+use Rattle.verbs.specs.Admit.{method_named}
 use Rattle.verbs.specs.Calls.{Denied}
+use Rattle.verbs.specs.declared.method.Method.{Method}
+use Rattle.verbs.specs.declared.method.Method.TheVariants.{Get, Post, Put, Patch, Delete}
 use Rattle.requests.specs.Decision.{Decision, undecided, accepted, and_then, decided_by}
 use Rattle.requests.specs.Refusals.{transfer_encoding, no_length, bad_length, body_too_large, not_json, as_denied, refuse}
 use Rattle.requests.specs.Heads.{Length, missing, malformed, number, Request}
@@ -17,11 +20,27 @@ abbrev pub max_body : ℕ
 max_body = 65536
 
 -- a body is read by POST, PUT, PATCH and DELETE; only DELETE may go without
+abbrev pub writes_by_body : Option Method → Bool
+writes_by_body None = false
+writes_by_body (Some Get) = false
+writes_by_body (Some Post) = true
+writes_by_body (Some Put) = true
+writes_by_body (Some Patch) = true
+writes_by_body (Some Delete) = false
+
+abbrev pub deletes : Option Method → Bool
+deletes None = false
+deletes (Some Get) = false
+deletes (Some Post) = false
+deletes (Some Put) = false
+deletes (Some Patch) = false
+deletes (Some Delete) = true
+
 abbrev pub needs_body : List ℕ → Bool
-needs_body method = bytes_eq method (codes "POST") || bytes_eq method (codes "PUT") || bytes_eq method (codes "PATCH")
+needs_body method = writes_by_body (method_named method)
 
 abbrev pub may_have_body : List ℕ → Bool
-may_have_body method = bytes_eq method (codes "DELETE")
+may_have_body method = deletes (method_named method)
 
 -- the value that these bytes are as JSON
 abbrev pub json_in : List ℕ → Option Data

@@ -10,7 +10,7 @@ use crate::decision::Decision;
 use crate::head::{Head, Length};
 use crate::refusal::Refusal;
 use std::alloc::{AllocError, Global};
-use verbs::{Body, Denied};
+use verbs::{Body, Denied, Method};
 use wire::decimal_value;
 
 pub(crate) const MAX_BODY: usize = 65_536;
@@ -18,13 +18,13 @@ pub(crate) const MAX_BODY: usize = 65_536;
 fn needs_body(method: &str) -> bool
     ensures { result ≡ needs_body method.now }
 {
-    method == "POST" || method == "PUT" || method == "PATCH"
+    matches!(Method::named(method), Some(Method::Post | Method::Put | Method::Patch))
 }
 
 pub(crate) fn may_have_body(method: &str) -> bool
     ensures { result ≡ may_have_body method.now }
 {
-    method == "DELETE"
+    matches!(Method::named(method), Some(Method::Delete))
 }
 
 fn json_in(alloc: Global, bytes: &[u8]) -> Result<Decision<Option<Body>>, AllocError>

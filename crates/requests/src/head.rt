@@ -15,7 +15,9 @@ use crate::head_end::end_of;
 use crate::refusal::Refusal;
 use httparse::Status;
 use httparse::spans::{EMPTY_HEADER_SPAN, HeaderSpan, RequestSpans, parse_request};
-use wire::{MAX_FIELDS, MAX_HEAD, has_name, is_length};
+use wire::{
+    MAX_FIELDS, MAX_HEAD, has_name, is_content_length, is_length, is_transfer_encoding,
+};
 
 /// More fields than a head of 16,384 bytes can hold.
 const ROOM: usize = 5_462;
@@ -74,7 +76,7 @@ fn is_transfer_encoded(head: &[u8], fields: &[HeaderSpan]) -> bool
     ensures { result ≡ is_transfer_encoded (map (header_bytes head.now) fields.now) }
 {
     for field in fields {
-        if has_name(head, field, b"transfer-encoding") {
+        if is_transfer_encoding(head, field) {
             return true;
         }
     }
@@ -142,7 +144,7 @@ fn length_of<'b>(head: &'b [u8], fields: &[HeaderSpan]) -> Length<'b>
 {
     let mut length = Length::Missing;
     for field in fields {
-        if has_name(head, field, b"content-length") {
+        if is_content_length(head, field) {
             length = agreed(length, length_said(field.value.of(head)));
         }
     }

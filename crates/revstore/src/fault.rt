@@ -3,11 +3,18 @@
 use revtable::Fault;
 use thiserror::Error;
 
+/// The message where the highest revision is taken.
+pub const REVISIONS_USED_UP: &str = "revisions are used up";
+
+const COMPACTED: &str = "the revision is compacted";
+
+const STILL_TO_COME: &str = "the revision is past the current one";
+
 /// Why a change was not written.
 #[derive(Debug, Drop, Error)]
 pub enum WriteFault {
     /// The highest revision, 9223372036854775807, is taken.
-    #[error("revisions are used up")]
+    #[error("{}", REVISIONS_USED_UP)]
     Exhausted,
     /// The table failed.
     #[error("{0}")]
@@ -29,10 +36,10 @@ impl From<Fault> for WriteFault {
 #[derive(Debug, Drop, Error)]
 pub enum ListFault {
     /// The revision is below the compacted number.
-    #[error("the revision is compacted")]
+    #[error("{}", COMPACTED)]
     Expired,
     /// The revision is past the current one.
-    #[error("the revision is past the current one")]
+    #[error("{}", STILL_TO_COME)]
     TooLarge,
     /// The table failed.
     #[error("{0}")]
@@ -54,7 +61,7 @@ impl From<Fault> for ListFault {
 #[derive(Debug, Drop, Error)]
 pub enum ChangesFault {
     /// The revision is below the compacted number.
-    #[error("the revision is compacted")]
+    #[error("{}", COMPACTED)]
     Expired,
     /// The table failed.
     #[error("{0}")]
@@ -76,10 +83,10 @@ impl From<Fault> for ChangesFault {
 #[derive(Debug, Drop, Error)]
 pub enum CompactFault {
     /// The revision is below the compacted number.
-    #[error("the revision is compacted already")]
+    #[error("{} already", COMPACTED)]
     Expired,
     /// The revision is past the current one.
-    #[error("the revision is past the current one")]
+    #[error("{}", STILL_TO_COME)]
     TooLarge,
     /// The table failed.
     #[error("{0}")]

@@ -8,5 +8,5 @@
 mod fault;
 mod store;
 
-pub use fault::{ChangesFault, CompactFault, ListFault, WriteFault};
+pub use fault::{ChangesFault, CompactFault, ListFault, REVISIONS_USED_UP, WriteFault};
 pub use store::Store;

@@ -139,7 +139,7 @@ at_path t k method = record { served = t; namespace = k.namespace; name = Some k
 abbrev pub revisions_left : ℕ → Validated (Unit {0})
 revisions_left current = require (nat_lt current last_revision) ServiceUnavailable (codes "revisions are used up")
 
--- the plan that stores the object of this value, unless it is too large or revisions are used up
+-- the plan that stores the object of this value, unless it is too large, has too many labels, or revisions are used up
 abbrev pub store_text : Data → ℕ → Key → ℕ → Validated Plan
 store_text body current k status =
     and_then (size_validated body) (λ u.
@@ -164,7 +164,7 @@ store_unless_same t current k (Some o) s = if same_state s (state_said t.shape o
 
 -- ---- apply
 
--- version, ownership, whether anything changes, size, revisions left
+-- version, ownership, whether anything changes, labels and size, revisions left
 abbrev pub applied_over : ServedShape → ℕ → Key → Option Object → Intent → Validated Plan
 applied_over t current k live intent =
     and_then (version_checked intent.version live) (λ u.
@@ -275,7 +275,7 @@ abbrev pub create_validated : ServedShape → ℕ → Objects → ℕ → List �
 create_validated t current objects kind namespace query body =
     and_then (creation_validated t kind namespace query body) (λ c. created_as t current (fin.get objects c.key) c.key c.intent)
 
--- object there or not, version, whether anything changes, size, revisions left
+-- object there or not, version, whether anything changes, labels and size, revisions left
 abbrev pub updated_over : ServedShape → ℕ → Key → Option Object → Intent → Validated Plan
 updated_over t current k live intent =
     and_then (there t k.name live) (λ o.

@@ -2,16 +2,17 @@
 //! in `updating`.
 
 ghost use Rattle.std.specs.Prelude.{IfOk};
-ghost use Rattle.serde_json.specs.View.{view};
 ghost use Rattle.typed.specs.Fitting.{IsContent};
 ghost use Rattle.verbs.specs.Live.{IsLive, object_in};
 ghost use Rattle.verbs.specs.Subject.{IsSubject, type_of};
-ghost use Rattle.verbs.specs.Json.{IsJson};
 ghost use Rattle.history.specs.Read.{key_of};
-ghost use Rattle.verbs.specs.Seen.{Gives, intent_seen};
-ghost use Rattle.verbs.specs.Step.{applied_over, apply_validated};
+ghost use Rattle.verbs.specs.Seen.{Gives, call_of, intent_seen};
+ghost use Rattle.verbs.specs.Step.{applied_over, apply_validated, body_of};
+ghost use Rattle.verbs.specs.Validated.{and_then};
 ghost use Rattle.verbs.specs.WritePlans.{RemembersRight, written_plan};
 
+use crate::answering::body_of;
+use crate::calls::Call;
 use crate::conflicts::applied;
 use crate::fault::CallError;
 use crate::intent::{Intent, at_path, intent_of};
@@ -22,10 +23,9 @@ use crate::storing::{check_version, store_unless_same};
 use crate::subject::Subject;
 use crate::write_plan::WritePlan;
 use params::Asked;
-use serde_json::Value;
 use std::alloc::Global;
 
-/// Checks, in order: version, ownership, whether anything changes, size, revisions left.
+/// Checks, in order: version, ownership, whether anything changes, labels and size, revisions left.
 fn applied_over(
     alloc: Global,
     of: Subject<'_>,
@@ -56,22 +56,23 @@ fn applied_over(
     store_unless_same(alloc, of, live, owned)
 }
 
-/// An apply's body over what stands.
+/// An apply of a call's body over what stands. Checks, in order: what any body says (`intent_of`), names, and those over what
+/// stands.
 pub(crate) fn validate_apply(
     alloc: Global,
     of: Subject<'_>,
     live: &Live,
-    query: &[u8],
-    body: &Value,
+    call: &Call,
 ) -> Result<WritePlan, CallError>
     requires subject { IsSubject of }
-    requires json { IsJson (view body.now) }
     requires live { IsLive (type_of of) live.now }
-    ensures plan { Gives written_plan result (apply_validated (type_of of.entry) of.entry.current (object_in live.now) (key_of of.entry.key) query.now (view body.now)) }
+    ensures plan { let c = call_of call.now in
+        Gives written_plan result (and_then (body_of c.body) (apply_validated (type_of of.entry) of.entry.current (object_in live.now) (key_of of.entry.key) c.query)) }
     ensures right { IfOk result (RemembersRight (type_of of.entry)) }
 {
+    let body = body_of(alloc, call)?;
     let expected = at_path(of.served, &of.key, Method::Patch);
-    let intent = intent_of(alloc, expected, Asked::Apply, query, body)?;
+    let intent = intent_of(alloc, expected, Asked::Apply, &call.query, body)?;
     validate_names(
         alloc,
         of.key.namespace.as_str(),

@@ -1,6 +1,6 @@
 //! Deletions (Kubernetes docs, "Kubernetes API Concepts", "Resource deletion"). The body of one is read in `options`.
 
-ghost use Rattle.std.specs.Prelude.{◌≡◌, ◌<◌, IfOk, option_map};
+ghost use Rattle.std.specs.Prelude.{◌≡◌, ◌<◌, IfOk};
 ghost use Rattle.typed.specs.Fitting.{IsContent};
 ghost use Rattle.history.specs.History.{last_revision};
 ghost use Rattle.schema.specs.ObjectShape.{IsObjectShape};
@@ -9,11 +9,10 @@ ghost use Rattle.verbs.specs.Live.{IsLive, object_in};
 ghost use Rattle.verbs.specs.Machine.{state_said};
 ghost use Rattle.verbs.specs.Subject.{IsSubject, type_of};
 ghost use Rattle.history.specs.Read.{key_of};
-ghost use Rattle.verbs.specs.Seen.{Gives, body_seen, object_of, plan_of};
+ghost use Rattle.verbs.specs.Seen.{Gives, call_of, object_of, plan_of};
 ghost use Rattle.verbs.specs.Step.{delete_validated, deleted, deleted_over};
 
-use crate::body::Body;
-use crate::calls::{Answer, Plan};
+use crate::calls::{Answer, Call, Plan};
 use crate::change::Change;
 use crate::fault::CallError;
 use crate::live::Live;
@@ -69,19 +68,19 @@ fn deleted_over(
     Ok(deleted(alloc, of, stored, &live.state)?)
 }
 
-/// Checks, in order: the body's options, parameters.
+/// Checks, in order: the body's options, parameters, and those over what stands.
 pub(crate) fn validate_delete(
     alloc: Global,
     of: Subject<'_>,
     live: &Live,
-    query: &[u8],
-    body: Option<&Body>,
+    call: &Call,
 ) -> Result<Plan, CallError>
     requires subject { IsSubject of }
     requires live { IsLive (type_of of) live.now }
-    ensures { Gives plan_of result (delete_validated (type_of of.entry) of.entry.current (object_in live.now) (key_of of.entry.key) query.now (option_map (λ b. body_seen b.now) body.entry)) }
+    ensures { let c = call_of call.now in
+        Gives plan_of result (delete_validated (type_of of.entry) of.entry.current (object_in live.now) (key_of of.entry.key) c.query c.body) }
 {
-    let version = validate_options(alloc, body)?;
-    read_parameters(alloc, Asked::Delete, query)?;
+    let version = validate_options(alloc, call.body.as_ref())?;
+    read_parameters(alloc, Asked::Delete, &call.query)?;
     deleted_over(alloc, of, live, version)
 }

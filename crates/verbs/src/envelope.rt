@@ -34,6 +34,12 @@ pub struct Expected<'a> {
     pub method: Method,
 }
 
+/// What is wrong where an object is due, behind the path.
+const NOT_AN_OBJECT: &str = ": not an object";
+
+/// The path of `metadata`, before a member's name.
+const IN_METADATA: &str = ".metadata.";
+
 /// Members of a body that are no fields.
 const TOP: [&str; 2] = ["apiVersion", "kind"];
 
@@ -173,7 +179,7 @@ fn metadata_in<'a>(
     match value {
         Value::Null => Ok(None),
         Value::Object(members) => Ok(Some(members)),
-        _ => Err(fault_at(alloc, ".metadata", ": not an object")),
+        _ => Err(fault_at(alloc, ".metadata", NOT_AN_OBJECT)),
     }
 }
 
@@ -224,7 +230,7 @@ fn validate_given(
 ) -> Result<(), CallError>
     ensures { Gives (λ u. u) result (given_validated name.now (option_map (λ s. s.now) wanted.entry) (option_map (λ m. members_view m.now.entries) metadata.entry)) }
 {
-    let given = text_in(alloc, member_of(metadata, name), ".metadata.", name)?;
+    let given = text_in(alloc, member_of(metadata, name), IN_METADATA, name)?;
     validate_wanted(alloc, name, wanted, given)
 }
 
@@ -253,7 +259,7 @@ fn validate_version(
     let given = text_in(
         alloc,
         member_of(metadata, "resourceVersion"),
-        ".metadata.",
+        IN_METADATA,
         "resourceVersion",
     )?;
     read_version(alloc, given)
@@ -296,7 +302,7 @@ fn validate_managers(alloc: Global, member: Option<&Value>) -> Result<(), CallEr
     match value {
         Value::Null => Ok(()),
         Value::Array(entries) => validate_entries(alloc, entries),
-        _ => Err(wrong_type(alloc, ".metadata.", "managedFields")),
+        _ => Err(wrong_type(alloc, IN_METADATA, "managedFields")),
     }
 }
 
@@ -364,6 +370,6 @@ pub fn validate(
 {
     match body {
         Value::Object(top) => validate_object(alloc, expected, top),
-        _ => Err(fault_at(alloc, ".", ": not an object")),
+        _ => Err(fault_at(alloc, ".", NOT_AN_OBJECT)),
     }
 }

@@ -14,8 +14,8 @@ pub enum Method {
 }
 
 impl Method {
-    /// The method of this name.
-    pub(crate) fn named(name: &str) -> Option<Method>
+    /// The method of this name; it is told from others by case (RFC 9110, section 9.1).
+    pub fn named(name: &str) -> Option<Method>
         ensures { result ≡ method_named name.now }
     {
         match name {

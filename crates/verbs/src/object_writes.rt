@@ -6,7 +6,7 @@ ghost use Rattle.std.specs.Prelude.{◌≡◌, ◌≢◌, Err, IfOk, IfSome, opt
 ghost use Rattle.schema.specs.TypesFile.{ServedShape};
 ghost use Rattle.history.specs.Read.{key_of};
 ghost use Rattle.verbs.specs.Calls as calls;
-ghost use Rattle.verbs.specs.Live.{IsLive, object_in};
+ghost use Rattle.verbs.specs.Live.{IsLive};
 ghost use Rattle.verbs.specs.Machine.{IsReadable};
 ghost use Rattle.verbs.specs.Remembered.{IsRight};
 ghost use Rattle.verbs.specs.Seen.{Gives, call_of, object_of, plan_of};
@@ -15,7 +15,7 @@ ghost use Rattle.verbs.specs.Subject.{IsSubject, type_of};
 ghost use Rattle.verbs.specs.Validated.{Validated, and_then};
 ghost use Rattle.verbs.specs.WritePlans.{RemembersRight, written_plan};
 
-use crate::answering::{body_of, plan_for};
+use crate::answering::plan_for;
 use crate::applying::validate_apply;
 use crate::calls::{Call, Plan};
 use crate::deleting::validate_delete;
@@ -27,40 +27,6 @@ use crate::updating::validate_update;
 use crate::write_plan::WritePlan;
 use revtable::Object;
 use std::alloc::Global;
-
-/// An update by the call's body, which is checked first.
-fn validate_put(
-    alloc: Global,
-    of: Subject<'_>,
-    live: &Live,
-    call: &Call,
-) -> Result<WritePlan, CallError>
-    requires subject { IsSubject of }
-    requires live { IsLive (type_of of) live.now }
-    ensures plan { let c = call_of call.now in
-        Gives written_plan result (and_then (body_of c.body) (update_validated (type_of of.entry) of.entry.current (object_in live.now) (key_of of.entry.key) c.query)) }
-    ensures right { IfOk result (RemembersRight (type_of of.entry)) }
-{
-    let body = body_of(alloc, call)?;
-    validate_update(alloc, of, live, &call.query, body)
-}
-
-/// An apply of the call's body, which is checked first.
-fn validate_patch(
-    alloc: Global,
-    of: Subject<'_>,
-    live: &Live,
-    call: &Call,
-) -> Result<WritePlan, CallError>
-    requires subject { IsSubject of }
-    requires live { IsLive (type_of of) live.now }
-    ensures plan { let c = call_of call.now in
-        Gives written_plan result (and_then (body_of c.body) (apply_validated (type_of of.entry) of.entry.current (object_in live.now) (key_of of.entry.key) c.query)) }
-    ensures right { IfOk result (RemembersRight (type_of of.entry)) }
-{
-    let body = body_of(alloc, call)?;
-    validate_apply(alloc, of, live, &call.query, body)
-}
 
 /// The plan of a write, or of its refusal. What it stores is remembered in place of what was known; where it stores nothing,
 /// what was known stays.
@@ -133,7 +99,7 @@ pub(crate) fn planned_put(
     ensures right { IfSome known.new (IsRight (type_of of.entry)) }
 {
     let live = live_at(alloc, of.served, &of.key, object, known.take())?;
-    let updated = validate_put(alloc, of, &live, call);
+    let updated = validate_update(alloc, of, &live, call);
     plan_remembering(alloc, live, updated, known)
 }
 
@@ -153,7 +119,7 @@ pub(crate) fn planned_patch(
     ensures right { IfSome known.new (IsRight (type_of of.entry)) }
 {
     let live = live_at(alloc, of.served, &of.key, object, known.take())?;
-    let applied = validate_patch(alloc, of, &live, call);
+    let applied = validate_apply(alloc, of, &live, call);
     plan_remembering(alloc, live, applied, known)
 }
 
@@ -173,7 +139,6 @@ pub(crate) fn planned_deletion(
     ensures right { IfSome known.new (IsRight (type_of of.entry)) }
 {
     let live = live_at(alloc, of.served, &of.key, object, known.take())?;
-    let body = call.body.as_ref();
-    let deleted = validate_delete(alloc, of, &live, &call.query, body);
+    let deleted = validate_delete(alloc, of, &live, call);
     plan_deleted(alloc, live, deleted, known)
 }

@@ -13,16 +13,16 @@ ghost use Rattle.verbs.specs.Calls as calls;
 ghost use Rattle.verbs.specs.Validated.{and_then};
 ghost use Rattle.verbs.specs.Machine.{AreTexts, IsReadable};
 ghost use Rattle.verbs.specs.Remembered.{IsRight, IsRightAt};
-ghost use Rattle.verbs.specs.Seen.{Gives, call_of, creation_seen, object_of, objects_in, plan_of};
+ghost use Rattle.verbs.specs.Seen.{call_of, creation_seen, object_of, objects_in, plan_of};
 ghost use Rattle.params.specs.Views.{values_of, watch_view};
 ghost use Rattle.lists.specs.Views as views;
 ghost use Rattle.lists.specs.declared.refusal.Refusal.{Refusal};
 ghost use Rattle.watchline.specs.Views.{watch_from};
 ghost use Rattle.watchline.specs.Watches.{from_view};
-ghost use Rattle.verbs.specs.Step.{all_validated_by, body_of, collection_of, collection_validated_by, create_validated, created_as, creation_validated, list_answered, list_validated, lists_in, object_validated_by, plan_for, planned_over, shown_by, validated_in};
+ghost use Rattle.verbs.specs.Step.{all_validated_by, body_of, collection_of, collection_validated_by, create_validated, created_as, list_answered, list_validated, lists_in, object_validated_by, plan_for, planned_over, shown_by, validated_in};
 ghost use Rattle.verbs.specs.Subject.{IsSubject, type_of};
 
-use crate::answering::{body_of, no_path, not_served, plan_for};
+use crate::answering::{no_path, not_served, plan_for};
 use crate::calls::{Answer, Call, Plan};
 use crate::catalog::Catalog;
 use crate::envelope::api_version_of;
@@ -97,29 +97,6 @@ fn planned_object(
     planned_by(alloc, of, object, call, known)
 }
 
-/// What a creation's body says.
-fn validate_post<'a>(
-    alloc: Global,
-    served: &Served,
-    namespace: &str,
-    call: &'a Call,
-) -> Result<Creation<'a>, CallError>
-    requires { IsObjectShape (types.served served.now).shape }
-    ensures validated { let c = call_of call.now in
-        Gives creation_seen result (and_then (body_of c.body) (creation_validated (types.served served.now) c.target.kind namespace.now c.query)) }
-    ensures content { IfOk result (λ c. IsContent (types.served served.now).shape c.intent.content) }
-{
-    let body = body_of(alloc, call)?;
-    validate_creation(
-        alloc,
-        served,
-        call.target.kind,
-        namespace,
-        &call.query,
-        body,
-    )
-}
-
 fn planned_creation(
     alloc: Global,
     served: &Served,
@@ -164,7 +141,7 @@ fn planned_post(
     ensures right { IfSome known.new (IsRight (types.served served.now)) }
     ensures same { store.new ≡ store.old }
 {
-    match validate_post(alloc, served, namespace, call) {
+    match validate_creation(alloc, served, namespace, call) {
         Ok(creation) => planned_creation(alloc, served, store, creation, known),
         Err(call_error) => plan_for(alloc, Err(call_error)),
     }
@@ -311,9 +288,7 @@ fn planned_collection(
     match call.target.method {
         Method::Get => planned_list(alloc, served, store, kind, Some(namespace), query),
         Method::Post => planned_post(alloc, served, store, namespace, call, known),
-        Method::Put => plan_for(alloc, Err(not_served(alloc))),
-        Method::Patch => plan_for(alloc, Err(not_served(alloc))),
-        Method::Delete => plan_for(alloc, Err(not_served(alloc))),
+        Method::Put | Method::Patch | Method::Delete => plan_for(alloc, Err(not_served(alloc))),
     }
 }
 
@@ -333,10 +308,9 @@ fn planned_all(
     let query = call.query.as_slice();
     match call.target.method {
         Method::Get => planned_list(alloc, served, store, kind, None, query),
-        Method::Post => plan_for(alloc, Err(not_served(alloc))),
-        Method::Put => plan_for(alloc, Err(not_served(alloc))),
-        Method::Patch => plan_for(alloc, Err(not_served(alloc))),
-        Method::Delete => plan_for(alloc, Err(not_served(alloc))),
+        Method::Post | Method::Put | Method::Patch | Method::Delete => {
+            plan_for(alloc, Err(not_served(alloc)))
+        }
     }
 }
 

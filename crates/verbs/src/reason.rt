@@ -3,6 +3,8 @@
 ghost use Rattle.std.specs.Prelude.{◌≡◌};
 ghost use Rattle.verbs.specs.Reasons.{code_of, reason_text};
 
+use watchline::{EXPIRED, GONE};
+
 /// The reasons of refusals (Kubernetes API conventions, "Response Status Kind").
 #[derive(Clone, Copy, Debug, PartialEq, Eq)]
 pub enum Reason {
@@ -33,7 +35,7 @@ impl Reason {
             Reason::NotFound => 404,
             Reason::MethodNotAllowed => 405,
             Reason::AlreadyExists | Reason::Conflict => 409,
-            Reason::Expired => 410,
+            Reason::Expired => GONE,
             Reason::LengthRequired => 411,
             Reason::RequestEntityTooLarge => 413,
             Reason::UnsupportedMediaType => 415,
@@ -56,7 +58,7 @@ impl Reason {
             Reason::MethodNotAllowed => "MethodNotAllowed",
             Reason::AlreadyExists => "AlreadyExists",
             Reason::Conflict => "Conflict",
-            Reason::Expired => "Expired",
+            Reason::Expired => EXPIRED,
             Reason::LengthRequired => "LengthRequired",
             Reason::RequestEntityTooLarge => "RequestEntityTooLarge",
             Reason::UnsupportedMediaType => "UnsupportedMediaType",

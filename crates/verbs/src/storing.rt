@@ -1,7 +1,7 @@
 //! The checks before a change is stored, the object as it is printed, and the plan that stores it or answers what
 //! stands. The store is written in `writing`.
 
-ghost use Rattle.std.specs.Prelude.{◌≡◌, ◌≤◌, ◌<◌, codes, OnOk, IfOk, option_map, string_bytes};
+ghost use Rattle.std.specs.Prelude.{◌≡◌, ◌≤◌, ◌<◌, ◌++◌, codes, decimal, OnOk, IfOk, option_map, string_bytes};
 ghost use Rattle.serde_json.specs.Data.{Data};
 ghost use Rattle.serde_json.specs.Written.{compact_text};
 ghost use Rattle.history.specs.History.{last_revision};
@@ -36,6 +36,7 @@ use crate::texts::joined;
 use crate::write_plan::WritePlan;
 use history::{Key, LAST_REVISION};
 use ownership::{Outcome, Owned, written_over};
+use revstore::REVISIONS_USED_UP;
 use revtable::Object;
 use schema::Served;
 use std::alloc::{AllocError, Global};
@@ -75,11 +76,18 @@ pub fn printed_text(
     Ok(text)
 }
 
+/// How a message on the given version begins.
+fn version_given(alloc: Global, given: u64) -> Result<String, AllocError>
+    ensures { IfOk result (λ s. string_bytes s ≡ codes "version " ++ decimal given) }
+{
+    let given = given.to_string(alloc)?;
+    joined(alloc, "version ", given.as_str())
+}
+
 fn no_object_message(alloc: Global, given: u64) -> Result<String, AllocError>
     ensures { IfOk result (λ s. string_bytes s ≡ no_object_message given) }
 {
-    let given = given.to_string(alloc)?;
-    let mut message = joined(alloc, "version ", given.as_str())?;
+    let mut message = version_given(alloc, given)?;
     message.push_str(" was given and there is no object")?;
     Ok(message)
 }
@@ -87,8 +95,7 @@ fn no_object_message(alloc: Global, given: u64) -> Result<String, AllocError>
 fn other_version_message(alloc: Global, given: u64, stored: u64) -> Result<String, AllocError>
     ensures { IfOk result (λ s. string_bytes s ≡ other_version_message given stored) }
 {
-    let given = given.to_string(alloc)?;
-    let mut message = joined(alloc, "version ", given.as_str())?;
+    let mut message = version_given(alloc, given)?;
     message.push_str(" is not the stored one, ")?;
     let stored = stored.to_string(alloc)?;
     message.push_str(stored.as_str())?;
@@ -125,7 +132,7 @@ pub fn check_revisions(alloc: Global, current: u64) -> Result<(), CallError>
     if current < LAST_REVISION {
         return Ok(());
     }
-    Err(CallError::refused_for(alloc, Reason::ServiceUnavailable, "revisions are used up"))
+    Err(CallError::refused_for(alloc, Reason::ServiceUnavailable, REVISIONS_USED_UP))
 }
 
 /// The plan that stores the object of this text, which has so many labels, unless it is too large or revisions are used up.

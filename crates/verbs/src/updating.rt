@@ -2,7 +2,6 @@
 //! `applying`.
 
 ghost use Rattle.std.specs.Prelude.{◌≡◌, IfOk, option_map};
-ghost use Rattle.serde_json.specs.View.{view};
 ghost use Rattle.schema.specs.Served as types;
 ghost use Rattle.schema.specs.Shape.{Shape};
 ghost use Rattle.typed.specs.Fitting.{IsContent};
@@ -11,12 +10,14 @@ ghost use Rattle.objects.specs.Placed.{IsPlacedState};
 ghost use Rattle.objects.specs.Views.{state_of};
 ghost use Rattle.verbs.specs.Live.{IsLive, object_in};
 ghost use Rattle.verbs.specs.Subject.{IsSubject, type_of};
-ghost use Rattle.verbs.specs.Json.{IsJson};
 ghost use Rattle.history.specs.Read.{key_of};
-ghost use Rattle.verbs.specs.Seen.{Gives, creation_seen, intent_seen, object_of};
-ghost use Rattle.verbs.specs.Step.{created_as, creation_validated, update_validated, updated_by, updated_over};
+ghost use Rattle.verbs.specs.Seen.{Gives, call_of, creation_seen, intent_seen, object_of};
+ghost use Rattle.verbs.specs.Step.{body_of, created_as, creation_validated, update_validated, updated_by, updated_over};
+ghost use Rattle.verbs.specs.Validated.{and_then};
 ghost use Rattle.verbs.specs.WritePlans.{RemembersRight, written_plan};
 
+use crate::answering::body_of;
+use crate::calls::Call;
 use crate::envelope::{Expected, name_in};
 use crate::fault::CallError;
 use crate::intent::{Creation, Intent, at_path, intent_of};
@@ -32,7 +33,6 @@ use ownership::{Owned, update};
 use params::Asked;
 use revtable::Object;
 use schema::Served;
-use serde_json::Value;
 use std::alloc::{AllocError, Global};
 
 /// What stands after the write, over what stood: its manager owns what it changed.
@@ -81,33 +81,32 @@ fn key_in(kind: u32, namespace: &str, name: &str, alloc: Global) -> Result<Key, 
     })
 }
 
-/// The object that a creation is of, and what it intends: the body names the object.
+/// The object that a creation is of, and what it intends: the call's body names the object.
 pub(crate) fn validate_creation<'a>(
     alloc: Global,
     served: &Served,
-    kind: u32,
     namespace: &str,
-    query: &[u8],
-    body: &'a Value,
+    call: &'a Call,
 ) -> Result<Creation<'a>, CallError>
     requires shaped { IsObjectShape (types.served served.now).shape }
-    requires json { IsJson (view body.now) }
-    ensures validated { Gives creation_seen result (creation_validated (types.served served.now) kind namespace.now query.now (view body.now)) }
+    ensures validated { let c = call_of call.now in
+        Gives creation_seen result (and_then (body_of c.body) (creation_validated (types.served served.now) c.target.kind namespace.now c.query)) }
     ensures content { IfOk result (λ c. IsContent (types.served served.now).shape c.intent.content) }
 {
+    let body = body_of(alloc, call)?;
     let expected = Expected {
         served,
         namespace,
         name: None,
         method: Method::Post,
     };
-    let intent = intent_of(alloc, expected, Asked::Post, query, body)?;
+    let intent = intent_of(alloc, expected, Asked::Post, &call.query, body)?;
     let name = require_name(alloc, name_in(body))?;
-    let key = key_in(kind, namespace, name, alloc)?;
+    let key = key_in(call.target.kind, namespace, name, alloc)?;
     Ok(Creation { key, intent })
 }
 
-/// Checks, in order: whether the object is there, version, whether anything changes, size, revisions left.
+/// Checks, in order: whether the object is there, version, whether anything changes, labels and size, revisions left.
 fn updated_over(
     alloc: Global,
     of: Subject<'_>,
@@ -127,22 +126,22 @@ fn updated_over(
     store_unless_same(alloc, of, live, owned)
 }
 
-/// An update of an object that is there.
+/// An update by a call's body, of an object that is there.
 pub(crate) fn validate_update(
     alloc: Global,
     of: Subject<'_>,
     live: &Live,
-    query: &[u8],
-    body: &Value,
+    call: &Call,
 ) -> Result<WritePlan, CallError>
     requires subject { IsSubject of }
-    requires json { IsJson (view body.now) }
     requires live { IsLive (type_of of) live.now }
-    ensures plan { Gives written_plan result (update_validated (type_of of.entry) of.entry.current (object_in live.now) (key_of of.entry.key) query.now (view body.now)) }
+    ensures plan { let c = call_of call.now in
+        Gives written_plan result (and_then (body_of c.body) (update_validated (type_of of.entry) of.entry.current (object_in live.now) (key_of of.entry.key) c.query)) }
     ensures right { IfOk result (RemembersRight (type_of of.entry)) }
 {
+    let body = body_of(alloc, call)?;
     let expected = at_path(of.served, &of.key, Method::Put);
-    let intent = intent_of(alloc, expected, Asked::Put, query, body)?;
+    let intent = intent_of(alloc, expected, Asked::Put, &call.query, body)?;
     validate_marks(alloc, intent.body)?;
     updated_over(alloc, of, live, intent)
 }

@@ -27,4 +27,4 @@ pub use event::EventType;
 pub use laws::{positions_pass_nothing, turns_tell_in_order, watches_by_views};
 pub use lines::line;
 pub use opening::{Initial, WatchFrom, start_watch};
-pub use status::{expired_message, status_value};
+pub use status::{EXPIRED, GONE, expired_message, status_value};

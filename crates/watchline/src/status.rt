@@ -11,7 +11,10 @@ use serde_json::{Value, json};
 use std::alloc::{AllocError, Global};
 
 /// The code of what is no longer kept (RFC 9110, section 15.5.11).
-const GONE: u16 = 410;
+pub const GONE: u16 = 410;
+
+/// The reason where changes were forgotten (Kubernetes API Concepts, "410 Gone responses").
+pub const EXPIRED: &str = "Expired";
 
 /// The Status object that tells a failure (Kubernetes API conventions, "Response Status Kind").
 pub fn status_value(
@@ -56,6 +59,6 @@ pub(crate) fn expired_text(
     ensures { IfOk result (λ s. string_bytes s ≡ compact_text (expired_value (expired_message revision compacted))) }
 {
     let message = expired_message(alloc, revision, compacted)?;
-    let status = status_value(alloc, GONE, "Expired", message.as_str())?;
+    let status = status_value(alloc, GONE, EXPIRED, message.as_str())?;
     Ok(status.to_string(alloc)?)
 }

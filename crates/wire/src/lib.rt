@@ -10,7 +10,7 @@ mod head_end;
 mod length;
 mod place;
 
-pub use field::{MAX_FIELDS, has_name};
+pub use field::{MAX_FIELDS, has_name, is_content_length, is_transfer_encoding};
 pub use head_end::{MAX_HEAD, place_after};
 pub use length::{decimal_value, is_length};
 pub use place::Place;

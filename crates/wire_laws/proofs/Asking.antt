@@ -1,14 +1,14 @@
 -- What a request that the client prints asks.
 use Rattle.std.proofs.Common.{◌≡◌, ℕ, ◌≤◌, Bool, true, false, List, [], ◌∷◌, ◌++◌, length, Option, None, Some, refl, sym, ap, ◌∙◌}
-use Rattle.std.proofs.lemmas.Slice.Eq.{bytes_eq-Decides}
-use Rattle.std.specs.Prelude.{◌&&◌, ◌||◌, codes, if◌then◌else◌}
+use Rattle.std.specs.Prelude.{◌&&◌, if◌then◌else◌}
 use Rattle.std.specs.List.{list_any}
-use Rattle.std.specs.Str.{bytes_eq}
 use Rattle.serde_json.specs.Data.{Data}
 use Rattle.schema.specs.TypesFile.{ServedShape}
-use Rattle.verbs.specs.Admit.{admitted}
+use Rattle.verbs.specs.Admit.{admitted, method_named}
+use Rattle.verbs.specs.declared.method.Method.{Method}
+use Rattle.verbs.specs.declared.method.Method.TheVariants.{Get, Post, Put, Patch, Delete}
 use Rattle.requests.specs.Asks.{CallDecision, Asks}
-use Rattle.requests.specs.Bodies.{body_in, checked_media, declared_body, max_body, may_have_body, needed_length, needs_body, optional_length, path_of, query_of}
+use Rattle.requests.specs.Bodies.{body_in, checked_media, declared_body, deletes, max_body, may_have_body, needed_length, needs_body, optional_length, path_of, query_of, writes_by_body}
 use Rattle.requests.specs.Decision.{Decision, accepted, and_then, decided_by}
 use Rattle.requests.specs.Heads.{missing, Request}
 use Rattle.std.specs.declared.result.Result.TheVariants.{Ok}
@@ -19,17 +19,15 @@ use Rattle.wire_laws.proofs.Queries.{path_alone, path_back, query_alone, query_b
 
 -- a method that needs a body is not DELETE
 no_delete : (method : List ℕ) → needs_body method ≡ true → may_have_body method ≡ false
-no_delete method needs = go (bytes_eq method (codes "POST")) (bytes_eq method (codes "PUT")) (bytes_eq method (codes "PATCH")) refl refl refl needs
+no_delete method needs = go (method_named method) needs
   where
-    is_that : (name : List ℕ) → bytes_eq method name ≡ true → may_have_body name ≡ false → may_have_body method ≡ false
-    is_that name is none = ap may_have_body ((bytes_eq-Decides method name).0 is) ∙ none
-
-    go : (post put patch : Bool) → bytes_eq method (codes "POST") ≡ post → bytes_eq method (codes "PUT") ≡ put → bytes_eq method (codes "PATCH") ≡ patch
-        → post || put || patch ≡ true → may_have_body method ≡ false
-    go true put patch is that other some = is_that (codes "POST") is refl
-    go false true patch is that other some = is_that (codes "PUT") that refl
-    go false false true is that other some = is_that (codes "PATCH") other refl
-    go false false false is that other some = absurd cc
+    go : (named : Option Method) → writes_by_body named ≡ true → deletes named ≡ false
+    go None is = refl
+    go (Some Get) is = refl
+    go (Some Post) is = refl
+    go (Some Put) is = refl
+    go (Some Patch) is = refl
+    go (Some Delete) is = absurd cc
 
 media_checked : (method request_target media bytes : List ℕ) → needs_body method ≡ true → checked_media (said_of method request_target (Some (media, bytes))) ≡ Some media
 media_checked method request_target media bytes needs = go (may_have_body method) _ (no_delete method needs)

@@ -10,7 +10,7 @@ ghost use Rattle.wireclient.specs.Views.{framing_in, check_of};
 use crate::state::Framing;
 use httparse::Status;
 use httparse::spans::{EMPTY_HEADER_SPAN, HeaderSpan, parse_response};
-use wire::{MAX_FIELDS, decimal_value, has_name, is_length};
+use wire::{MAX_FIELDS, decimal_value, is_content_length, is_length, is_transfer_encoding};
 
 const MAX_REPLY_BODY: usize = 1_073_741_824;
 
@@ -30,14 +30,14 @@ fn frames(head: &[u8], field: &HeaderSpan) -> bool
     requires { IsHeaderWithin (length head.now) field.now }
     ensures { result ≡ frames (header_bytes head.now field.now) }
 {
-    has_name(head, field, b"content-length") || has_name(head, field, b"transfer-encoding")
+    is_content_length(head, field) || is_transfer_encoding(head, field)
 }
 
 fn framing_by(head: &[u8], field: &HeaderSpan) -> Option<Framing>
     requires { IsHeaderWithin (length head.now) field.now }
     ensures { option_map framing_in result ≡ framing_by (header_bytes head.now field.now) }
 {
-    if has_name(head, field, b"content-length") {
+    if is_content_length(head, field) {
         framed_by_length(field.value.of(head))
     } else if field.value.of(head).eq_ignore_ascii_case(b"chunked") {
         Some(Framing::Chunks)

@@ -11,8 +11,8 @@ use Rattle.verbs.proofs.applying.validate_apply.Goals as goal
 
 pub applied_over-requires-clause-content : goal.applied_over-requires-clause-content
 applied_over-requires-clause-content c =
-    let q = c.args.query.now in
-    let d = view c.args.body.now in
+    let q = c.deref.result.now in
+    let d = view c.in_ok-body.body.now in
     let i = intent_seen c.in_ok-intent.intent in
-    intended_content (at_path (type_of c.args.of) (key_of c.args.of.key) Patch) asked.Apply q d i c.requires.subject.1 c.requires.json
+    intended_content (at_path (type_of c.args.of) (key_of c.args.of.key) Patch) asked.Apply q d i c.requires.subject.1 c.in_ok-body.ensures.json
     (subst (λ of. intent_of of asked.Apply q d ≡ Ok i) c.at_path-expected.ensures c.in_ok-intent.ensures)

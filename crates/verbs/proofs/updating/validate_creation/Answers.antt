@@ -11,4 +11,4 @@ use Rattle.verbs.proofs.updating.validate_creation.Goals as goal
 pub returns-clause-content : goal.returns-clause-content
 returns-clause-content c =
     let of : Expected = record { served = served c.args.served.now; namespace = c.args.namespace.now; name = None; method = Post } in
-    intended_content of asked.Post c.args.query.now (view c.args.body.now) (intent_seen c.in_ok-intent.intent) c.requires.shaped c.requires.json c.in_ok-intent.ensures
+    intended_content of asked.Post c.deref.result.now (view c.in_ok-body.body.now) (intent_seen c.in_ok-intent.intent) c.requires.shaped c.in_ok-body.ensures.json c.in_ok-intent.ensures

@@ -11,8 +11,8 @@ use Rattle.verbs.proofs.updating.validate_update.Goals as goal
 
 pub updated_over-requires-clause-content : goal.updated_over-requires-clause-content
 updated_over-requires-clause-content c =
-    let q = c.args.query.now in
-    let d = view c.args.body.now in
+    let q = c.deref.result.now in
+    let d = view c.in_ok-body.body.now in
     let i = intent_seen c.in_ok-intent.intent in
-    intended_content (at_path (type_of c.args.of) (key_of c.args.of.key) Put) asked.Put q d i c.requires.subject.1 c.requires.json
+    intended_content (at_path (type_of c.args.of) (key_of c.args.of.key) Put) asked.Put q d i c.requires.subject.1 c.in_ok-body.ensures.json
     (subst (λ of. intent_of of asked.Put q d ≡ Ok i) c.at_path-expected.ensures c.in_ok-intent.ensures)
