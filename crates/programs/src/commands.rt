@@ -9,7 +9,10 @@ ghost use Rattle.programs.specs.Commands.{file_option, program};
 use clap::{Arg, ArgAction, Command};
 use std::alloc::Global;
 
-/// The help of `--types`, the option that all programs have.
+/// The option that all programs have.
+pub const TYPES: &str = "types";
+
+/// Its help.
 pub const TYPES_HELP: &str = "The types to serve, one JSON object {\"types\":[..]}";
 
 /// What `--version` prints after the name of each program.

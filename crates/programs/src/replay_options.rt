@@ -3,7 +3,7 @@ ghost use Rattle.std.specs.Prelude.{◌≡◌, IfOk, Some, codes, map};
 ghost use Rattle.clap.specs.Words.{FailsBy, fault_of, first_of, matches_of};
 ghost use Rattle.programs.specs.ReplayCommand.{IsReplayCommand, ssa_replay};
 
-use crate::commands::{TYPES_HELP, file_option, program};
+use crate::commands::{TYPES, TYPES_HELP, file_option, program};
 use clap::{Command, Error};
 use std::alloc::{AllocError, Global};
 use std::convert::AsStr;
@@ -22,6 +22,8 @@ Exit status:
   4  bad line of the script
   5  out of memory, or the store failed";
 
+const SCRIPT: &str = "script";
+
 const SCRIPT_HELP: &str = "The events to play, one JSON object a line, like {\"open\":1}";
 
 /// What the arguments of `ssa-replay` name.
@@ -36,8 +38,8 @@ pub struct ReplayOptions<'a> {
 fn replay_command<'a>(alloc: Global) -> Result<Command<'a>, AllocError>
     ensures { IfOk result IsReplayCommand }
 {
-    let types = file_option(alloc, "types", TYPES_HELP);
-    let script = file_option(alloc, "script", SCRIPT_HELP);
+    let types = file_option(alloc, TYPES, TYPES_HELP);
+    let script = file_option(alloc, SCRIPT, SCRIPT_HELP);
     program(alloc, "ssa-replay", ABOUT, NOTES)
         .arg(types)?
         .arg(script)
@@ -51,7 +53,7 @@ pub fn options<'a, S: AsStr>(alloc: Global, arguments: &'a [S]) -> Result<Replay
 {
     let matches = replay_command(alloc)?.try_get_matches_from(arguments)?;
     Ok(ReplayOptions {
-        types: matches.get_str("types").unwrap(),
-        script: matches.get_str("script").unwrap(),
+        types: matches.get_str(TYPES).unwrap(),
+        script: matches.get_str(SCRIPT).unwrap(),
     })
 }

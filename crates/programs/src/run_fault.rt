@@ -39,7 +39,7 @@ pub enum RunFault {
     #[error("script {0}: {1}")]
     ScriptFile(String, io::Error),
     /// The first bad line of the script, counted from 1.
-    #[error("line {0}: bad event")]
+    #[error("{}", ScriptFault::BadEvent(*.0))]
     Script(usize),
     /// The replies cannot be written.
     #[error("standard output: {0}")]

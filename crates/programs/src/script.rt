@@ -77,12 +77,6 @@ fn next_text(members: &mut IntoIter<String, Value>, name: &str) -> Option<String
     into_text(next_named(members, name)?)
 }
 
-fn next_object(members: &mut IntoIter<String, Value>, name: &str) -> Option<Map<String, Value>>
-    ensures { option_map (λ m. (members_view m.entries, members_view members.new)) result ≡ with_rest as_object (next_named name.now (members_view members.old)) }
-{
-    into_object(next_named(members, name)?)
-}
-
 fn is_target(target: &str) -> bool
     ensures { result ≡ is_target target.now }
 {

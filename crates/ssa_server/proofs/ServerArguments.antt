@@ -139,9 +139,9 @@ pub text_is : (o : Option (Bor Text)) (r : Bor Text) (first : Option Text) → o
 text_is o r first read some = sym read ∙ ap (option_map (λ (s : Bor Text). s.now)) some
 
 -- the number of an option is that of its value
-pub number_by : (first value : Option Text) (other n m : ℕ) → first ≡ value → m ≡ n → IsNumberOr other first n → IsNumberOr other value m
-number_by first value other n m same is number =
-    subst (λ (o : Option Text). IsNumberOr other o m) same (subst (λ (k : ℕ). IsNumberOr other first k) (sym is) number)
+pub number_by : (first value : Option Text) (default : Text) (n m : ℕ) → first ≡ value → m ≡ n → IsNumberOr default first n → IsNumberOr default value m
+number_by first value default n m same is number =
+    subst (λ (o : Option Text). IsNumberOr default o m) same (subst (λ (k : ℕ). IsNumberOr default first k) (sym is) number)
 
 -- so is the text of a flag
 pub flag_is : (cmd : Command) → app_of cmd ≡ ssa_server → (m : ArgMatches) (arguments : List Text) → HasMatchesOf (app_of cmd) arguments m → (id : Text)

@@ -9,7 +9,7 @@ ghost use Rattle.ssa_server.specs.ServerCommand.{IsCount, IsFlag, IsNumberOr, Is
 
 use crate::fault::ServerFault;
 use clap::{Arg, ArgAction, ArgMatches, Command};
-use programs::{TYPES_HELP, file_option, program};
+use programs::{TYPES, TYPES_HELP, file_option, program};
 use std::alloc::{AllocError, Global};
 use std::convert::AsStr;
 
@@ -19,25 +19,55 @@ const NOTES: &str = "Example:
   ssa-server --types crates/ssa_replay/data/types.json --port 8001
 
 Exit status:
-  0  as many connections as --serve says were served
+  0  the connections that --serve asks for were served
   1  the standard output can't be written
   2  wrong usage
   3  the types file is bad or can't be read
   5  out of memory, or the store failed
   6  the port can't be listened on, the clock can't be read, or the system can't say which sockets are ready";
 
-const PORT_HELP: &str = "The port to listen on; 0 (default): a free port";
+/// An option that takes a number.
+#[derive(Clone, Copy)]
+struct NumberOption {
+    name: &'static str,
+    /// The number where the option isn't given.
+    default: &'static str,
+    help: &'static str,
+}
 
-const KEEP_HELP: &str = "How many revisions before the current one are kept (default: 1000)";
+const PORT: NumberOption = NumberOption {
+    name: "port",
+    default: "0",
+    help: "The port to listen on; 0: a free port",
+};
 
-const PUMP_HELP: &str = "How many lines a watch gets at a time at most (default: 500)";
+const KEEP: NumberOption = NumberOption {
+    name: "keep",
+    default: "1000",
+    help: "How many revisions before the current one are kept",
+};
 
-const SERVE_HELP: &str = "After how many connections to end; 0 (default): no limit";
+const PUMP: NumberOption = NumberOption {
+    name: "pump",
+    default: "500",
+    help: "How many lines a watch gets at a time at most",
+};
+
+const SERVE: NumberOption = NumberOption {
+    name: "serve",
+    default: "0",
+    help: "After how many connections to end; 0: no limit",
+};
+
+const PATIENCE: NumberOption = NumberOption {
+    name: "patience",
+    default: "30000",
+    help: "With --concurrent: how many milliseconds to wait for a peer that sends or takes nothing",
+};
+
+const CONCURRENT: &str = "concurrent";
 
 const CONCURRENT_HELP: &str = "Serve many connections at once, not one after another";
-
-const PATIENCE_HELP: &str =
-    "With --concurrent: how many milliseconds to wait for a peer that sends or takes nothing (default: 30000)";
 
 /// What the arguments of `ssa-server` name.
 #[derive(Clone, Copy, Debug)]
@@ -59,16 +89,17 @@ pub struct ServerOptions<'a> {
 }
 
 /// `--<name> N`
-fn number_option<'a>(alloc: Global, name: &'a str, help: &'a str) -> Arg<'a>
-    ensures id { result.id ≡ name.entry }
-    ensures rule { rule_of result ≡ number_option name.entry.now }
-    ensures fits { (name.entry.now ≡ [] → ⊥) → (IsAuto result → ⊥) → FitsChain result }
+fn number_option<'a>(alloc: Global, option: NumberOption) -> Arg<'a>
+    ensures id { result.id ≡ option.name }
+    ensures rule { rule_of result ≡ number_option option.default.now option.name.now }
+    ensures fits { (option.name.now ≡ [] → ⊥) → (IsAuto result → ⊥) → FitsChain result }
 {
-    Arg::new(alloc, name)
-        .long(name)
+    Arg::new(alloc, option.name)
+        .long(option.name)
         .value_name("N")
-        .help(help)
+        .help(option.help)
         .action(ArgAction::Set)
+        .default_value(option.default)
 }
 
 /// `--<name>`
@@ -87,32 +118,30 @@ fn server_command<'a>(alloc: Global) -> Result<Command<'a>, AllocError>
     ensures { IfOk result IsServerCommand }
 {
     program(alloc, "ssa-server", ABOUT, NOTES)
-        .arg(file_option(alloc, "types", TYPES_HELP))?
-        .arg(number_option(alloc, "port", PORT_HELP))?
-        .arg(number_option(alloc, "keep", KEEP_HELP))?
-        .arg(number_option(alloc, "pump", PUMP_HELP))?
-        .arg(number_option(alloc, "serve", SERVE_HELP))?
-        .arg(flag_option(alloc, "concurrent", CONCURRENT_HELP))?
-        .arg(number_option(alloc, "patience", PATIENCE_HELP))
+        .arg(file_option(alloc, TYPES, TYPES_HELP))?
+        .arg(number_option(alloc, PORT))?
+        .arg(number_option(alloc, KEEP))?
+        .arg(number_option(alloc, PUMP))?
+        .arg(number_option(alloc, SERVE))?
+        .arg(flag_option(alloc, CONCURRENT, CONCURRENT_HELP))?
+        .arg(number_option(alloc, PATIENCE))
 }
 
-/// The number of an option; where it isn't given, another one.
-fn number(matches: &ArgMatches<'_>, name: &'static str, other: u64) -> Result<u64, ServerFault>
-    ensures { IfOk result (λ n. IsNumberOr other (first_value (found_of matches.now) name.now) n) }
+/// The number of an option.
+fn number(matches: &ArgMatches<'_>, option: NumberOption) -> Result<u64, ServerFault>
+    ensures { IfOk result (λ n. IsNumberOr option.default.now (first_value (found_of matches.now) option.name.now) n) }
 {
-    match matches.get_str(name) {
-        None => Ok(other),
-        Some(text) => text.parse().map_err(|_| ServerFault::Number(name)),
-    }
+    let text = matches.get_str(option.name).unwrap_or(option.default);
+    text.parse().map_err(|_| ServerFault::Number(option.name))
 }
 
-/// The number of an option that isn't to be 0; where it isn't given, another one.
-fn positive(matches: &ArgMatches<'_>, name: &'static str, other: u64) -> Result<u64, ServerFault>
-    ensures { IfOk result (λ n. IsNumberOr other (first_value (found_of matches.now) name.now) n) }
+/// The number of an option that isn't to be 0.
+fn positive(matches: &ArgMatches<'_>, option: NumberOption) -> Result<u64, ServerFault>
+    ensures { IfOk result (λ n. IsNumberOr option.default.now (first_value (found_of matches.now) option.name.now) n) }
 {
-    let number = number(matches, name, other)?;
+    let number = number(matches, option)?;
     if number == 0 {
-        return Err(ServerFault::Number(name));
+        return Err(ServerFault::Number(option.name));
     }
     Ok(number)
 }
@@ -120,7 +149,7 @@ fn positive(matches: &ArgMatches<'_>, name: &'static str, other: u64) -> Result<
 fn port_of(number: u64) -> Result<u16, ServerFault>
     ensures { IfOk result (λ port. port ≡ number) }
 {
-    u16::try_from(number).map_err(|_| ServerFault::Number("port"))
+    u16::try_from(number).map_err(|_| ServerFault::Number(PORT.name))
 }
 
 fn count_of(number: u64) -> u64
@@ -135,23 +164,23 @@ pub fn options<'a, S: AsStr>(
     arguments: &'a [S],
 ) -> Result<ServerOptions<'a>, ServerFault>
     ensures types { IfOk result (λ o. first_of (codes "types") (matches_of ssa_server (map S.text arguments.entry.now)) ≡ Some o.types.now) }
-    ensures port { IfOk result (λ o. IsNumberOr 0 (first_of (codes "port") (matches_of ssa_server (map S.text arguments.entry.now))) o.port) }
-    ensures keep { IfOk result (λ o. IsNumberOr 1000 (first_of (codes "keep") (matches_of ssa_server (map S.text arguments.entry.now))) o.keep) }
-    ensures pump { IfOk result (λ o. IsNumberOr 500 (first_of (codes "pump") (matches_of ssa_server (map S.text arguments.entry.now))) o.pump) }
+    ensures port { IfOk result (λ o. IsNumberOr (codes "0") (first_of (codes "port") (matches_of ssa_server (map S.text arguments.entry.now))) o.port) }
+    ensures keep { IfOk result (λ o. IsNumberOr (codes "1000") (first_of (codes "keep") (matches_of ssa_server (map S.text arguments.entry.now))) o.keep) }
+    ensures pump { IfOk result (λ o. IsNumberOr (codes "500") (first_of (codes "pump") (matches_of ssa_server (map S.text arguments.entry.now))) o.pump) }
     ensures serve { IfOk result (λ o. IsCount (first_of (codes "serve") (matches_of ssa_server (map S.text arguments.entry.now))) o.serve) }
     ensures concurrent { IfOk result (λ o. IsFlag (one_of (codes "concurrent") (matches_of ssa_server (map S.text arguments.entry.now))) o.concurrent) }
-    ensures patience { IfOk result (λ o. IsNumberOr 30000 (first_of (codes "patience") (matches_of ssa_server (map S.text arguments.entry.now))) o.patience) }
+    ensures patience { IfOk result (λ o. IsNumberOr (codes "30000") (first_of (codes "patience") (matches_of ssa_server (map S.text arguments.entry.now))) o.patience) }
 {
     let matches = server_command(alloc)?.try_get_matches_from(arguments)?;
-    let port = number(&matches, "port", 0)?;
+    let port = number(&matches, PORT)?;
     let port = port_of(port)?;
-    let keep = number(&matches, "keep", 1000)?;
-    let pump = positive(&matches, "pump", 500)?;
-    let serve = number(&matches, "serve", 0)?;
-    let concurrent = matches.get_flag("concurrent");
-    let patience = positive(&matches, "patience", 30000)?;
+    let keep = number(&matches, KEEP)?;
+    let pump = positive(&matches, PUMP)?;
+    let serve = number(&matches, SERVE)?;
+    let concurrent = matches.get_flag(CONCURRENT);
+    let patience = positive(&matches, PATIENCE)?;
     Ok(ServerOptions {
-        types: matches.get_str("types").unwrap(),
+        types: matches.get_str(TYPES).unwrap(),
         port,
         keep,
         pump,

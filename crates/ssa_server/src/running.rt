@@ -13,7 +13,7 @@ use verbs::Api;
 
 /// Tells the port that is listened on.
 fn tell_port(rt: &HostRuntime, port: u16) -> Result<(), ServerFault> {
-    Ok(println!(rt; "listening on 127.0.0.1:{port}").map_err(RunFault::Output)?)
+    Ok(println!(rt; "listening on {}:{port}", Ipv4Addr::LOCALHOST).map_err(RunFault::Output)?)
 }
 
 /// Serves one connection after another.

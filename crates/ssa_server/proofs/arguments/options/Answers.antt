@@ -12,17 +12,17 @@ unwrap-requires g c = some_of_text _ c.get_str.result _ c.get_str.ensures (c.in_
 
 pub returns-clause-port : goal.returns-clause-port
 returns-clause-port g c =
-    number_by _ _ 0 _ _ (value_is _ c.in_ok-server_command.ensures.app _ _ c.in_ok-matches.ensures.matches (codes "port")) c.in_ok-port-2.ensures c.in_ok-port.ensures
+    number_by _ _ (codes "0") _ _ (value_is _ c.in_ok-server_command.ensures.app _ _ c.in_ok-matches.ensures.matches (codes "port")) c.in_ok-port-2.ensures c.in_ok-port.ensures
 
 pub returns-clause-keep : goal.returns-clause-keep
-returns-clause-keep g c = number_by _ _ 1000 _ _ (value_is _ c.in_ok-server_command.ensures.app _ _ c.in_ok-matches.ensures.matches (codes "keep")) refl c.in_ok-keep.ensures
+returns-clause-keep g c = number_by _ _ (codes "1000") _ _ (value_is _ c.in_ok-server_command.ensures.app _ _ c.in_ok-matches.ensures.matches (codes "keep")) refl c.in_ok-keep.ensures
 
 pub returns-clause-pump : goal.returns-clause-pump
-returns-clause-pump g c = number_by _ _ 500 _ _ (value_is _ c.in_ok-server_command.ensures.app _ _ c.in_ok-matches.ensures.matches (codes "pump")) refl c.in_ok-pump.ensures
+returns-clause-pump g c = number_by _ _ (codes "500") _ _ (value_is _ c.in_ok-server_command.ensures.app _ _ c.in_ok-matches.ensures.matches (codes "pump")) refl c.in_ok-pump.ensures
 
 pub returns-clause-serve : goal.returns-clause-serve
 returns-clause-serve g c =
-    (c.in_ok-serve.serve, number_by _ _ 0 _ _ (value_is _ c.in_ok-server_command.ensures.app _ _ c.in_ok-matches.ensures.matches (codes "serve")) refl c.in_ok-serve.ensures, c.count_of.ensures)
+    (c.in_ok-serve.serve, number_by _ _ (codes "0") _ _ (value_is _ c.in_ok-server_command.ensures.app _ _ c.in_ok-matches.ensures.matches (codes "serve")) refl c.in_ok-serve.ensures, c.count_of.ensures)
 
 pub returns-clause-concurrent : goal.returns-clause-concurrent
 returns-clause-concurrent g c =
@@ -30,4 +30,4 @@ returns-clause-concurrent g c =
 
 pub returns-clause-patience : goal.returns-clause-patience
 returns-clause-patience g c =
-    number_by _ _ 30000 _ _ (value_is _ c.in_ok-server_command.ensures.app _ _ c.in_ok-matches.ensures.matches (codes "patience")) refl c.in_ok-patience.ensures
+    number_by _ _ (codes "30000") _ _ (value_is _ c.in_ok-server_command.ensures.app _ _ c.in_ok-matches.ensures.matches (codes "patience")) refl c.in_ok-patience.ensures

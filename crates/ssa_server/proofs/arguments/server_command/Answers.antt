@@ -10,22 +10,22 @@ use Rattle.ssa_server.proofs.arguments.server_command.Goals as goal
 pub returns : goal.returns
 returns c =
     let types = made file_option c.file_option.result _ (codes "types") refl types_own (c.file_option.ensures.id, c.file_option.ensures.rule, c.file_option.ensures.fits) in
-    let port = made number_option c.number_option.result _ (codes "port") refl port_own (c.number_option.ensures.id, c.number_option.ensures.rule, c.number_option.ensures.fits) in
-    let keep = made number_option c.number_option-2.result _ (codes "keep") refl keep_own (c.number_option-2.ensures.id, c.number_option-2.ensures.rule, c.number_option-2.ensures.fits) in
-    let pump = made number_option c.number_option-3.result _ (codes "pump") refl pump_own (c.number_option-3.ensures.id, c.number_option-3.ensures.rule, c.number_option-3.ensures.fits) in
-    let serve = made number_option c.number_option-4.result _ (codes "serve") refl serve_own (c.number_option-4.ensures.id, c.number_option-4.ensures.rule, c.number_option-4.ensures.fits) in
+    let port = made (number_option (codes "0")) c.number_option.result _ (codes "port") refl port_own (c.number_option.ensures.id, c.number_option.ensures.rule, c.number_option.ensures.fits) in
+    let keep = made (number_option (codes "1000")) c.number_option-2.result _ (codes "keep") refl keep_own (c.number_option-2.ensures.id, c.number_option-2.ensures.rule, c.number_option-2.ensures.fits) in
+    let pump = made (number_option (codes "500")) c.number_option-3.result _ (codes "pump") refl pump_own (c.number_option-3.ensures.id, c.number_option-3.ensures.rule, c.number_option-3.ensures.fits) in
+    let serve = made (number_option (codes "0")) c.number_option-4.result _ (codes "serve") refl serve_own (c.number_option-4.ensures.id, c.number_option-4.ensures.rule, c.number_option-4.ensures.fits) in
     let flag = made flag_option c.flag_option.result _ (codes "concurrent") refl concurrent_own (c.flag_option.ensures.id, c.flag_option.ensures.rule, c.flag_option.ensures.fits) in
-    let patience = made number_option c.number_option-5.result _ (codes "patience") refl patience_own (c.number_option-5.ensures.id, c.number_option-5.ensures.rule, c.number_option-5.ensures.fits) in
+    let patience = made (number_option (codes "30000")) c.number_option-5.result _ (codes "patience") refl patience_own (c.number_option-5.ensures.id, c.number_option-5.ensures.rule, c.number_option-5.ensures.fits) in
     let one = added file_option _ _ _ _ _ c.program.ensures.app types c.in_ok-arg.ensures in
-    let two = added number_option _ _ _ _ _ one port c.in_ok-arg-2.ensures in
-    let three = added number_option _ _ _ _ _ two keep c.in_ok-arg-3.ensures in
-    let four = added number_option _ _ _ _ _ three pump c.in_ok-arg-4.ensures in
-    let five = added number_option _ _ _ _ _ four serve c.in_ok-arg-5.ensures in
+    let two = added (number_option (codes "0")) _ _ _ _ _ one port c.in_ok-arg-2.ensures in
+    let three = added (number_option (codes "1000")) _ _ _ _ _ two keep c.in_ok-arg-3.ensures in
+    let four = added (number_option (codes "500")) _ _ _ _ _ three pump c.in_ok-arg-4.ensures in
+    let five = added (number_option (codes "0")) _ _ _ _ _ four serve c.in_ok-arg-5.ensures in
     let six = added flag_option _ _ _ _ _ five flag c.in_ok-arg-6.ensures in
     let rest = c.number_option.result ∷ c.number_option-2.result ∷ c.number_option-3.result ∷ c.number_option-4.result ∷ c.flag_option.result ∷ c.number_option-5.result ∷ [] in
     let fit = All-from_recursion FitsChain (c.file_option.result ∷ rest) (types.2, (port.2, (keep.2, (pump.2, (serve.2, (flag.2, (patience.2, tt))))))) in
     IfOk-weaker c.arg-7.result _ IsServerCommand (λ cmd last. record {
-      app = added number_option _ _ cmd _ _ six patience last;
+      app = added (number_option (codes "30000")) _ _ cmd _ _ six patience last;
       types = λ m. types_given _ cmd c.file_option.result rest m
           (_, c.in_ok-arg.ensures, (_, c.in_ok-arg-2.ensures, (_, c.in_ok-arg-3.ensures, (_, c.in_ok-arg-4.ensures, (_, c.in_ok-arg-5.ensures, (_, c.in_ok-arg-6.ensures, (_, last, refl)))))))
           (c.program.ensures.empty.0, c.program.ensures.empty.1, c.program.ensures.local, c.program.ensures.negates)
