@@ -17,7 +17,7 @@ pub enum HubFault {
     #[error("a pump of no lines")]
     NoLines,
     /// A tick at an earlier time than the last one.
-    #[error("the tick goes back")]
+    #[error("the tick is earlier than the last one")]
     TickBack,
     /// A compaction below the compacted number, or past the current revision.
     #[error("the revision is compacted already, or still to come")]

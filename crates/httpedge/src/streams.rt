@@ -19,7 +19,7 @@ pub const PIECE: usize = 4096;
 /// (RFC 9112, section 9.6).
 pub const LINGER: u64 = 2000;
 
-/// Hands the hub an event: whether it was done. What one changes that is refused or out of memory is told at `Hub::on`.
+/// Hands the hub an event: whether it was done. `Hub::on` says what an event changes that is refused or out of memory.
 pub fn hand(hub: &mut Hub, event: Event) -> bool
     ensures hands { MovesBy (Hands (event_of event)) hub.old hub.new }
     ensures done { result ≡ true → MovesBy (IsDone (event_of event)) hub.old hub.new }

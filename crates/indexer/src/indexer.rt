@@ -124,7 +124,7 @@ impl<I: IndexBy> Indexer<I> {
     }
 
     /// Keeps just these objects, put one after the other; those that were kept are returned, in order of keys.
-    /// Refused, it changes nothing.
+    /// Out of memory, it changes nothing.
     pub fn replace(&mut self, objects: Vec<Object>) -> Result<Vec<Object>, AllocError>
         ensures ok { OnOk result (held_of self.new ≡ put_all (λ o. map (λ b. I.keys b o) (indexes_of self.old)) (map stored_of objects.items) fin.empty) }
         ensures was { IfOk result (λ v. map stored_of v.items ≡ map (λ e. e.1) (objects_in (held_of self.old))) }
@@ -141,7 +141,7 @@ impl<I: IndexBy> Indexer<I> {
     }
 
     /// Keeps the object where it stands, in place of the one that was there, which is returned, and in every
-    /// index under its keys alone. Refused, it changes nothing.
+    /// index under its keys alone. Out of memory, it changes nothing.
     pub fn put(&mut self, object: Object) -> Result<Option<Object>, AllocError>
         ensures ok { OnOk result (held_of self.new ≡ fin.insert (held_of self.old) (place_of_object object) (stored_of object, map (λ b. I.keys b (stored_of object)) (indexes_of self.old))) }
         ensures was { IfOk result (λ o. option_map stored_of o ≡ option_map (λ h. h.0) (fin.get (held_of self.old) (place_of_object object))) }

@@ -9,10 +9,10 @@ abbrev pub is_page : ℕ → Bool
 is_page size = nat_le 1 size && nat_le size 500
 
 -- a DNS label, or all namespaces
-abbrev pub is_place : Option (List ℕ) → Bool
-is_place None = true
-is_place (Some namespace) = is_dns_label namespace
+abbrev pub is_namespace_or_all : Option (List ℕ) → Bool
+is_namespace_or_all None = true
+is_namespace_or_all (Some namespace) = is_dns_label namespace
 
 -- the first fault
 abbrev pub fault_in : Settings → Option SettingsFault
-fault_in s = if is_page s.page then (if is_place s.wanted.namespace then None else Some Namespace) else Some Page
+fault_in s = if is_page s.page then (if is_namespace_or_all s.wanted.namespace then None else Some Namespace) else Some Page

@@ -137,7 +137,7 @@ fn hear_watch<I: IndexBy>(mirror: &mut Mirror<I>, news: News) -> Result<Turn, Al
     }
 }
 
-/// Takes an item of the reply to what is asked. Refused, it changes nothing that is kept.
+/// Takes an item of the reply to what is asked. Out of memory, it changes nothing that is kept.
 fn hear_asking<I: IndexBy>(
     alloc: Global,
     wanted: &Wanted,

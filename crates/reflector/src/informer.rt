@@ -93,7 +93,7 @@ impl<I: IndexBy> Informer<I> {
         })
     }
 
-    /// The request that is due, which is under way then; None while one is. Refused, it changes nothing.
+    /// The request that is due, which is under way then; None while one is. Out of memory, it changes nothing.
     pub fn next_request(&mut self) -> Result<Option<Vec<u8>>, AllocError>
         ensures due { (c : Client) (bytes : List ℕ) (told : List Told) → Runs (λ b s. I.keys b s) self.old c bytes told → IfOk result (λ r. option_map (λ v. v.items) r ≡ due (settings_in self.old) c) }
         ensures asked { (c : Client) (bytes : List ℕ) (told : List Told) → Runs (λ b s. I.keys b s) self.old c bytes told → c.is_asking ≡ false → OnOk result (Runs (λ b s. I.keys b s) self.new (asked c) [] []) }

@@ -13,11 +13,11 @@ ghost use Rattle.reflector.specs.Fitting.{AreFitting, revision_after_all};
 ghost use Rattle.reflector.specs.Events.{AllLead, AreLawful, AreRight, Event, start};
 ghost use Rattle.reflector.specs.Replays.{ArePlaced, HasRead, LeadFrom, Tells, TellsSince};
 
-/// Whatever comes of what a server answers, and whatever else happens, the client's objects are the server's at the
-/// revision that it reports, and that revision never falls: after any of the items (`heard`), in whichever parts; after
-/// a request, if what then comes is its answer (`asked`); after a cut, refused memory or a restart, whatever was still
-/// to come; and after the server has changed (`later`). Of a watch whose items all fit, the objects at the end are
-/// those to which they lead (`reached`).
+/// Whatever comes of a server's answers, and whatever else happens, the client's objects are the server's at the
+/// revision that it reports, and that revision never falls. So it is after any of the items, in whichever parts
+/// (`heard`). So it is after a request, if what then comes is its answer (`asked`); after a cut, a call that was out of
+/// memory, or a restart, whatever was still to come; and after the server has changed (`later`). Where all items of a
+/// watch fit, the objects at the end are those to which they lead (`reached`).
 pub fn follows_the_server()
     ensures heard { (server : Server) (wanted : Wanted) (m : ℕ) (c : Client) (xs ys : List Told) (p : ℕ) → Follows server wanted m c (xs ++ ys) p → GoesOn server wanted m (hears_all wanted c xs) ys p }
     ensures asked { (server : Server) (wanted : Wanted) (m : ℕ) (c : Client) (xs ys : List Told) (p q : ℕ) → Follows server wanted m c xs p → Comes server wanted m c.asks c.cache ys q → Follows server wanted m (asked c) ys q }
@@ -30,10 +30,10 @@ pub fn follows_the_server()
     ensures reached { (server : Server) (wanted : Wanted) (m : ℕ) (c : Client) (xs : List Told) (p : ℕ) → Follows server wanted m c xs p → c.asks ≡ follow → (hears_all wanted c xs).is_asking ≡ true → kept (hears_all wanted c xs).cache ≡ server.at p }
 {}
 
-/// Over any run of events, where the server answers what is asked and keeps what it had (requests, items received, more
-/// of a watch, cuts, refused memory, restarts, notices taken, a server that changes): after each of them what the client
-/// keeps is the server's objects at the revision that it reports, which the server has, and which is not below any that
-/// it reported before, also over restarts.
+/// After each event of any run, what the client keeps is the server's objects at the revision that it reports. The server
+/// has that revision, and it is not below any that the client reported before, also over restarts. The server answers
+/// what is asked and keeps what it had. Events are requests, items received, more of a watch, cuts, calls that are out of
+/// memory, restarts, notices taken, and changes of the server.
 pub fn mirrors_the_server()
     ensures { (wanted : Wanted) (server : Server) (events : List Event) → AreLawful wanted (start server) events → AreRight wanted (start server) events }
 {}

@@ -27,7 +27,7 @@ fn tell(notices: &mut Vec<Notice>, notice: Option<Notice>)
     }
 }
 
-/// Keeps the object where it stands, and tells it. Refused, it changes nothing.
+/// Keeps the object where it stands, and tells it. Out of memory, it changes nothing.
 pub(crate) fn put_noted<I: IndexBy>(
     indexer: &mut Indexer<I>,
     notices: &mut Vec<Notice>,
@@ -47,7 +47,7 @@ pub(crate) fn put_noted<I: IndexBy>(
     Ok(())
 }
 
-/// Keeps no object at the key, and tells it. Refused, it changes nothing.
+/// Keeps no object at the key, and tells it. Out of memory, it changes nothing.
 pub(crate) fn remove_noted<I: IndexBy>(
     indexer: &mut Indexer<I>,
     notices: &mut Vec<Notice>,
@@ -77,7 +77,7 @@ fn differences_to<I: IndexBy>(
     differences(alloc, &held, &all.objects)
 }
 
-/// Keeps just these objects, and tells each difference. Refused, it changes nothing.
+/// Keeps just these objects, and tells each difference. Out of memory, it changes nothing.
 pub(crate) fn replace_noted<I: IndexBy>(
     alloc: Global,
     indexer: &mut Indexer<I>,

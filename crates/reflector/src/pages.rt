@@ -17,7 +17,7 @@ use decoder::Page;
 use indexer::IndexBy;
 use std::alloc::{AllocError, Global};
 
-/// Keeps the whole list. Refused, it changes nothing.
+/// Keeps the whole list. Out of memory, it changes nothing.
 fn keep_list<I: IndexBy>(
     alloc: Global,
     mirror: &mut Mirror<I>,
@@ -34,7 +34,7 @@ fn keep_list<I: IndexBy>(
     Ok(())
 }
 
-/// Sets these objects aside, or keeps them, where the list ends with them. Refused, it changes nothing.
+/// Sets these objects aside, or keeps them, where the list ends with them. Out of memory, it changes nothing.
 fn set_aside<I: IndexBy>(
     alloc: Global,
     mirror: &mut Mirror<I>,
@@ -57,7 +57,7 @@ fn set_aside<I: IndexBy>(
     }
 }
 
-/// Takes a list's page behind what is set aside; answers what is asked next. Refused, it changes nothing.
+/// Takes a list's page behind what is set aside; answers what is asked next. Out of memory, it changes nothing.
 pub(crate) fn take_page<I: IndexBy>(
     alloc: Global,
     mirror: &mut Mirror<I>,

@@ -2,7 +2,7 @@
 
 ghost use Rattle.std.specs.Prelude.{◌≡◌, option_map, string_bytes};
 ghost use Rattle.names.specs.Names.{is_dns_label};
-ghost use Rattle.reflector.specs.Faults.{fault_in, is_page, is_place};
+ghost use Rattle.reflector.specs.Faults.{fault_in, is_page, is_namespace_or_all};
 ghost use Rattle.reflector.specs.Seen.{settings_of};
 
 use decoder::Wanted;
@@ -39,8 +39,8 @@ fn is_page(size: u32) -> bool
     1 <= size && size <= MAX_PAGE
 }
 
-fn is_place(namespace: &Option<String>) -> bool
-    ensures { result ≡ is_place (option_map string_bytes namespace.now) }
+fn is_namespace_or_all(namespace: &Option<String>) -> bool
+    ensures { result ≡ is_namespace_or_all (option_map string_bytes namespace.now) }
 {
     match namespace {
         Some(namespace) => is_dns_label(namespace.as_str()),
@@ -54,7 +54,7 @@ pub(crate) fn fault_in(settings: &Settings) -> Option<SettingsFault>
     if !is_page(settings.page) {
         return Some(SettingsFault::Page);
     }
-    if !is_place(&settings.wanted.namespace) {
+    if !is_namespace_or_all(&settings.wanted.namespace) {
         return Some(SettingsFault::Namespace);
     }
     None

@@ -48,7 +48,7 @@ fn may_put<I: IndexBy>(indexer: &Indexer<I>, now: u64, object: &Object) -> Resul
     Ok(is_above(object.revision, now) && has_room_for(indexer, object)?)
 }
 
-/// Puts the object, if it may be put. Refused, it changes nothing.
+/// Puts the object, if it may be put. Out of memory, it changes nothing.
 fn take_put<I: IndexBy>(
     mirror: &mut Mirror<I>,
     now: u64,
@@ -69,7 +69,7 @@ fn take_put<I: IndexBy>(
     Ok(true)
 }
 
-/// Takes the object away, if its revision is above this one. Refused, it changes nothing.
+/// Takes the object away, if its revision is above this one. Out of memory, it changes nothing.
 fn take_deleted<I: IndexBy>(
     mirror: &mut Mirror<I>,
     now: u64,
@@ -123,7 +123,7 @@ fn take_line_at<I: IndexBy>(
     }
 }
 
-/// Takes a watch's line; answers whether it fits. Refused, it changes nothing.
+/// Takes a watch's line; answers whether it fits. Out of memory, it changes nothing.
 pub(crate) fn take_line<I: IndexBy>(mirror: &mut Mirror<I>, line: Line) -> Result<bool, AllocError>
     ensures taken { (c : Client) → Stands (λ b s. I.keys b s) mirror.old c
         → IfOk result (λ fits. Stands (λ b s. I.keys b s) mirror.new (with_watch c c.cache (items.line (line_seen line))) × (fits ≡ (with_watch c c.cache (items.line (line_seen line))).is_asking)) }

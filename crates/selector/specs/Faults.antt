@@ -9,7 +9,7 @@ abbrev pub fault_text : Fault → List ℕ
 fault_text EmptyPart = codes "a part is empty"
 fault_text BadKey = codes "a key is not a label's"
 fault_text BadValue = codes "a value is not a label's"
-fault_text Bracket = codes "a bracket stands wrong"
+fault_text Bracket = codes "a bracket is misplaced"
 
 abbrev pub error_text : ReadError → List ℕ
 error_text (errors.Fault f) = codes "bad selector: " ++ fault_text f

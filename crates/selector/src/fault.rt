@@ -41,7 +41,7 @@ impl fmt::Display for Fault {
             Fault::EmptyPart => f.write_str("a part is empty"),
             Fault::BadKey => f.write_str("a key is not a label's"),
             Fault::BadValue => f.write_str("a value is not a label's"),
-            Fault::Bracket => f.write_str("a bracket stands wrong"),
+            Fault::Bracket => f.write_str("a bracket is misplaced"),
         }
     }
 }

@@ -41,7 +41,7 @@ fn read_some<R: Read>(alloc: Global, reader: &mut R) -> io::Result<Vec<u8>>
 }
 
 /// Reads while the hub waits for bytes of the connection, and hands them to it in order.
-fn listen<R: Read>(alloc: Global, hub: &mut Hub, id: u64, reader: &mut R) -> io::Result<()>
+fn hand_over<R: Read>(alloc: Global, hub: &mut Hub, id: u64, reader: &mut R) -> io::Result<()>
     ensures { (heard : List ℕ) × Consumes (R.remaining reader.old) (R.remaining reader.new) heard × Serves id hub.old heard [] hub.new }
 {
     'pieces: for _ in 0..u64::MAX {
@@ -60,7 +60,7 @@ fn listen<R: Read>(alloc: Global, hub: &mut Hub, id: u64, reader: &mut R) -> io:
 }
 
 /// Writes what is out on the connection, and takes it.
-fn tell<W: Write>(hub: &mut Hub, id: u64, writer: &mut W) -> io::Result<()>
+fn write_out<W: Write>(hub: &mut Hub, id: u64, writer: &mut W) -> io::Result<()>
     ensures told { (told : List ℕ) × Appends (W.contents writer.old) (W.contents writer.new) told × Serves id hub.old [] told hub.new }
     ensures all { OnOk result ((s : State) → IsIn hub.new s → out_on s.connections id ≡ []) }
 {
@@ -91,8 +91,8 @@ fn converse<R: Read, W: Write>(
     ensures all { OnOk result ((s : State) → IsIn hub.new s → out_on s.connections id ≡ []) }
 {
     open(hub, id)?;
-    listen(alloc, hub, id, reader)?;
-    tell(hub, id, writer)
+    hand_over(alloc, hub, id, reader)?;
+    write_out(hub, id, writer)
 }
 
 /// The turn of a connection, whose stream is a reader and a writer: it opens, the hub gets what is read while it waits
@@ -121,7 +121,7 @@ pub fn pump<W: Write>(hub: &mut Hub, id: u64, max: u64, writer: &mut W) -> io::R
     ensures { (told : List ℕ) × Appends (W.contents writer.old) (W.contents writer.new) told × MovesBy (IsPumped result id max told) hub.old hub.new }
 {
     hand(hub, Event::Pump(id, max));
-    let done = tell(hub, id, writer);
+    let done = write_out(hub, id, writer);
     if done.is_err() {
         leave(hub, id);
     }

@@ -40,7 +40,7 @@ impl Summary {
         }
     }
 
-    /// Counts one object more. Refused, it changes nothing.
+    /// Counts one object more. Out of memory, it changes nothing.
     fn add(&mut self, object: &Object) -> Result<(), AllocError>
         ensures ok { OnOk result (summed self.new ≡ with_object (summed self.old) (stored_of object.now)) }
         ensures err { OnErr result (summed self.new ≡ summed self.old) }
@@ -95,7 +95,7 @@ impl Summary {
     }
 
     /// Counts what a notice tells: the summary of the objects before it becomes that of the objects after it.
-    /// Refused, it changes nothing. It stands apart from `tell`, since only its clauses speak of objects.
+    /// Out of memory, it changes nothing. It stands apart from `tell`, since only its clauses speak of objects.
     pub fn note(&mut self, notice: &Notice) -> Result<(), AllocError>
         ensures noted { (label : List ℕ) (o : Objects) → summed self.old ≡ summed_of label o → fin.len o < 2 ^ 63 → IsOld o (notice_seen notice.now)
             → OnOk result (summed self.new ≡ summed_of label (with_notice o (notice_seen notice.now))) }

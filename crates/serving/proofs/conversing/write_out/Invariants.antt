@@ -1,7 +1,7 @@
 use Rattle.std.proofs.Common.{ℕ, List, []}
 use Rattle.std.specs.Io.KnownBytes.{Appends}
 use Rattle.serving.specs.Serving.{Serves}
-use Rattle.serving.proofs.conversing.tell.Given as goal
+use Rattle.serving.proofs.conversing.write_out.Given as goal
 
 abbrev pub invariant-writes : goal.invariant-writes
 invariant-writes g l =

@@ -1,7 +1,7 @@
 use Rattle.std.proofs.Common.{ℕ, List, []}
 use Rattle.std.specs.Io.KnownBytes.{Consumes}
 use Rattle.serving.specs.Serving.{Serves}
-use Rattle.serving.proofs.conversing.listen.Given as goal
+use Rattle.serving.proofs.conversing.hand_over.Given as goal
 
 abbrev pub invariant-pieces : goal.invariant-pieces
 invariant-pieces g l =

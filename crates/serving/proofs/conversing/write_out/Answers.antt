@@ -1,7 +1,7 @@
 use Rattle.serving.proofs.Hearing.{tells_kept, tells_none, tells_then}
 use Rattle.serving.proofs.Joining.{serves_take}
-use Rattle.serving.proofs.conversing.tell.Goals.{in-Ok, in-Err}
-use Rattle.serving.proofs.conversing.tell.Goals as goal
+use Rattle.serving.proofs.conversing.write_out.Goals.{in-Ok, in-Err}
+use Rattle.serving.proofs.conversing.write_out.Goals as goal
 
 pub writes-init : goal.writes-init
 writes-init g c = tells_none _ _ _

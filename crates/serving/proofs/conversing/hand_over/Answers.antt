@@ -1,7 +1,7 @@
 use Rattle.serving.proofs.Hearing.{hears_none, hears_then}
 use Rattle.serving.proofs.Joining.{serves_comes, serves_none}
-use Rattle.serving.proofs.conversing.listen.Goals.{in-Ok, in-Err}
-use Rattle.serving.proofs.conversing.listen.Goals as goal
+use Rattle.serving.proofs.conversing.hand_over.Goals.{in-Ok, in-Err}
+use Rattle.serving.proofs.conversing.hand_over.Goals as goal
 
 pub pieces-init : goal.pieces-init
 pieces-init g c = hears_none _ _ _
