@@ -7,7 +7,7 @@
 //! call that fails leaves the cursor where it stood.
 //!
 //! Stands on `history` for what is seen, `revstore` for the changes, `lists` for the objects and their labels,
-//! `json_values` for the parts of an object's value.
+//! `json_values` for the parts of an object's value and for copies.
 #![tactic(auto)]
 
 mod batches;

@@ -1,18 +1,19 @@
 //! Opens a watch: from which revision, and what it tells first. Its position from then on stands in `cursor`.
 
-ghost use Rattle.std.specs.Prelude.{◌≡◌, IfOk, option_map, string_bytes};
+ghost use Rattle.std.specs.Prelude.{◌≡◌, IfOk};
 ghost use Rattle.lists.specs.Views.{Gives, collection_of};
 ghost use Rattle.params.specs.Views.{values_of, watch_view};
 ghost use Rattle.watchline.specs.Opening.{initial_in, started, starts};
 ghost use Rattle.watchline.specs.Watches.{from_view};
 ghost use Rattle.watchline.specs.Views.{watch_from};
 
+use json_values::copied;
 use lists::{Collection, ListFault, Refusal, Start, selected_page};
 use params::{Params, Watch};
 use revstore::Store;
 use revtable::Fault;
 use selector::Selector;
-use std::alloc::{AllocError, Global};
+use std::alloc::Global;
 
 /// What a watch tells first.
 #[derive(Clone, Copy, Debug, PartialEq, Eq)]
@@ -88,15 +89,6 @@ fn starts(
     }
 }
 
-fn namespace_of(alloc: Global, of: Collection<'_>) -> Result<Option<String>, AllocError>
-    ensures { IfOk result (λ o. option_map string_bytes o ≡ (collection_of of.entry).namespace) }
-{
-    match of.namespace {
-        Some(namespace) => Ok(Some(String::from_str(alloc, namespace)?)),
-        None => Ok(None),
-    }
-}
-
 /// The watch that these parameters ask for, or why there is none. It changes nothing.
 pub fn start_watch(
     alloc: Global,
@@ -109,7 +101,7 @@ pub fn start_watch(
     ensures same { store.new ≡ store.old }
 {
     let (position, initial) = starts(alloc, store, of, params.version, &params.selector)?;
-    let namespace = namespace_of(alloc, of)?;
+    let namespace = copied(alloc, of.namespace)?;
     Ok(WatchFrom {
         kind: of.kind,
         namespace,
