@@ -1,6 +1,6 @@
 //! The changes after a revision, a few at a time. What a watch sees of one stands in `seen`.
 
-ghost use Rattle.std.specs.Prelude.{◌≡◌, ◌<◌, ◌≤◌, ◌++◌, IfOk, map, option_map, take};
+ghost use Rattle.std.specs.Prelude.{◌≡◌, ◌<◌, ◌≤◌, ◌++◌, IfOk, map, option_map, string_bytes, take};
 ghost use Rattle.std.specs.Prelude as prelude;
 ghost use Rattle.history.specs.History.{later};
 ghost use Rattle.history.specs.Page.{changes_within};
@@ -11,10 +11,10 @@ ghost use Rattle.revtable.specs.Read.{change_of};
 ghost use Rattle.watchline.specs.Batches.{AreBetween, IsLow, changes_past, last_revision, to_read};
 ghost use Rattle.watchline.specs.Views.{change_seen};
 
+use crate::cursor::Scope;
 use crate::seen::{Seen, seen_each};
 use revstore::{ChangesFault, Store};
 use revtable::{Change, Fault};
-use selector::Selector;
 use std::alloc::Global;
 
 /// How many changes are read at once at most.
@@ -30,19 +30,18 @@ fn last_revision(changes: &[Change]) -> Option<u64>
     }
 }
 
-/// The first changes of the type and namespace after a revision.
+/// The first changes of a watch's type and namespace after a revision.
 fn changes_after(
     store: &mut Store,
-    kind: u32,
-    namespace: Option<&str>,
+    scope: &Scope,
     after: u64,
     max: u64,
 ) -> Result<Vec<Change>, Fault>
     requires low { store.old.compacted ≤ after }
-    ensures changes { IfOk result (λ v. map change_of v.items ≡ changes_within kind (option_map (λ b. b.now) namespace.entry) max (later after store.old.changes)) }
+    ensures changes { IfOk result (λ v. map change_of v.items ≡ changes_within scope.now.kind (option_map string_bytes scope.now.namespace) max (later after store.old.changes)) }
     ensures same { store.new ≡ store.old }
 {
-    match store.changes(kind, namespace, after, max) {
+    match store.changes(scope.kind, scope.namespace(), after, max) {
         Ok(changes) => Ok(changes),
         Err(ChangesFault::Failed(fault)) => Err(fault),
         Err(ChangesFault::Expired) => unreachable!(),
@@ -52,23 +51,22 @@ fn changes_after(
 /// The same, and the revision after which the next ones come, unless these were the last.
 fn next_changes(
     store: &mut Store,
-    kind: u32,
-    namespace: Option<&str>,
+    scope: &Scope,
     after: u64,
     max: usize,
 ) -> Result<(Vec<Change>, Option<u64>), Fault>
     requires sound { IsView store.old }
     requires low { store.old.compacted ≤ after }
     requires some { 0 < max }
-    ensures changes { IfOk result (λ p. changes_past kind (option_map (λ b. b.now) namespace.entry) store.old (prelude.Some after)
-        ≡ map change_of p.0.items ++ changes_past kind (option_map (λ b. b.now) namespace.entry) store.old p.1) }
-    ensures fewer { IfOk result (λ p. to_read kind (option_map (λ b. b.now) namespace.entry) store.old p.1
-        < to_read kind (option_map (λ b. b.now) namespace.entry) store.old (prelude.Some after)) }
+    ensures changes { IfOk result (λ p. changes_past scope.now.kind (option_map string_bytes scope.now.namespace) store.old (prelude.Some after)
+        ≡ map change_of p.0.items ++ changes_past scope.now.kind (option_map string_bytes scope.now.namespace) store.old p.1) }
+    ensures fewer { IfOk result (λ p. to_read scope.now.kind (option_map string_bytes scope.now.namespace) store.old p.1
+        < to_read scope.now.kind (option_map string_bytes scope.now.namespace) store.old (prelude.Some after)) }
     ensures between { IfOk result (λ p. AreBetween store.old.compacted store.old.current (map change_of p.0.items)) }
     ensures low { IfOk result (λ p. IsLow store.old.compacted p.1) }
     ensures same { store.new ≡ store.old }
 {
-    let changes = changes_after(store, kind, namespace, after, max as u64)?;
+    let changes = changes_after(store, scope, after, max as u64)?;
     if changes.len() < max {
         return Ok((changes, None));
     }
@@ -92,20 +90,18 @@ fn cut(found: Vec<Seen>, max: usize) -> Vec<Seen>
     found
 }
 
-/// The first that is seen after a revision, at most so much. Where little is seen of what is read, more is read at
-/// once: twice as many changes each time.
+/// The first that a watch sees after a revision, at most so much. Where little is seen of what is read, more is read
+/// at once: twice as many changes each time.
 pub(crate) fn seen_after(
     alloc: Global,
     store: &mut Store,
-    kind: u32,
-    namespace: Option<&str>,
-    selector: &Selector,
+    scope: &Scope,
     after: u64,
     max: usize,
 ) -> Result<Vec<Seen>, Fault>
     requires sound { IsView store.old }
     requires low { store.old.compacted ≤ after }
-    ensures seen { IfOk result (λ v. map change_seen v.items ≡ take max (seen_in (selection_of kind (option_map (λ b. b.now) namespace.entry) selector.now) store.old after store.old.current)) }
+    ensures seen { IfOk result (λ v. map change_seen v.items ≡ take max (seen_in (selection_of scope.now.kind (option_map string_bytes scope.now.namespace) scope.now.selector) store.old after store.old.current)) }
     ensures same { store.new ≡ store.old }
 {
     let mut found = Vec::new(alloc);
@@ -115,8 +111,8 @@ pub(crate) fn seen_after(
         if found.len() >= max {
             return Ok(cut(found, max));
         }
-        let (changes, next) = next_changes(store, kind, namespace, after, batch)?;
-        let mut more = seen_each(alloc, store, selector, changes)?;
+        let (changes, next) = next_changes(store, scope, after, batch)?;
+        let mut more = seen_each(alloc, store, &scope.selector, changes)?;
         found.append(&mut more)?;
         left = next;
         batch = batch.saturating_mul(2).min(MAX_CHANGES);

@@ -92,15 +92,7 @@ pub(crate) fn told(
     let current = store.current();
     let (objects, left) = objects_told(alloc, store, scope, standing, max)?;
     let room = max.saturating_sub(objects.len());
-    let changes = seen_after(
-        alloc,
-        store,
-        scope.kind,
-        scope.namespace(),
-        &scope.selector,
-        standing.position,
-        room,
-    )?;
+    let changes = seen_after(alloc, store, scope, standing.position, room)?;
     let lines = lines_of(alloc, &objects, &changes)?;
     let next = moved(standing, &changes, left, lines.len() < max, current);
     Ok((

@@ -24,8 +24,7 @@ returns-clause-told c =
     turned s w c.args.max objects changes c.in_ok-objects.ensures.found
     (
     c.in_ok-changes.ensures.seen
-    ∙ ap (λ u. take c.saturating_sub-room.result (seen_in (selection_of scope.kind (option_map (λ b. b.now) c.namespace.result) scope.selector) u standing.position u.current)) c.objects_told.ensures.same
-    ∙ ap (λ ns. take c.saturating_sub-room.result (seen_in (selection_of scope.kind ns scope.selector) v standing.position v.current)) c.namespace.ensures
+    ∙ ap (λ u. take c.saturating_sub-room.result (seen_in (selection_of scope.kind (option_map string_bytes scope.namespace) scope.selector) u standing.position u.current)) c.objects_told.ensures.same
     ∙ ap (λ n. take n (changes_left s w)) (c.saturating_sub-room.ensures ∙ ap (λ n. c.args.max - n) (c.len.ensures ∙ c.in_ok-objects.objects.ok.0 ∙ sym (length-map c.in_ok-objects.objects.items entry_of)))
     )
     lines (c.in_ok-lines.ensures ∙ ap₂ (λ os cs. map line_of (map added (map entry_of os) ++ map change_seen cs)) c.deref.ensures.value c.deref-2.ensures.value)
