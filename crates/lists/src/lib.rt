@@ -21,7 +21,7 @@ mod rows;
 mod text;
 mod token_laws;
 
-pub use collection::Collection;
+pub use collection::{Collection, Selected};
 pub use fault::ListFault;
 pub use labels::{is_selected, value_of};
 pub use laws::lists_are_json;

@@ -11,13 +11,12 @@ ghost use Rattle.lists.specs.Lists.{page_limit, page_of};
 ghost use Rattle.lists.specs.Rows.{is_over, matching, place_of};
 ghost use Rattle.lists.specs.Views.{collection_of, page_seen, start_of};
 
-use crate::collection::Collection;
+use crate::collection::{Collection, Selected};
 use crate::rows::{Start, after, matching, next_rows};
 use crate::text::next_of;
 use params::{Params, Token};
 use revstore::Store;
 use revtable::{Entry, Fault};
-use selector::Selector;
 use std::alloc::{AllocError, Global};
 
 /// How many items a page has at most.
@@ -84,24 +83,22 @@ fn cut(limit: Option<usize>, mut found: Vec<Entry>) -> Page
 fn found_from(
     alloc: Global,
     store: &mut Store,
-    of: Collection<'_>,
-    revision: u64,
-    selector: &Selector,
+    selected: Selected<'_>,
     start: Start,
     limit: Option<usize>,
 ) -> Result<Vec<Entry>, Fault>
-    requires low { store.old.compacted ≤ revision }
-    requires high { revision ≤ store.old.current }
+    requires low { store.old.compacted ≤ selected.revision }
+    requires high { selected.revision ≤ store.old.current }
     ensures found { IfOk result (λ v. limited limit (map entry_of v.items)
-        ≡ limited limit (matching selector.now (listed (collection_of of.entry).kind (collection_of of.entry).namespace (start_of start) (state_in store.old revision)))) }
+        ≡ limited limit (matching selected.entry.selector.now (listed (collection_of selected.entry.collection).kind (collection_of selected.entry.collection).namespace (start_of start) (state_in store.old selected.entry.revision)))) }
     ensures same { store.new ≡ store.old }
 {
     let mut found = Vec::new(alloc);
     let mut left = Some(start);
     let mut max = first_rows(limit);
     while let Some(start) = left {
-        let (rows, next) = next_rows(store, of, revision, &start, max)?;
-        let mut more = matching(alloc, selector, rows)?;
+        let (rows, next) = next_rows(store, selected.collection, selected.revision, &start, max)?;
+        let mut more = matching(alloc, selected.selector, rows)?;
         found.append(&mut more)?;
         if is_over(limit, found.len()) {
             return Ok(found);
@@ -117,21 +114,19 @@ fn found_from(
 pub fn selected_page(
     alloc: Global,
     store: &mut Store,
-    of: Collection<'_>,
-    revision: u64,
-    selector: &Selector,
+    selected: Selected<'_>,
     start: &Start,
     max: usize,
 ) -> Result<Page, Fault>
-    requires low { store.old.compacted ≤ revision }
-    requires high { revision ≤ store.old.current }
+    requires low { store.old.compacted ≤ selected.revision }
+    requires high { selected.revision ≤ store.old.current }
     ensures page { IfOk result (λ p. page_seen p
-        ≡ limited (Some max) (matching selector.now (listed (collection_of of.entry).kind (collection_of of.entry).namespace (start_of start.now) (state_in store.old revision)))) }
+        ≡ limited (Some max) (matching selected.entry.selector.now (listed (collection_of selected.entry.collection).kind (collection_of selected.entry.collection).namespace (start_of start.now) (state_in store.old selected.entry.revision)))) }
     ensures same { store.new ≡ store.old }
 {
     let start = start.copied()?;
     let limit = Some(max);
-    let found = found_from(alloc, store, of, revision, selector, start, limit)?;
+    let found = found_from(alloc, store, selected, start, limit)?;
     Ok(cut(limit, found))
 }
 
@@ -170,6 +165,11 @@ pub(crate) fn page_of(
 {
     let limit = page_limit(params.limit);
     let start = start_at(&params.token)?;
-    let found = found_from(alloc, store, of, revision, &params.selector, start, limit)?;
+    let selected = Selected {
+        collection: of,
+        revision,
+        selector: &params.selector,
+    };
+    let found = found_from(alloc, store, selected, start, limit)?;
     Ok(cut(limit, found))
 }

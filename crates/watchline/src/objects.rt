@@ -7,7 +7,7 @@ ghost use Rattle.watchline.specs.Watches.{from_view, left_past, objects_left};
 ghost use Rattle.watchline.specs.Views.{cursor_of, left_at, objects_at};
 
 use crate::cursor::{Scope, Standing};
-use lists::{Start, next_start, selected_page};
+use lists::{Selected, Start, next_start, selected_page};
 use revstore::Store;
 use revtable::{Entry, Fault};
 use std::alloc::Global;
@@ -28,8 +28,12 @@ fn objects_from(
     ensures same { store.new ≡ store.old }
 {
     let revision = position.min(store.current());
-    let of = scope.collection();
-    let page = selected_page(alloc, store, of, revision, &scope.selector, start, max)?;
+    let selected = Selected {
+        collection: scope.collection(),
+        revision,
+        selector: &scope.selector,
+    };
+    let page = selected_page(alloc, store, selected, start, max)?;
     if max == 0 {
         return Ok((page.found, Some(start.copied()?)));
     }

@@ -8,7 +8,7 @@ ghost use Rattle.watchline.specs.Watches.{from_view};
 ghost use Rattle.watchline.specs.Views.{watch_from};
 
 use json_values::copied;
-use lists::{Collection, ListFault, Refusal, Start, selected_page};
+use lists::{Collection, ListFault, Refusal, Selected, Start, selected_page};
 use params::{Params, Watch};
 use revstore::Store;
 use revtable::Fault;
@@ -53,8 +53,12 @@ fn initial_in(
     ensures initial { IfOk result (λ i. i ≡ initial_in (from_view store.old) (collection_of of.entry).kind (collection_of of.entry).namespace selector.now) }
     ensures same { store.new ≡ store.old }
 {
-    let current = store.current();
-    let first = selected_page(alloc, store, of, current, selector, &Start::First, 1)?;
+    let selected = Selected {
+        collection: of,
+        revision: store.current(),
+        selector,
+    };
+    let first = selected_page(alloc, store, selected, &Start::First, 1)?;
     if first.found.is_empty() {
         Ok(Initial::NoObjects)
     } else {

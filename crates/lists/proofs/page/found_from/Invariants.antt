@@ -10,9 +10,9 @@ use Rattle.lists.proofs.page.found_from.Given as goal
 
 abbrev pub invariant-loop-left : goal.invariant-loop-left
 invariant-loop-left l =
-    IsFoundSoFar l.selector (listed (collection_of l.of).kind (collection_of l.of).namespace (start_of l.fn.start) (state_in l.fn.store l.revision))
-    (map entry_of l.found.items) (rows_left (collection_of l.of).kind (collection_of l.of).namespace (state_in l.fn.store l.revision) (option_map start_of l.left))
+    IsFoundSoFar l.selected.selector.now (listed (collection_of l.selected.collection).kind (collection_of l.selected.collection).namespace (start_of l.fn.start) (state_in l.fn.store l.selected.revision))
+    (map entry_of l.found.items) (rows_left (collection_of l.selected.collection).kind (collection_of l.selected.collection).namespace (state_in l.fn.store l.selected.revision) (option_map start_of l.left))
     × (l.store ≡ l.fn.store) × (0 < l.max)
 
 abbrev pub decreases-loop-left : goal.decreases-loop-left
-decreases-loop-left l = to_read (collection_of l.of).kind (collection_of l.of).namespace (state_in l.store l.revision) (option_map start_of l.left)
+decreases-loop-left l = to_read (collection_of l.selected.collection).kind (collection_of l.selected.collection).namespace (state_in l.store l.selected.revision) (option_map start_of l.left)

@@ -8,6 +8,6 @@ use Rattle.lists.proofs.page.selected_page.Goals as goal
 
 pub returns-clause-page : goal.returns-clause-page
 returns-clause-page c =
-    let of = collection_of c.args.of in
+    let of = collection_of c.args.selected.collection in
     c.cut.ensures ∙ c.in_ok-found.ensures.found
-    ∙ ap (λ start. limited (Some c.args.max) (matching c.args.selector.now (listed of.kind of.namespace start (state_in c.args.store.now c.args.revision)))) c.in_ok-start.ensures
+    ∙ ap (λ start. limited (Some c.args.max) (matching c.args.selected.selector.now (listed of.kind of.namespace start (state_in c.args.store.now c.args.selected.revision)))) c.in_ok-start.ensures

@@ -28,7 +28,7 @@ returns-clause-found c =
     page_at v scope c.args.position c.min-revision.result c.args.max start (page_seen c.in_ok-page.page) c.requires.sound
     (c.min-revision.ensures ∙ ap (min c.args.position) c.current.ensures.current)
     (c.in_ok-page.ensures.page
-    ∙ ap₂ (λ kind namespace. limited (Some c.args.max) (matching scope.selector (listed kind namespace (start_of start) (state_in v c.min-revision.result)))) c.collection-of.ensures.kind c.collection-of.ensures.namespace)
+    ∙ ap₂ (λ kind namespace. limited (Some c.args.max) (matching scope.selector (listed kind namespace (start_of start) (state_in v c.min-revision.result)))) c.collection.ensures.kind c.collection.ensures.namespace)
     )
 
 pub returns-clause-left : goal.returns-clause-left
@@ -41,6 +41,6 @@ returns-clause-left c =
     page_at v scope c.args.position c.min-revision.result c.args.max start (page_seen c.in_ok-page.page) c.requires.sound
     (c.min-revision.ensures ∙ ap (min c.args.position) c.current.ensures.current)
     (c.in_ok-page.ensures.page
-    ∙ ap₂ (λ kind namespace. limited (Some c.args.max) (matching scope.selector (listed kind namespace (start_of start) (state_in v c.min-revision.result)))) c.collection-of.ensures.kind c.collection-of.ensures.namespace)
+    ∙ ap₂ (λ kind namespace. limited (Some c.args.max) (matching scope.selector (listed kind namespace (start_of start) (state_in v c.min-revision.result)))) c.collection.ensures.kind c.collection.ensures.namespace)
     )
     ∙ sym (past_some c.args.max (objects_at v scope c.args.position start) (left_at (Some start)) c.if-max-eq0.false)
