@@ -8,6 +8,12 @@ use crate::change::Change;
 use crate::method::Method;
 use watchline::WatchFrom;
 
+/// The status code of what is shown or changed (RFC 9110, section 15.3.1).
+pub(crate) const OK: u16 = 200;
+
+/// The status code of a creation (RFC 9110, section 15.3.2).
+pub(crate) const CREATED: u16 = 201;
+
 /// What a call is of (Kubernetes docs, "Kubernetes API Concepts", "Resource URIs").
 #[derive(Debug, Drop)]
 pub struct Target {

@@ -12,7 +12,7 @@ ghost use Rattle.history.specs.Read.{key_of};
 ghost use Rattle.verbs.specs.Seen.{Gives, call_of, object_of, plan_of};
 ghost use Rattle.verbs.specs.Step.{delete_validated, deleted, deleted_over};
 
-use crate::calls::{Answer, Call, Plan};
+use crate::calls::{Answer, Call, OK, Plan};
 use crate::change::Change;
 use crate::fault::CallError;
 use crate::live::Live;
@@ -38,7 +38,7 @@ fn deleted(alloc: Global, of: Subject<'_>, live: &Object, state: &Owned) -> Resu
     let body = printed_text(alloc, of.served, &of.key, revision, state)?;
     Ok(Plan {
         answer: Answer {
-            status: 200,
+            status: OK,
             body,
             watch: None,
         },

@@ -23,7 +23,7 @@ ghost use Rattle.verbs.specs.Step.{all_validated_by, body_of, collection_of, col
 ghost use Rattle.verbs.specs.Subject.{IsSubject, type_of};
 
 use crate::answering::{no_path, not_served, plan_for};
-use crate::calls::{Answer, Call, Plan};
+use crate::calls::{Answer, Call, OK, Plan};
 use crate::catalog::Catalog;
 use crate::envelope::api_version_of;
 use crate::fault::{CallError, Fault};
@@ -165,7 +165,7 @@ fn shown(body: String, watch: Option<WatchFrom>) -> Plan
 {
     Plan {
         answer: Answer {
-            status: 200,
+            status: OK,
             body,
             watch,
         },

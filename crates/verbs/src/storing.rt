@@ -22,7 +22,7 @@ ghost use Rattle.verbs.specs.Step.{as_it_stands, no_object_message, other_versio
 ghost use Rattle.verbs.specs.Subject.{IsSubject, type_of};
 ghost use Rattle.verbs.specs.WritePlans.{RemembersRight, written_plan};
 
-use crate::calls::{Answer, Plan};
+use crate::calls::{Answer, CREATED, OK, Plan};
 use crate::change::Change;
 use crate::envelope::api_version_of;
 use crate::fault::CallError;
@@ -205,7 +205,7 @@ pub fn as_it_stands(object: Object) -> Plan
 {
     Plan {
         answer: Answer {
-            status: 200,
+            status: OK,
             body: object.body,
             watch: None,
         },
@@ -243,8 +243,8 @@ pub(crate) fn store_unless_same(
     ensures right { IfOk result (RemembersRight (type_of of.entry)) }
 {
     match written_over(&owned, live.before()) {
-        Outcome::Created => store_and_remember(alloc, of, 201, owned),
-        Outcome::Configured => store_and_remember(alloc, of, 200, owned),
+        Outcome::Created => store_and_remember(alloc, of, CREATED, owned),
+        Outcome::Configured => store_and_remember(alloc, of, OK, owned),
         Outcome::Unchanged => match &live.object {
             Some(object) => Ok(unchanged(object)?),
             None => unreachable!(),

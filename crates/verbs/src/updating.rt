@@ -17,7 +17,7 @@ ghost use Rattle.verbs.specs.Validated.{and_then};
 ghost use Rattle.verbs.specs.WritePlans.{RemembersRight, written_plan};
 
 use crate::answering::body_of;
-use crate::calls::Call;
+use crate::calls::{CREATED, Call};
 use crate::envelope::{Expected, name_in};
 use crate::fault::CallError;
 use crate::intent::{Creation, Intent, at_path, intent_of};
@@ -67,7 +67,7 @@ pub(crate) fn created_as(
     )?;
     not_there(alloc, of.served, of.key.name.as_str(), live)?;
     let owned = updated_by(alloc, intent, &Owned::empty(alloc))?;
-    store_and_remember(alloc, of, 201, owned)
+    store_and_remember(alloc, of, CREATED, owned)
 }
 
 /// The key of an object that its body names.
