@@ -1,6 +1,6 @@
-//! What the plans of all calls share: the body of a write, and the plan of a refusal. Its Status is made in `status`.
+//! What the plans of all calls share: the body of a write, the plan of what is shown, and that of a refusal. Its Status is made in `status`.
 
-ghost use Rattle.std.specs.Prelude.{◌≡◌, ◌≢◌, Err, IfOk, codes};
+ghost use Rattle.std.specs.Prelude.{◌≡◌, ◌≢◌, Err, IfOk, None, codes, option_map, string_bytes};
 ghost use Rattle.serde_json.specs.View.{view};
 ghost use Rattle.verbs.specs.declared.reason.Reason.TheVariants.{MethodNotAllowed, NotFound};
 ghost use Rattle.verbs.specs.Json.{IsJson};
@@ -8,15 +8,31 @@ ghost use Rattle.verbs.specs.Calls as calls;
 ghost use Rattle.verbs.specs.Seen.{RefusesFor, Gives, call_of, call_refusal_of, plan_of};
 ghost use Rattle.verbs.specs.Step.{body_of, plan_for, refused};
 ghost use Rattle.verbs.specs.Validated.{Validated};
+ghost use Rattle.watchline.specs.Views.{watch_from};
 
 use crate::admitting::{NO_PATH, NOT_SERVED};
 use crate::body::NOT_JSON;
 use crate::call_refusal::CallRefusal;
-use crate::calls::{Answer, Call, Plan};
+use crate::calls::{Answer, Call, OK, Plan};
 use crate::fault::{CallError, Fault};
 use crate::reason::Reason;
 use serde_json::Value;
 use std::alloc::{AllocError, Global};
+use watchline::WatchFrom;
+
+/// The plan that changes nothing: what is shown, or the watch that begins.
+pub(crate) fn shown(body: String, watch: Option<WatchFrom>) -> Plan
+    ensures { plan_of result ≡ record { answer = record { status = 200; body = string_bytes body; watch = option_map watch_from watch }; change = None } }
+{
+    Plan {
+        answer: Answer {
+            status: OK,
+            body,
+            watch,
+        },
+        change: None,
+    }
+}
 
 /// The body of a write.
 pub fn body_of(alloc: Global, call: &Call) -> Result<&Value, CallError>

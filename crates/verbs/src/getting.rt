@@ -6,12 +6,12 @@ ghost use Rattle.verbs.specs.Seen.{Gives, object_of, plan_of};
 ghost use Rattle.verbs.specs.Step.{get_validated, too_large_message, version_come};
 ghost use Rattle.verbs.specs.Subject.{type_of};
 
+use crate::answering::shown;
 use crate::calls::Plan;
 use crate::fault::CallError;
 use crate::parameters::read_parameters;
 use crate::presence::there;
 use crate::reason::Reason;
-use crate::storing::as_it_stands;
 use crate::subject::Subject;
 use crate::texts::joined;
 use params::Asked;
@@ -60,7 +60,7 @@ pub(crate) fn validate_get(
     there(alloc, of.served, of.key.name.as_str(), object.as_ref())?;
     check_come(alloc, params.version, of.current)?;
     match object {
-        Some(object) => Ok(as_it_stands(object)),
+        Some(object) => Ok(shown(object.body, None)),
         None => unreachable!(),
     }
 }

@@ -1,6 +1,6 @@
 //! The plan of a call, by its method and what stands in the store. Writes of one object are planned in `object_writes`.
 
-ghost use Rattle.std.specs.Prelude.{◌≡◌, ◌≢◌, Err, IfOk, IfSome, List, None, Some, option_map, slice_get, string_bytes};
+ghost use Rattle.std.specs.Prelude.{◌≡◌, ◌≢◌, Err, IfOk, IfSome, List, None, Some, option_map, slice_get};
 ghost use Rattle.std.specs.declared.result.Result.{Result};
 ghost use Rattle.std.specs.FinMap as fin;
 ghost use Rattle.schema.specs.ObjectShape.{IsObjectShape};
@@ -17,13 +17,12 @@ ghost use Rattle.verbs.specs.Seen.{call_of, creation_seen, object_of, objects_in
 ghost use Rattle.params.specs.Views.{values_of, watch_view};
 ghost use Rattle.lists.specs.Views as views;
 ghost use Rattle.lists.specs.declared.refusal.Refusal.{Refusal};
-ghost use Rattle.watchline.specs.Views.{watch_from};
 ghost use Rattle.watchline.specs.Watches.{from_view};
 ghost use Rattle.verbs.specs.Step.{all_validated_by, body_of, collection_of, collection_validated_by, create_validated, created_as, list_answered, list_validated, lists_in, object_validated_by, plan_for, planned_over, shown_by, validated_in};
 ghost use Rattle.verbs.specs.Subject.{IsSubject, type_of};
 
-use crate::answering::{no_path, not_served, plan_for};
-use crate::calls::{Answer, Call, OK, Plan};
+use crate::answering::{no_path, not_served, plan_for, shown};
+use crate::calls::{Call, Plan};
 use crate::catalog::Catalog;
 use crate::envelope::api_version_of;
 use crate::fault::{CallError, Fault};
@@ -43,7 +42,7 @@ use revstore::Store;
 use revtable::Object;
 use schema::{Served, Types};
 use std::alloc::Global;
-use watchline::{WatchFrom, start_watch};
+use watchline::start_watch;
 
 /// By the method, over the object under the key.
 fn planned_by(
@@ -156,20 +155,6 @@ fn list_failed(alloc: Global, fault: ListFault) -> Result<Plan, Fault>
         ListFault::Refused(refusal) => plan_for(alloc, Err(list_refusal(alloc, refusal))),
         ListFault::Failed(revtable::Fault::Memory) => Err(Fault::Memory),
         ListFault::Failed(revtable::Fault::Store) => Err(Fault::Store),
-    }
-}
-
-/// What is shown, or the watch that begins.
-fn shown(body: String, watch: Option<WatchFrom>) -> Plan
-    ensures { plan_of result ≡ record { answer = record { status = 200; body = string_bytes body; watch = option_map watch_from watch }; change = None } }
-{
-    Plan {
-        answer: Answer {
-            status: OK,
-            body,
-            watch,
-        },
-        change: None,
     }
 }
 

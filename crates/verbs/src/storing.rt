@@ -22,6 +22,7 @@ ghost use Rattle.verbs.specs.Step.{as_it_stands, no_object_message, other_versio
 ghost use Rattle.verbs.specs.Subject.{IsSubject, type_of};
 ghost use Rattle.verbs.specs.WritePlans.{RemembersRight, written_plan};
 
+use crate::answering::shown;
 use crate::calls::{Answer, CREATED, OK, Plan};
 use crate::change::Change;
 use crate::envelope::api_version_of;
@@ -199,31 +200,14 @@ pub(crate) fn store_and_remember(
     Ok(WritePlan { plan, remembered })
 }
 
-/// The object as it stands.
-pub fn as_it_stands(object: Object) -> Plan
-    ensures { plan_of result ≡ as_it_stands (object_of object) }
-{
-    Plan {
-        answer: Answer {
-            status: OK,
-            body: object.body,
-            watch: None,
-        },
-        change: None,
-    }
-}
-
 /// The plan that answers what stands and changes nothing. The text is copied, since what stands is remembered.
 fn unchanged(live: &Object) -> Result<WritePlan, AllocError>
     ensures plan { IfOk result (λ w. written_plan w ≡ as_it_stands (object_of live.now)) }
     ensures right { (t : ServedShape) → IfOk result (RemembersRight t) }
 {
-    let object = Object {
-        revision: live.revision,
-        body: live.body.clone()?,
-    };
+    let body = live.body.clone()?;
     Ok(WritePlan {
-        plan: as_it_stands(object),
+        plan: shown(body, None),
         remembered: None,
     })
 }
