@@ -73,8 +73,9 @@ pub fn printed_text(
     requires content { IsContent (types.served served.now).shape owned.now.tree }
     ensures { IfOk result (λ t. string_bytes t ≡ text_at (types.served served.now) (key_of key.now) revision (state_of owned.now)) }
 {
-    let (text, _) = printed_with_labels(alloc, served, key, revision, owned)?;
-    Ok(text)
+    let api_version = api_version_of(alloc, served)?;
+    let identity = identity_of(served, key, api_version.as_str());
+    owned.to_object(alloc, &served.schema, identity, revision)
 }
 
 /// How a message on the given version begins.
