@@ -1,4 +1,5 @@
-//! What the plans of all calls share: the body of a write, the plan of what is shown, and that of a refusal. Its Status is made in `status`.
+//! What the plans of all calls share: the body of a write, the plan of what is shown, and that of a refusal, whose Status
+//! is made in `status`.
 
 ghost use Rattle.std.specs.Prelude.{◌≡◌, ◌≢◌, Err, IfOk, None, codes, option_map, string_bytes};
 ghost use Rattle.serde_json.specs.View.{view};

@@ -1,37 +1,22 @@
-//! Gets (Kubernetes docs, "Kubernetes API Concepts", "Resource versions", "Get"). Lists are refused in `listing`.
+//! Gets (Kubernetes docs, "Kubernetes API Concepts", "Resource versions", "Get"). A version that hasn't come is refused
+//! as a list's is, in `listing`.
 
-ghost use Rattle.std.specs.Prelude.{◌≡◌, IfOk, option_map, string_bytes};
+ghost use Rattle.std.specs.Prelude.{option_map};
 ghost use Rattle.history.specs.Read.{key_of};
 ghost use Rattle.verbs.specs.Seen.{Gives, object_of, plan_of};
-ghost use Rattle.verbs.specs.Step.{get_validated, too_large_message, version_come};
+ghost use Rattle.verbs.specs.Step.{get_validated, version_come};
 ghost use Rattle.verbs.specs.Subject.{type_of};
 
 use crate::answering::shown;
 use crate::calls::Plan;
 use crate::fault::CallError;
+use crate::listing::too_large;
 use crate::parameters::read_parameters;
 use crate::presence::there;
-use crate::reason::Reason;
 use crate::subject::Subject;
-use crate::texts::joined;
 use params::Asked;
 use revtable::Object;
-use std::alloc::{AllocError, Global};
-
-pub(crate) fn too_large_message(
-    alloc: Global,
-    asked: u64,
-    current: u64,
-) -> Result<String, AllocError>
-    ensures { IfOk result (λ s. string_bytes s ≡ too_large_message asked current) }
-{
-    let asked = asked.to_string(alloc)?;
-    let mut message = joined(alloc, "Too large resource version: ", asked.as_str())?;
-    message.push_str(", current: ")?;
-    let current = current.to_string(alloc)?;
-    message.push_str(current.as_str())?;
-    Ok(message)
-}
+use std::alloc::Global;
 
 /// The version that is asked for has come.
 fn check_come(alloc: Global, version: Option<u64>, current: u64) -> Result<(), CallError>
@@ -43,8 +28,7 @@ fn check_come(alloc: Global, version: Option<u64>, current: u64) -> Result<(), C
     if asked <= current {
         return Ok(());
     }
-    let message = too_large_message(alloc, asked, current)?;
-    Err(CallError::refused_for(alloc, Reason::Timeout, message.as_str()))
+    Err(too_large(alloc, asked, current))
 }
 
 /// Checks, in order: parameters, whether the object is there, version.
