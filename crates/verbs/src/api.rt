@@ -10,7 +10,7 @@ use crate::catalog::Catalog;
 use crate::fault::Fault;
 use crate::plans::planned;
 use crate::route::Routes;
-use crate::watching::{bookmarked, pumped};
+use crate::watching::bookmarked;
 use crate::writing::write_change;
 use revstore::{CompactFault, Store};
 use revtable::Table;
@@ -143,7 +143,7 @@ impl Api {
         ensures unchanged { self.new ≡ self.old }
     {
         watches_by_views();
-        pumped(self.alloc, &mut self.store, cursor, max)
+        Ok(cursor.pump(self.alloc, &mut self.store, max)?)
     }
 
     /// The line of a bookmark, where one is due: the version up to which the watch has told all. On an error the

@@ -1,33 +1,17 @@
-//! Watches of served types (Kubernetes docs, "Kubernetes API Concepts", "Efficient detection of changes"). A watch's
-//! position stands in the crate `watchline`.
+//! Bookmarks of watches of served types (Kubernetes docs, "Kubernetes API Concepts", "Watch bookmarks"). A watch's position
+//! stands in the crate `watchline`.
 
 ghost use Rattle.std.specs.Prelude.{◌≡◌, ◌≢◌, Err, IfOk, None, Ok, OnErr, false};
 ghost use Rattle.schema.specs.Served.{types_view};
-ghost use Rattle.watchline.specs.Views.{marking_of, turn_of};
-ghost use Rattle.watchline.specs.Watches.{from_view, is_bookmark_due, pumped};
+ghost use Rattle.watchline.specs.Views.{marking_of};
+ghost use Rattle.watchline.specs.Watches.{is_bookmark_due};
 ghost use Rattle.verbs.specs.Watching.{bookmarked_in};
 
 use crate::envelope::api_version_of;
 use crate::fault::Fault;
-use revstore::Store;
 use schema::Types;
 use std::alloc::Global;
-use watchline::{Pumped, WatchCursor};
-
-/// The next lines of a watch, at most so many; here an error of the store becomes one of a call.
-pub(crate) fn pumped(
-    alloc: Global,
-    store: &mut Store,
-    cursor: &mut WatchCursor,
-    max: usize,
-) -> Result<Pumped, Fault>
-    ensures pumped { IfOk result (λ p. turn_of p cursor.new ≡ pumped (from_view store.old) max cursor.old) }
-    ensures err { OnErr result (cursor.new ≡ cursor.old) }
-    ensures readable { result ≢ Err Fault.Unreadable }
-    ensures same { store.new ≡ store.old }
-{
-    Ok(cursor.pump(alloc, store, max)?)
-}
+use watchline::WatchCursor;
 
 /// The line of a bookmark, where one is due.
 pub(crate) fn bookmarked(

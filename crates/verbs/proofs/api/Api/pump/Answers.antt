@@ -1,5 +1,4 @@
 use Rattle.std.proofs.Common.{◌∙◌, ap}
-use Rattle.std.proofs.lemmas.Result.{IfOk-weaker}
 use Rattle.history.specs.View.{View}
 use Rattle.watchline.specs.Watches.{from_view, pumped}
 use Rattle.verbs.proofs.Changes.{is_history}
@@ -7,6 +6,4 @@ use Rattle.verbs.proofs.api.Api.pump.Goals as goal
 
 pub returns-clause-pumped : goal.returns-clause-pumped
 returns-clause-pumped c = λ types m stands.
-    IfOk-weaker c.pumped.result _ _
-    (λ p told. told ∙ ap (λ (v : View). pumped (from_view v) c.args.max c.args.cursor.now) stands.store ∙ c.watches_by_views.ensures m c.args.max c.args.cursor.now (is_history types m stands.is_machine))
-    c.pumped.ensures.pumped
+    c.in_ok-pump.ensures.pumped ∙ ap (λ (v : View). pumped (from_view v) c.args.max c.args.cursor.now) stands.store ∙ c.watches_by_views.ensures m c.args.max c.args.cursor.now (is_history types m stands.is_machine)
