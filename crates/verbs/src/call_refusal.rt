@@ -29,14 +29,14 @@ impl CallRefusal {
     ghost use Rattle.verbs.specs.Status.{call_refusal_value};
 
     /// A refusal without causes.
-    pub fn new(alloc: Global, reason: Reason, message: &str) -> Result<CallRefusal, AllocError>
-        ensures { IfOk result (λ d. call_refusal_of d ≡ call_refusal reason message.now) }
+    pub fn new(alloc: Global, reason: Reason, message: String) -> CallRefusal
+        ensures { call_refusal_of result ≡ call_refusal reason (string_bytes message) }
     {
-        Ok(CallRefusal {
+        CallRefusal {
             reason,
-            message: String::from_str(alloc, message)?,
+            message,
             causes: Vec::new(alloc),
-        })
+        }
     }
 
     /// The Status object that tells the refusal (Kubernetes API conventions, "Response Status Kind").

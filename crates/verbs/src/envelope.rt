@@ -71,7 +71,7 @@ fn fault_at(alloc: Global, path: &str, what: &str) -> CallError
     ensures { RefusesFor result BadRequest (path.now ++ what.now) }
 {
     match joined(alloc, path, what) {
-        Ok(message) => CallError::refused_for(alloc, Reason::BadRequest, message.as_str()),
+        Ok(message) => CallError::refused_with(alloc, Reason::BadRequest, message),
         Err(_) => CallError::Memory,
     }
 }
@@ -163,7 +163,7 @@ fn validate_kind(alloc: Global, served: &Served, top: &Map<String, Value>) -> Re
         return Ok(());
     }
     let message = kind_message(alloc, wanted.as_str(), served.kind.as_str())?;
-    Err(CallError::refused_for(alloc, Reason::BadRequest, message.as_str()))
+    Err(CallError::refused_with(alloc, Reason::BadRequest, message))
 }
 
 /// `metadata`, if it is there.
@@ -218,7 +218,7 @@ fn validate_wanted(
         return Ok(());
     }
     let message = must_be(alloc, name, wanted)?;
-    Err(CallError::refused_for(alloc, Reason::BadRequest, message.as_str()))
+    Err(CallError::refused_with(alloc, Reason::BadRequest, message))
 }
 
 /// A name that the body gives is that of the path.

@@ -1,6 +1,7 @@
 //! The errors of calls: of a check, which refuses the call or is out of memory, and of a whole call, which is no
 //! refusal: memory, the store, or a stored text that is no object's. A refusal itself stands in `call_refusal`.
 
+ghost use Rattle.std.specs.Prelude.{string_bytes};
 ghost use Rattle.verbs.specs.Seen.{RefusesFor};
 
 use crate::call_refusal::CallRefusal;
@@ -16,12 +17,19 @@ pub enum CallError {
 }
 
 impl CallError {
-    /// A refusal with this message.
+    /// A refusal with this message, which was put together for it.
+    pub fn refused_with(alloc: Global, reason: Reason, message: String) -> CallError
+        ensures { RefusesFor result reason (string_bytes message) }
+    {
+        CallError::Refused(CallRefusal::new(alloc, reason, message))
+    }
+
+    /// A refusal with a copy of this message.
     pub fn refused_for(alloc: Global, reason: Reason, message: &str) -> CallError
         ensures { RefusesFor result reason message.now }
     {
-        match CallRefusal::new(alloc, reason, message) {
-            Ok(call_refusal) => CallError::Refused(call_refusal),
+        match String::from_str(alloc, message) {
+            Ok(message) => CallError::refused_with(alloc, reason, message),
             Err(_) => CallError::Memory,
         }
     }

@@ -17,7 +17,7 @@ fn expired(alloc: Global, asked: u64, compacted: u64) -> CallError
     ensures { Refuses result (list_refusal (Expired asked compacted)) }
 {
     match expired_message(alloc, asked, compacted) {
-        Ok(message) => CallError::refused_for(alloc, Reason::Expired, message.as_str()),
+        Ok(message) => CallError::refused_with(alloc, Reason::Expired, message),
         Err(_) => CallError::Memory,
     }
 }
@@ -38,7 +38,7 @@ pub(crate) fn too_large(alloc: Global, asked: u64, current: u64) -> CallError
     ensures { Refuses result (list_refusal (TooLarge asked current)) }
 {
     match too_large_message(alloc, asked, current) {
-        Ok(message) => CallError::refused_for(alloc, Reason::Timeout, message.as_str()),
+        Ok(message) => CallError::refused_with(alloc, Reason::Timeout, message),
         Err(_) => CallError::Memory,
     }
 }

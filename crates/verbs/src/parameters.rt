@@ -23,7 +23,7 @@ fn bad_parameter(alloc: Global, parameter: Parameter) -> CallError
             "fieldManager: 1 to 128 printable characters",
         ),
         other => match joined(alloc, "bad parameter: ", other.name()) {
-            Ok(message) => CallError::refused_for(alloc, Reason::BadRequest, message.as_str()),
+            Ok(message) => CallError::refused_with(alloc, Reason::BadRequest, message),
             Err(_) => CallError::Memory,
         },
     }

@@ -36,7 +36,7 @@ pub fn there<'a>(
     let Some(stored) = live else {
         let mut message = object_named(alloc, served, name)?;
         message.push_str(" not found")?;
-        return Err(CallError::refused_for(alloc, Reason::NotFound, message.as_str()));
+        return Err(CallError::refused_with(alloc, Reason::NotFound, message));
     };
     Ok(stored)
 }
@@ -55,5 +55,5 @@ pub fn not_there(
     }
     let mut message = object_named(alloc, served, name)?;
     message.push_str(" already exists")?;
-    Err(CallError::refused_for(alloc, Reason::AlreadyExists, message.as_str()))
+    Err(CallError::refused_with(alloc, Reason::AlreadyExists, message))
 }

@@ -38,7 +38,7 @@ fn shape_fault(alloc: Global, cause: Cause, path: &str) -> CallError
     ensures { RefusesFor result (fault_reason cause) (path.now ++ codes ": " ++ cause_text cause) }
 {
     match fault_message(alloc, cause, path) {
-        Ok(message) => CallError::refused_for(alloc, fault_reason(cause), message.as_str()),
+        Ok(message) => CallError::refused_with(alloc, fault_reason(cause), message),
         Err(_) => CallError::Memory,
     }
 }

@@ -117,13 +117,13 @@ pub fn check_version(
     };
     let Some(stored) = live else {
         let message = no_object_message(alloc, given)?;
-        return Err(CallError::refused_for(alloc, Reason::Conflict, message.as_str()));
+        return Err(CallError::refused_with(alloc, Reason::Conflict, message));
     };
     if given == stored.revision {
         return Ok(());
     }
     let message = other_version_message(alloc, given, stored.revision)?;
-    Err(CallError::refused_for(alloc, Reason::Conflict, message.as_str()))
+    Err(CallError::refused_with(alloc, Reason::Conflict, message))
 }
 
 /// Refuses a change where no revision is left for it.
