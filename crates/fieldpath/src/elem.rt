@@ -13,6 +13,15 @@ use serde_json::Value;
 use std::alloc::{AllocError, AllocFailed, Global};
 use thiserror::Error;
 
+/// Behind it stands the name of a field (FieldsV1).
+pub const FIELD_PREFIX: &str = "f:";
+
+/// Behind it stand the key fields of a map list's item (FieldsV1).
+pub(crate) const KEY_PREFIX: &str = "k:";
+
+/// Behind it stands the value of a set's item (FieldsV1).
+pub(crate) const VALUE_PREFIX: &str = "v:";
+
 /// An element of a path (FieldsV1: `f:<name>`, `k:<keys>`, `v:<value>`).
 #[derive(Debug, Drop)]
 pub enum Elem {
@@ -69,9 +78,9 @@ impl Elem {
         ensures { IfOk result (λ s. string_bytes s ≡ element_text (element self.now)) }
     {
         match self {
-            Elem::Field(name) => prefixed(alloc, "f:", name.as_str()),
-            Elem::Key(keys) => prefixed(alloc, "k:", keys.json(alloc)?.as_str()),
-            Elem::Value(scalar) => prefixed(alloc, "v:", scalar.json(alloc)?.as_str()),
+            Elem::Field(name) => prefixed(alloc, FIELD_PREFIX, name.as_str()),
+            Elem::Key(keys) => prefixed(alloc, KEY_PREFIX, keys.json(alloc)?.as_str()),
+            Elem::Value(scalar) => prefixed(alloc, VALUE_PREFIX, scalar.json(alloc)?.as_str()),
         }
     }
 
@@ -79,13 +88,13 @@ impl Elem {
     pub fn read(alloc: Global, text: &str) -> Result<Elem, ElemFault>
         ensures { Gives element result (read_element text.now) }
     {
-        if let Some(name) = rest_after("f:", text) {
+        if let Some(name) = rest_after(FIELD_PREFIX, text) {
             return Ok(Elem::Field(String::from_str(alloc, name)?));
         }
-        if let Some(json) = rest_after("k:", text) {
+        if let Some(json) = rest_after(KEY_PREFIX, text) {
             return read_key(alloc, text, json);
         }
-        if let Some(json) = rest_after("v:", text) {
+        if let Some(json) = rest_after(VALUE_PREFIX, text) {
             return read_value(alloc, text, json);
         }
         Err(ElemFault::NoPrefix)

@@ -9,7 +9,7 @@ ghost use Rattle.fieldpath.specs.Elements.{field_name, is_field_text, keys_json,
 ghost use Rattle.fieldpath.specs.Elems.{GivesText, element};
 ghost use Rattle.fieldpath.specs.Paths.{text_cmp, text_cmp_total};
 
-use crate::elem::{Elem, ElemFault, prefixed, rest_after};
+use crate::elem::{Elem, ElemFault, FIELD_PREFIX, KEY_PREFIX, VALUE_PREFIX, prefixed, rest_after};
 use crate::keys::is_key_object;
 use crate::scalar::is_scalar;
 use serde_json::Value;
@@ -40,7 +40,7 @@ impl Model for ElemText {
 fn is_field(text: &str) -> bool
     ensures { result ≡ is_field_text text.now }
 {
-    rest_after("f:", text).is_some()
+    rest_after(FIELD_PREFIX, text).is_some()
 }
 
 fn of_scalar(alloc: Global, value: &Value) -> Result<ElemText, AllocError>
@@ -48,7 +48,7 @@ fn of_scalar(alloc: Global, value: &Value) -> Result<ElemText, AllocError>
     ensures { IfOk result (λ t. string_bytes t ≡ scalar_text (view value.now)) }
 {
     let json = value.to_string(alloc)?;
-    let text = prefixed(alloc, "v:", json.as_str())?;
+    let text = prefixed(alloc, VALUE_PREFIX, json.as_str())?;
     Ok(ElemText { text })
 }
 
@@ -57,7 +57,7 @@ fn of_keys(alloc: Global, keys: &Value) -> Result<ElemText, AllocError>
     ensures { IfOk result (λ t. string_bytes t ≡ 107 ∷ 58 ∷ compact_text (view keys.now)) }
 {
     let json = keys.to_string(alloc)?;
-    let text = prefixed(alloc, "k:", json.as_str())?;
+    let text = prefixed(alloc, KEY_PREFIX, json.as_str())?;
     Ok(ElemText { text })
 }
 
@@ -67,7 +67,7 @@ impl ElemText {
         ensures { IfOk result (λ t. string_bytes t ≡ name_text name.now) }
     {
         Ok(ElemText {
-            text: prefixed(alloc, "f:", name)?,
+            text: prefixed(alloc, FIELD_PREFIX, name)?,
         })
     }
 
@@ -138,21 +138,21 @@ impl ElemText {
     pub fn field_name(&self) -> Option<&str>
         ensures { option_map (λ s. s.now) result ≡ field_name (string_bytes self.now) }
     {
-        rest_after("f:", self.text.as_str())
+        rest_after(FIELD_PREFIX, self.text.as_str())
     }
 
     /// The JSON object of the key fields, if it is a map list item's element.
     pub fn keys_json(&self) -> Option<&str>
         ensures { option_map (λ s. s.now) result ≡ keys_json (string_bytes self.now) }
     {
-        rest_after("k:", self.text.as_str())
+        rest_after(KEY_PREFIX, self.text.as_str())
     }
 
     /// The JSON of the scalar, if it is a set item's element.
     pub fn scalar_json(&self) -> Option<&str>
         ensures { option_map (λ s. s.now) result ≡ scalar_json (string_bytes self.now) }
     {
-        rest_after("v:", self.text.as_str())
+        rest_after(VALUE_PREFIX, self.text.as_str())
     }
 
     /// The element's text.

@@ -12,7 +12,7 @@ mod keys;
 mod path;
 mod scalar;
 
-pub use elem::{Elem, ElemFault};
+pub use elem::{Elem, ElemFault, FIELD_PREFIX};
 pub use elem_text::ElemText;
 pub use json_law::{compact_texts_read_back, readings_are_spelled};
 pub use keys::{Keys, KeysFault};

@@ -13,7 +13,7 @@ ghost use Rattle.pathmap.specs.Maps.{content, content_or_nothing, contents_in};
 ghost use Rattle.pathmap.specs.Merged.{front_of};
 
 use crate::pathmap::PathMap;
-use fieldpath::ElemText;
+use fieldpath::{ElemText, FIELD_PREFIX};
 
 /// Whether the name of a child is below the text of this field's element.
 fn is_before_field(child: &(ElemText, PathMap), name: &str) -> bool
@@ -21,7 +21,7 @@ fn is_before_field(child: &(ElemText, PathMap), name: &str) -> bool
 {
     match child.0.field_name() {
         Some(known) => known < name,
-        None => child.0.as_str() < "f:",
+        None => child.0.as_str() < FIELD_PREFIX,
     }
 }
 
