@@ -1,16 +1,11 @@
 -- Laws of maps from paths, which the measure of `PathMap` needs too (`size_decreases`).
 use Rattle.std.proofs.Common.{◌≡◌, ℕ, Bool, true, false, cond, List, [], ◌∷◌, ◌++◌, map, Option, Some, None, refl, sym, ap, ap₂, ◌∙◌, Ordering, Less, Equal, Greater, is_eq, nat_cmp}
 use Rattle.std.specs.Ordering.{eq_by_cmp, ordering_then}
-use Rattle.std.specs.Cmp.{IsTotalOrder}
 use Rattle.std.specs.Cmp.Lexicographic.{slice_cmp}
 use Rattle.std.specs.FinMap as fin
 use Rattle.std.specs.FinMap.{find, IsAntisymmetric, nat_cmp-IsAntisymmetric, slice_cmp-IsAntisymmetric}
-use Rattle.std.proofs.lemmas.Cmp.{lists_total, nat_list_cmp_total}
-use Rattle.fieldpath.specs.Paths.{PathTexts, path_cmp}
+use Rattle.fieldpath.specs.Paths.{PathTexts, path_cmp, path_cmp_total}
 use Rattle.pathmap.specs.Contents.{Standing, Content, nothing, here, under, over, gather}
-
-pub path_cmp_total : IsTotalOrder path_cmp
-path_cmp_total = lists_total nat_list_cmp_total
 
 pub path_cmp_antisymmetric : IsAntisymmetric path_cmp
 path_cmp_antisymmetric = slice_cmp-IsAntisymmetric (slice_cmp-IsAntisymmetric nat_cmp-IsAntisymmetric)

@@ -8,10 +8,10 @@ use Rattle.std.specs.Cmp.{Equal-is, tied_itself}
 use Rattle.std.specs.Ordering.{eq_by_cmp}
 use Rattle.std.specs.FinMap as fin
 use Rattle.std.specs.FinMap.{find}
-use Rattle.fieldpath.specs.Paths.{PathTexts, path_cmp}
+use Rattle.fieldpath.specs.Paths.{PathTexts, path_cmp, path_cmp_total}
 use Rattle.pathmap.specs.Contents.{Standing, Content, nothing, under, over, gather}
 use Rattle.pathmap.specs.Levels.{named, has_path, is_more, AreFull, longest, height}
-use Rattle.pathmap.specs.Laws.{path_cmp_total, path_cmp_antisymmetric, either, get-over, get-under}
+use Rattle.pathmap.specs.Laws.{path_cmp_antisymmetric, either, get-over, get-under}
 use denote.Param.Weighed.{most}
 
 zero_of : (n : ℕ) → is_more n ≡ false → n ≡ 0
