@@ -1,5 +1,6 @@
 //! Why a types file is refused. The file is read in `file`, a schema in `read`.
 
+use crate::lawful::MAX_DEPTH;
 use std::alloc::{AllocError, AllocFailed};
 use thiserror::Error;
 
@@ -16,8 +17,8 @@ pub enum TypesFault {
     /// the items of a set or the key fields of a map list aren't scalars.
     #[error("list or map kind that does not fit")]
     Misfit,
-    /// A schema nests deeper than 16.
-    #[error("schema deeper than 16")]
+    /// A schema nests deeper than `MAX_DEPTH`.
+    #[error("schema deeper than {}", MAX_DEPTH)]
     TooDeep,
     /// Two types have the same group, version and plural.
     #[error("two types with one name")]
