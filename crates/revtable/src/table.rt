@@ -16,14 +16,14 @@ use crate::memory::{self, MemoryLog};
 use crate::paging;
 use crate::reading::{read_changes, read_entries, read_left};
 use crate::row::{Change, Entry, Marks, Object};
-use history::Key;
+use history::{Key, LAST_REVISION};
 use sqlite::Row;
 use sqlite::types::ValueRef;
 use std::alloc::Global;
 use std::marker::Model;
 
 /// The most rows that a statement is asked for.
-const MOST_ROWS: u64 = i64::MAX as u64;
+const MOST_ROWS: u64 = LAST_REVISION;
 
 /// A table of changes in memory. A contract sees it as a history of which only the kept changes are left.
 pub struct Table {
