@@ -13,6 +13,14 @@ use sqlite::Row;
 use std::alloc::{AllocError, Global};
 use std::cmp::Ordering;
 
+/// What a page has: objects of a type, as they stood at a revision, and at most so many.
+#[derive(Clone, Copy, Debug)]
+pub(crate) struct Wanted {
+    pub(crate) kind: u32,
+    pub(crate) revision: u64,
+    pub(crate) max: u64,
+}
+
 /// The namespace that a page begins in, and the name there after which it does: nowhere, if the place is past the
 /// namespace that is asked for.
 fn begins<'a>(
@@ -57,43 +65,45 @@ fn lowest(alloc: Global, after: Option<&str>) -> Result<String, AllocError>
 fn listed_after(
     alloc: Global,
     table: &mut Table,
-    kind: u32,
+    wanted: Wanted,
     namespace: &str,
     after: Option<&str>,
-    revision: u64,
-    max: u64,
 ) -> Result<Vec<Row>, Fault>
-    requires fits { revision < 2 ^ 63 }
-    requires max { max < 2 ^ 63 }
+    requires fits { wanted.revision < 2 ^ 63 }
+    requires max { wanted.max < 2 ^ 63 }
     ensures same { table.new ≡ table.old }
     ensures ok { IfOk result (λ rows. rows.items ≡ map (λ e. shown (as_change e))
-        (take max (in_one kind namespace.now (option_map (λ b. b.now) after.entry) (state_at table.old.changes revision)))) }
+        (take wanted.max (in_one wanted.kind namespace.now (option_map (λ b. b.now) after.entry) (state_at table.old.changes wanted.revision)))) }
 {
     let low = lowest(alloc, after)?;
-    table.listed_in(kind, namespace, low.as_str(), revision, max)
+    table.listed_in(
+        wanted.kind,
+        namespace,
+        low.as_str(),
+        wanted.revision,
+        wanted.max,
+    )
 }
 
 /// The first objects of a type at a revision: what is left of a namespace, and then of those after it.
 fn listed_on(
     alloc: Global,
     table: &mut Table,
-    kind: u32,
+    wanted: Wanted,
     first: &str,
     name: Option<&str>,
-    revision: u64,
-    max: u64,
 ) -> Result<Vec<Row>, Fault>
-    requires fits { revision < 2 ^ 63 }
-    requires max { max < 2 ^ 63 }
+    requires fits { wanted.revision < 2 ^ 63 }
+    requires max { wanted.max < 2 ^ 63 }
     ensures same { table.new ≡ table.old }
     ensures ok { IfOk result (λ rows. rows.items ≡ map (λ e. shown (as_change e))
-        (take max (in_one kind first.now (option_map (λ b. b.now) name.entry) (state_at table.old.changes revision)
-        ++ in_later kind first.now (state_at table.old.changes revision)))) }
+        (take wanted.max (in_one wanted.kind first.now (option_map (λ b. b.now) name.entry) (state_at table.old.changes wanted.revision)
+        ++ in_later wanted.kind first.now (state_at table.old.changes wanted.revision)))) }
 {
-    let mut rows = listed_after(alloc, table, kind, first, name, revision, max)?;
-    let left = max.saturating_sub(rows.len() as u64);
+    let mut rows = listed_after(alloc, table, wanted, first, name)?;
+    let left = wanted.max.saturating_sub(rows.len() as u64);
     let next = next_after(alloc, first)?;
-    let mut more = table.listed_from(kind, next.as_str(), revision, left)?;
+    let mut more = table.listed_from(wanted.kind, next.as_str(), wanted.revision, left)?;
     rows.append(&mut more)?;
     Ok(rows)
 }
@@ -102,24 +112,22 @@ fn listed_on(
 pub(crate) fn listed(
     alloc: Global,
     table: &mut Table,
-    kind: u32,
+    wanted: Wanted,
     namespace: Option<&str>,
-    revision: u64,
     after: Option<(&str, &str)>,
-    max: u64,
 ) -> Result<Vec<Row>, Fault>
-    requires fits { revision < 2 ^ 63 }
-    requires max { max < 2 ^ 63 }
+    requires fits { wanted.revision < 2 ^ 63 }
+    requires max { wanted.max < 2 ^ 63 }
     ensures same { table.new ≡ table.old }
     ensures ok { IfOk result (λ rows. rows.items ≡ map (λ e. shown (as_change e))
-        (page kind (option_map (λ b. b.now) namespace.entry) (option_map (λ p. (p.0.now, p.1.now)) after.entry) max (state_at table.old.changes revision))) }
+        (page wanted.kind (option_map (λ b. b.now) namespace.entry) (option_map (λ p. (p.0.now, p.1.now)) after.entry) wanted.max (state_at table.old.changes wanted.revision))) }
 {
     let Some((first, name)) = begins(namespace, after) else {
         return Ok(Vec::new(alloc));
     };
     if namespace.is_some() {
-        listed_after(alloc, table, kind, first, name, revision, max)
+        listed_after(alloc, table, wanted, first, name)
     } else {
-        listed_on(alloc, table, kind, first, name, revision, max)
+        listed_on(alloc, table, wanted, first, name)
     }
 }

@@ -13,7 +13,7 @@ ghost use Rattle.sqlite.specs.Values.{bound};
 
 use crate::fault::Fault;
 use crate::memory::{self, MemoryLog};
-use crate::paging;
+use crate::paging::{self, Wanted};
 use crate::reading::{read_changes, read_entries, read_left};
 use crate::row::{Change, Entry, Marks, Object};
 use history::{Key, LAST_REVISION};
@@ -143,7 +143,12 @@ impl Table {
         let revision = revision.min(self.current);
         let max = max.min(MOST_ROWS);
         let alloc = self.alloc;
-        let rows = paging::listed(alloc, self, kind, namespace, revision, after, max)?;
+        let wanted = Wanted {
+            kind,
+            revision,
+            max,
+        };
+        let rows = paging::listed(alloc, self, wanted, namespace, after)?;
         read_entries(alloc, &rows)
     }
 
