@@ -17,3 +17,4 @@ mod texts;
 pub use fault::ParamsFault;
 pub use parameter::Parameter;
 pub use params::{Asked, Params, Token, VersionMatch, Watch};
+pub use texts::BAD_MANAGER;

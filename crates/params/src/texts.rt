@@ -12,6 +12,9 @@ use names::version_of;
 /// The length of the longest name of a manager.
 const MAX_MANAGER: usize = 128;
 
+/// The message where a manager's name is missing, too long or not printable.
+pub const BAD_MANAGER: &str = "fieldManager: 1 to 128 printable characters";
+
 pub(crate) fn truth_of(text: &str) -> Option<bool>
     ensures { result ≡ truth_of text.now }
 {

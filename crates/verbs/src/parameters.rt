@@ -1,15 +1,12 @@
 //! The parameters of a call, and the refusal of a bad one. They are read in the crate `params`.
 
-ghost use Rattle.std.specs.Prelude.{◌≡◌, ◌++◌, IfOk, codes, string_bytes};
-ghost use Rattle.params.specs.Parameters.{name_of};
 ghost use Rattle.params.specs.Views.{values_of};
 ghost use Rattle.verbs.specs.Parameters.{bad_parameter, parameters_validated};
 ghost use Rattle.verbs.specs.Seen.{Gives, Refuses};
 
 use crate::fault::CallError;
 use crate::reason::Reason;
-use crate::texts::joined;
-use params::{Asked, Parameter, Params, ParamsFault};
+use params::{Asked, BAD_MANAGER, Parameter, Params, ParamsFault};
 use std::alloc::Global;
 
 /// The refusal of a parameter at fault.
@@ -17,12 +14,8 @@ fn bad_parameter(alloc: Global, parameter: Parameter) -> CallError
     ensures { Refuses result (bad_parameter parameter) }
 {
     match parameter {
-        Parameter::FieldManager => CallError::refused_for(
-            alloc,
-            Reason::Invalid,
-            "fieldManager: 1 to 128 printable characters",
-        ),
-        other => match joined(alloc, "bad parameter: ", other.name()) {
+        Parameter::FieldManager => CallError::refused_for(alloc, Reason::Invalid, BAD_MANAGER),
+        other => match ParamsFault::Bad(other).to_string(alloc) {
             Ok(message) => CallError::refused_with(alloc, Reason::BadRequest, message),
             Err(_) => CallError::Memory,
         },
