@@ -1,17 +1,16 @@
 //! The labels that an object's text gives, and whether they are selected. Label selectors stand in the crate `selector`.
 
 ghost use Rattle.std.specs.Prelude.{◌≡◌, IfOk, option_map};
-ghost use Rattle.serde_json.specs.Read.{read};
 ghost use Rattle.serde_json.specs.View.{members_view, view};
 ghost use Rattle.selector.specs.Requirement.{selects};
 ghost use Rattle.selector.specs.Views as selector;
 ghost use Rattle.lists.specs.Labels.{label_members, labels_of};
 
-use json_values::texts_of;
+use json_values::{read_text, texts_of};
 use revtable::Fault;
 use selector::Selector;
 use serde_json::{Map, Value};
-use std::alloc::{AllocError, Global};
+use std::alloc::Global;
 use std::collections::BTreeMap;
 
 fn label_members(value: &Value) -> Option<&Map<String, Value>>
@@ -20,22 +19,11 @@ fn label_members(value: &Value) -> Option<&Map<String, Value>>
     value.get("metadata")?.get("labels")?.as_object()
 }
 
-/// The JSON value that a text is, if it is one.
-pub fn value_of(alloc: Global, text: &str) -> Result<Option<Value>, Fault>
-    ensures { IfOk result (λ o. option_map view o ≡ read text.now) }
-{
-    match Value::from_str(alloc, text) {
-        Ok(value) => Ok(Some(value)),
-        Err(error) if error.is_memory() => Err(Fault::Memory),
-        Err(_) => Ok(None),
-    }
-}
-
 /// The labels that an object's text gives.
 fn labels_of(alloc: Global, text: &str) -> Result<BTreeMap<String, String>, Fault>
     ensures { IfOk result (λ m. selector.labels_of m ≡ labels_of text.now) }
 {
-    let Some(value) = value_of(alloc, text)? else {
+    let Some(value) = read_text(alloc, text)? else {
         return Ok(BTreeMap::new(alloc));
     };
     let Some(members) = label_members(&value) else {

@@ -23,7 +23,7 @@ mod token_laws;
 
 pub use collection::{Collection, Selected};
 pub use fault::ListFault;
-pub use labels::{is_selected, value_of};
+pub use labels::is_selected;
 pub use laws::lists_are_json;
 pub use listing::list;
 pub use page::{Page, next_start, selected_page};

@@ -1,31 +1,15 @@
 //! The JSON values of what stands at one path. A whole content is printed in `print`.
 
 ghost use Rattle.std.specs.Prelude.{◌≡◌, ◌++◌, IfOk, OnOk, option_map, option_to_list, string_bytes};
-ghost use Rattle.serde_json.specs.Read.{read};
 ghost use Rattle.serde_json.specs.View.{view, items_view, members_view};
 ghost use Rattle.pathmap.specs.Maps.{content, standing};
 ghost use Rattle.typed.specs.Printing.{array_or_none, keys_in, object_or_none, scalar_in, value_at, value_of, with_member};
 
 use fieldpath::ElemText;
+use json_values::read_text;
 use pathmap::{Held, PathMap};
 use serde_json::{Map, Value};
 use std::alloc::{AllocError, Global};
-
-/// The JSON value of a text, if it is JSON.
-fn read_text(alloc: Global, text: &str) -> Result<Option<Value>, AllocError>
-    ensures { IfOk result (λ o. option_map view o ≡ read text.now) }
-{
-    match Value::from_str(alloc, text) {
-        Ok(value) => Ok(Some(value)),
-        Err(error) => {
-            if error.is_memory() {
-                Err(AllocError)
-            } else {
-                Ok(None)
-            }
-        }
-    }
-}
 
 pub(crate) fn print_held(alloc: Global, held: &Held) -> Result<Option<Value>, AllocError>
     ensures { IfOk result (λ o. option_map view o ≡ value_of (standing held.now)) }

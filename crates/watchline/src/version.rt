@@ -5,7 +5,7 @@ ghost use Rattle.serde_json.specs.Read.{read};
 ghost use Rattle.serde_json.specs.View.{members_view, view};
 ghost use Rattle.watchline.specs.Versions.{metadata_at, text_at_version, text_of, value_at, value_of};
 
-use json_values::{has_float, into_object, split_off};
+use json_values::{has_float, into_object, read_text, split_off};
 use revtable::Fault;
 use serde_json::{Map, Value};
 use std::alloc::{AllocError, Global};
@@ -66,7 +66,7 @@ fn text_of(alloc: Global, value: &Value) -> Result<Option<String>, AllocError>
 fn printed_at(alloc: Global, text: &str, revision: u64) -> Result<Option<String>, Fault>
     ensures { IfOk result (λ o. option_map string_bytes o ≡ option_and_then text_of (option_and_then (value_at revision) (read text.now))) }
 {
-    let Some(value) = lists::value_of(alloc, text)? else {
+    let Some(value) = read_text(alloc, text)? else {
         return Ok(None);
     };
     let Some(value) = value_at(alloc, value, revision)? else {
