@@ -15,10 +15,16 @@ use wire::decimal_value;
 
 pub(crate) const MAX_BODY: usize = 65_536;
 
+/// The message where a body is longer.
+pub(crate) const BODY_TOO_LARGE: &str = "body over 65536 bytes";
+
 fn needs_body(method: &str) -> bool
     ensures { result ≡ needs_body method.now }
 {
-    matches!(Method::named(method), Some(Method::Post | Method::Put | Method::Patch))
+    matches!(
+        Method::named(method),
+        Some(Method::Post | Method::Put | Method::Patch)
+    )
 }
 
 pub(crate) fn may_have_body(method: &str) -> bool

@@ -15,12 +15,10 @@ use crate::head_end::end_of;
 use crate::refusal::Refusal;
 use httparse::Status;
 use httparse::spans::{EMPTY_HEADER_SPAN, HeaderSpan, RequestSpans, parse_request};
-use wire::{
-    MAX_FIELDS, MAX_HEAD, has_name, is_content_length, is_length, is_transfer_encoding,
-};
+use wire::{MAX_FIELDS, MAX_HEAD, has_name, is_content_length, is_length, is_transfer_encoding};
 
-/// More fields than a head of 16,384 bytes can hold.
-const ROOM: usize = 5_462;
+/// More fields than a head can hold: each takes at least three bytes.
+const ROOM: usize = MAX_HEAD / 3 + 1;
 
 /// What the Content-Length fields of a head say.
 #[derive(Clone, Copy, Debug, PartialEq, Eq)]

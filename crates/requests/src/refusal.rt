@@ -5,6 +5,7 @@ ghost use Rattle.requests.specs.Refusals.{as_denied, reason_of, message_of};
 ghost use Rattle.requests.specs.Views.{refusal_seen};
 ghost use Rattle.verbs.specs.Seen.{denied_of};
 
+use crate::body::BODY_TOO_LARGE;
 use verbs::{Denied, NOT_JSON, Reason};
 
 /// For its head (RFC 9112, sections 2, 3 and 6), its body, or as too many connections are open.
@@ -52,7 +53,7 @@ impl Refusal {
             Refusal::TransferEncoding => "Transfer-Encoding is not served",
             Refusal::NoLength => "Content-Length is needed",
             Refusal::BadLength => "bad Content-Length",
-            Refusal::BodyTooLarge => "body over 65536 bytes",
+            Refusal::BodyTooLarge => BODY_TOO_LARGE,
             Refusal::NotJson => NOT_JSON,
             Refusal::TooManyConnections => "too many connections",
         }
