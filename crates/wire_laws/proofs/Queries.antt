@@ -11,7 +11,8 @@ use Rattle.form_urlencoded.proofs.FormLemmas.{IsBytePair, round_trip}
 use Rattle.params.specs.Query.{pair_in, pairs_in, text_of}
 use Rattle.requests.specs.Bodies.{path_of, query_of}
 use Rattle.requests.proofs.RequestTargets.{nothing_after, whole_before}
-use Rattle.wire_laws.specs.Printed.{IsTextPair, is_question}
+use Rattle.lists.specs.Tokens.{IsTextPair}
+use Rattle.wire_laws.specs.Printed.{is_question}
 
 abbrev asked : ℕ → Bool
 asked b = b == 63

@@ -1,6 +1,6 @@
 -- What each end may print, and what a printed request says.
 use Rattle.std.specs.Prelude.{◌≡◌, ℕ, ◌+◌, ◌<◌, ◌≤◌, ◌^◌, Bool, true, false, ◌==◌, List, ◌∷◌, length, Option, None, Some, codes, nat_eq, IsUtf8}
-use Rattle.std.specs.List.{All, starts_with}
+use Rattle.std.specs.List.{starts_with}
 use Rattle.httparse.specs.Grammar.{AllPass, IsToken, is_uri_byte, is_value_byte, trim_ows}
 use Rattle.schema.specs.TypesFile.{ServedShape}
 use Rattle.wire.specs.Heads.{max_head}
@@ -65,10 +65,3 @@ asked_without types method path query =
 -- a question mark, which ends the path
 abbrev pub is_question : ℕ → Bool
 is_question b = b == 63
-
--- the bytes of a text
-abbrev pub IsText : List ℕ → Type 0
-IsText bytes = IsUtf8 bytes × All (λ b. b < 256) bytes
-
-abbrev pub IsTextPair : List ℕ × List ℕ → Type 0
-IsTextPair pair = IsText pair.0 × IsText pair.1

@@ -3,6 +3,7 @@
 ghost use Rattle.std.specs.Prelude.{◌≡◌, ◌≤◌, ℕ, List, [], ◌∷◌, ◌++◌, length, true, false, Option, Some, None};
 ghost use Rattle.std.specs.List.{All, list_any};
 ghost use Rattle.form_urlencoded.specs.Form.{extend_pairs};
+ghost use Rattle.lists.specs.Tokens.{IsTextPair};
 ghost use Rattle.params.specs.Query.{pairs_in};
 ghost use Rattle.schema.specs.TypesFile.{ServedShape};
 ghost use Rattle.requests.specs.Asks.{Asks};
@@ -11,7 +12,7 @@ ghost use Rattle.requests.specs.Heads.{ReadsHead};
 ghost use Rattle.requests.specs.Decision.{accepted};
 ghost use Rattle.requests.specs.Refusals.{head_too_large, refuse};
 ghost use Rattle.wireclient.specs.Request.{body_bytes, request};
-ghost use Rattle.wire_laws.specs.Printed.{IsPrinted, IsTextPair, IsTooLong, asked_by, asked_without, is_question, said_of};
+ghost use Rattle.wire_laws.specs.Printed.{IsPrinted, IsTooLong, asked_by, asked_without, is_question, said_of};
 
 /// A request that the client prints (RFC 9112, section 3) says on the server this method, this target and this media
 /// type, and its body stands after the head.
