@@ -10,7 +10,8 @@ use Rattle.pathmap.specs.Contents.{PathSet, dom}
 use Rattle.pathmap.proofs.Contents.{path_cmp_total}
 use Rattle.pathmap.proofs.Sets.{contains-dom, within_at, without_path}
 use Rattle.objects.specs.State.{State}
-use Rattle.objects.specs.Placed.{Stands, OwnedStand}
+use Rattle.typed.specs.Fitting.{Stands}
+use Rattle.objects.specs.Placed.{OwnedStand}
 use Rattle.objects.specs.Owners.{Manager, owned_by}
 use Rattle.objects.specs.Parts.{all_within}
 use Rattle.objects.proofs.Entries.{Pairs}

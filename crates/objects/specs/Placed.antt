@@ -1,16 +1,12 @@
 -- When a state is placed: a content of its schema, and owners of its paths.
-use Rattle.std.specs.Prelude.{◌≡◌, true, is_some}
-use Rattle.std.specs.FinMap as fin
+use Rattle.std.specs.Prelude.{◌≡◌, true}
 use Rattle.std.specs.FinSet as set
 use Rattle.fieldpath.specs.Paths.{PathTexts}
-use Rattle.pathmap.specs.Contents.{Content}
 use Rattle.schema.specs.Shape.{Shape}
 use Rattle.typed.specs.Fitting.{IsContent}
+pub use Rattle.typed.specs.Fitting.{Stands}
 use Rattle.objects.specs.Owners.{Manager, HavePaths, WroteByNone, owned_by}
 use Rattle.objects.specs.State.{State}
-
-abbrev pub Stands : Content → PathTexts → Type 0
-Stands c p = is_some (fin.get c p) ≡ true
 
 abbrev pub Owns : State → Manager → PathTexts → Type 0
 Owns state k p = set.contains (owned_by state.owners k) p ≡ true

@@ -66,7 +66,11 @@ fn write_managed(
 }
 
 /// Writes key and version.
-fn write_key_and_version(out: &mut TextWriter, alloc: Global, envelope: Envelope<'_>) -> Result<(), AllocError>
+fn write_key_and_version(
+    out: &mut TextWriter,
+    alloc: Global,
+    envelope: Envelope<'_>,
+) -> Result<(), AllocError>
     ensures { OnOk result (AppendsMembers (then_key_and_version (identity_of envelope.entry.of) envelope.entry.version) out.old out.new) }
 {
     write_string(out, alloc, "name", envelope.of.name)?;

@@ -1,4 +1,5 @@
-//! What stands below a field, by its name alone: the element's text is never built. Names rise, so it is found by halves.
+//! What stands below a field, by its name alone: the element's text is never built. Names rise, so a binary search finds
+//! it. What stands below any other element is found in `find`.
 
 ghost use Rattle.std.specs.Prelude.{◌≡◌, ◌≤◌, ◌<◌, true, length, Some, None, if◌then◌else◌, string_bytes, IfSome};
 ghost use Rattle.std.specs.Option.{option_map};

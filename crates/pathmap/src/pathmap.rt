@@ -1,4 +1,5 @@
-//! The map itself, as a trie over the texts of elements. Each call on it stands in a module of its own.
+//! The map itself, as a trie over the texts of elements: how one begins, what it holds at the empty path, and its
+//! children. The other calls on it stand in modules of their own.
 
 ghost use Rattle.std.specs.Prelude.{◌≡◌, map, [], IfOk};
 ghost use Rattle.std.specs.Option.{option_map};

@@ -1,5 +1,5 @@
-//! Where a name stands among children, and a child put there: a search by halves, as their names ascend. What stands
-//! along a whole path is found in `find`.
+//! Where a name stands among children, and a child put there: a binary search, as their names ascend. What stands along
+//! a whole path is found in `find`.
 
 ghost use Rattle.std.specs.Prelude.{◌≡◌, ◌≤◌, ◌<◌, true, not, length, Some, None, is_some, if◌then◌else◌, string_bytes, IfOk, OnErr};
 ghost use Rattle.std.specs.Ordering.{is_lt, nat_cmp};

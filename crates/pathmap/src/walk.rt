@@ -1,4 +1,4 @@
-//! Steps over children in order, beside a name, for walks over two maps (`under`, `pick`). A search by halves stands in
+//! Steps over children in order, beside a name, for walks over two maps (`under`, `pick`). The binary search stands in
 //! `place`.
 
 ghost use Rattle.std.specs.Prelude.{◌≡◌, ◌++◌, ◌≤◌, length, IfOk, OnOk, string_bytes};

@@ -1,4 +1,4 @@
-//! Which names lie between two others.
+//! Which names lie between two others. The members that have such names are written in `write`.
 ghost use Rattle.std.specs.Prelude.{◌≡◌, ◌&&◌, option_map};
 ghost use Rattle.typed.specs.Between.{is_above, is_below};
 

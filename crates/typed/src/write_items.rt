@@ -1,4 +1,5 @@
 //! Items of sets written from their elements' texts, which are JSON behind a prefix; the members in an object's text.
+//! Items of map lists, and all other contents, are written in `write`.
 ghost use Rattle.std.specs.Prelude.{◌≡◌, ℕ, List, [], ◌∷◌, ◌++◌, OnOk, string_bytes};
 ghost use Rattle.std.specs.List.{AllByRecursion};
 ghost use Rattle.pathmap.specs.Insides.{heads};
