@@ -7,7 +7,7 @@ use Rattle.std.specs.Str.{bytes_eq}
 use Rattle.std.proofs.lemmas.Slice.Eq.{bytes_eq-Decides}
 use Rattle.serde_json.specs.Data.{object, Members, no_members, member}
 use Rattle.fieldpath.specs.Paths.{PathTexts}
-use Rattle.fieldpath.specs.Elements.{Element, KeyFields, NoElement, has_prefix, read_element, field_name}
+use Rattle.fieldpath.specs.Elements.{Element, KeyFields, NoElement, read_element, field_name}
 use Rattle.fieldpath.specs.Elements as element
 use Rattle.fieldpath.specs.Scalars.{ascend}
 use Rattle.pathmap.specs.Contents.{Content}

@@ -4,7 +4,7 @@ use Rattle.std.specs.Prelude.{option_and_then}
 use Rattle.std.specs.List.{list_any}
 use Rattle.std.specs.Str.{bytes_eq}
 use Rattle.fieldpath.specs.Paths.{PathTexts}
-use Rattle.fieldpath.specs.Elements.{Element, KeyFields, NoElement, Scalar, has_prefix, name_text, read_element, field_name}
+use Rattle.fieldpath.specs.Elements.{Element, KeyFields, NoElement, read_element}
 use Rattle.fieldpath.specs.Elements as element
 use Rattle.schema.specs.Shape.{atomic, set, keyed, Shape, text, whole, truth, struct_of, map_of, list_of, Fields, no_fields, field, shape_at}
 use Rattle.schema.specs.Place.{at_end, by_field, fits, fit_keys, item_or, list_item, place_in_field, place_in_list, place_of}

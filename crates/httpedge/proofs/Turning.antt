@@ -6,7 +6,7 @@ use Rattle.std.proofs.lemmas.List.{drop-append-le, length-append}
 use Rattle.schema.specs.TypesFile.{ServedShape}
 use Rattle.history.specs.History.{History}
 use Rattle.watchline.specs.Opening.{WatchFrom}
-use Rattle.watchline.specs.Watches.{Cursor, Marking, bookmarked, from_history, is_bookmark_due}
+use Rattle.watchline.specs.Watches.{Cursor, Marking, from_history}
 use Rattle.watchline.specs.Watches as cursors
 use Rattle.watchline.specs.Views.{lines_in, marking_of, turn_of, watch_from}
 use Rattle.watchline.specs.declared.opening.WatchFrom.{WatchFrom as TheWatchFrom}

@@ -1,5 +1,5 @@
 -- What a change at one key of an index leaves of the others.
-use Rattle.std.proofs.Common.{◌≡◌, ℕ, Bool, true, false, cond, List, Option, Global, Ordering, nat_cmp, is_eq, refl, sym, ap, subst, ◌∙◌}
+use Rattle.std.proofs.Common.{◌≡◌, ℕ, Bool, true, false, cond, List, Option, Global, Ordering, nat_cmp, is_eq, refl, sym, subst, ◌∙◌}
 use Rattle.std.specs.BTreeMap.{UpdatesBy, is_at}
 use Rattle.std.specs.BTreeSet.{BTreeSet}
 use Rattle.std.specs.Cmp.{eq_by_cmp_equiv}

@@ -1,5 +1,5 @@
 -- Postings, index by index.
-use Rattle.std.proofs.Common.{◌≡◌, ◌≢◌, ℕ, zero, suc, ◌+◌, ◌<◌, ◌≤◌, Bool, true, false, ◌&&◌, ◌||◌, inl, inr, Option, Some, None, Bor, ap₂, add-one, List, [], ◌∷◌, ◌++◌, length, map, get_or, set, take, refl, sym, ap, ◌∙◌, arith}
+use Rattle.std.proofs.Common.{◌≡◌, ◌≢◌, ℕ, zero, suc, ◌+◌, ◌<◌, ◌≤◌, Bool, true, false, ◌&&◌, ◌||◌, inl, inr, Option, Some, None, Bor, ap₂, add-one, List, [], ◌∷◌, ◌++◌, length, get_or, set, take, refl, sym, ap, ◌∙◌, arith}
 use Rattle.std.specs.Prelude.{MatchOption, option_copied}
 use Rattle.std.proofs.lemmas.Bool.Decides.{eqb_tells}
 use Rattle.indexer.specs.declared.object.ObjectKey.{ObjectKey}

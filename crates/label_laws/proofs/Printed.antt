@@ -7,7 +7,7 @@ use Rattle.std.specs.Str.{bytes_eq}
 use Rattle.serde_json.specs.Data.{Data, string, Members, no_members}
 use Rattle.serde_json.specs.Find.{as_str, get_member}
 use Rattle.fieldpath.specs.Elements.{name_text}
-use Rattle.pathmap.specs.Contents.{Content, Standing, here, nothing}
+use Rattle.pathmap.specs.Contents.{Content, here, nothing}
 use Rattle.pathmap.specs.Contents as standing
 use Rattle.pathmap.specs.Insides.{heads, inside}
 use Rattle.pathmap.proofs.Contents.{get-nothing}

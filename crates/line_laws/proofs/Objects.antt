@@ -14,7 +14,7 @@ use Rattle.serde_json.proofs.Views.{get_member-put, get_member-put_other}
 use Rattle.fieldpath.specs.Elements.{field_name, name_text}
 use Rattle.fieldpath.specs.Scalars.{ascend}
 use Rattle.names.specs.Decimals.{version_of}
-use Rattle.pathmap.specs.Contents.{Content, here, nothing}
+use Rattle.pathmap.specs.Contents.{Content}
 use Rattle.pathmap.specs.Contents as standing
 use Rattle.pathmap.specs.Insides.{heads, inside}
 use Rattle.pathmap.proofs.Contents.{get-nothing}

@@ -8,7 +8,7 @@ use Rattle.std.specs.List.{list_any}
 use Rattle.std.specs.Str.{bytes_eq}
 use Rattle.fieldpath.specs.Paths.{PathTexts}
 use Rattle.pathmap.specs.Beside.{has_at_or_above, is_front}
-use Rattle.pathmap.specs.Contents.{Standing, Content, PathSet}
+use Rattle.pathmap.specs.Contents.{Standing, PathSet}
 use Rattle.pathmap.proofs.Contents.{either, get-over}
 use Rattle.pathmap.proofs.Sets.{get-without}
 use Rattle.typed.specs.Fitting.{FitsAt, OversAreContents, RemainsAreContents, ReadingsAreContents}

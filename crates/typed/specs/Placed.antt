@@ -12,7 +12,7 @@ use Rattle.fieldpath.specs.Elements.{Scalar, KeyFields, is_field_text, read_elem
 use Rattle.fieldpath.specs.Elements as element
 use Rattle.fieldpath.specs.Paths.{PathTexts}
 use Rattle.fieldpath.specs.Spelled.{IsSpelled}
-use Rattle.pathmap.specs.Contents.{Standing, Content, nothing, here}
+use Rattle.pathmap.specs.Contents.{Content, nothing, here}
 use Rattle.pathmap.specs.Contents as standing
 use Rattle.pathmap.specs.Insides.{inside}
 use Rattle.schema.specs.Lawful.{is_well_formed, names_of}

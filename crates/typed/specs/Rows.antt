@@ -4,7 +4,7 @@ use Rattle.std.specs.declared.result.Result.TheVariants.{Ok}
 use Rattle.serde_json.specs.Data.{Data, Members, no_members, object}
 use Rattle.serde_json.specs.Read.{read}
 use Rattle.serde_json.specs.Written.{compact_text, has_float}
-use Rattle.fieldpath.specs.Elements.{Scalar, field_name, name_text, read_element}
+use Rattle.fieldpath.specs.Elements.{Scalar, name_text, read_element}
 use Rattle.fieldpath.specs.Elements as element
 use Rattle.fieldpath.specs.Scalars.{ascend}
 use Rattle.pathmap.specs.Contents.{Standing, Content, nothing}
