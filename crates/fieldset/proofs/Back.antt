@@ -27,8 +27,7 @@ use Rattle.json_values.specs.Members.{has}
 use Rattle.schema.specs.Shape.{Shape, Fields, shape_at}
 use Rattle.schema.specs.Steps.{Spot, value_of, set_item, map_item, is_leaf}
 use Rattle.fieldset.specs.BothWays.{AreInOrder, IsInOrder, ReadIsWritten}
-use Rattle.fieldset.specs.FieldsV1.{each, fields_v1_of, leaf, members_of, put_names}
-use Rattle.fieldset.specs.Reading.{Reading, and_then, needs_members, dot, has_keys, is_empty, is_marked, joined, not_an_object, not_canonical, read_at, read_member, read_members, top}
+use Rattle.fieldset.specs.FieldsV1.{each, fields_v1_of, leaf, members_of, put_names, Reading, and_then, needs_members, dot, has_keys, is_empty, is_marked, joined, not_an_object, not_canonical, read_at, read_member, read_members, top}
 use Rattle.fieldset.proofs.Fronts.{IsGood, IsPlacedAt, all_lead, base-each, base_at, dressed, first_of, good_next, inner_at, inner_of, members_at, none_some, second_of}
 use Rattle.fieldset.proofs.Saying.{IsDue, Said, said}
 use Rattle.fieldset.proofs.Marks.{content_or, dot_next, joined_parts, not_ok, same_ok}

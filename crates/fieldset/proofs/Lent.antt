@@ -11,7 +11,7 @@ use Rattle.serde_json.specs.Data.{Members, no_members, member, object}
 use Rattle.fieldpath.specs.Scalars.{ascend}
 use Rattle.fieldpath.specs.Spelled.{member_names}
 use Rattle.schema.specs.Steps.{Spot}
-use Rattle.fieldset.specs.Reading.{is_empty, read_at}
+use Rattle.fieldset.specs.FieldsV1.{is_empty, read_at}
 
 abbrev pub data_in : List Entry → Members
 data_in es = members_data (members_view es)

@@ -7,7 +7,7 @@ use Rattle.serde_json.specs.declared.value.Value.{Value}
 use Rattle.fieldpath.specs.Scalars.{ascend}
 use Rattle.fieldpath.specs.Spelled.{member_names}
 use Rattle.fieldpath.proofs.KeyFields.{ascend_keys}
-use Rattle.fieldset.specs.Reading.{is_empty}
+use Rattle.fieldset.specs.FieldsV1.{is_empty}
 
 abbrev pub Entry : Type 0
 Entry = String Global × Value

@@ -14,7 +14,7 @@ use Rattle.pathmap.proofs.Trees.{ties}
 use Rattle.json_values.specs.Members.{has}
 use Rattle.schema.specs.Steps.{Spot, value_of, set_item, map_item, step}
 use Rattle.fieldset.specs.BothWays.{HavePlaces, ReadHavePlaces}
-use Rattle.fieldset.specs.Reading.{Refusal, Reading, and_then, needs_members, bad_key, dot, element_in, is_empty, is_key_field, is_marked, joined, may_have_dot, not_an_object, not_canonical, off_schema, read_at, read_below, read_mark, read_member, read_members, some_or, top}
+use Rattle.fieldset.specs.FieldsV1.{Refusal, Reading, and_then, needs_members, bad_key, dot, element_in, is_empty, is_key_field, is_marked, joined, may_have_dot, not_an_object, not_canonical, off_schema, read_at, read_below, read_mark, read_member, read_members, some_or, top}
 use Rattle.fieldset.proofs.Fronts.{IsPlacedAt}
 use Rattle.fieldset.proofs.Marks.{joined_parts, mark_nothing, not_ok, same_ok}
 use Rattle.fieldset.proofs.Places.{next, place-here, place-next, place_at, place_next, step_read}

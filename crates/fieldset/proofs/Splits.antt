@@ -14,7 +14,7 @@ use Rattle.pathmap.proofs.Contents.{either, either-None, get-here-below, get-not
 use Rattle.pathmap.proofs.Heads.{heads-inside, no_path}
 use Rattle.pathmap.proofs.Insides.{get-inside}
 use Rattle.pathmap.proofs.Levels.{get-here-top}
-use Rattle.fieldset.specs.Reading.{top}
+use Rattle.fieldset.specs.FieldsV1.{top}
 
 abbrev pub mark_when : Bool → Option Standing
 mark_when b = cond b (Some mark) None

@@ -18,8 +18,8 @@ use Rattle.pathmap.proofs.Levels.{nothing_path}
 use Rattle.schema.specs.Steps.{Spot, step}
 use Rattle.fieldset.specs.declared.fault.FieldsV1Fault.{FieldsV1Fault}
 use Rattle.fieldset.specs.declared.fault.FieldsV1Fault.TheVariants as fault
-use Rattle.fieldset.specs.declared.member.Member.{Member}
-use Rattle.fieldset.specs.Reading.{Reading, Refusal, and_then, needs_members, dot, element_in, is_empty, is_key_field, is_marked, joined, may_have_dot, not_canonical, off_schema, read_at, read_below, read_mark, read_member, read_members, some_or, top}
+use Rattle.fieldset.specs.declared.fields_v1.Member.{Member}
+use Rattle.fieldset.specs.FieldsV1.{Reading, Refusal, and_then, needs_members, dot, element_in, is_empty, is_key_field, is_marked, joined, may_have_dot, not_canonical, off_schema, read_at, read_below, read_mark, read_member, read_members, some_or, top}
 use Rattle.fieldset.specs.Seen.{Fails, Gives, next_at, read_named, read_next}
 
 pub joined-nothing : (a : Reading) → joined (Ok nothing) a ≡ a

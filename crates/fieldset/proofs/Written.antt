@@ -21,8 +21,7 @@ use Rattle.schema.specs.Lawful.{depth_limit, depth_of, is_granular_struct, is_la
 use Rattle.schema.specs.Shape.{Shape, text, whole, truth, struct_of, map_of, list_of}
 use Rattle.schema.specs.Steps.{Spot, value_of, set_item, map_item, is_leaf}
 use Rattle.fieldset.specs.BothWays.{WrittenIsRead}
-use Rattle.fieldset.specs.FieldsV1.{each, leaf, members_of, put_names, with_item}
-use Rattle.fieldset.specs.Reading.{Reading, and_then, dot, is_empty, joined, not_canonical, read_at, read_members, top}
+use Rattle.fieldset.specs.FieldsV1.{each, leaf, members_of, put_names, with_item, Reading, and_then, dot, is_empty, joined, not_canonical, read_at, read_members, top}
 use Rattle.fieldset.proofs.Fronts.{IsGood, IsPlacedAt, Leads, all_lead, base-each, base_at, first_of, good_next, inner_at, inner_of, members_at, none_some, second_of}
 use Rattle.fieldset.proofs.Marks.{IsRead, dot_marks, each_read, has_all, keys_mark, marked_read, no_dot}
 use Rattle.fieldset.proofs.Places.{item_next_none, leaf_next, next, place-here}

@@ -10,8 +10,7 @@ use Rattle.pathmap.specs.Contents.{PathSet}
 use Rattle.schema.specs.Shape.{Shape}
 use Rattle.schema.specs.Lawful.{is_type_shape}
 use Rattle.schema.specs.Place.{place_of}
-use Rattle.fieldset.specs.FieldsV1.{fields_v1_of}
-use Rattle.fieldset.specs.Reading.{read_fields_v1}
+use Rattle.fieldset.specs.FieldsV1.{fields_v1_of, read_fields_v1}
 
 -- each path of a set has a place
 abbrev pub HavePlaces : Shape → PathSet → Type 0

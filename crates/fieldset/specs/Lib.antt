@@ -1,5 +1,4 @@
 pub mod FieldsV1
 pub mod Below
-pub mod Reading
 pub mod Seen
 pub mod BothWays

@@ -8,10 +8,10 @@ use Rattle.serde_json.specs.Data.{Data, Members}
 use Rattle.fieldpath.specs.Elements.{Element, IsElementText, read_element}
 use Rattle.json_values.specs.Members.{has}
 use Rattle.schema.specs.Steps.{Spot, step}
-use Rattle.fieldset.specs.Reading.{Reading, Refusal, and_then, dot, element_in, is_key_field, may_have_dot, read_below, read_mark, some_or, not_an_object, bad_key, not_canonical, off_schema}
+use Rattle.fieldset.specs.FieldsV1.{Reading, Refusal, and_then, dot, element_in, is_key_field, may_have_dot, read_below, read_mark, some_or, not_an_object, bad_key, not_canonical, off_schema}
 use Rattle.fieldset.specs.declared.fault.FieldsV1Fault.{FieldsV1Fault}
 use Rattle.fieldset.specs.declared.fault.FieldsV1Fault.TheVariants as fault
-use Rattle.fieldset.specs.declared.member.Member.{Member}
+use Rattle.fieldset.specs.declared.fields_v1.Member.{Member}
 use Rattle.pathmap.specs.Contents.{Content, nothing, under}
 use Rattle.pathmap.specs.Maps.{content}
 

@@ -1,5 +1,5 @@
-//! Laws: what is written of a set as FieldsV1 is read as this set, and the other way round. Sets are written in `write`
-//! and `fields_v1`, and read in `read` and `borrowed`.
+//! Laws: what is written of a set as FieldsV1 is read as this set, and the other way round. Sets are written and read in
+//! `fields_v1`.
 
 ghost use Rattle.fieldset.specs.BothWays.{ReadHavePlaces, ReadIsWritten, WrittenIsRead};
 

@@ -1,4 +1,4 @@
-//! Why a value is no FieldsV1 value of a set of paths. Such values are read in `read`.
+//! Why a value is no FieldsV1 value of a set of paths. Such values are read in `fields_v1` and `values`.
 
 use std::alloc::{AllocError, AllocFailed};
 use thiserror::Error;

@@ -1,5 +1,5 @@
-//! Finite sets of paths, and what each call makes of them. FieldsV1 is printed in `fields_v1` and `write`, and read in
-//! `read` and `borrowed`.
+//! Finite sets of paths, and what each call makes of them. FieldsV1 is printed and read in `fields_v1`; values of one's own are
+//! read in `values`.
 
 ghost use Rattle.std.specs.Prelude.{◌≡◌, true, IfOk, OnOk, OnErr, IsTrue, ◌↔◌};
 ghost use Rattle.std.specs.FinSet as set;
@@ -12,15 +12,11 @@ ghost use Rattle.json_texts.specs.Writing.{with_text};
 ghost use Rattle.serde_json.specs.View.{view};
 ghost use Rattle.serde_json.specs.Written.{compact_text};
 ghost use Rattle.schema.specs.Shape.{shape};
-ghost use Rattle.fieldset.specs.FieldsV1.{fields_v1_of};
-ghost use Rattle.fieldset.specs.Reading.{read_fields_v1};
+ghost use Rattle.fieldset.specs.FieldsV1.{fields_v1_of, read_fields_v1};
 ghost use Rattle.fieldset.specs.Seen.{Gives};
 
-use crate::borrowed;
 use crate::fault::FieldsV1Fault;
-use crate::fields_v1::members;
-use crate::read::read_paths;
-use crate::write::write_members;
+use crate::{fields_v1, values};
 use fieldpath::Path;
 use json_texts::TextWriter;
 use pathmap::{Held, PathMap, put_under};
@@ -158,7 +154,7 @@ impl FieldSet {
     pub fn to_fields_v1(&self, alloc: Global, schema: &Schema) -> Result<Value, AllocError>
         ensures { IfOk result (λ v. view v ≡ fields_v1_of (shape schema.now) self.now) }
     {
-        Ok(Value::Object(members(&self.map, alloc, Some(schema))?))
+        Ok(Value::Object(fields_v1::members(&self.map, alloc, Some(schema))?))
     }
 
     /// Writes its FieldsV1 value: the text is that of `to_fields_v1` as compact JSON.
@@ -170,7 +166,7 @@ impl FieldSet {
     ) -> Result<(), AllocError>
         ensures { OnOk result (out.new ≡ with_text (compact_text (fields_v1_of (shape schema.now) self.now)) out.old) }
     {
-        write_members(&self.map, alloc, Some(schema), out)
+        fields_v1::write_members(&self.map, alloc, Some(schema), out)
     }
 
     /// The set of paths whose FieldsV1 value this is, or the first fault (Kubernetes API reference, ObjectMeta v1).
@@ -184,7 +180,7 @@ impl FieldSet {
         ensures { Gives (λ s. s) result (read_fields_v1 (shape schema.now) (view value.now)) }
     {
         Ok(FieldSet {
-            map: read_paths(alloc, schema, value)?,
+            map: values::read_paths(alloc, schema, value)?,
         })
     }
 
@@ -198,7 +194,7 @@ impl FieldSet {
         ensures { Gives (λ s. s) result (read_fields_v1 (shape schema.now) (data_of (value_view value.now))) }
     {
         Ok(FieldSet {
-            map: borrowed::read_paths(alloc, schema, value)?,
+            map: fields_v1::read_paths(alloc, schema, value)?,
         })
     }
 

@@ -5,14 +5,11 @@
 //! Stands on `pathmap` for the trie that holds a set, and on `fieldpath` for paths and their order.
 #![tactic(auto)]
 
-mod borrowed;
 mod both_ways;
 mod fault;
 mod fields_v1;
 mod fieldset;
-mod member;
-mod read;
-mod write;
+mod values;
 
 pub use both_ways::{readings_are_written, readings_have_places, written_is_read};
 pub use fault::FieldsV1Fault;

@@ -7,12 +7,11 @@ use Rattle.std.specs.declared.result.Result.TheVariants.{Ok}
 use Rattle.serde_json.specs.Data.{Items, no_items, item, Members, array}
 use Rattle.serde_json.specs.Find.{get_member}
 use Rattle.serde_json.proofs.Views.{get_member-put}
-use Rattle.fieldset.specs.FieldsV1.{fields_v1_of}
+use Rattle.fieldset.specs.FieldsV1.{fields_v1_of, read_fields_v1}
 use Rattle.pathmap.specs.Beside.{is_empty}
 use Rattle.pathmap.specs.Contents.{PathSet}
 use Rattle.schema.specs.Shape.{Shape}
 use Rattle.fieldset.specs.BothWays.{HavePlaces}
-use Rattle.fieldset.specs.Reading.{read_fields_v1}
 use Rattle.objects.specs.declared.manager.Operation.{Operation}
 use Rattle.objects.specs.declared.manager.Operation.TheVariants.{Apply, Update}
 use Rattle.objects.specs.ObjectText.{entry_members, entry_value, entry_items, put_entries}

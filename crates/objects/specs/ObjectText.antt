@@ -11,7 +11,7 @@ use Rattle.typed.specs.Printing.{print}
 use Rattle.objects.specs.Owners.{Manager, Owners, operation_text}
 use Rattle.objects.specs.State.{State}
 
--- what an object is of, and its key: `group/version`, kind, namespace, name
+-- an object's type (`group/version`, kind), namespace and name
 pub record Identity : Type 0 where
   pub api_version : List ℕ
   pub kind : List ℕ

@@ -19,7 +19,7 @@ use Rattle.objects.specs.declared.fault.ObjectFault.TheVariants.{NotCanonical, M
 use Rattle.objects.specs.declared.manager.Operation.{Operation}
 use Rattle.objects.specs.declared.manager.Operation.TheVariants.{Apply, Update}
 use Rattle.objects.specs.State.{State}
-use Rattle.fieldset.specs.Reading.{Refusal, read_fields_v1}
+use Rattle.fieldset.specs.FieldsV1.{Refusal, read_fields_v1}
 use Rattle.objects.specs.Owners.{Manager, Owners, manager_of}
 use Rattle.objects.specs.Ranks.{have_paths, rising}
 

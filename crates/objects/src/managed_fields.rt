@@ -5,7 +5,7 @@ ghost use Rattle.json_texts.specs.InOrder.{are_ordered, data_of, is_ordered, ite
 ghost use Rattle.json_values.specs.Members.{text_at};
 ghost use Rattle.serde_json.specs.Find.{get_member};
 ghost use Rattle.schema.specs.Shape.{shape};
-ghost use Rattle.fieldset.specs.Reading.{read_fields_v1};
+ghost use Rattle.fieldset.specs.FieldsV1.{read_fields_v1};
 ghost use Rattle.objects.specs.Borrowed.{data_in};
 ghost use Rattle.objects.specs.Managers.{manager_view, pair, pairs};
 ghost use Rattle.objects.specs.Parts.{Gives, entries_in, entries_listed, entry_in, if_ok, manager_in, operation_named, owners_in, set_in};

@@ -4,7 +4,7 @@ use Rattle.json_texts.specs.InOrder.{members_data}
 use Rattle.fieldpath.specs.Elements.{name_text}
 use Rattle.json_values.specs.Members.{has}
 use Rattle.schema.proofs.KeyNames.{list_all-sorted}
-use Rattle.fieldset.proofs.borrowed.has_keys.Goals as goal
+use Rattle.fieldset.proofs.fields_v1.has_keys.Goals as goal
 
 pub loop-name-init : goal.loop-name-init
 loop-name-init c = sym (list_all-sorted (λ n. has (name_text n) (members_data (members_view c.args.members.now))) (map string_bytes c.args.names.now))

@@ -1,8 +1,8 @@
 use Rattle.std.proofs.Common.{◌≡◌, drop, map, string_bytes}
 use Rattle.serde_json.specs.View.{members_view}
 use Rattle.schema.specs.KeyNames.{names_in}
-use Rattle.fieldset.specs.Reading.{has_keys}
-use Rattle.fieldset.proofs.read.has_keys.Given as goal
+use Rattle.fieldset.specs.FieldsV1.{has_keys}
+use Rattle.fieldset.proofs.values.has_keys.Given as goal
 
 -- what is found of the names that are left is what is found of all, in order
 abbrev pub invariant-loop-name : goal.invariant-loop-name

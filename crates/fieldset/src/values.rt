@@ -1,18 +1,18 @@
-//! Reads FieldsV1 values as sets of paths; those that borrow their text are read in `borrowed`. They are printed in
-//! `fields_v1` as values, and in `write` as texts.
+//! Reads FieldsV1 of JSON values of one's own. The server reads those that borrow their text, in `fields_v1`, which prints them too.
+
 ghost use Rattle.std.specs.Prelude.{◌≡◌, IfOk};
 ghost use Rattle.serde_json.specs.View.{members_view, view};
+ghost use Rattle.json_values.specs.Members.{has};
 ghost use Rattle.pathmap.specs.Contents.{dom, nothing};
 ghost use Rattle.pathmap.specs.Maps.{content};
-ghost use Rattle.json_values.specs.Members.{has};
 ghost use Rattle.schema.specs.KeyNames.{names_in};
 ghost use Rattle.schema.specs.Shape.{shape};
 ghost use Rattle.schema.specs.Spots.{spot};
-ghost use Rattle.fieldset.specs.Reading.{has_keys, is_empty, may_have_dot, object_in, read_at, read_fields_v1, read_mark, read_members};
+ghost use Rattle.fieldset.specs.FieldsV1.{has_keys, is_empty, may_have_dot, object_in, read_at, read_fields_v1, read_mark, read_members};
 ghost use Rattle.fieldset.specs.Seen.{Gives, IsNamed, member_view, read_named};
 
 use crate::fault::FieldsV1Fault;
-use crate::member::{Member, check_mark, element_of, is_marked, needs_members};
+use crate::fields_v1::{Member, check_mark, element_of, is_marked, needs_members};
 use fieldpath::ElemText;
 use json_values::has;
 use pathmap::PathMap;

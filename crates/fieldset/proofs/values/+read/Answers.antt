@@ -6,12 +6,12 @@ use Rattle.pathmap.specs.Contents.{over}
 use Rattle.pathmap.specs.Maps.{content}
 use Rattle.pathmap.proofs.Contents.{nothing-over}
 use Rattle.schema.specs.Spots.{spot}
-use Rattle.fieldset.specs.Reading.{needs_members, is_empty, is_marked, read_at, read_members, top}
+use Rattle.fieldset.specs.FieldsV1.{needs_members, is_empty, is_marked, read_at, read_members, top}
 use Rattle.fieldset.specs.Seen.{Fails, IsNamed, member_view, read_named}
 use Rattle.fieldset.proofs.Owning.{names_ascend}
 use Rattle.fieldset.proofs.Taking.{added, at_object, begin, failed, finish, is_none, nothing_added, passed_on}
-use Rattle.fieldset.proofs.read.+read.Goals as goal
-use Rattle.fieldset.proofs.read.+read.Goals.{read_at-then-is_marked, read_at-else-is_marked, read_at-else-needs_members-via-then-needs_members+else-is_empty, read_at-else-needs_members-via-else-needs_members}
+use Rattle.fieldset.proofs.values.+read.Goals as goal
+use Rattle.fieldset.proofs.values.+read.Goals.{read_at-then-is_marked, read_at-else-is_marked, read_at-else-needs_members-via-then-needs_members+else-is_empty, read_at-else-needs_members-via-else-needs_members}
 
 pub read_members-loop-name-init : goal.read_members-loop-name-init
 read_members-loop-name-init t c =

@@ -3,10 +3,10 @@ use Rattle.json.specs.Tree.{json_tokens, members_tokens}
 use Rattle.json.specs.Value.{members_view, value_view}
 use Rattle.pathmap.specs.Maps.{content}
 use Rattle.schema.specs.Spots.{spot}
-use Rattle.fieldset.specs.Reading.{read_members}
+use Rattle.fieldset.specs.FieldsV1.{read_members}
 use Rattle.fieldset.proofs.Lent.{data_in}
 use Rattle.fieldset.proofs.Taking.{IsSoFar}
-use Rattle.fieldset.proofs.borrowed.+borrowed.Given as goal
+use Rattle.fieldset.proofs.fields_v1.+read.Given as goal
 
 abbrev pub invariant-read_members-loop-name : goal.invariant-read_members-loop-name
 invariant-read_members-loop-name l =

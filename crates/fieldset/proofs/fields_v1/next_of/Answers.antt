@@ -6,9 +6,9 @@ use Rattle.fieldpath.proofs.Texts.{read-field}
 use Rattle.schema.proofs.Steps.{name_in, name-of}
 use Rattle.schema.specs.Spots.{spot}
 use Rattle.schema.specs.Steps.{Spot, map_item, set_item, value_of}
-use Rattle.fieldset.specs.Reading.{and_then, element_in, is_key_field}
+use Rattle.fieldset.specs.FieldsV1.{and_then, element_in, is_key_field}
 use Rattle.fieldset.specs.Seen.{Gives, next_at, stepped}
-use Rattle.fieldset.proofs.member.next_of.Goals as goal
+use Rattle.fieldset.proofs.fields_v1.next_of.Goals as goal
 
 -- an element that is no field is that of no key field
 no_key_field : (s : Spot) (e : Element) → name_in (Ok e) ≡ None → is_key_field s e ≡ false

@@ -7,7 +7,7 @@ use Rattle.schema.specs.Shape.{shape}
 use Rattle.fieldset.specs.Below.{as_item, members_some}
 use Rattle.fieldset.proofs.Clean.{under_clean}
 use Rattle.fieldset.proofs.Walks.{held_marks, marks_in}
-use Rattle.fieldset.proofs.write.write_by_value.Goals as goal
+use Rattle.fieldset.proofs.fields_v1.write_by_value.Goals as goal
 
 pub returns : goal.returns
 returns c =

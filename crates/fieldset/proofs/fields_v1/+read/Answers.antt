@@ -9,12 +9,12 @@ use Rattle.pathmap.specs.Contents.{over}
 use Rattle.pathmap.specs.Maps.{content}
 use Rattle.pathmap.proofs.Contents.{nothing-over}
 use Rattle.schema.specs.Spots.{spot}
-use Rattle.fieldset.specs.Reading.{needs_members, is_empty, is_marked, read_at, read_members, top}
+use Rattle.fieldset.specs.FieldsV1.{needs_members, is_empty, is_marked, read_at, read_members, top}
 use Rattle.fieldset.specs.Seen.{Fails, IsNamed, member_view}
 use Rattle.fieldset.proofs.Lent.{data_in, data_next, data_past, members_ordered, members_smaller, names_ascend, object_is}
 use Rattle.fieldset.proofs.Taking.{added, at_failed, at_object, begin, failed, finish, is_none, nothing_added, passed_on}
-use Rattle.fieldset.proofs.borrowed.+borrowed.Goals as goal
-use Rattle.fieldset.proofs.borrowed.+borrowed.Goals.{read_at-then-is_marked, read_at-else-is_marked, read_at-else-needs_members-via-then-needs_members+else-is_empty, read_at-else-needs_members-via-else-needs_members}
+use Rattle.fieldset.proofs.fields_v1.+read.Goals as goal
+use Rattle.fieldset.proofs.fields_v1.+read.Goals.{read_at-then-is_marked, read_at-else-is_marked, read_at-else-needs_members-via-then-needs_members+else-is_empty, read_at-else-needs_members-via-else-needs_members}
 
 pub read_members-loop-name-init : goal.read_members-loop-name-init
 read_members-loop-name-init t c =

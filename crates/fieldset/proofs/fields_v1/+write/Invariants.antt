@@ -6,7 +6,7 @@ use Rattle.serde_json.specs.Data.{object}
 use Rattle.fieldset.specs.Below.{members_under}
 use Rattle.json_texts.proofs.Appended.{AreLeft}
 use Rattle.fieldset.proofs.Walks.{each_child}
-use Rattle.fieldset.proofs.write.+write.Given as goal
+use Rattle.fieldset.proofs.fields_v1.+write.Given as goal
 
 -- what is there with what is left is all
 abbrev pub invariant-write_members-loop-name : goal.invariant-write_members-loop-name

@@ -1,9 +1,9 @@
 use Rattle.serde_json.specs.View.{members_view}
 use Rattle.pathmap.specs.Maps.{content}
 use Rattle.schema.specs.Spots.{spot}
-use Rattle.fieldset.specs.Reading.{read_members}
+use Rattle.fieldset.specs.FieldsV1.{read_members}
 use Rattle.fieldset.proofs.Taking.{IsSoFar}
-use Rattle.fieldset.proofs.read.+read.Given as goal
+use Rattle.fieldset.proofs.values.+read.Given as goal
 
 abbrev pub invariant-read_members-loop-name : goal.invariant-read_members-loop-name
 invariant-read_members-loop-name l =

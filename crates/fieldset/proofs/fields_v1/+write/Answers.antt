@@ -12,7 +12,7 @@ use Rattle.fieldset.specs.Below.{as_item, members_some, members_under, shape_bel
 use Rattle.json_texts.proofs.Appended.{closed, opened}
 use Rattle.fieldset.proofs.Appended.{child_written}
 use Rattle.fieldset.proofs.Walks.{children_all, each_child, held_marks, marks_in, members-each}
-use Rattle.fieldset.proofs.write.+write.Goals as goal
+use Rattle.fieldset.proofs.fields_v1.+write.Goals as goal
 
 pub write_members-loop-name-init : goal.write_members-loop-name-init
 write_members-loop-name-init t c =
