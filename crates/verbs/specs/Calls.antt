@@ -30,7 +30,7 @@ pub record Plan : Type 0 where
   pub answer : Answer
   pub change : Option Change
 
--- why a request is refused by its route, method or media type; `allow` is the value of the `Allow` field (RFC 9110, section 10.2.1)
+-- why a request is refused before a call is made of it, as by its route, method or media type; `allow` is the value of the `Allow` field (RFC 9110, section 10.2.1)
 pub record Denied : Type 0 where
   pub reason : Reason
   pub message : List ℕ

@@ -1,5 +1,5 @@
 -- The body of a deletion: what it asks of the object that stands (Kubernetes API reference, "DeleteOptions", "Preconditions").
--- A null member and an empty text or list are absence, and members that are not named here are ignored.
+-- Members that are not named here are ignored, and so is one that is blank, as is said of each.
 use Rattle.std.specs.Prelude.{ℕ, Bool, true, false, List, [], ◌∷◌, Option, Some, None, if◌then◌else◌, codes}
 use Rattle.std.specs.declared.result.Result.TheVariants.{Ok}
 use Rattle.serde_json.specs.Data.{Data, null, boolean, number, string, array, object, Items, no_items, item, Members}
@@ -33,7 +33,7 @@ abbrev pub is_blank : Option Data → Bool
 is_blank None = true
 is_blank (Some d) = is_blank_value d
 
--- null or the empty text
+-- absent, null or the empty text
 abbrev pub is_blank_text : Option Data → Bool
 is_blank_text None = true
 is_blank_text (Some null) = true

@@ -22,8 +22,8 @@ use Rattle.verbs.specs.declared.fault.CallError.{CallError}
 use Rattle.verbs.specs.declared.fault.CallError.TheVariants as call_error
 use Rattle.verbs.specs.declared.api.Api.{Api}
 use Rattle.verbs.specs.declared.envelope.Expected.{Expected as TheExpected}
-use Rattle.verbs.specs.declared.intent.Creation.{Creation as TheCreation}
-use Rattle.verbs.specs.declared.intent.Intent.{Intent as TheIntent}
+use Rattle.verbs.specs.declared.validating.Creation.{Creation as TheCreation}
+use Rattle.verbs.specs.declared.validating.Intent.{Intent as TheIntent}
 use Rattle.verbs.specs.declared.place.Place.{Place as ThePlace}
 use Rattle.verbs.specs.Envelope.{Expected, Envelope, left_out, rest_of}
 use Rattle.verbs.specs.Step.{Creation, Intent}

@@ -114,7 +114,7 @@ ownership_validated api_version live config m is_forced =
 
 -- ---- what a write intends
 
--- as its body and its parameters say; the body's fields are looked at for their names next
+-- as its body and its parameters say; rest is the body less its envelope, whose labels and annotations are checked next
 pub record Intent : Type 0 where
   pub version : Option ℕ
   pub content : Content
@@ -139,7 +139,7 @@ at_path t k method = record { served = t; namespace = k.namespace; name = Some k
 abbrev pub revisions_left : ℕ → Validated (Unit {0})
 revisions_left current = require (nat_lt current last_revision) ServiceUnavailable (codes "revisions are used up")
 
--- the plan that stores the object of this value, unless it is too large, has too many labels, or revisions are used up
+-- the plan that stores the object of this value, unless it has too many labels, is too large, or revisions are used up
 abbrev pub store_text : Data → ℕ → Key → ℕ → Validated Plan
 store_text body current k status =
     and_then (size_validated body) (λ u.
@@ -164,13 +164,14 @@ store_unless_same t current k (Some o) s = if same_state s (state_said t.shape o
 
 -- ---- apply
 
--- version, ownership, whether anything changes, labels and size, revisions left
+-- version, conflicts, whether anything changes, number of labels and size, revisions left
 abbrev pub applied_over : ServedShape → ℕ → Key → Option Object → Intent → Validated Plan
 applied_over t current k live intent =
     and_then (version_checked intent.version live) (λ u.
     and_then (ownership_validated (api_version_of t) (state_of_live t live) intent.content (manager_of intent.manager apply_operation) intent.is_forced) (λ s.
     store_unless_same t current k live s))
 
+-- of a body of JSON (`object_validated_by`): envelope, shape, parameters (`intent_of`), names with labels and annotations, what `applied_over` checks
 abbrev pub apply_validated : ServedShape → ℕ → Option Object → Key → List ℕ → Data → Validated Plan
 apply_validated t current live k query body =
     and_then (intent_of (at_path t k Patch) asked.Apply query body) (λ intent.
@@ -201,7 +202,7 @@ abbrev pub version_come : Option ℕ → ℕ → Validated (Unit {0})
 version_come None current = Ok tt
 version_come (Some n) current = require (nat_le n current) Timeout (too_large_message n current)
 
--- parameters, object there or not, version
+-- parameters, whether the object is there, version
 abbrev pub get_validated : ServedShape → ℕ → Option Object → Key → List ℕ → Validated Plan
 get_validated t current live k query =
     and_then (parameters_validated asked.Get query) (λ values.
@@ -253,6 +254,7 @@ lists_from s = λ of values. shown_by s of values values.watch
 abbrev pub updated_by : Intent → State → State
 updated_by intent s = updated s intent.content (manager_of intent.manager update_operation)
 
+-- names with labels and annotations, that no object is there, number of labels and size, revisions left
 abbrev pub created_as : ServedShape → ℕ → Option Object → Key → Intent → Validated Plan
 created_as t current live k intent =
     and_then (names_validated k.namespace k.name intent.rest) (λ u.
@@ -264,24 +266,26 @@ pub record Creation : Type 0 where
   pub key : Key
   pub intent : Intent
 
--- the body names the object
+-- of a body of JSON: envelope, shape, parameters, that there is a name: the body names the object
 abbrev pub creation_validated : ServedShape → ℕ → List ℕ → List ℕ → Data → Validated Creation
 creation_validated t kind namespace query body =
     and_then (intent_of (record { served = t; namespace = namespace; name = None; method = Post }) asked.Post query body) (λ intent.
     and_then (required_name (name_in body)) (λ name.
     Ok (record { key = record { kind = kind; namespace = namespace; name = name }; intent = intent })))
 
+-- of a body of JSON (`collection_validated_by`): what `creation_validated` checks, then what `created_as` checks
 abbrev pub create_validated : ServedShape → ℕ → Objects → ℕ → List ℕ → List ℕ → Data → Validated Plan
 create_validated t current objects kind namespace query body =
     and_then (creation_validated t kind namespace query body) (λ c. created_as t current (fin.get objects c.key) c.key c.intent)
 
--- object there or not, version, whether anything changes, labels and size, revisions left
+-- whether the object is there, version, whether anything changes, number of labels and size, revisions left
 abbrev pub updated_over : ServedShape → ℕ → Key → Option Object → Intent → Validated Plan
 updated_over t current k live intent =
     and_then (there t k.name live) (λ o.
     and_then (version_checked intent.version live) (λ u.
     store_unless_same t current k live (updated_by intent (state_said t.shape o.body))))
 
+-- of a body of JSON (`object_validated_by`): envelope, shape, parameters, labels and annotations, what `updated_over` checks
 abbrev pub update_validated : ServedShape → ℕ → Option Object → Key → List ℕ → Data → Validated Plan
 update_validated t current live k query body =
     and_then (intent_of (at_path t k Put) asked.Put query body) (λ intent.
@@ -297,7 +301,7 @@ deleted t current k o = record {
   change = Some (record { revision = suc current; key = k; body = None });
 }
 
--- object there or not, version, revisions left; nothing is stored, so no size is validated
+-- whether the object is there, version, revisions left; nothing is stored, so no size is validated
 abbrev pub deleted_over : ServedShape → ℕ → Key → Option Object → Option ℕ → Validated Plan
 deleted_over t current k live version =
     and_then (there t k.name live) (λ o.
@@ -305,7 +309,7 @@ deleted_over t current k live version =
     and_then (revisions_left current) (λ u.
     Ok (deleted t current k o))))
 
--- the body's options, parameters
+-- the body's options, parameters, what `deleted_over` checks
 abbrev pub delete_validated : ServedShape → ℕ → Option Object → Key → List ℕ → Option Data → Validated Plan
 delete_validated t current live k query body =
     and_then (options_validated body) (λ version.

@@ -158,7 +158,8 @@ impl Api {
         bookmarked(self.alloc, self.catalog.types(), cursor)
     }
 
-    /// Forgets what no answer from this revision on can show: from the compacted number to the current revision.
+    /// Forgets what no answer from this revision on can show. The revision may be any from the compacted number to the current
+    /// one.
     pub fn compact(&mut self, revision: u64) -> Result<(), CompactFault>
         ensures ok { (types : List ServedShape) (m : History) → Stands self.old types m → OnOk result (Stands self.new types (compacted_to revision m)) }
         ensures expired { (types : List ServedShape) (m : History) → Stands self.old types m → (result ≡ Err CompactFault.Expired) ↔ (revision < m.compacted) }

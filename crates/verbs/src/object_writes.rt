@@ -1,6 +1,6 @@
 //! Writes of one object: PUT, PATCH and DELETE under its key. Each begins from the state that is remembered of the text that
 //! stands, or else from that text. Afterwards what was stored is remembered; what stands, where nothing was stored; and nothing
-//! of an object that is deleted. What a write does stands in `updating`, `applying` and `deleting`.
+//! of an object that is deleted. What a write does stands in `validating`.
 
 ghost use Rattle.std.specs.Prelude.{◌≡◌, ◌≢◌, Err, IfOk, IfSome, option_map};
 ghost use Rattle.schema.specs.TypesFile.{ServedShape};
@@ -16,14 +16,12 @@ ghost use Rattle.verbs.specs.Validated.{Validated, and_then};
 ghost use Rattle.verbs.specs.WritePlans.{RemembersRight, written_plan};
 
 use crate::answering::plan_for;
-use crate::applying::validate_apply;
 use crate::calls::{Call, Plan};
-use crate::deleting::validate_delete;
 use crate::fault::{CallError, Fault};
 use crate::live::{Live, live_at};
 use crate::remembered::Remembered;
 use crate::subject::Subject;
-use crate::updating::validate_update;
+use crate::validating::{validate_apply, validate_delete, validate_update};
 use crate::write_plan::WritePlan;
 use revtable::Object;
 use std::alloc::Global;

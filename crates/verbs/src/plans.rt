@@ -1,7 +1,7 @@
-//! The plan of a call, by its method and what stands in the store. Writes of one object are planned in `object_writes`.
+//! The plan of a call, by its method and what stands in the store. Writes of one object are planned in `object_writes`, lists in
+//! `listing`.
 
 ghost use Rattle.std.specs.Prelude.{◌≡◌, ◌≢◌, Err, IfOk, IfSome, List, None, Some, option_map, slice_get};
-ghost use Rattle.std.specs.declared.result.Result.{Result};
 ghost use Rattle.std.specs.FinMap as fin;
 ghost use Rattle.schema.specs.ObjectShape.{IsObjectShape};
 ghost use Rattle.schema.specs.Served as types;
@@ -9,40 +9,28 @@ ghost use Rattle.schema.specs.Served.{types_view};
 ghost use Rattle.schema.specs.TypesFile.{ServedShape};
 ghost use Rattle.typed.specs.Fitting.{IsContent};
 ghost use Rattle.history.specs.Read.{key_of};
-ghost use Rattle.verbs.specs.Calls as calls;
 ghost use Rattle.verbs.specs.Validated.{and_then};
 ghost use Rattle.verbs.specs.Machine.{AreTexts, IsReadable};
 ghost use Rattle.verbs.specs.Remembered.{IsRight, IsRightAt};
 ghost use Rattle.verbs.specs.Seen.{call_of, creation_seen, object_of, objects_in, plan_of};
-ghost use Rattle.params.specs.Views.{values_of, watch_view};
-ghost use Rattle.lists.specs.Views as views;
-ghost use Rattle.lists.specs.declared.refusal.Refusal.{Refusal};
-ghost use Rattle.watchline.specs.Watches.{from_view};
-ghost use Rattle.verbs.specs.Step.{all_validated_by, body_of, collection_of, collection_validated_by, create_validated, created_as, list_answered, list_validated, lists_in, object_validated_by, plan_for, planned_over, shown_by, validated_in};
+ghost use Rattle.verbs.specs.Step.{all_validated_by, body_of, collection_validated_by, create_validated, created_as, lists_in, object_validated_by, plan_for, planned_over, validated_in};
 ghost use Rattle.verbs.specs.Subject.{IsSubject, type_of};
 
-use crate::answering::{no_path, not_served, plan_for, shown};
+use crate::answering::{no_path, not_served, plan_for};
 use crate::calls::{Call, Plan};
 use crate::catalog::Catalog;
-use crate::envelope::api_version_of;
-use crate::fault::{CallError, Fault};
-use crate::getting::validate_get;
-use crate::intent::Creation;
-use crate::listing::list_refusal;
+use crate::fault::Fault;
+use crate::listing::planned_list;
 use crate::method::Method;
 use crate::object_writes::{plan_written, planned_deletion, planned_patch, planned_put};
-use crate::parameters::read_parameters;
 use crate::remembered::Remembered;
 use crate::subject::Subject;
-use crate::updating::{created_as, validate_creation};
+use crate::validating::{Creation, created_as, validate_creation, validate_get};
 use history::Key;
-use lists::{Collection, ListFault, list};
-use params::{Asked, Params, Watch};
 use revstore::Store;
 use revtable::Object;
 use schema::{Served, Types};
 use std::alloc::Global;
-use watchline::start_watch;
 
 /// By the method, over the object under the key.
 fn planned_by(
@@ -142,111 +130,6 @@ fn planned_post(
 {
     match validate_creation(alloc, served, namespace, call) {
         Ok(creation) => planned_creation(alloc, served, store, creation, known),
-        Err(call_error) => plan_for(alloc, Err(call_error)),
-    }
-}
-
-/// Why there is neither a list nor a watch: a refusal is answered.
-fn list_failed(alloc: Global, fault: ListFault) -> Result<Plan, Fault>
-    ensures planned { (answer : Result calls.Answer Refusal) → views.Fails fault answer → IfOk result (λ p. plan_of p ≡ plan_for (list_answered answer)) }
-    ensures readable { result ≢ Err Fault.Unreadable }
-{
-    match fault {
-        ListFault::Refused(refusal) => plan_for(alloc, Err(list_refusal(alloc, refusal))),
-        ListFault::Failed(revtable::Fault::Memory) => Err(Fault::Memory),
-        ListFault::Failed(revtable::Fault::Store) => Err(Fault::Store),
-    }
-}
-
-fn page_answered(
-    alloc: Global,
-    store: &mut Store,
-    of: Collection<'_>,
-    params: &Params,
-) -> Result<Plan, Fault>
-    ensures planned { IfOk result (λ p. plan_of p ≡ plan_for (list_answered (shown_by (from_view store.old) (views.collection_of of.entry) (values_of params.now) None))) }
-    ensures readable { result ≢ Err Fault.Unreadable }
-    ensures same { store.new ≡ store.old }
-{
-    match list(alloc, store, of, params) {
-        Ok(body) => Ok(shown(body, None)),
-        Err(fault) => list_failed(alloc, fault),
-    }
-}
-
-/// The lines of a watch come after its answer.
-fn watch_answered(
-    alloc: Global,
-    store: &mut Store,
-    of: Collection<'_>,
-    params: Params,
-    watch: Watch,
-) -> Result<Plan, Fault>
-    ensures planned { IfOk result (λ p. plan_of p ≡ plan_for (list_answered (shown_by (from_view store.old) (views.collection_of of.entry) (values_of params) (Some (watch_view watch))))) }
-    ensures readable { result ≢ Err Fault.Unreadable }
-    ensures same { store.new ≡ store.old }
-{
-    match start_watch(alloc, store, of, params, watch) {
-        Ok(from) => Ok(shown(String::new(alloc), Some(from))),
-        Err(fault) => list_failed(alloc, fault),
-    }
-}
-
-/// A watch where the parameters ask for one, and else a page.
-fn list_answered(
-    alloc: Global,
-    store: &mut Store,
-    of: Collection<'_>,
-    params: Params,
-) -> Result<Plan, Fault>
-    ensures planned { IfOk result (λ p. plan_of p ≡ plan_for (list_answered (lists_in store.old (views.collection_of of.entry) (values_of params)))) }
-    ensures readable { result ≢ Err Fault.Unreadable }
-    ensures same { store.new ≡ store.old }
-{
-    let watch = params.watch;
-    match watch {
-        Some(watch) => watch_answered(alloc, store, of, params, watch),
-        None => page_answered(alloc, store, of, &params),
-    }
-}
-
-fn listed(
-    alloc: Global,
-    served: &Served,
-    store: &mut Store,
-    kind: u32,
-    namespace: Option<&str>,
-    params: Params,
-) -> Result<Plan, Fault>
-    ensures planned { IfOk result (λ p. plan_of p ≡ plan_for (list_answered (lists_in store.old (collection_of (types.served served.now) kind (option_map (λ s. s.now) namespace.entry)) (values_of params)))) }
-    ensures readable { result ≢ Err Fault.Unreadable }
-    ensures same { store.new ≡ store.old }
-{
-    let api_version = api_version_of(alloc, served)?;
-    let of = Collection {
-        kind,
-        namespace,
-        api_version: api_version.as_str(),
-        item_kind: served.kind.as_str(),
-    };
-    list_answered(alloc, store, of, params)
-}
-
-/// A list of a namespace, or of all, or a watch of these.
-fn planned_list(
-    alloc: Global,
-    served: &Served,
-    store: &mut Store,
-    kind: u32,
-    namespace: Option<&str>,
-    query: &[u8],
-) -> Result<Plan, Fault>
-    ensures planned { IfOk result (λ p. plan_of p ≡ plan_for (list_validated (types.served served.now) (lists_in store.old) kind (option_map (λ s. s.now) namespace.entry) query.now)) }
-    ensures readable { result ≢ Err Fault.Unreadable }
-    ensures same { store.new ≡ store.old }
-{
-    match read_parameters(alloc, Asked::List, query) {
-        Ok(params) => listed(alloc, served, store, kind, namespace, params),
         Err(call_error) => plan_for(alloc, Err(call_error)),
     }
 }

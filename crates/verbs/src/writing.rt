@@ -1,4 +1,4 @@
-//! Writes the change of a plan to the store. What is stored is decided in `storing`.
+//! Writes the change of a plan to the store. What is stored is decided in `validating`.
 
 ghost use Rattle.std.specs.Prelude.{◌≡◌, ◌≢◌, ◌<◌, Err, None, OnErr, OnOk, option_map, true};
 ghost use Rattle.std.specs.FinMap as fin;

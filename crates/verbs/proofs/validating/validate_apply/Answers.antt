@@ -7,7 +7,7 @@ use Rattle.verbs.specs.Seen.{intent_seen}
 use Rattle.verbs.specs.Step.{at_path, intent_of}
 use Rattle.verbs.specs.Subject.{type_of}
 use Rattle.verbs.proofs.Contents.{intended_content}
-use Rattle.verbs.proofs.applying.validate_apply.Goals as goal
+use Rattle.verbs.proofs.validating.validate_apply.Goals as goal
 
 pub applied_over-requires-clause-content : goal.applied_over-requires-clause-content
 applied_over-requires-clause-content c =

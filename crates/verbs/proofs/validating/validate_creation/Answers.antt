@@ -6,7 +6,7 @@ use Rattle.verbs.specs.declared.method.Method.TheVariants.{Post}
 use Rattle.verbs.specs.Envelope.{Expected}
 use Rattle.verbs.specs.Seen.{intent_seen}
 use Rattle.verbs.proofs.Contents.{intended_content}
-use Rattle.verbs.proofs.updating.validate_creation.Goals as goal
+use Rattle.verbs.proofs.validating.validate_creation.Goals as goal
 
 pub returns-clause-content : goal.returns-clause-content
 returns-clause-content c =

@@ -4,7 +4,7 @@ use Rattle.schema.specs.Served.{served}
 use Rattle.verbs.specs.Parameters.{parameters_validated}
 use Rattle.verbs.specs.Step.{collection_of, list_answered, list_validated, lists_in}
 use Rattle.verbs.proofs.Refusals.{fails_then}
-use Rattle.verbs.proofs.plans.planned_list.Goals as goal
+use Rattle.verbs.proofs.listing.planned_list.Goals as goal
 
 pub returns-in-Err-clause-planned : goal.returns-in-Err-clause-planned
 returns-in-Err-clause-planned c =

@@ -7,7 +7,7 @@ use Rattle.verbs.specs.Step.{printed, text_at}
 use Rattle.verbs.specs.Subject.{type_of}
 use Rattle.verbs.proofs.Counts.{counted}
 use Rattle.verbs.proofs.Recalling.{answer_says}
-use Rattle.verbs.proofs.storing.store_state.Goals as goal
+use Rattle.verbs.proofs.validating.store_state.Goals as goal
 
 pub returns-clause-plan : goal.returns-clause-plan
 returns-clause-plan c =

@@ -1,6 +1,6 @@
 use Rattle.verbs.specs.Subject.{type_of}
 use Rattle.verbs.proofs.Said.{empty_placed}
-use Rattle.verbs.proofs.updating.created_as.Goals as goal
+use Rattle.verbs.proofs.validating.created_as.Goals as goal
 
 pub store_and_remember-requires-clause-placed : goal.store_and_remember-requires-clause-placed
 store_and_remember-requires-clause-placed c =

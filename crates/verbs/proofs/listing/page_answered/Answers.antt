@@ -4,7 +4,7 @@ use Rattle.lists.specs.Views.{collection_of}
 use Rattle.params.specs.Views.{values_of}
 use Rattle.verbs.specs.Step.{page_shown}
 use Rattle.verbs.proofs.Refusals.{fails_shown}
-use Rattle.verbs.proofs.plans.page_answered.Goals as goal
+use Rattle.verbs.proofs.listing.page_answered.Goals as goal
 
 pub returns-in-Err-clause-planned : goal.returns-in-Err-clause-planned
 returns-in-Err-clause-planned c =
