@@ -6,8 +6,8 @@ use Rattle.std.specs.FinMap as fin
 use Rattle.std.specs.FinMap.{is_sorted}
 use Rattle.std.specs.FinMap.Entries.{below_all}
 use Rattle.history.specs.History.{Key, Objects, key_cmp}
-use Rattle.history.specs.Page.{IsFront, is_in_namespace, is_past, is_within, last_key, listed, page, past}
-use Rattle.history.specs.Seen.{IsLimit, Selection, seen_page, selected}
+use Rattle.history.specs.Page.{is_in_namespace, is_past, is_within, listed, page}
+use Rattle.history.specs.Seen.{IsLimit, Selection, seen_page, selected, IsFront, last_key, past}
 use Rattle.history.proofs.Keys.{key_cmp_total}
 use Rattle.history.proofs.Lists.{filter_both, filter_like}
 use Rattle.history.proofs.Selecting.{Entries, both, fst, snd, is_sorted-filter}

@@ -8,8 +8,8 @@ use Rattle.std.specs.FinMap as fin
 use Rattle.std.specs.FinMap.{is_sorted}
 use Rattle.std.specs.FinMap.Entries.{below_all}
 use Rattle.history.specs.History.{Key, Object, Objects, key_cmp, text_cmp}
-use Rattle.history.specs.Page.{IsFront, LeftBy, is_in_namespace, is_past, is_within, last_key, listed, next_of, past}
-use Rattle.history.specs.Seen.{Selection, selected}
+use Rattle.history.specs.Page.{is_in_namespace, is_past, is_within, listed}
+use Rattle.history.specs.Seen.{Selection, selected, IsFront, LeftBy, last_key, next_of, past}
 use Rattle.history.proofs.Keys.{key_cmp_total}
 use Rattle.history.proofs.Lists.{filter_both, filter_like, filter_turned}
 use Rattle.history.proofs.Selecting.{Entries, fst, snd, entries-selected}

@@ -1,9 +1,9 @@
 -- What a list and a watch see of a history: the objects of a selection at a revision, and the changes after it
--- (Kubernetes "API Concepts", "Efficient detection of changes").
-use Rattle.std.specs.Prelude.{◌≡◌, ℕ, ◌<◌, ◌≤◌, Bool, List, [], ◌∷◌, ◌++◌, filter, map, take, Option, Some, None, option_map, if◌then◌else◌}
+-- (Kubernetes "API Concepts", "Retrieving large results sets in chunks", "Efficient detection of changes").
+use Rattle.std.specs.Prelude.{◌≡◌, ℕ, ◌<◌, ◌≤◌, nat_lt, Bool, List, [], ◌∷◌, ◌++◌, filter, length, map, take, Option, Some, None, option_map, if◌then◌else◌}
 use Rattle.std.specs.FinMap as fin
-use Rattle.history.specs.History.{Key, Object, Objects, Change, left_by, put_or_remove, up_to, later, state_at}
-use Rattle.history.specs.Page.{next_of, past}
+use Rattle.std.specs.Ordering.{is_lt}
+use Rattle.history.specs.History.{Key, Object, Objects, Change, key_cmp, left_by, put_or_remove, up_to, later, state_at}
 use Rattle.history.specs.View.{View, state_in}
 
 -- which objects are asked for: type and namespace by the key, what a selector says by the body
@@ -18,6 +18,19 @@ abbrev pub seen_at : Selection → List Change → ℕ → Objects
 seen_at wanted cs r = selected wanted (state_at cs r)
 
 -- ---- a list, page by page
+
+-- the entries past a key
+abbrev pub past : Key → List (Key × Object) → List (Key × Object)
+past k = filter (λ e. is_lt (key_cmp k e.0))
+
+abbrev pub last_key : List (Key × Object) → Option Key
+last_key [] = None
+last_key (e ∷ []) = Some e.0
+last_key (e ∷ f ∷ es) = last_key (f ∷ es)
+
+-- the key that the next page begins after, where more entries are left than this one holds
+abbrev pub next_of : ℕ → List (Key × Object) → Option Key
+next_of size left = if nat_lt size (length left) then last_key (take size left) else None
 
 -- a page of a list: its objects, and the key after which the next page begins, where the list has more
 pub record SeenPage : Type 0 where
@@ -42,6 +55,17 @@ seen_page wanted after limit s = limited limit (left_after after (fin.entries (s
 abbrev pub IsLimit : Option ℕ → Type 0
 IsLimit None = Unit {0}
 IsLimit (Some limit) = 0 < limit
+
+-- nothing is left, or what is past the key
+abbrev pub LeftBy : List (Key × Object) → Option Key → List (Key × Object) → Type 0
+LeftBy all None rest = rest ≡ []
+LeftBy all (Some k) rest = past k all ≡ rest
+
+-- the entries begin with these, and what is left of them begins after `next`
+pub record IsFront (all front : List (Key × Object)) (next : Option Key) : Type 0 where
+  pub rest : List (Key × Object)
+  pub is : all ≡ front ++ rest
+  pub left : LeftBy all next rest
 
 -- ---- the changes that are seen
 

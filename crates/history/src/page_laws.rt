@@ -4,8 +4,8 @@ ghost use Rattle.std.specs.Prelude.{◌≡◌, ◌++◌, ◌&&◌, ℕ, ◌<◌,
 ghost use Rattle.std.specs.FinMap as fin;
 ghost use Rattle.std.specs.FinMap.{is_sorted};
 ghost use Rattle.history.specs.History.{Key, Object, Objects, key_cmp};
-ghost use Rattle.history.specs.Page.{IsFront, is_within, last_key, listed, next_of, page, past};
-ghost use Rattle.history.specs.Seen.{IsLimit, Selection, seen_page, selected};
+ghost use Rattle.history.specs.Page.{is_within, listed, page};
+ghost use Rattle.history.specs.Seen.{IsLimit, Selection, seen_page, selected, IsFront, last_key, next_of, past};
 
 /// Pages of any sizes above 0, each begun after the last key of the one before, are fronts of the list, and where
 /// no next page is named they are the list. The rows of a type and namespace after a place are such entries, and those of

@@ -4,8 +4,7 @@ use Rattle.std.specs.Prelude.{nat_lt}
 use Rattle.std.proofs.lemmas.List.{append_cancel_right, map-append}
 use Rattle.std.specs.FinMap as fin
 use Rattle.history.specs.History.{History, IsHistory, IsRising, Key, Object, compacted_to, last_revision, state_at, written}
-use Rattle.history.specs.Page.{last_key}
-use Rattle.history.specs.Seen.{Selection, reached, seen_changes, selected}
+use Rattle.history.specs.Seen.{Selection, reached, seen_changes, selected, last_key}
 use Rattle.history.proofs.Following.{front_seen, seen_changes-push}
 use Rattle.history.proofs.Revisions.{rising-push, state_at-push}
 use Rattle.watchline.specs.Lines.{added, bookmark_line, line_of}

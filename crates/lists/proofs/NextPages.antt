@@ -8,8 +8,8 @@ use Rattle.std.specs.FinMap as fin
 use Rattle.std.specs.FinMap.{is_sorted}
 use Rattle.std.specs.declared.result.Result.TheVariants.{Ok}
 use Rattle.history.specs.History.{Key, Object, Objects, key_cmp}
-use Rattle.history.specs.Page.{IsFront, is_in_namespace, is_within, last_key, past}
-use Rattle.history.specs.Seen.{IsLimit, SeenPage, left_after, limited, seen_page, selected}
+use Rattle.history.specs.Page.{is_in_namespace, is_within}
+use Rattle.history.specs.Seen.{IsLimit, SeenPage, left_after, limited, seen_page, selected, IsFront, last_key, past}
 use Rattle.history.proofs.Leading as leading
 use Rattle.history.proofs.Paging.{past-front}
 use Rattle.history.proofs.Selecting.{entries-selected, is_sorted-filter}

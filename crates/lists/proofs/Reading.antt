@@ -6,8 +6,8 @@ use Rattle.std.proofs.lemmas.List.{length-map, map-append, take-map}
 use Rattle.std.proofs.lemmas.List.Elements.{filter-append}
 use Rattle.history.specs.History.{Key, Object, Objects}
 use Rattle.history.specs.Read.{key_of}
-use Rattle.history.specs.Page.{last_key, listed, page}
-use Rattle.history.specs.Seen.{SeenPage, limited, seen_page}
+use Rattle.history.specs.Page.{listed, page}
+use Rattle.history.specs.Seen.{SeenPage, limited, seen_page, last_key}
 use Rattle.history.proofs.Leading.{ended, more}
 use Rattle.history.proofs.Paging.{wanted_first, wanted_past}
 use Rattle.revtable.specs.declared.row.Entry.{Entry}

@@ -1,5 +1,5 @@
 //! The page that is asked for: rows of the store are read in batches, each twice as large as the one before up to 501,
-//! until the page is full of selected objects or no row is left. The rows are read in `rows`.
+//! until more selected objects are found than the page holds, or no row is left. The rows are read in `rows`.
 
 ghost use Rattle.std.specs.Prelude.{◌≡◌, ◌<◌, ◌≤◌, ◌++◌, IfOk, Some, map, option_map};
 ghost use Rattle.history.specs.Page.{listed};
@@ -109,8 +109,8 @@ fn found_from(
     Ok(found)
 }
 
-/// The first that are selected from a start on, at most so many, and whether more are left; `api_version` and
-/// `item_kind` aren't used.
+/// The first that are selected from a start on, at most so many, and whether more are left. Of the collection its type and
+/// namespace count alone.
 pub fn selected_page(
     alloc: Global,
     store: &mut Store,

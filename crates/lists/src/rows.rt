@@ -1,7 +1,8 @@
 //! The rows of a list, a few at a time. A page is made of them in `page`.
 
 ghost use Rattle.std.specs.Prelude.{◌≡◌, ◌<◌, ◌≤◌, ◌++◌, [], ◌∷◌, IfOk, OnOk, map, option_map};
-ghost use Rattle.history.specs.Page.{last_key, listed, page};
+ghost use Rattle.history.specs.Page.{listed, page};
+ghost use Rattle.history.specs.Seen.{last_key};
 ghost use Rattle.history.specs.View.{state_in};
 ghost use Rattle.revtable.specs.Read.{entry_of};
 ghost use Rattle.history.specs.Read.{key_of};

@@ -4,7 +4,7 @@ ghost use Rattle.std.specs.Prelude.{◌≡◌, ◌++◌, [], ◌∷◌, IfOk, On
 ghost use Rattle.serde_json.specs.Data.{string};
 ghost use Rattle.serde_json.specs.View.{view};
 ghost use Rattle.serde_json.specs.Written.{compact_text};
-ghost use Rattle.history.specs.Page.{last_key};
+ghost use Rattle.history.specs.Seen.{last_key};
 ghost use Rattle.history.specs.Read.{key_of};
 ghost use Rattle.revtable.specs.Read.{entry_of};
 ghost use Rattle.lists.specs.Body.{continued_at, joined_text, list_kind, list_text, metadata_by, metadata_of, with_commas};

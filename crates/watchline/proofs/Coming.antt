@@ -6,8 +6,8 @@ use Rattle.std.proofs.lemmas.List.{length-map, take-map}
 use Rattle.std.specs.FinMap as fin
 use Rattle.selector.specs.Requirement.{Requirement, selects}
 use Rattle.history.specs.History.{Key, Object, Objects, Change, History, IsHistory, IsRising, changed, up_to}
-use Rattle.history.specs.Page.{listed, next_of}
-use Rattle.history.specs.Seen.{SeenChange, SeenPage, left_after, limited, reached, selected}
+use Rattle.history.specs.Page.{listed}
+use Rattle.history.specs.Seen.{SeenChange, SeenPage, left_after, limited, reached, selected, next_of}
 use Rattle.history.specs.View.{IsView, View, state_in, view}
 use Rattle.history.proofs.Following.{seen_in_view}
 use Rattle.history.proofs.Paging.{wanted_first, wanted_past}

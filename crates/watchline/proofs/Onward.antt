@@ -7,8 +7,8 @@ use Rattle.std.proofs.Math.Seq.{take-add}
 use Rattle.std.specs.FinMap as fin
 use Rattle.selector.specs.Requirement.{Requirement, selects}
 use Rattle.history.specs.History.{Change, History, IsHistory, IsRising, Key, Object, Objects, changed, later, left_by, put_or_remove, state_at, up_to, written}
-use Rattle.history.specs.Page.{is_in_namespace, is_within, last_key, listed, past}
-use Rattle.history.specs.Seen.{SeenChange, Selection, left_after, reached, seen_among, seen_changes, seen_of, selected}
+use Rattle.history.specs.Page.{is_in_namespace, is_within, listed}
+use Rattle.history.specs.Seen.{SeenChange, Selection, left_after, reached, seen_among, seen_changes, seen_of, selected, last_key, past}
 use Rattle.history.proofs.Following.{front_seen, seen_changes-push}
 use Rattle.history.proofs.Leading.{more}
 use Rattle.history.proofs.Lists.{filter_both, filter_like}

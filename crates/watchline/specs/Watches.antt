@@ -4,8 +4,7 @@ use Rattle.std.specs.Prelude.{ℕ, zero, suc, ◌-◌, max, nat_lt, Bool, true, 
 use Rattle.std.specs.FinMap as fin
 use Rattle.selector.specs.Requirement.{Requirement}
 use Rattle.history.specs.History.{Key, Object, Objects, Change, History, later, state_at, up_to}
-use Rattle.history.specs.Page.{next_of}
-use Rattle.history.specs.Seen.{Selection, SeenChange, left_after, reached, seen_among, selected}
+use Rattle.history.specs.Seen.{Selection, SeenChange, left_after, reached, seen_among, selected, next_of}
 use Rattle.history.specs.View.{View, state_in}
 use Rattle.lists.specs.Labels.{selection_of}
 use Rattle.watchline.specs.Lines.{added, bookmark_line, error_line, line_of}

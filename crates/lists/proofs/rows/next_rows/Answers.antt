@@ -1,7 +1,7 @@
 use Rattle.std.proofs.Common.{◌∙◌, ◌≤◌, ap, sym, subst, map}
 use Rattle.std.specs.Option.{option_map}
 use Rattle.std.proofs.lemmas.List.{length-map}
-use Rattle.history.specs.Page.{last_key}
+use Rattle.history.specs.Seen.{last_key}
 use Rattle.history.specs.View.{state_in}
 use Rattle.revtable.specs.Read.{entry_of}
 use Rattle.lists.specs.Rows.{place_of}
