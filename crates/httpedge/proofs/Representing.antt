@@ -35,8 +35,8 @@ use Rattle.httpedge.specs.declared.event.Event as events
 use Rattle.httpedge.specs.HubSeen.{Happened, IsIn, event_of, found_none, refusal_number}
 use Rattle.httpedge.specs.declared.hub.Hub.{Hub}
 use Rattle.requests.specs.Refusals.{as_denied, too_many_connections}
-use Rattle.httpedge.specs.Runs.{Follows, Happening, happens, starves, Runs, Starves, Steps}
-use Rattle.httpedge.specs.Steps.{Event, State, opens, comes, goes, pumps, ticks, compacts, after_turn, by_connection, connection_after, dead, machine_after, opening, received, refusal, start, carried_out, unless_refused, with_bytes_taken, with_connection, with_connections, with_machine, with_turn}
+use Rattle.httpedge.specs.Runs.{Follows, Happening, happens, starves, Runs, Steps}
+use Rattle.httpedge.specs.Steps.{Event, State, opens, comes, goes, pumps, ticks, compacts, after_turn, by_connection, connection_after, dead, machine_after, opening, received, refusal, start, carried_out, unless_refused, with_bytes_taken, with_connection, with_connections, with_machine, with_turn, Starves}
 use Rattle.requests.specs.Replies.{refusal_reply}
 use Rattle.httpedge.specs.Watches.{Turn, Watch, pumped}
 use Rattle.httpedge.proofs.Connected.{Entries, ids, itself, new_put, new_still, one_if, open_put, opens_in, opens_of, tied_same, unknown}

@@ -7,8 +7,8 @@ use Rattle.std.specs.Ordering.{nat_cmp, eq_by_cmp}
 use Rattle.schema.specs.TypesFile.{ServedShape}
 use Rattle.requests.specs.Asks.{CallDecision}
 use Rattle.httpedge.specs.Connections.{Connection, Connections, Standing, waiting, watching, ended, gone, each, ended_on, has_ended, is_new, is_open, is_watching, watching_on, with_standing, with_taken}
-use Rattle.httpedge.specs.Runs.{Follows, Happening, HappensElsewhere, IsElsewhere, Starves, Steps, happens, starves, takes}
-use Rattle.httpedge.specs.Steps.{Event, State, opens, comes, goes, pumps, ticks, compacts, after_turn, by_connection, dead, dead_or_ticked, opening, received_by, refusal, starved, carried_out, unless_refused, with_connection, with_turn, writes_at}
+use Rattle.httpedge.specs.Runs.{Follows, Happening, HappensElsewhere, IsElsewhere, Steps, happens, starves, takes}
+use Rattle.httpedge.specs.Steps.{Event, State, opens, comes, goes, pumps, ticks, compacts, after_turn, by_connection, dead, dead_or_ticked, opening, received_by, refusal, starved, carried_out, unless_refused, with_connection, with_turn, writes_at, Starves}
 use Rattle.httpedge.specs.Watches.{Turn, Watch, pumped, ticked}
 use Rattle.httpedge.proofs.Connected.{got_each, tied_same, unknown}
 

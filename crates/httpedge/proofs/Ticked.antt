@@ -18,8 +18,8 @@ use Rattle.httpedge.specs.declared.connection.Connection as conns
 use Rattle.httpedge.specs.Connections.{Connection, Connections, Standing, waiting, watching, ended, gone, each, is_new, is_open, is_watching, open_count, open_on}
 use Rattle.requests.specs.Decision.{undecided}
 use Rattle.httpedge.specs.Held.{Holds, HoldsAt, Lists, PutAt, Represents, count_after, is_open_in}
-use Rattle.httpedge.specs.Runs.{Starves, Steps}
-use Rattle.httpedge.specs.Steps.{State, ticks, dead_or_ticked, refusal, unless_refused, with_tick, with_turn, writes_at}
+use Rattle.httpedge.specs.Runs.{Steps}
+use Rattle.httpedge.specs.Steps.{State, ticks, dead_or_ticked, refusal, unless_refused, with_tick, with_turn, writes_at, Starves}
 use Rattle.httpedge.specs.Ticks.{HoldsAll, TicksAll, TicksAt, TicksOne, due_on, put_where, ticked_all, ticked_at}
 use Rattle.httpedge.specs.Watches.{ticked}
 use Rattle.httpedge.proofs.Connected.{Entries, changed, got_each, ids, itself, put_there, sorted_same, tied_same}

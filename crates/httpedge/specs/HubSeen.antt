@@ -43,7 +43,7 @@ asks_store (pumps id max) = true
 asks_store (ticks ms) = false
 asks_store (compacts c) = true
 
--- no memory was found, or the store found none
+-- no memory was found, or the store failed
 abbrev pub found_none : {A : Type 0} → Result A faults.HubFault → Bool
 found_none (Ok a) = false
 found_none (Err fault.IdNotAbove) = false

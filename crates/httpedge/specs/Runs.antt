@@ -1,11 +1,10 @@
 -- Events in turn: what the bytes of each ask, and the state after all of them.
-use Rattle.std.specs.Prelude.{◌≡◌, ◌≢◌, ℕ, Bool, true, false, ◌&&◌, List, [], ◌∷◌, ◌++◌, Option, Some, None, option_and_then, ⊤}
-use Rattle.std.specs.List.{list_any}
+use Rattle.std.specs.Prelude.{◌≡◌, ◌≢◌, ℕ, Bool, true, false, List, [], ◌∷◌, ◌++◌, Option, Some, None, option_and_then, ⊤}
 use Rattle.std.specs.FinMap as fin
 use Rattle.requests.specs.Asks.{CallDecision, Asks}
-use Rattle.httpedge.specs.Connections.{Standing, waiting, watching, ended, gone, waiting_on, watching_on}
+use Rattle.httpedge.specs.Connections.{Standing, waiting, watching, ended, gone}
 use Rattle.requests.specs.Decision.{undecided}
-use Rattle.httpedge.specs.Steps.{State, Event, opens, comes, goes, pumps, ticks, compacts, refusal, stepped, starved, with_bytes_taken, writes_at}
+use Rattle.httpedge.specs.Steps.{State, Event, opens, comes, goes, pumps, ticks, compacts, stepped, Starves, with_bytes_taken}
 
 -- ---- what an event asks
 
@@ -35,20 +34,6 @@ AsksIf s (Some bytes) asked = Asks s.types bytes asked
 -- the event leads to this state
 abbrev pub Steps : State → Event → State → Type 0
 Steps s e t = (asked : CallDecision) × AsksIf s (bytes_at s e) asked × (t ≡ stepped s e asked)
-
--- which events take memory: bytes only where the connection waits for them, a pump only where it watches, a tick only where a watch found none
--- whose turn writes something
-abbrev pub takes_memory : State → Event → (ℕ → Bool) → Bool
-takes_memory s (opens id) found_none = true
-takes_memory s (comes id bytes) found_none = waiting_on s.connections id
-takes_memory s (goes id) found_none = false
-takes_memory s (pumps id max) found_none = watching_on s.connections id
-takes_memory s (ticks ms) found_none = list_any (λ e. found_none e.0 && writes_at ms e.1.standing) (fin.entries s.connections)
-takes_memory s (compacts c) found_none = true
-
--- an event that is not refused finds no memory, and leads to this state
-abbrev pub Starves : State → Event → (ℕ → Bool) → State → Type 0
-Starves s e found_none t = (refusal s e ≡ None) × (takes_memory s e found_none ≡ true) × (t ≡ starved s e found_none)
 
 -- ---- events in turn
 

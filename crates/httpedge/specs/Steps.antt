@@ -1,5 +1,6 @@
 -- The hub: what each event makes of its machine and its connections.
-use Rattle.std.specs.Prelude.{ℕ, Bool, true, false, ◌&&◌, ◌==◌, nat_lt, nat_le, if◌then◌else◌, List, ◌++◌, Option, Some, None}
+use Rattle.std.specs.Prelude.{◌≡◌, ℕ, Bool, true, false, ◌&&◌, ◌==◌, nat_lt, nat_le, if◌then◌else◌, List, ◌++◌, Option, Some, None}
+use Rattle.std.specs.List.{list_any}
 use Rattle.std.specs.FinMap as fin
 use Rattle.schema.specs.TypesFile.{ServedShape}
 use Rattle.history.specs.History.{History, compacted_to}
@@ -7,7 +8,7 @@ use Rattle.verbs.specs.Calls.{Answer}
 use Rattle.verbs.specs.Machine.{after}
 use Rattle.verbs.specs.Step.{planned}
 use Rattle.requests.specs.Asks.{CallDecision}
-use Rattle.httpedge.specs.Connections.{Connection, Connections, Standing, waiting, watching, ended, gone, opened, with_standing, with_written, with_taken, has_ended, is_known, is_new, is_open, open_count, max_open, each}
+use Rattle.httpedge.specs.Connections.{Connection, Connections, Standing, waiting, watching, ended, gone, opened, with_standing, with_written, with_taken, has_ended, is_known, is_new, is_open, open_count, max_open, each, waiting_on, watching_on}
 use Rattle.requests.specs.Decision.{undecided, refused, accepted}
 use Rattle.requests.specs.Refusals.{as_denied, too_many_connections}
 use Rattle.requests.specs.Replies.{answer_bytes, refusal_reply}
@@ -172,7 +173,7 @@ writes_at ms (gone had_ended) = false
 abbrev pub dead_or_ticked : List ServedShape → ℕ → Bool → Connection → Connection
 dead_or_ticked types ms found_none c = if found_none && writes_at ms c.standing then dead c else with_turn (ticked types ms) c
 
--- the state after an event that found no memory; at a tick it is these connections that found none
+-- the state after an event that takes memory (`takes_memory`) and found none; at a tick it is these connections that found none
 abbrev pub starved : State → Event → (ℕ → Bool) → State
 starved s (opens id) found_none = s
 starved s (comes id bytes) found_none = on_connection s id (λ c. with_connection s id (dead c))
@@ -180,6 +181,20 @@ starved s (goes id) found_none = s
 starved s (pumps id max) found_none = on_connection s id (λ c. with_connection s id (dead c))
 starved s (ticks ms) found_none = with_tick s ms (each (λ id c. dead_or_ticked s.types ms (found_none id) c) s.connections)
 starved s (compacts c) found_none = s
+
+-- which events take memory: bytes only where the connection waits for them, a pump only where it watches, a tick only where a watch found none
+-- whose turn writes something
+abbrev pub takes_memory : State → Event → (ℕ → Bool) → Bool
+takes_memory s (opens id) found_none = true
+takes_memory s (comes id bytes) found_none = waiting_on s.connections id
+takes_memory s (goes id) found_none = false
+takes_memory s (pumps id max) found_none = watching_on s.connections id
+takes_memory s (ticks ms) found_none = list_any (λ e. found_none e.0 && writes_at ms e.1.standing) (fin.entries s.connections)
+takes_memory s (compacts c) found_none = true
+
+-- an event that is not refused finds no memory, and leads to this state
+abbrev pub Starves : State → Event → (ℕ → Bool) → State → Type 0
+Starves s e found_none t = (refusal s e ≡ None) × (takes_memory s e found_none ≡ true) × (t ≡ starved s e found_none)
 
 -- ---- bytes that are taken
 

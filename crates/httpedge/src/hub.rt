@@ -7,8 +7,8 @@ ghost use Rattle.verbs.specs.Seen.{Stands};
 ghost use Rattle.httpedge.specs.Connections.{ended_on, out_on, waiting_on};
 ghost use Rattle.httpedge.specs.Held.{is_above};
 ghost use Rattle.httpedge.specs.HubSeen.{Happened, IsIn, asks_store, event_of, found_none, refusal_number};
-ghost use Rattle.httpedge.specs.Runs.{Follows, Happening, Runs, Starves, Steps, takes};
-ghost use Rattle.httpedge.specs.Steps.{State, comes, compacts, goes, opens, pumps, refusal, start, ticks, with_bytes_taken};
+ghost use Rattle.httpedge.specs.Runs.{Follows, Happening, Runs, Steps, takes};
+ghost use Rattle.httpedge.specs.Steps.{State, comes, compacts, goes, opens, pumps, refusal, start, ticks, with_bytes_taken, Starves};
 
 use crate::connection::{Connection, count_with, opening};
 use crate::connections::{
@@ -29,7 +29,8 @@ pub struct Hub {
     connections: BTreeMap<u64, Connection>,
     /// How many of them are open.
     open_count: usize,
-    /// The ids of those that are open, and of some that have ended since the last tick.
+    /// The ids of those that are open, and of some that aren't: they ended since the last tick, or found no memory as they
+    /// opened.
     open_ids: BTreeSet<u64>,
     /// The highest id so far.
     highest: Option<u64>,

@@ -7,8 +7,8 @@ ghost use Rattle.schema.specs.TypesFile.{ServedShape};
 ghost use Rattle.history.specs.History.{History};
 ghost use Rattle.verbs.specs.Machine.{IsMachine};
 ghost use Rattle.httpedge.specs.Connections.{AllIsOut, Connection, Connections, IsUntaken, each, ended_on, gone_on, has_gone, out_on, watching_on, written_on};
-ghost use Rattle.httpedge.specs.Runs.{Follows, Happening, HappensElsewhere, LeavesOut, Runs, Starves, Steps, bytes_at, peer_goes};
-ghost use Rattle.httpedge.specs.Steps.{Event, State, comes, start, ticks, with_bytes_taken};
+ghost use Rattle.httpedge.specs.Runs.{Follows, Happening, HappensElsewhere, LeavesOut, Runs, Steps, bytes_at, peer_goes};
+ghost use Rattle.httpedge.specs.Steps.{Event, State, comes, start, ticks, with_bytes_taken, Starves};
 
 use requests::read_head;
 
