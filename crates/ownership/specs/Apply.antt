@@ -7,7 +7,7 @@ use Rattle.pathmap.specs.Beside.{changed, clear_of, without}
 use Rattle.objects.specs.Owners.{Manager, owned_by, others, taken_over}
 use Rattle.objects.specs.State.{State}
 
--- a path that another manager owns and to which the body gives another value
+-- a path, and the manager who owns it
 abbrev pub Conflict : Type 0
 Conflict = PathTexts × Manager
 
@@ -15,7 +15,7 @@ abbrev pub conflicts_with : PathSet → List (Manager × PathSet) → List Confl
 conflicts_with s [] = []
 conflicts_with s (e ∷ es) = map (λ p. (p, e.0)) (in_order (set.intersection e.1 s)) ++ conflicts_with s es
 
--- all conflicts, by manager, then path
+-- the paths that another manager owns and to which the body gives another value (an owned path has one already), by manager, then path
 unfoldable pub conflicts : State → Content → Manager → List Conflict
 conflicts live body m = conflicts_with (changed body live.content) (others live.owners m)
 

@@ -16,12 +16,13 @@ CallDecision = Decision Call
 abbrev pub call_with : Request → Target → Decision (Option Data) → CallDecision
 call_with request target body = and_then body (λ value. accepted (record { target = target; query = query_of request.request_target; body = value }))
 
--- first the route, the method and the media type are checked, then the body
+-- first the route, the method and the media type are checked, in this order, then the body: Transfer-Encoding, length, and once it has come JSON
 abbrev pub call_in : List ServedShape → Request → List ℕ → CallDecision
 call_in types request rest =
     and_then (decided_by (admitted types request.method (path_of request.request_target) (checked_media request))) (λ target. call_with request target (body_in request rest))
 
--- what a head and the bytes after it ask, by these types
+-- what a head and the bytes after it ask, by these types. The head is checked first: its size, its form, the number of its fields, the version, Host,
+-- that the request target is a path (`ReadsHeadAt`, `validated` of `Heads`)
 abbrev pub asked_by : List ServedShape → HeadDecision → CallDecision
 asked_by types head = and_then head (λ r. call_in types r.0 r.1)
 

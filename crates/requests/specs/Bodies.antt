@@ -19,7 +19,7 @@ use Rattle.requests.specs.Heads.{Length, missing, malformed, number, Request}
 abbrev pub max_body : ℕ
 max_body = 65536
 
--- a body is read by POST, PUT, PATCH and DELETE; only DELETE may go without
+-- POST, PUT and PATCH need a body, and DELETE may have one; that of any other method is not read
 abbrev pub writes_by_body : Option Method → Bool
 writes_by_body None = false
 writes_by_body (Some Get) = false
@@ -87,7 +87,7 @@ declared_body (Some n) rest = body_of n rest
 abbrev pub body_in : Request → List ℕ → Decision (Option Data)
 body_in request rest = and_then (decided_by (declared_length request)) (λ n. declared_body n rest)
 
--- whether a DELETE has a length other than 0
+-- of a DELETE: whether it says a length, other than 0, or says none that can be read
 abbrev pub has_length : Length → Bool
 has_length missing = false
 has_length malformed = true

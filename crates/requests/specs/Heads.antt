@@ -33,7 +33,7 @@ abbrev pub length_said : Option ℕ → Length
 length_said None = malformed
 length_said (Some n) = number n
 
--- several fields have to say one number, where a client takes one field at most; a list in one field, which RFC 9112, section 6.3, lets a server
+-- several fields have to say one number, where the client of this repository takes one field at most; a list in one field, which RFC 9112, section 6.3, lets a server
 -- take, is refused here
 abbrev pub agreed : Length → Length → Length
 agreed missing other = other
@@ -66,8 +66,8 @@ request_of method request_target fields = record {
   length = length_after missing fields;
 }
 
--- a head of the grammar is validated in this order: the version (RFC 9110, section 15.6.6), one Host (RFC 9112, section 3.2), a target that is a path
--- (section 3.2.1); rest is what came after it
+-- a head of the grammar is validated in this order: the number of its fields, the version (RFC 9110, section 15.6.6), one Host (RFC 9112, section 3.2),
+-- a target that is a path (section 3.2.1); rest is what came after it
 abbrev pub validated : List ℕ → List ℕ → ℕ → List Named → List ℕ → Decision (Request × List ℕ)
 validated method request_target minor fields rest =
     if nat_lt max_fields (length fields) then refuse head_too_large
@@ -90,15 +90,15 @@ abbrev pub HeadDecision : Type 0
 HeadDecision = Decision (Request × List ℕ)
 
 -- these bytes are the head of a request, or no head, and this is what they say with the rest
-abbrev pub ReadsWholeHead : List ℕ → List ℕ → Decision (Request × List ℕ) → Type 0
-ReadsWholeHead bytes rest front =
-    ((h : RequestHead) × ReadsRequest bytes h [] × (front ≡ validated_head h rest))
-    ⊎ (((h : RequestHead) → ¬ (ReadsRequest bytes h [])) × (front ≡ refuse bad_head))
+abbrev pub ReadsWholeHead : List ℕ → List ℕ → HeadDecision → Type 0
+ReadsWholeHead bytes rest said =
+    ((h : RequestHead) × ReadsRequest bytes h [] × (said ≡ validated_head h rest))
+    ⊎ (((h : RequestHead) → ¬ (ReadsRequest bytes h [])) × (said ≡ refuse bad_head))
 
-abbrev pub ReadsHeadAt : List ℕ → Option ℕ → Decision (Request × List ℕ) → Type 0
-ReadsHeadAt bytes None front = front ≡ (if nat_lt max_head (length bytes) then refuse head_too_large else undecided)
-ReadsHeadAt bytes (Some n) front = ReadsWholeHead (take n bytes) (drop n bytes) front
+abbrev pub ReadsHeadAt : List ℕ → Option ℕ → HeadDecision → Type 0
+ReadsHeadAt bytes None said = said ≡ (if nat_lt max_head (length bytes) then refuse head_too_large else undecided)
+ReadsHeadAt bytes (Some n) said = ReadsWholeHead (take n bytes) (drop n bytes) said
 
 -- what the bytes that came on a connection say of the request's head
-abbrev pub ReadsHead : List ℕ → Decision (Request × List ℕ) → Type 0
-ReadsHead bytes front = ReadsHeadAt bytes (head_end (take max_head bytes)) front
+abbrev pub ReadsHead : List ℕ → HeadDecision → Type 0
+ReadsHead bytes said = ReadsHeadAt bytes (head_end (take max_head bytes)) said

@@ -1,4 +1,6 @@
-//! What a connection asks, by all the bytes that came on it. The head is read in `head`, the body in `body`.
+//! What a connection asks, by all the bytes that came on it. Checks, in order: size and form of the head, number of fields,
+//! version, `Host`, request target (`read_to` of `head`); route, method, media type (`Api::admit`); of a body Transfer-Encoding
+//! and length (`declared_length` of `body`), and once it has come JSON (`body_of`).
 
 ghost use Rattle.std.specs.Prelude.{◌≡◌, ◌++◌, ℕ, List, IfOk, take};
 ghost use Rattle.schema.specs.TypesFile.{ServedShape};
@@ -26,7 +28,7 @@ pub struct Pending {
     body: Vec<u8>,
 }
 
-/// What a request asks once its head has come.
+/// What a request asks once its head has come, or is known to be too long.
 #[derive(Debug, Drop)]
 pub enum Progress {
     /// More bytes of its body are needed.
@@ -80,7 +82,7 @@ pub fn ask_on(alloc: Global, pending: Pending, bytes: &[u8]) -> Result<Progress,
     Ok(asked)
 }
 
-/// The same of bytes that came with the head, which are copied only where more of them are needed.
+/// As `ask_body`, of bytes that came with the head, which are copied only where more of them are needed.
 fn ask_sized(
     alloc: Global,
     target: Target,
@@ -155,8 +157,8 @@ fn ask_by_head(alloc: Global, api: &Api, head: &Head<'_>) -> Result<Progress, Al
     }
 }
 
-/// What the bytes that came on a connection ask of this API, by how many of them the head has (`Front::find_end`); none while it
-/// hasn't come whole.
+/// What the bytes that came on a connection ask of this API, by how many of them the head has (`Front::find_end`); none while
+/// more of its head is to come.
 pub fn ask(
     alloc: Global,
     api: &Api,

@@ -121,7 +121,8 @@ fn declared_body(
     }
 }
 
-/// The body of a request, by its head and the bytes that came after it, however they were cut.
+/// The body of a request, by its head and the bytes that came after it, however they were cut: for who has a whole request at
+/// hand. The server goes by `ask` and `ask_on`.
 pub fn read_body(alloc: Global, head: &Head<'_>) -> Result<Decision<Option<Body>>, AllocError>
     ensures says { IfOk result (λ f. decision_of data_of f ≡ body_in (request_in head.now) head.now.rest.now) }
     ensures stays { (more : List ℕ) → IfOk result (λ f. decision_of data_of f ≢ undecided → body_in (request_in head.now) (head.now.rest.now ++ more) ≡ decision_of data_of f) }

@@ -259,7 +259,7 @@ pub(crate) fn read_to(bytes: &[u8], end: Option<usize>) -> Decision<Head<'_>>
 /// bytes that come later change nothing but what stands after the head.
 pub fn read_head(bytes: &[u8]) -> Decision<Head<'_>>
     ensures says { ReadsHead bytes.now (decision_of head_of result) }
-    ensures alone { (front : HeadDecision) → ReadsHead bytes.now front → front ≡ decision_of head_of result }
+    ensures alone { (said : HeadDecision) → ReadsHead bytes.now said → said ≡ decision_of head_of result }
     ensures stays { (more : List ℕ) → decision_of head_of result ≢ undecided → ReadsHead (bytes.now ++ more) (with_more more (decision_of head_of result)) }
 {
     read_to(bytes, end_of(bytes))

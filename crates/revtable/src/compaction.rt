@@ -1,9 +1,9 @@
 //! Compaction, revision by revision: what each change superseded is deleted, so it costs a look-up for each revision, and what
 //! it removes. All of it is one transaction, so that a deletion that fails leaves the rows as they were. Each step looks up the
 //! change of one revision and deletes the older changes of its key, and the change itself if it is a deletion. After the last
-//! step the rows are those that a compaction to that revision keeps. The store is any that never lost a page
-//! (`IsAlwaysClean`), not the one over files in memory, which only `memory` names: the proofs say what they need of it, and
-//! the prover is done sooner.
+//! step the rows are those that a compaction to that revision keeps. It is written over any store that never lost a page
+//! (`IsAlwaysClean`); the table's, over files in memory, is one. The code here doesn't name that one, so the proofs say what they
+//! need of a store, and the prover is done sooner.
 
 ghost use Rattle.std.specs.Prelude.{◌≡◌, suc, ℕ, ◌^◌, ◌<◌, ◌≤◌, List, map, false, IfOk, OnOk, OnErr};
 ghost use Rattle.history.specs.History.{Change, IsRising};
@@ -33,7 +33,7 @@ fn changed_at<S: Alter>(deleting: &mut Transaction<'_, S>, revision: u64) -> Res
     )
 }
 
-/// Deletes what a change superseded: the older change of its key, and itself if it is a deletion.
+/// Deletes what a change superseded: the older changes of its key, and itself if it is a deletion.
 fn delete_superseded<S: Alter>(
     deleting: &mut Transaction<'_, S>,
     key: &Key,
@@ -90,7 +90,7 @@ fn delete_all<S: Alter>(deleting: &mut Transaction<'_, S>, from: u64, to: u64) -
     Ok(())
 }
 
-/// The same as one transaction: if a deletion fails, its end undoes those before.
+/// The same as one transaction: if a deletion fails, those before it are undone.
 pub(crate) fn delete_between<S: Alter>(
     base: &mut Connection<S>,
     from: u64,

@@ -184,8 +184,8 @@ impl Table {
         }
     }
 
-    /// Forgets all but the kept changes at a revision, which counts as the nearer of the two numbers if it does
-    /// not lie between them.
+    /// Forgets all but the kept changes at a revision. One below the compacted number counts as that number, and one above the
+    /// current revision as that revision.
     pub fn prune(&mut self, revision: u64) -> Result<(), Fault>
         ensures ok { OnOk result (self.new ≡ pruned (between_marks self.old revision) self.old) }
         ensures err { OnErr result (self.new ≡ self.old) }
