@@ -4,6 +4,8 @@ pub mod Depths
 pub mod Lists
 pub mod Members
 pub mod ObjectShapes
+pub mod Naming
+pub mod Numbering
 pub mod ObjectTests
 pub mod Placing
 pub mod Reading

@@ -8,10 +8,12 @@ pub mod Lawful
 pub mod ObjectShape
 pub mod ObjectTest
 pub mod Depths
+pub mod Named
 pub mod Names
 pub mod Refusals
 pub mod Keywords
 pub mod Forms
 pub mod TypesFile
+pub mod ServedView
 pub mod Served
 pub mod Seen

@@ -1,5 +1,7 @@
 //! The types that a server knows, looked up by number and by name. Reading a types file stands in `file`.
-ghost use Rattle.std.specs.Prelude.{◌≡◌, ◌≤◌, true, vec_len};
+ghost use Rattle.std.specs.Prelude.{◌≡◌, ◌≤◌, true, map, vec_len};
+ghost use Rattle.schema.specs.Named.{are_named};
+ghost use Rattle.schema.specs.ServedView.{served};
 ghost use Rattle.std.specs.List.{list_all};
 ghost use Rattle.schema.specs.ObjectTest.{is_object_shape};
 ghost use Rattle.schema.specs.Shape.{shape};
@@ -15,11 +17,12 @@ use std::alloc::Global;
 pub struct Types {
     all: Vec<Served>,
     ghost few: { vec_len all ≤ 4294967295 },
+    ghost named: { are_named (map served all.items) ≡ true },
     ghost objects: { list_all (λ t. is_object_shape (shape t.schema)) all.items ≡ true },
 }
 
 impl Types {
-    ghost use Rattle.std.specs.Prelude.{◌≡◌, true, slice_get, option_map, IfSome};
+    ghost use Rattle.std.specs.Prelude.{◌≡◌, ℕ, Some, true, slice_get, option_map, IfSome};
     ghost use Rattle.std.specs.List.{All};
     ghost use Rattle.serde_json.specs.View.{view};
     ghost use Rattle.schema.specs.Served.{served, types_view};
@@ -27,7 +30,8 @@ impl Types {
     ghost use Rattle.schema.specs.ObjectShape.{IsObjectShape};
     ghost use Rattle.schema.specs.Shape.{shape};
     ghost use Rattle.schema.specs.Seen.{Gives};
-    ghost use Rattle.schema.specs.TypesFile.{declared_types, type_number};
+    ghost use Rattle.schema.specs.Named.{has_names};
+    ghost use Rattle.schema.specs.TypesFile.{ServedShape, declared_types, names_differ, type_number};
 
     /// Reads a types file: `{"types":[..]}`, each type an object with `group`, `version`, `kind`, `plural` and a `schema`.
     /// Refuses a file by its first fault: its own form and number of types, then type by type, and types with equal names last.
@@ -66,6 +70,13 @@ impl Types {
     {
         self.all.get(number as usize)
     }
+
+    /// Each type has lawful names, and no two have the same.
+    pub fn types_are_named(&self)
+        ensures lawful { All (λ t. has_names t ≡ true) (types_view self.now) }
+        ensures apart { names_differ (types_view self.now) ≡ true }
+        ensures numbered { (k : ℕ) (t : ServedShape) → slice_get (types_view self.now) k ≡ Some t → type_number t.group t.version t.plural (types_view self.now) ≡ Some k }
+    {}
 
     /// Each type's schema is that of an object.
     pub fn types_are_of_objects(&self)
