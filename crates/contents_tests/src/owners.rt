@@ -8,11 +8,13 @@
 //! | `NAME SPEC` | what stands after an apply, by force with `!` behind the name, or after an update with `=`: the content, each manager and its paths, and `as before` where it is; or the conflicts |
 //! | `anew NAME SPEC` | the same between marks, or once more where it was refused memory; what stands stays |
 //! | `object` | the text of the object `w1` at version 4 |
-//! | `managers NAME/OPERATION NAME/OPERATION` | how two managers compare, and whether they are the same |
+//! | `managers NAME/OPERATION NAME/OPERATION` | how two managers compare, and whether they are the same; `/status` behind one that wrote by `status` |
 
 use crate::contents::w1;
 use crate::given::{WIDGET_TYPES, first_schema, printed, push_paths, tree, types_of};
-use ownership::{ApplyFault, Conflict, Manager, Operation, Owned, apply, is_same, update};
+use ownership::{
+    ApplyFault, Conflict, Manager, Operation, Owned, Subresource, apply, is_same, update,
+};
 use schema::{Schema, Types};
 use std::alloc::{AllocError, Global};
 use std::test::Fail;
@@ -131,14 +133,20 @@ fn step(
     Ok(text)
 }
 
-/// The manager of `NAME/OPERATION`.
+/// The manager of `NAME/OPERATION`, or of `NAME/OPERATION/status`.
 fn manager(alloc: Global, words: &str) -> Result<Manager, Fail> {
     let (name, operation) = words.split_once('/').ok_or("no operation")?;
-    let operation = match operation {
-        "Apply" => Operation::Apply,
-        _ => Operation::Update,
-    };
-    Ok(Manager::new(alloc, name, operation)?)
+    match operation {
+        "Apply" => Ok(Manager::new(alloc, name, Operation::Apply)?),
+        "Update" => Ok(Manager::new(alloc, name, Operation::Update)?),
+        "Apply/status" => Ok(Manager::by(
+            alloc,
+            name,
+            Operation::Apply,
+            Subresource::Status,
+        )?),
+        _ => Err("no such operation".into()),
+    }
 }
 
 fn compared(alloc: Global, words: &str) -> Result<String, Fail> {
@@ -221,7 +229,10 @@ bob! {"ports":[{"name":"web","port":81}]} => {"spec":{"ports":[{"name":"web","no
 managers_in_order
 managers alice/Update bob/Apply => (Less, false)
 managers bob/Apply bob/Update => (Less, false)
-managers bob/Apply bob/Apply => (Equal, true)"#;
+managers bob/Apply bob/Apply => (Equal, true)
+managers bob/Apply bob/Apply/status => (Less, false)
+managers bob/Apply/status bob/Update => (Less, false)
+managers bob/Apply/status bob/Apply/status => (Equal, true)"#;
 
 #[test]
 fn examples(rt: HostRuntime) -> Result<(), Fail> {

@@ -27,7 +27,7 @@ use Rattle.typed.proofs.RoundTrip.{round}
 use Rattle.typed.proofs.Spelling.{lawful_depth}
 use Rattle.objects.specs.State.{State}
 use Rattle.objects.specs.ObjectText.{Identity, entry_items, entry_members, entry_value, members_printed, metadata_members, metadata_of, object_text, object_value, put_entries, put_filled}
-use Rattle.objects.specs.Owners.{Manager, Owners, operation_text}
+use Rattle.objects.specs.Owners.{Manager, Owners, operation_text, subresource_text}
 use Rattle.json_values.specs.Members.{less}
 use Rattle.objects.specs.ReadBack.{IsObjectText, max_version}
 use Rattle.objects.proofs.Back.{text_read}
@@ -143,7 +143,7 @@ within_printed n (Some (object ms)) h = let low : suc (members_depth ms) ≤ n =
 module _ (s : Shape) (lawful : is_lawful s ≡ true) where
   entry_within : (api_version : List ℕ) (m : Manager) (paths : PathSet) → depth (entry_value s api_version m paths) ≤ 19
   entry_within api_version m paths =
-      let named : Within 18 (put_filled (codes "subresource") m.subresource no_members) = within_filled 18 (codes "subresource") m.subresource no_members zero-le in
+      let named : Within 18 (put_filled (codes "subresource") (subresource_text m.subresource) no_members) = within_filled 18 (codes "subresource") (subresource_text m.subresource) no_members zero-le in
       let operation = within_text 18 (codes "operation") (operation_text m.operation) _ named in
       let manager = within_text 18 (codes "manager") m.name _ operation in
       let low : depth_of s ≤ 16 = lawful_depth s lawful in

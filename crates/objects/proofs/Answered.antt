@@ -58,7 +58,7 @@ module _ (s : Shape) (of : Identity) (t : List ℕ) (shaped : IsObjectShape s) w
       let lawful = shaped.1 in
       let spelled = spelled-read t d (ordered-read t d reads) in
       let content = parts_content s d state v (and_parts (is_well_formed s) _ lawful).0 spelled.0 spelled.1 parts in
-      record { placed = (content.0, (content.1, stand, content.2)); numbered = content.3; is_text = sym same ∙ is lawful content.0 }
+      record { placed = (content.0, (content.1, stand)); numbered = content.2; is_text = sym same ∙ is lawful content.0 }
 
 -- a fault that is handed on
 pub handed : (s : Shape) (of : Identity) (t : List ℕ) (r : Result (Owned × ℕ) ObjectFault) (e : ObjectFault) → IsErrAnd r (λ x. x ≡ e) → IsReadBack s of t (Err e) → IsReadBack s of t r

@@ -1,11 +1,10 @@
 -- An object's value is read back as what it was written of, and what is read is a content.
-use Rattle.std.proofs.Common.{◌≡◌, ◌≤◌, ℕ, suc, Bool, true, false, cond, ◌&&◌, List, [], ◌∷◌, Option, Some, None, refl, sym, ap, ap₂, ◌∙◌, true≢false, subst, arith}
+use Rattle.std.proofs.Common.{◌≡◌, ◌≤◌, ℕ, suc, Bool, true, false, cond, ◌&&◌, List, Option, Some, None, refl, sym, ap, ap₂, ◌∙◌, true≢false, subst, arith}
 use Rattle.std.specs.Prelude.{codes, decimal, option_map, option_and_then, ◌^◌, ◌<◌}
 use Rattle.std.proofs.lemmas.Bool.{and_parts}
 use Rattle.std.specs.FinMap as fin
-use Rattle.std.specs.List.{AllByRecursion}
 use Rattle.std.specs.declared.result.Result.TheVariants.{Ok, Err}
-use Rattle.serde_json.specs.Data.{Data, null, boolean, number, string, array, object, Items, no_items, item, Members, no_members, member, put, depth, members_depth}
+use Rattle.serde_json.specs.Data.{Data, null, boolean, number, string, array, object, Items, Members, no_members, member, put, depth, members_depth}
 use Rattle.serde_json.specs.Find.{get_member, as_object, as_str}
 use Rattle.serde_json.specs.Read.{read, max_depth}
 use Rattle.fieldpath.specs.Elements.{name_text}
@@ -16,7 +15,7 @@ use Rattle.json_texts.specs.InOrder.{in_order}
 use Rattle.json_texts.proofs.Ordered.{compact-ordered}
 use Rattle.names.specs.Decimals.{version_of}
 use Rattle.names.proofs.Decimals.{exact}
-use Rattle.pathmap.specs.Contents.{Content, PathSet}
+use Rattle.pathmap.specs.Contents.{Content}
 use Rattle.pathmap.specs.Insides.{inside}
 use Rattle.schema.specs.Lawful.{is_lawful, is_well_formed, names_of, are_well_formed}
 use Rattle.schema.specs.ObjectShape.{IsObjectShape}
@@ -37,15 +36,15 @@ use Rattle.fieldset.proofs.Written.{written}
 use Rattle.fieldset.specs.BothWays.{HavePlaces}
 use Rattle.objects.specs.Placed.{IsPlacedState}
 use Rattle.objects.specs.ObjectText.{Identity, members_printed, metadata_members, metadata_of, entry_items, object_value, object_text}
-use Rattle.objects.specs.Owners.{Manager, Owners, HavePaths, WroteByNone, manager_of}
-use Rattle.json_values.specs.Members.{less, text_at, split_off}
-use Rattle.objects.specs.Parts.{if_read, own_members, split, version_in, metadata_left, put_metadata, operation_named, manager_in, set_in, entry_of, entry_in, entries_in, items_or_none, owners_of, owners_in, fields_of, state_with, parts_of, parts_in}
+use Rattle.objects.specs.Owners.{Owners, HavePaths}
+use Rattle.json_values.specs.Members.{less, split_off}
+use Rattle.objects.specs.Parts.{if_read, own_members, split, version_in, metadata_left, put_metadata, entries_in, items_or_none, owners_of, owners_in, fields_of, state_with, parts_of, parts_in}
 use Rattle.objects.specs.Ranks.{have_paths, rising}
 use Rattle.objects.specs.ReadBack.{IsObjectText, OneForOne, max_version}
 use Rattle.objects.proofs.Entered.{AllPlaced, entries_there, items_put, owners_back}
 use Rattle.objects.proofs.Envelopes.{found_field, absent_field, metadata_printed, members_back, with_name, metadata_back, version_there, items_there, with_metadata, whole as the_whole, whole_split, fields_back, content_back}
 use Rattle.objects.proofs.Entries.{Pairs}
-use Rattle.objects.proofs.Rising.{all_found, owners_by_none, owners_have_paths}
+use Rattle.objects.proofs.Rising.{all_found, owners_have_paths}
 use Rattle.objects.proofs.Within.{right_true}
 use Rattle.objects.proofs.Standing.{entries_stand}
 use Rattle.objects.proofs.Taken.{Kept, less_kept, found_spelled, found_depth, no_some, same_some}
@@ -116,8 +115,8 @@ module _ (all : Fields) (of : Identity) (v : ℕ) (state : State) where
 
     all_placed : AllPlaced type_of_all (fin.entries state.owners)
     all_placed =
-        all_found (λ k paths. (k.subresource ≡ []) × HavePlaces type_of_all paths) (fin.entries state.owners) (fin.entries_sorted state.owners)
-        (λ k paths is. (placed.1.2 k paths (fin.get-entries state.owners k ∙ is), λ p there. places type_of_all state.content (content_placed type_of_all formed state.content placed.0) p (entries_stand state placed.1.1 k paths (fin.get-entries state.owners k ∙ is) p there)))
+        all_found (λ k paths. HavePlaces type_of_all paths) (fin.entries state.owners) (fin.entries_sorted state.owners)
+        (λ k paths is p there. places type_of_all state.content (content_placed type_of_all formed state.content placed.0) p (entries_stand state placed.1.1 k paths (fin.get-entries state.owners k ∙ is) p there))
 
     owners_there : owners_in type_of_all meta ≡ Some state.owners
     owners_there =
@@ -221,35 +220,7 @@ owners_have es w is = by_test (rising es && have_paths es) refl is
     by_test true h there = subst HavePaths (same_some (fin.from_entries es) w there) (owners_have_paths es (right_true (rising es) (have_paths es) h))
     by_test false h there = no_some w (sym there)
 
-owners_wrote : (es : Pairs) (w : Owners) → owners_of es ≡ Some w → AllByRecursion (λ e. e.0.subresource ≡ []) es → WroteByNone w
-owners_wrote es w is all = by_test (rising es && have_paths es) is
-  where
-    by_test : (b : Bool) → cond b (Some (fin.from_entries es)) None ≡ Some w → WroteByNone w
-    by_test true there = subst WroteByNone (same_some (fin.from_entries es) w there) (owners_by_none es all)
-    by_test false there = no_some w (sym there)
-
--- each manager that is read wrote by no subresource
-manager_by_none : (ms : Members) (m : Manager) → manager_in ms ≡ Some m → m.subresource ≡ []
-manager_by_none ms m is =
-    let named = then_some (λ name. option_map (manager_of name) (option_and_then operation_named (text_at (codes "operation") ms))) (text_at (codes "manager") ms) m is in
-    let made = map_some (manager_of named.0) (option_and_then operation_named (text_at (codes "operation") ms)) m named.2 in
-    ap (λ (n : Manager). n.subresource) (sym made.2)
-
-entry_by_none : (s : Shape) (d : Data) (e : Manager × PathSet) → entry_in s d ≡ Some e → e.0.subresource ≡ []
-entry_by_none s d e is =
-    let ms = then_some (entry_of s) (as_object d) e is in
-    let m = then_some (λ m. option_map (λ paths. (m, paths)) (set_in s ms.0)) (manager_in ms.0) e ms.2 in
-    let made = map_some (λ paths. (m.0, paths)) (set_in s ms.0) e m.2 in
-    ap (λ (x : Manager × PathSet). x.0.subresource) (sym made.2) ∙ manager_by_none ms.0 m.0 m.1
-
-entries_by_none : (s : Shape) (ds : Items) (es : Pairs) → entries_in s ds ≡ Some es → AllByRecursion (λ e. e.0.subresource ≡ []) es
-entries_by_none s no_items es is = subst (AllByRecursion (λ e. e.0.subresource ≡ [])) (same_some [] es is) tt
-entries_by_none s (item d ds) es is =
-    let first = then_some (λ y. option_map (λ ys. y ∷ ys) (entries_in s ds)) (entry_in s d) es is in
-    let rest = map_some (λ ys. first.0 ∷ ys) (entries_in s ds) es first.2 in
-    subst (AllByRecursion (λ e. e.0.subresource ≡ [])) rest.2 (entry_by_none s d first.0 first.1, entries_by_none s ds rest.0 rest.1)
-
-pub parts_content : (s : Shape) (d : Data) (state : State) (v : ℕ) → is_well_formed s ≡ true → IsSpelled d → depth d ≤ max_depth → parts_in s d ≡ Some (state, v) → IsContent s state.content × HavePaths state.owners × WroteByNone state.owners × (v ≤ max_version)
+pub parts_content : (s : Shape) (d : Data) (state : State) (v : ℕ) → is_well_formed s ≡ true → IsSpelled d → depth d ≤ max_depth → parts_in s d ≡ Some (state, v) → IsContent s state.content × HavePaths state.owners × (v ≤ max_version)
 parts_content s d state v formed spelled deep is =
     let two = then_some (parts_of s) (split d) (state, v) is in
     let top = then_some (λ ms. split_off (codes "metadata") (own_members ms)) (as_object d) two.0 two.1 in
@@ -265,6 +236,4 @@ parts_content s d state v formed spelled deep is =
     let numeral = then_some version_of (option_and_then as_str (get_member (codes "resourceVersion") two.0.1)) version.0 version.1 in
     let numbered = ((exact 9223372036854775807 numeral.0 version.0 fits).0 numeral.2).0 in
     let entries = then_some owners_of (option_and_then (entries_in s) (items_or_none (get_member (codes "managedFields") two.0.1))) owners.0 owners.1 in
-    let items = then_some (entries_in s) (items_or_none (get_member (codes "managedFields") two.0.1)) entries.0 entries.1 in
-    let by_none = owners_wrote entries.0 owners.0 entries.2 (entries_by_none s items.0 entries.0 items.2) in
-    (subst (λ p. IsContent s p.0.content) content.2 is_content, subst (λ p. HavePaths p.0.owners) content.2 (owners_have entries.0 owners.0 entries.2), subst (λ p. WroteByNone p.0.owners) content.2 by_none, subst (λ p. p.1 ≤ max_version) content.2 numbered)
+    (subst (λ p. IsContent s p.0.content) content.2 is_content, subst (λ p. HavePaths p.0.owners) content.2 (owners_have entries.0 owners.0 entries.2), subst (λ p. p.1 ≤ max_version) content.2 numbered)

@@ -1,5 +1,5 @@
 -- The entries of `managedFields`, read as they are written.
-use Rattle.std.proofs.Common.{◌≡◌, ℕ, true, false, cond, not, List, [], ◌∷◌, Some, None, refl, sym, ap, ◌∙◌, subst}
+use Rattle.std.proofs.Common.{◌≡◌, ℕ, true, false, cond, not, List, [], ◌∷◌, Some, None, refl, ap, ◌∙◌}
 use Rattle.std.specs.Prelude.{codes, option_map, option_and_then}
 use Rattle.std.specs.FinMap as fin
 use Rattle.std.specs.List.{AllByRecursion}
@@ -14,8 +14,10 @@ use Rattle.schema.specs.Shape.{Shape}
 use Rattle.fieldset.specs.BothWays.{HavePlaces}
 use Rattle.objects.specs.declared.manager.Operation.{Operation}
 use Rattle.objects.specs.declared.manager.Operation.TheVariants.{Apply, Update}
+use Rattle.objects.specs.declared.manager.Subresource.{Subresource}
+use Rattle.objects.specs.declared.manager.Subresource.TheVariants.{Main, Status}
 use Rattle.objects.specs.ObjectText.{entry_members, entry_value, entry_items, put_entries}
-use Rattle.objects.specs.Owners.{Manager, Owners, HavePaths, manager_of}
+use Rattle.objects.specs.Owners.{Manager, Owners, HavePaths, manager_by}
 use Rattle.objects.specs.Parts.{if_ok, manager_in, set_in, entry_in, one_more, entries_in, items_or_none, owners_of}
 use Rattle.objects.specs.Ranks.{have_paths}
 use Rattle.objects.proofs.Entries.{Pairs, from-entries}
@@ -25,37 +27,33 @@ use Rattle.objects.proofs.Rising.{sorted_rises, all_found}
 -- ---- one entry
 
 module _ (s : Shape) (api_version : List ℕ) (paths : PathSet) where
-  manager_there : (n : List ℕ) (o : Operation) → manager_in (entry_members s api_version (manager_of n o) paths) ≡ Some (manager_of n o)
-  manager_there n Apply = refl
-  manager_there n Update = refl
+  manager_there : (n : List ℕ) (o : Operation) (sub : Subresource) → manager_in (entry_members s api_version (manager_by n o sub) paths) ≡ Some (manager_by n o sub)
+  manager_there n Apply Main = refl
+  manager_there n Apply Status = refl
+  manager_there n Update Main = refl
+  manager_there n Update Status = refl
 
-  fields_there : (n : List ℕ) (o : Operation) → get_member (codes "fieldsV1") (entry_members s api_version (manager_of n o) paths) ≡ Some (fields_v1_of s paths)
-  fields_there n o = refl
+  fields_there : (n : List ℕ) (o : Operation) (sub : Subresource) → get_member (codes "fieldsV1") (entry_members s api_version (manager_by n o sub) paths) ≡ Some (fields_v1_of s paths)
+  fields_there n o Main = refl
+  fields_there n o Status = refl
 
-  entry_of_none : (n : List ℕ) (o : Operation) → read_fields_v1 s (fields_v1_of s paths) ≡ Ok paths → entry_in s (entry_value s api_version (manager_of n o) paths) ≡ Some (manager_of n o, paths)
-  entry_of_none n o reads =
-      let m = manager_of n o in
-      ap (λ o. option_and_then (λ k. option_map (λ p. (k, p)) (set_in s (entry_members s api_version m paths))) o) (manager_there n o)
-      ∙ ap (λ o. option_map (λ p. (m, p)) (option_and_then (λ d. if_ok (read_fields_v1 s d)) o)) (fields_there n o)
+  pub entry_there : (m : Manager) → read_fields_v1 s (fields_v1_of s paths) ≡ Ok paths → entry_in s (entry_value s api_version m paths) ≡ Some (m, paths)
+  entry_there m reads =
+      ap (λ o. option_and_then (λ k. option_map (λ p. (k, p)) (set_in s (entry_members s api_version m paths))) o) (manager_there m.name m.operation m.subresource)
+      ∙ ap (λ o. option_map (λ p. (m, p)) (option_and_then (λ d. if_ok (read_fields_v1 s d)) o)) (fields_there m.name m.operation m.subresource)
       ∙ ap (λ r. option_map (λ p. (m, p)) (if_ok r)) reads
-
-  whole : (m : Manager) → m.subresource ≡ [] → manager_of m.name m.operation ≡ m
-  whole m none = ap (λ sub. record { name = m.name; operation = m.operation; subresource = sub }) (sym none)
-
-  pub entry_there : (m : Manager) → m.subresource ≡ [] → read_fields_v1 s (fields_v1_of s paths) ≡ Ok paths → entry_in s (entry_value s api_version m paths) ≡ Some (m, paths)
-  entry_there m none reads = subst (λ k. entry_in s (entry_value s api_version k paths) ≡ Some (k, paths)) (whole m none) (entry_of_none m.name m.operation reads)
 
 -- ---- all entries
 
--- by no subresource, of paths that have places
+-- of paths that have places
 abbrev pub AllPlaced : Shape → Pairs → Type 0
-AllPlaced s es = AllByRecursion (λ e. (e.0.subresource ≡ []) × HavePlaces s e.1) es
+AllPlaced s es = AllByRecursion (λ e. HavePlaces s e.1) es
 
 pub entries_there : (s : Shape) (api_version : List ℕ) (es : Pairs) → ((paths : PathSet) → HavePlaces s paths → read_fields_v1 s (fields_v1_of s paths) ≡ Ok paths) → AllPlaced s es
     → entries_in s (entry_items s api_version es) ≡ Some es
 entries_there s api_version [] back all = refl
 entries_there s api_version (e ∷ es) back all =
-    ap (λ x. one_more x (entries_in s (entry_items s api_version es))) (entry_there s api_version e.1 e.0 all.0.0 (back e.1 all.0.1)) ∙ ap (one_more (Some e)) (entries_there s api_version es back all.1)
+    ap (λ x. one_more x (entries_in s (entry_items s api_version es))) (entry_there s api_version e.1 e.0 (back e.1 all.0)) ∙ ap (one_more (Some e)) (entries_there s api_version es back all.1)
 
 -- `managedFields`, as it is put
 pub items_put : (ds : Items) (members : Members) → get_member (codes "managedFields") members ≡ None → items_or_none (get_member (codes "managedFields") (put_entries ds members)) ≡ Some ds

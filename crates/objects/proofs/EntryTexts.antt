@@ -10,7 +10,7 @@ use Rattle.objects.specs.Appended.{with_items}
 use Rattle.objects.specs.EntryTexts.{then_filled, then_front, then_manager}
 use Rattle.objects.specs.Managers.{pair, pairs}
 use Rattle.objects.specs.ObjectText.{entry_items, entry_value, members_with, put_filled}
-use Rattle.objects.specs.Owners.{Manager, operation_text}
+use Rattle.objects.specs.Owners.{Manager, operation_text, subresource_text}
 use Rattle.objects.specs.declared.managers.Entry.{Entry}
 use Rattle.objects.proofs.Appended.{object_written}
 
@@ -37,7 +37,7 @@ pub entry_written : (a : List ℕ) (m : Manager) (d : Data) (old one two three n
     → new ≡ with_text (compact_text (object (members_with a m d))) old
 entry_written a m d old one two three new opened front manager closed =
     object_written (λ rest. then_front a d (then_manager m rest)) old one three new opened (λ rest. manager rest ∙ front (then_manager m rest)) closed
-    ∙ ap (λ ms. with_text (compact_text (object ms)) old) (sym (entry_row a m.name (operation_text m.operation) m.subresource d))
+    ∙ ap (λ ms. with_text (compact_text (object ms)) old) (sym (entry_row a m.name (operation_text m.operation) (subresource_text m.subresource) d))
 
 -- ---- entry after entry
 

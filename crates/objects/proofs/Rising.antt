@@ -10,7 +10,7 @@ use Rattle.fieldpath.proofs.Names.{lt_is}
 use Rattle.pathmap.specs.Beside.{is_empty}
 use Rattle.pathmap.specs.Contents.{PathSet}
 use Rattle.objects.specs.Managers.{pair, pairs, manager_view}
-use Rattle.objects.specs.Owners.{Manager, HavePaths, WroteByNone, manager_cmp}
+use Rattle.objects.specs.Owners.{Manager, HavePaths, manager_cmp}
 use Rattle.objects.specs.Ranks.{have_paths, rising, rising_from}
 use Rattle.objects.specs.declared.managers.Entry.{Entry}
 use Rattle.objects.proofs.Entries.{Pairs, fst, snd, next, empty_is}
@@ -110,9 +110,6 @@ all_nonempty (e ∷ es) h = (turned (is_empty e.1) (left_true (not (is_empty e.1
 
 pub owners_have_paths : (es : Pairs) → have_paths es ≡ true → HavePaths (fin.from_entries {R = manager_cmp} es)
 owners_have_paths es h m paths is = found_of_all (λ k s. is_empty s ≡ false) es (all_nonempty es h) m paths (sym (fin.get-from_entries manager_total es m) ∙ is)
-
-pub owners_by_none : (es : Pairs) → AllByRecursion (λ e. e.0.subresource ≡ []) es → WroteByNone (fin.from_entries {R = manager_cmp} es)
-owners_by_none es all m paths is = found_of_all (λ k s. k.subresource ≡ []) es all m paths (sym (fin.get-from_entries manager_total es m) ∙ is)
 
 pub first_decides : (es : List Entry) (i : ℕ) (e : Entry) (b : Bool) → i < length es → e ≡ get_or es i e → (IsTrue b ↔ (e.paths ≡ set.empty)) → have_paths (pairs (drop i es)) ≡ (not b && have_paths (pairs (drop (i + 1) es)))
 first_decides es i e b lt is h = ap have_paths (next es i e lt is) ∙ ap (λ x. not x && have_paths (pairs (drop (i + 1) es))) (empty_is e.paths b h)

@@ -12,7 +12,7 @@ use Rattle.pathmap.specs.Beside.{is_empty}
 use Rattle.pathmap.specs.Contents.{PathSet}
 use Rattle.pathmap.proofs.Contents.{path_cmp_total}
 use Rattle.pathmap.proofs.Sets.{no_paths, same_paths}
-use Rattle.objects.specs.Owners.{Manager, Owners, HavePaths, WroteByNone, is_same, owned_by, others, less, with_owner, taken_over, manager_cmp}
+use Rattle.objects.specs.Owners.{Manager, Owners, HavePaths, is_same, owned_by, others, less, with_owner, taken_over, manager_cmp}
 use Rattle.objects.proofs.Entries.{Pairs, fst, snd, is_other, is_sorted-filter}
 use Rattle.objects.proofs.Within.{same_manager-is, same_manager-itself}
 use Rattle.objects.proofs.Orders.{manager_total, manager_antisymmetric}
@@ -127,15 +127,6 @@ taken_have_paths w m lost mine k t h = by_manager (is_same m k) (fin.get w k) (s
     by_manager true o h = kept_have_path mine t h
     by_manager false None h = absurd (true≢false (sym (ap is_some h)))
     by_manager false (Some s) h = kept_have_path (set.difference s lost) t h
-
--- nobody wrote by a subresource then, if neither those before nor the manager did
-pub taken_by_none : (w : Owners) (m : Manager) (lost mine : PathSet) → m.subresource ≡ [] → WroteByNone w → WroteByNone (taken_over w m lost mine)
-taken_by_none w m lost mine none before k t h = by_manager (is_same m k) refl (fin.get w k) refl (sym (get-taken_over w m lost mine k) ∙ h)
-  where
-    by_manager : (b : Bool) → is_same m k ≡ b → (o : Option PathSet) → fin.get w k ≡ o → cond b (kept mine) (kept_less lost o) ≡ Some t → k.subresource ≡ []
-    by_manager true same o is h = ap (λ (n : Manager). n.subresource) (sym (same_manager-is m k same)) ∙ none
-    by_manager false other None is h = absurd (true≢false (sym (ap is_some h)))
-    by_manager false other (Some s) is h = before k s is
 
 -- the manager owns just what is given it
 pub owned_mine : (w : Owners) (m : Manager) (lost mine : PathSet) → owned_by (taken_over w m lost mine) m ≡ mine

@@ -24,7 +24,7 @@ use Rattle.typed.proofs.RoundTrip.{round}
 use Rattle.typed.proofs.Spelling.{lawful_depth, printed_textual, textual}
 use Rattle.objects.specs.State.{State}
 use Rattle.objects.specs.ObjectText.{Identity, members_printed, metadata_members, metadata_of, put_entries, put_filled, entry_members, entry_value, entry_items, object_value}
-use Rattle.objects.specs.Owners.{Manager, Owners, operation_text}
+use Rattle.objects.specs.Owners.{Manager, Owners, operation_text, subresource_text}
 use Rattle.objects.proofs.Taken.{no_some, same_some, cmp, no_deeper, found_spelled, found_depth}
 
 abbrev pub IsFine : ℕ → Data → Type 0
@@ -92,7 +92,7 @@ module _ (s : Shape) (lawful : is_lawful s ≡ true) where
 
   entry_fine : (api_version : List ℕ) (m : Manager) (paths : PathSet) → IsFine 101 (entry_value s api_version m paths)
   entry_fine api_version m paths =
-      let sub = fine_filled 100 (codes "subresource") m.subresource no_members (fine_none 100) in
+      let sub = fine_filled 100 (codes "subresource") (subresource_text m.subresource) no_members (fine_none 100) in
       let operation = fine_put 100 (codes "operation") (string (operation_text m.operation)) _ (fine_text 100 (operation_text m.operation)) sub in
       let manager = fine_put 100 (codes "manager") (string m.name) _ (fine_text 100 m.name) operation in
       let fields = fine_put 100 (codes "fieldsV1") (v1.fields_v1_of s paths) _ (fields_fine paths) manager in

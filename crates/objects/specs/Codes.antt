@@ -7,22 +7,27 @@ use Rattle.fieldpath.specs.Paths.{PathTexts}
 use Rattle.pathmap.specs.Codes.{coded_path, coded_paths}
 use Rattle.objects.specs.declared.manager.Operation.{Operation}
 use Rattle.objects.specs.declared.manager.Operation.TheVariants.{Apply, Update}
-use Rattle.objects.specs.Owners.{Manager, Owners, manager_of, manager_texts}
+use Rattle.objects.specs.declared.manager.Subresource.{Subresource}
+use Rattle.objects.specs.declared.manager.Subresource.TheVariants.{Main, Status}
+use Rattle.objects.specs.Owners.{Manager, Owners, manager_by, manager_of, manager_texts}
 
 abbrev pub operation_of : List ℕ → Operation
 operation_of t = if bytes_eq t (codes "Apply") then Apply else Update
 
+abbrev pub subresource_of : List ℕ → Subresource
+subresource_of [] = Main
+subresource_of _ = Status
+
 -- the manager of these texts
 abbrev pub from_texts : PathTexts → Manager
-from_texts (n ∷ o ∷ s ∷ []) = record { name = n; operation = operation_of o; subresource = s }
+from_texts (n ∷ o ∷ s ∷ []) = manager_by n (operation_of o) (subresource_of s)
 from_texts _ = manager_of [] Apply
 
-abbrev written : List ℕ → Operation → List ℕ → Manager
-written n o s = record { name = n; operation = o; subresource = s }
-
-texts_back : (n : List ℕ) (o : Operation) (s : List ℕ) → from_texts (manager_texts (written n o s)) ≡ written n o s
-texts_back n Apply s = refl
-texts_back n Update s = refl
+texts_back : (n : List ℕ) (o : Operation) (s : Subresource) → from_texts (manager_texts (manager_by n o s)) ≡ manager_by n o s
+texts_back n Apply Main = refl
+texts_back n Apply Status = refl
+texts_back n Update Main = refl
+texts_back n Update Status = refl
 
 pub from_texts-manager_texts : (m : Manager) → from_texts (manager_texts m) ≡ m
 from_texts-manager_texts m = texts_back m.name m.operation m.subresource

@@ -1,7 +1,7 @@
 -- For private clauses: an entry of `managedFields`, member by member in byte order of their names.
 use Rattle.std.specs.Prelude.{ℕ, List, [], ◌∷◌, codes}
 use Rattle.serde_json.specs.Data.{Data, string, Members, member}
-use Rattle.objects.specs.Owners.{Manager, operation_text}
+use Rattle.objects.specs.Owners.{Manager, operation_text, subresource_text}
 
 -- those before the manager's, and the others behind them
 abbrev pub then_front : List ℕ → Data → Members → Members
@@ -14,4 +14,4 @@ then_filled k (b ∷ bs) rest = member k (string (b ∷ bs)) rest
 
 -- the manager's
 abbrev pub then_manager : Manager → Members → Members
-then_manager m rest = member (codes "manager") (string m.name) (member (codes "operation") (string (operation_text m.operation)) (then_filled (codes "subresource") m.subresource rest))
+then_manager m rest = member (codes "manager") (string m.name) (member (codes "operation") (string (operation_text m.operation)) (then_filled (codes "subresource") (subresource_text m.subresource) rest))

@@ -6,7 +6,7 @@ use Rattle.objects.specs.declared.manager.Manager.{Manager}
 use Rattle.objects.specs.declared.managers.Entry.{Entry}
 
 abbrev pub manager_view : Manager → owners.Manager
-manager_view m = record { name = string_bytes m.name; operation = m.operation; subresource = string_bytes m.subresource }
+manager_view m = record { name = string_bytes m.name; operation = m.operation; subresource = m.subresource }
 
 abbrev pub pair : Entry → owners.Manager × PathSet
 pair e = (manager_view e.manager, e.paths)

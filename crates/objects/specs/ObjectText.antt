@@ -8,7 +8,7 @@ use Rattle.pathmap.specs.Contents.{PathSet}
 use Rattle.fieldset.specs.FieldsV1.{fields_v1_of}
 use Rattle.schema.specs.Shape.{Shape}
 use Rattle.typed.specs.Printing.{print}
-use Rattle.objects.specs.Owners.{Manager, Owners, operation_text}
+use Rattle.objects.specs.Owners.{Manager, Owners, operation_text, subresource_text}
 use Rattle.objects.specs.State.{State}
 
 -- an object's type (`group/version`, kind), namespace and name
@@ -28,7 +28,7 @@ put_filled k [] ms = ms
 put_filled k (b ∷ bs) ms = put k (string (b ∷ bs)) ms
 
 abbrev pub put_manager : Manager → Members → Members
-put_manager m ms = put (codes "manager") (string m.name) (put (codes "operation") (string (operation_text m.operation)) (put_filled (codes "subresource") m.subresource ms))
+put_manager m ms = put (codes "manager") (string m.name) (put (codes "operation") (string (operation_text m.operation)) (put_filled (codes "subresource") (subresource_text m.subresource) ms))
 
 -- the members of an entry with this FieldsV1 value
 abbrev pub members_with : List ℕ → Manager → Data → Members

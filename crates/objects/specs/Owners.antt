@@ -9,15 +9,20 @@ use Rattle.pathmap.specs.Beside.{is_empty}
 use Rattle.pathmap.specs.Contents.{PathSet}
 use Rattle.objects.specs.declared.manager.Operation.{Operation}
 use Rattle.objects.specs.declared.manager.Operation.TheVariants.{Apply, Update}
+use Rattle.objects.specs.declared.manager.Subresource.{Subresource}
+use Rattle.objects.specs.declared.manager.Subresource.TheVariants.{Main, Status}
 
--- the subresource is empty where it wrote by none
 pub record Manager : Type 0 where
   pub name : List ℕ
   pub operation : Operation
-  pub subresource : List ℕ
+  pub subresource : Subresource
 
+abbrev pub manager_by : List ℕ → Operation → Subresource → Manager
+manager_by name operation subresource = record { name = name; operation = operation; subresource = subresource }
+
+-- by the main resource, which is no subresource
 abbrev pub manager_of : List ℕ → Operation → Manager
-manager_of name operation = record { name = name; operation = operation; subresource = [] }
+manager_of name operation = manager_by name operation Main
 
 abbrev pub apply_operation : Operation
 apply_operation = Apply
@@ -29,10 +34,15 @@ abbrev pub operation_text : Operation → List ℕ
 operation_text Apply = codes "Apply"
 operation_text Update = codes "Update"
 
-abbrev pub manager_texts : Manager → List (List ℕ)
-manager_texts m = m.name ∷ operation_text m.operation ∷ m.subresource ∷ []
+-- the main resource has no text
+abbrev pub subresource_text : Subresource → List ℕ
+subresource_text Main = []
+subresource_text Status = codes "status"
 
--- by name, then operation, then subresource, each by its bytes
+abbrev pub manager_texts : Manager → List (List ℕ)
+manager_texts m = m.name ∷ operation_text m.operation ∷ subresource_text m.subresource ∷ []
+
+-- by name, then operation, then subresource (none first), each by its bytes
 abbrev pub manager_cmp : Manager → Manager → Ordering
 manager_cmp = on manager_texts path_cmp
 
@@ -54,10 +64,6 @@ others w m = filter (λ e. not (is_same m e.0)) (fin.entries w)
 -- each entry has a path
 abbrev pub HavePaths : Owners → Type 0
 HavePaths w = (m : Manager) (paths : PathSet) → fin.get w m ≡ Some paths → is_empty paths ≡ false
-
--- nobody who has an entry wrote by a subresource
-abbrev pub WroteByNone : Owners → Type 0
-WroteByNone w = (m : Manager) (paths : PathSet) → fin.get w m ≡ Some paths → m.subresource ≡ []
 
 -- each entry less these paths; what is empty then vanishes
 abbrev pub less : PathSet → List (Manager × PathSet) → List (Manager × PathSet)

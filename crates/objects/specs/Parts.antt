@@ -6,7 +6,7 @@ use Rattle.std.specs.FinMap as fin
 use Rattle.std.specs.List.{list_all}
 use Rattle.std.specs.Str.{bytes_eq}
 use Rattle.serde_json.specs.Data.{Data, object, Items, no_items, item, Members, no_members, member, put}
-use Rattle.serde_json.specs.Find.{get_member, as_object, as_array}
+use Rattle.serde_json.specs.Find.{get_member, as_object, as_array, as_str}
 use Rattle.json_values.specs.Members.{less, split_off, text_at}
 use Rattle.names.specs.Decimals.{version_of}
 use Rattle.pathmap.specs.Beside.{is_within}
@@ -18,9 +18,11 @@ use Rattle.objects.specs.declared.fault.ObjectFault.{ObjectFault}
 use Rattle.objects.specs.declared.fault.ObjectFault.TheVariants.{NotCanonical, Memory}
 use Rattle.objects.specs.declared.manager.Operation.{Operation}
 use Rattle.objects.specs.declared.manager.Operation.TheVariants.{Apply, Update}
+use Rattle.objects.specs.declared.manager.Subresource.{Subresource}
+use Rattle.objects.specs.declared.manager.Subresource.TheVariants.{Main, Status}
 use Rattle.objects.specs.State.{State}
 use Rattle.fieldset.specs.FieldsV1.{Refusal, read_fields_v1}
-use Rattle.objects.specs.Owners.{Manager, Owners, manager_of}
+use Rattle.objects.specs.Owners.{Manager, Owners, manager_by}
 use Rattle.objects.specs.Ranks.{have_paths, rising}
 
 -- What a call returned, by its view, is what was read, unless memory ran out; refused, nothing was.
@@ -63,9 +65,22 @@ put_metadata (member k d left) ms = put (codes "metadata") (object (member k d l
 abbrev pub operation_named : List ℕ → Option Operation
 operation_named s = if bytes_eq s (codes "Apply") then Some Apply else if bytes_eq s (codes "Update") then Some Update else None
 
--- by no subresource; an entry that names one is printed otherwise
+abbrev pub subresource_named : List ℕ → Option Subresource
+subresource_named s = if bytes_eq s (codes "status") then Some Status else None
+
+-- the main resource where it is absent
+abbrev pub subresource_or_main : Option Data → Option Subresource
+subresource_or_main None = Some Main
+subresource_or_main (Some d) = option_and_then subresource_named (as_str d)
+
+abbrev pub operation_in : Members → Option Operation
+operation_in ms = option_and_then operation_named (text_at (codes "operation") ms)
+
+abbrev pub subresource_in : Members → Option Subresource
+subresource_in ms = subresource_or_main (get_member (codes "subresource") ms)
+
 abbrev pub manager_in : Members → Option Manager
-manager_in ms = option_and_then (λ name. option_map (manager_of name) (option_and_then operation_named (text_at (codes "operation") ms))) (text_at (codes "manager") ms)
+manager_in ms = option_and_then (λ name. option_and_then (λ operation. option_map (manager_by name operation) (subresource_in ms)) (operation_in ms)) (text_at (codes "manager") ms)
 
 abbrev pub set_in : Shape → Members → Option PathSet
 set_in s ms = option_and_then (λ d. if_ok (read_fields_v1 s d)) (get_member (codes "fieldsV1") ms)

@@ -5,7 +5,7 @@ use Rattle.fieldpath.specs.Paths.{PathTexts}
 use Rattle.schema.specs.Shape.{Shape}
 use Rattle.typed.specs.Fitting.{IsContent}
 pub use Rattle.typed.specs.Fitting.{Stands}
-use Rattle.objects.specs.Owners.{Manager, HavePaths, WroteByNone, owned_by}
+use Rattle.objects.specs.Owners.{Manager, HavePaths, owned_by}
 use Rattle.objects.specs.State.{State}
 
 abbrev pub Owns : State → Manager → PathTexts → Type 0
@@ -15,9 +15,9 @@ Owns state k p = set.contains (owned_by state.owners k) p ≡ true
 abbrev pub OwnedStand : State → Type 0
 OwnedStand state = (k : Manager) (p : PathTexts) → Owns state k p → Stands state.content p
 
--- each manager with an entry owns a path, and each owned path is in the content; no subresource is served, so nobody wrote by one
+-- each manager with an entry owns a path, and each owned path is in the content
 abbrev pub OwnersWithin : State → Type 0
-OwnersWithin state = HavePaths state.owners × OwnedStand state × WroteByNone state.owners
+OwnersWithin state = HavePaths state.owners × OwnedStand state
 
 -- a content of the schema, and owners of its paths
 abbrev pub IsPlacedState : Shape → State → Type 0

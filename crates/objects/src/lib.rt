@@ -21,7 +21,7 @@ mod read_back;
 
 pub use fault::ObjectFault;
 pub use laws::objects_are_one_for_one;
-pub use manager::{Manager, Operation};
+pub use manager::{Manager, Operation, Subresource};
 pub use managers::{Entry, Managers};
 pub use object::Identity;
 pub use owned::Owned;

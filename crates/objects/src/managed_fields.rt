@@ -1,26 +1,25 @@
 //! The entries of `managedFields`, read. They are written in `managed_text`.
-ghost use Rattle.std.specs.Prelude.{◌≡◌, true, codes, option_and_then};
+ghost use Rattle.std.specs.Prelude.{◌≡◌, true, codes};
 ghost use Rattle.json.specs.Value.{items_view, members_view, value_view};
 ghost use Rattle.json_texts.specs.InOrder.{are_ordered, data_of, is_ordered, items_are_ordered, items_data};
-ghost use Rattle.json_values.specs.Members.{text_at};
 ghost use Rattle.serde_json.specs.Find.{get_member};
 ghost use Rattle.schema.specs.Shape.{shape};
 ghost use Rattle.fieldset.specs.FieldsV1.{read_fields_v1};
 ghost use Rattle.objects.specs.Borrowed.{data_in};
 ghost use Rattle.objects.specs.Managers.{manager_view, pair, pairs};
-ghost use Rattle.objects.specs.Parts.{Gives, entries_in, entries_listed, entry_in, if_ok, manager_in, operation_named, owners_in, set_in};
+ghost use Rattle.objects.specs.Parts.{Gives, entries_in, entries_listed, entry_in, if_ok, manager_in, operation_in, owners_in, set_in, subresource_in};
 
 use crate::fault::ObjectFault;
-use crate::manager::{Manager, Operation};
+use crate::manager::{Manager, Operation, Subresource};
 use crate::managers::{Entry, Managers};
 use fieldset::{FieldSet, FieldsV1Fault};
 use json::Value;
-use json_texts::{as_array, as_object, member, text_at};
+use json_texts::{as_array, as_object, as_str, member, text_at};
 use schema::Schema;
 use std::alloc::Global;
 
 fn operation_in<'a>(members: &[(&'a str, Value<'a>)]) -> Option<Operation>
-    ensures { result ≡ option_and_then operation_named (text_at (codes "operation") (data_in members.now)) }
+    ensures { result ≡ operation_in (data_in members.now) }
 {
     match text_at(members, "operation") {
         Some(text) => Operation::named(text),
@@ -28,8 +27,20 @@ fn operation_in<'a>(members: &[(&'a str, Value<'a>)]) -> Option<Operation>
     }
 }
 
-/// Who wrote. An entry's subresource isn't read, since none is served: an object that names one differs when it is printed
-/// again, so its text is none of an object.
+/// What was written by: the main resource where no subresource is named. `None`: it is no text, or no subresource's.
+fn subresource_in<'a>(members: &[(&'a str, Value<'a>)]) -> Option<Subresource>
+    ensures { result ≡ subresource_in (data_in members.now) }
+{
+    let Some(value) = member(members, "subresource") else {
+        return Some(Subresource::Main);
+    };
+    match as_str(value) {
+        Some(text) => Subresource::named(text),
+        None => None,
+    }
+}
+
+/// Who wrote.
 fn read_manager<'a>(alloc: Global, members: &[(&'a str, Value<'a>)]) -> Result<Manager, ObjectFault>
     ensures { Gives manager_view result (manager_in (data_in members.now)) }
 {
@@ -39,7 +50,10 @@ fn read_manager<'a>(alloc: Global, members: &[(&'a str, Value<'a>)]) -> Result<M
     let Some(operation) = operation_in(members) else {
         return Err(ObjectFault::NotCanonical);
     };
-    Ok(Manager::new(alloc, name, operation)?)
+    let Some(subresource) = subresource_in(members) else {
+        return Err(ObjectFault::NotCanonical);
+    };
+    Ok(Manager::by(alloc, name, operation, subresource)?)
 }
 
 /// The set of paths that a FieldsV1 value says.

@@ -67,7 +67,7 @@ fn write_manager(out: &mut TextWriter, alloc: Global, manager: &Manager) -> Resu
 {
     write_string(out, alloc, "manager", manager.name.as_str())?;
     write_string(out, alloc, "operation", manager.operation.text())?;
-    write_filled(out, alloc, "subresource", manager.subresource.as_str())
+    write_filled(out, alloc, "subresource", manager.subresource.text())
 }
 
 fn write_entry(

@@ -1,9 +1,9 @@
 //! Who writes: a name, an operation and a subresource. What managers own stands in `managers`.
 
 ghost use Rattle.std.specs.Prelude.{◌≡◌, IfOk};
-ghost use Rattle.objects.specs.Owners.{is_same, manager_cmp, manager_of, operation_text};
+ghost use Rattle.objects.specs.Owners.{is_same, manager_by, manager_cmp, manager_of, operation_text, subresource_text};
 ghost use Rattle.objects.specs.Managers.{manager_view};
-ghost use Rattle.objects.specs.Parts.{operation_named};
+ghost use Rattle.objects.specs.Parts.{operation_named, subresource_named};
 
 use std::alloc::{AllocError, Global};
 use std::cmp::Ordering;
@@ -38,24 +38,65 @@ impl Operation {
     }
 }
 
-/// Who writes: a name and an operation, by a subresource or none (Server-Side Apply, "Managers").
+/// What a manager wrote by (ManagedFieldsEntry v1, `subresource`).
+#[derive(Clone, Copy, Debug, PartialEq, Eq)]
+pub enum Subresource {
+    /// No subresource: the main resource.
+    Main,
+    Status,
+}
+
+impl Subresource {
+    /// The subresource that stands so in `managedFields`, where the main resource doesn't stand.
+    pub(crate) fn named(text: &str) -> Option<Subresource>
+        ensures { result ≡ subresource_named text.now }
+    {
+        match text {
+            "status" => Some(Subresource::Status),
+            _ => None,
+        }
+    }
+
+    /// The subresource as it stands in `managedFields`; empty for the main resource.
+    pub fn text(self) -> &'static str
+        ensures { result.now ≡ subresource_text self }
+    {
+        match self {
+            Subresource::Main => "",
+            Subresource::Status => "status",
+        }
+    }
+}
+
+/// Who writes: a name, an operation and a subresource (Server-Side Apply, "Managers").
 #[derive(Debug, Drop)]
 pub struct Manager {
     pub name: String,
     pub operation: Operation,
-    /// What it wrote by, as `status`; empty where by none.
-    pub subresource: String,
+    pub subresource: Subresource,
 }
 
 impl Manager {
-    /// The manager of this name that wrote by this operation, by no subresource.
+    /// The manager of this name that wrote by this operation, by the main resource.
     pub fn new(alloc: Global, name: &str, operation: Operation) -> Result<Manager, AllocError>
         ensures { IfOk result (λ m. manager_view m ≡ manager_of name.now operation) }
+    {
+        Manager::by(alloc, name, operation, Subresource::Main)
+    }
+
+    /// The manager of this name that wrote by this operation and subresource.
+    pub fn by(
+        alloc: Global,
+        name: &str,
+        operation: Operation,
+        subresource: Subresource,
+    ) -> Result<Manager, AllocError>
+        ensures { IfOk result (λ m. manager_view m ≡ manager_by name.now operation subresource) }
     {
         Ok(Manager {
             name: String::from_str(alloc, name)?,
             operation,
-            subresource: String::new(alloc),
+            subresource,
         })
     }
 
@@ -67,7 +108,7 @@ impl Manager {
             .as_str()
             .cmp(other.name.as_str())
             .then(self.operation.text().cmp(other.operation.text()))
-            .then(self.subresource.as_str().cmp(other.subresource.as_str()))
+            .then(self.subresource.text().cmp(other.subresource.text()))
     }
 
     /// Whether name, operation and subresource are the same.
@@ -84,7 +125,7 @@ impl Manager {
         Ok(Manager {
             name: self.name.clone()?,
             operation: self.operation,
-            subresource: self.subresource.clone()?,
+            subresource: self.subresource,
         })
     }
 }

@@ -57,7 +57,7 @@ fn put_manager(
 ) -> Result<(), AllocError>
     ensures { OnOk result (members_view members.new.entries ≡ put_manager (manager_view manager.now) (members_view members.old.entries)) }
 {
-    put_filled(members, alloc, "subresource", manager.subresource.as_str())?;
+    put_filled(members, alloc, "subresource", manager.subresource.text())?;
     put_text(members, alloc, "operation", manager.operation.text())?;
     put_text(members, alloc, "manager", manager.name.as_str())
 }

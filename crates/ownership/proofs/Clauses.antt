@@ -1,14 +1,14 @@
 -- The further clauses of an apply, of the state that it answers.
-use Rattle.std.proofs.Common.{◌≡◌, Bool, false, [], sym, ap, ◌∙◌, subst}
+use Rattle.std.proofs.Common.{◌≡◌, Bool, false, sym, ap, ◌∙◌, subst}
 use Rattle.pathmap.specs.Contents.{Content}
 use Rattle.schema.specs.Shape.{Shape}
-use Rattle.objects.specs.Owners.{Manager, WroteByNone}
+use Rattle.objects.specs.Owners.{Manager}
 use Rattle.objects.specs.State.{State}
 use Rattle.ownership.specs.Apply.{conflicts, applied, is_refused}
 use Rattle.ownership.specs.Keeping.{OthersKeep, HasPlaces, LeavesOwned, IsSettled}
 use Rattle.objects.specs.Placed.{OwnedStand, IsPlacedState}
 use Rattle.typed.specs.Fitting.{IsContent}
-use Rattle.ownership.proofs.Placed.{applied_by_none, applied_placed}
+use Rattle.ownership.proofs.Placed.{applied_placed}
 use Rattle.ownership.proofs.Keeping.{others_keep, owned_stand, again}
 use Rattle.ownership.proofs.Leaves.{leaves_owned, places_kept}
 
@@ -25,11 +25,8 @@ module _ (live : State) (body : Content) (m : Manager) (force : Bool) (new : Sta
   pub keeps_places : (s : Shape) → HasPlaces s live.content → HasPlaces s body → HasPlaces s new.content
   keeps_places s places body_places = subst (λ x. HasPlaces s x.content) (sym is) (places_kept live body m s places body_places)
 
-  pub keeps_placed : m.subresource ≡ [] → (s : Shape) → IsContent s body → IsPlacedState s live → IsPlacedState s new
-  keeps_placed none s content placed = subst (IsPlacedState s) (sym is) (applied_placed live body m s none content placed)
-
-  pub keeps_by_none : m.subresource ≡ [] → WroteByNone live.owners → WroteByNone new.owners
-  keeps_by_none none before = subst (λ (x : State). WroteByNone x.owners) (sym is) (applied_by_none live body m none before)
+  pub keeps_placed : (s : Shape) → IsContent s body → IsPlacedState s live → IsPlacedState s new
+  keeps_placed s content placed = subst (IsPlacedState s) (sym is) (applied_placed live body m s content placed)
 
   pub settles : IsSettled new body m
   settles = subst (λ x. IsSettled x body m) (sym is) (again live body m)

@@ -6,7 +6,7 @@ ghost use Rattle.schema.specs.Shape.{Shape};
 ghost use Rattle.pathmap.specs.Beside.{changed as changed_paths};
 ghost use Rattle.pathmap.specs.Contents.{Content, dom, in_order};
 ghost use Rattle.typed.specs.Fitting.{IsContent};
-ghost use Rattle.objects.specs.Owners.{WroteByNone, apply_operation, manager_of, others};
+ghost use Rattle.objects.specs.Owners.{apply_operation, manager_of, others};
 ghost use Rattle.ownership.specs.Apply.{applied, clear_of_all, conflicts_with, dropped, is_refused};
 ghost use Rattle.ownership.specs.Keeping.{HasPlaces, IsSettled, LeavesOwned, OthersKeep};
 ghost use Rattle.objects.specs.Placed.{IsPlacedState, OwnedStand};
@@ -134,7 +134,6 @@ pub fn apply(
     ensures stand { OwnedStand (state_of live.now) → IfOk result (λ o. OwnedStand (state_of o)) }
     ensures leaves { (s : Shape) → HasPlaces s live.now.tree → HasPlaces s config → OwnedStand (state_of live.now) → LeavesOwned s (state_of live.now) → IfOk result (λ o. LeavesOwned s (state_of o)) }
     ensures placed { (s : Shape) → IsContent s config → IsPlacedState s (state_of live.now) → IfOk result (λ o. IsPlacedState s (state_of o)) }
-    ensures by_none { WroteByNone live.now.managers → IfOk result (λ o. WroteByNone o.managers) }
     ensures again { IfOk result (λ o. IsSettled (state_of o) config (manager_of manager.now apply_operation)) }
 {
     let manager = Manager::new(alloc, manager, Operation::Apply)?;

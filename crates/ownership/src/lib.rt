@@ -15,7 +15,8 @@ mod updating;
 pub use applying::apply;
 pub use conflict::{ApplyFault, Conflict};
 pub use objects::{
-    Entry, Identity, Manager, Managers, ObjectFault, Operation, Owned, objects_are_one_for_one,
+    Entry, Identity, Manager, Managers, ObjectFault, Operation, Owned, Subresource,
+    objects_are_one_for_one,
 };
 pub use outcome::{Outcome, written_over};
 pub use same::is_same;

@@ -2,7 +2,7 @@
 
 ghost use Rattle.std.specs.Prelude.{◌≡◌, IfOk};
 ghost use Rattle.std.specs.FinSet as set;
-ghost use Rattle.objects.specs.Owners.{WroteByNone, manager_of, owned_by, taken_over, update_operation};
+ghost use Rattle.objects.specs.Owners.{manager_of, owned_by, taken_over, update_operation};
 ghost use Rattle.schema.specs.Shape.{Shape};
 ghost use Rattle.typed.specs.Fitting.{IsContent};
 ghost use Rattle.objects.specs.Placed.{IsPlacedState, OwnedStand};
@@ -61,7 +61,6 @@ pub fn update(alloc: Global, live: &Owned, manager: &str, new: Tree) -> Result<O
     ensures updates { IfOk result (λ o. state_of o ≡ updated (state_of live.now) new (manager_of manager.now update_operation)) }
     ensures stand { OwnedStand (state_of live.now) → IfOk result (λ o. OwnedStand (state_of o)) }
     ensures placed { (s : Shape) → IsContent s new → IsPlacedState s (state_of live.now) → IfOk result (λ o. IsPlacedState s (state_of o)) }
-    ensures by_none { WroteByNone live.now.managers → IfOk result (λ o. WroteByNone o.managers) }
     ensures leaves { (s : Shape) → LeavesOwned s (state_of live.now) → IfOk result (λ o. LeavesOwned s (state_of o)) }
 {
     let manager = Manager::new(alloc, manager, Operation::Update)?;

@@ -176,12 +176,12 @@ AsUpdated name old new = OthersKeepUnchanged old new (manager_of name update_ope
 
 -- the applied state is of a content and owners of its paths
 owned_placed : (t : ServedShape) (api_version : List ℕ) (before : State) (config : Content) (mgr : Manager) (is_forced : Bool) (s : State)
-    → mgr.subresource ≡ [] → IsPlacedState t.shape before → IsContent t.shape config → ownership_validated api_version before config mgr is_forced ≡ Ok s → IsPlacedState t.shape s
-owned_placed t api_version before config mgr is_forced s by_none placed content e = go (is_refused (conflicts before config mgr) is_forced) e
+    → IsPlacedState t.shape before → IsContent t.shape config → ownership_validated api_version before config mgr is_forced ≡ Ok s → IsPlacedState t.shape s
+owned_placed t api_version before config mgr is_forced s placed content e = go (is_refused (conflicts before config mgr) is_forced) e
   where
     go : (b : Bool) → cond b (Err (conflict_refusal api_version (conflicts before config mgr))) (Ok (applied before config mgr)) ≡ Ok s → IsPlacedState t.shape s
     go true f = no_err _ s f
-    go false f = subst (IsPlacedState t.shape) (ok_is _ s f) (applied_placed before config mgr t.shape by_none content placed)
+    go false f = subst (IsPlacedState t.shape) (ok_is _ s f) (applied_placed before config mgr t.shape content placed)
 
 module _ (types : List ServedShape) (current : ℕ) (objects : Objects) (shapes : Shapes types) (texts : AreTexts types objects) where
   -- the state that stands under a key is placed
@@ -205,7 +205,7 @@ module _ (types : List ServedShape) (current : ℕ) (objects : Objects) (shapes 
         let before = state_of_live t (fin.get objects k) in
         let owned = passed (ownership_validated (api_version_of t) before intent.content (manager_of intent.manager apply_operation) intent.is_forced) _ p version.2 in
         over_writes types current objects t k serves D R (fin.get objects k) owned.0 p
-        (owned_placed t _ before intent.content _ intent.is_forced owned.0 refl (live_placed t k serves (fin.get objects k) refl) content owned.1) (keeps before owned.0 owned.1) named owned.2
+        (owned_placed t _ before intent.content _ intent.is_forced owned.0 (live_placed t k serves (fin.get objects k) refl) content owned.1) (keeps before owned.0 owned.1) named owned.2
 
     apply_writes : (query : List ℕ) (body : Data) (p : Plan) → IsJson body
         → ((i : Intent) → intent_of (at_path t k Patch) asked.Apply query body ≡ Ok i → (before s : State)
@@ -223,7 +223,7 @@ module _ (types : List ServedShape) (current : ℕ) (objects : Objects) (shapes 
         let version = passed (version_checked intent.version (Some o)) _ p e in
         let before = state_said t.shape o.body in
         over_writes types current objects t k serves D R (Some o) (updated_by intent before) p
-        (updated_placed before intent.content (manager_of intent.manager update_operation) t.shape refl content (live_placed t k serves (Some o) is))
+        (updated_placed before intent.content (manager_of intent.manager update_operation) t.shape content (live_placed t k serves (Some o) is))
         (subst (λ found. R (state_of_live t found) (updated_by intent before)) (sym is) (keeps before)) (texts k o is).named version.2
 
     update_writes : (query : List ℕ) (body : Data) (p : Plan) → IsJson body
@@ -260,7 +260,7 @@ module _ (types : List ServedShape) (current : ℕ) (objects : Objects) (shapes 
       → (found : Option Object) → fin.get objects k ≡ found → and_then (not_there t k.name found) (λ u. store_state t current k 201 (updated_by intent no_state)) ≡ Ok p → WritesBy types current objects (Unit {0}) (λ old new. Unit {0}) p.change
   created_writes t k serves intent p content named (Some o) is e = no_err _ p e
   created_writes t k serves intent p content named None is e =
-      stored_writes types current objects t k serves (Unit {0}) (λ old new. Unit {0}) 201 (updated_by intent no_state) p (updated_placed no_state intent.content (manager_of intent.manager update_operation) t.shape refl content (nothing_placed t.shape)) tt named e
+      stored_writes types current objects t k serves (Unit {0}) (λ old new. Unit {0}) 201 (updated_by intent no_state) p (updated_placed no_state intent.content (manager_of intent.manager update_operation) t.shape content (nothing_placed t.shape)) tt named e
 
   create_writes : (t : ServedShape) (kind : ℕ) → slice_get types kind ≡ Some t → (namespace query : List ℕ) (body : Data) (p : Plan) → IsJson body
       → create_validated t current objects kind namespace query body ≡ Ok p → WritesBy types current objects (Unit {0}) (λ old new. Unit {0}) p.change

@@ -61,7 +61,6 @@ nothing_placed s = (
   (
     λ m paths there. no_some paths (sym there ∙ fin.get-empty manager_cmp m),
     λ k p owns. absurd (true≢false (sym owns ∙ nobody_owns k p)),
-    λ m paths there. no_some paths (sym there ∙ fin.get-empty manager_cmp m),
   ),
 )
 

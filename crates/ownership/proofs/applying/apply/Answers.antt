@@ -1,11 +1,11 @@
-use Rattle.std.proofs.Common.{◌≡◌, false, map, refl, sym, ap, ◌∙◌}
+use Rattle.std.proofs.Common.{◌≡◌, false, map, sym, ap, ◌∙◌}
 use Rattle.objects.specs.State.{State}
 use Rattle.ownership.specs.Apply.{applied, conflicts, is_refused}
 use Rattle.objects.specs.Managers.{manager_view}
 use Rattle.objects.specs.Owners.{manager_of, apply_operation}
 use Rattle.objects.specs.Views.{state_of}
 use Rattle.ownership.specs.Results.{conflict_of}
-use Rattle.ownership.proofs.Clauses.{keeps_others, keeps_places, keeps_standing, keeps_leaves, keeps_placed, keeps_by_none, settles}
+use Rattle.ownership.proofs.Clauses.{keeps_others, keeps_places, keeps_standing, keeps_leaves, keeps_placed, settles}
 use Rattle.ownership.proofs.Dropping.{conflicts_are}
 use Rattle.ownership.proofs.applying.apply.Goals as goal
 
@@ -20,7 +20,6 @@ returns-then-is_refused c =
       stand = λ before. tt;
       leaves = λ s places body_places before owned. tt;
       placed = λ s content placed. tt;
-      by_none = λ before. tt;
       again = tt;
     }
 
@@ -40,7 +39,6 @@ returns c =
       places = keeps_places live body m c.args.force new free is;
       stand = keeps_standing live body m c.args.force new free is;
       leaves = keeps_leaves live body m c.args.force new free is;
-      placed = keeps_placed live body m c.args.force new free is refl;
-      by_none = keeps_by_none live body m c.args.force new free is refl;
+      placed = keeps_placed live body m c.args.force new free is;
       again = settles live body m c.args.force new free is;
     }

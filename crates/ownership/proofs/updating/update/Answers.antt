@@ -2,12 +2,12 @@ use Rattle.std.proofs.Common.{◌≡◌, refl, sym, subst}
 use Rattle.objects.specs.State.{State}
 use Rattle.objects.specs.Managers.{manager_view}
 use Rattle.std.specs.FinSet as set
-use Rattle.objects.specs.Owners.{WroteByNone, manager_of, owned_by, update_operation}
+use Rattle.objects.specs.Owners.{manager_of, owned_by, update_operation}
 use Rattle.objects.specs.Views.{state_of}
 use Rattle.ownership.specs.Update.{updated}
 use Rattle.ownership.proofs.Changing.{updated_is, update_stands, update_leaves}
 use Rattle.objects.specs.Placed.{IsPlacedState}
-use Rattle.ownership.proofs.Placed.{updated_by_none, updated_placed}
+use Rattle.ownership.proofs.Placed.{updated_placed}
 use Rattle.ownership.proofs.updating.update.Goals as goal
 
 pub returns : goal.returns
@@ -24,7 +24,6 @@ returns c =
     record {
       updates = is;
       stand = update_stands live c.args.new m after is;
-      placed = λ s content placed. subst (IsPlacedState s) (sym is) (updated_placed live c.args.new m s refl content placed);
-      by_none = λ before. subst (λ (x : State). WroteByNone x.owners) (sym is) (updated_by_none live c.args.new m refl before);
+      placed = λ s content placed. subst (IsPlacedState s) (sym is) (updated_placed live c.args.new m s content placed);
       leaves = update_leaves live c.args.new m after is;
     }
