@@ -7,7 +7,7 @@ use Rattle.std.specs.Ordering.{nat_cmp, eq_by_cmp}
 use Rattle.requests.specs.Asks.{CallDecision}
 use Rattle.httpedge.specs.Connections.{Connection, Connections, Standing, waiting, watching, ended, gone, each, gone_on, has_ended, has_gone, is_new, is_open, is_watching, left_out, out_of, out_on, with_standing, with_taken}
 use Rattle.httpedge.specs.Runs.{Follows, Happening, happens, starves, takes}
-use Rattle.httpedge.specs.Steps.{Event, State, opens, comes, goes, pumps, ticks, compacts, by_connection, dead, dead_or_ticked, opening, received_by, refusal, starved, carried_out, unless_refused, with_connection, with_turn}
+use Rattle.httpedge.specs.Steps.{Event, Refusal, State, id_not_above, opens, comes, goes, pumps, ticks, compacts, by_connection, dead, dead_or_ticked, opening, received_by, refusal, starved, carried_out, unless_refused, with_connection, with_turn}
 use Rattle.httpedge.specs.Watches.{pumped, ticked}
 use Rattle.httpedge.proofs.Connected.{got_each, tied_same, unknown}
 use Rattle.httpedge.proofs.Staying.{dead_idle, turn_idle}
@@ -94,7 +94,7 @@ each_still : (f : ℕ → Connection → Connection) (all : Connections) (q : �
 each_still f all q c same got = got_each f all q ∙ ap (option_map (f q)) got ∙ ap (λ (x : Connection). Some x) same
 
 opens_still : (s : State) (id q : ℕ) (c : Connection) (b : Bool) → is_new s.connections id ≡ b → Stays s q c
-    → Stays (unless_refused (cond b None (Some 1)) s (with_connection s id (opening s.connections))) q c
+    → Stays (unless_refused (cond b None (Some id_not_above)) s (with_connection s id (opening s.connections))) q c
 opens_still s id q c true new got =
     put_still s.connections id q c (opening s.connections)
     (λ e. absurd (nothing c (sym got ∙ ap (fin.get s.connections) e ∙ unknown s.connections id (fin.get s.connections id) refl new))) got
@@ -103,9 +103,9 @@ opens_still s id q c true new got =
     nothing x e = cc
 opens_still s id q c false new got = got
 
-unless_still : (s t : State) (o : Option ℕ) (q : ℕ) (c : Connection) → Stays t q c → Stays s q c → Stays (unless_refused o s t) q c
+unless_still : (s t : State) (o : Option Refusal) (q : ℕ) (c : Connection) → Stays t q c → Stays s q c → Stays (unless_refused o s t) q c
 unless_still s t None q c then is = then
-unless_still s t (Some n) q c then is = is
+unless_still s t (Some why) q c then is = is
 
 stepped_still : (s : State) (e : Event) (asked : CallDecision) (q : ℕ) (c : Connection) → has_gone c.standing ≡ true → Stays s q c → Stays (unless_refused (refusal s e) s (carried_out s e asked)) q c
 stepped_still s (opens id) asked q c is got = opens_still s id q c (is_new s.connections id) refl got

@@ -11,7 +11,7 @@ use Rattle.requests.specs.Asks.{CallDecision}
 use Rattle.httpedge.specs.Connections.{Connection, Connections, Standing, waiting, watching, ended, gone, each, has_gone, is_new, is_open, left_out, out_of, out_on, with_standing, written_on}
 use Rattle.requests.specs.Decision.{undecided, refused, accepted}
 use Rattle.httpedge.specs.Runs.{Follows, Happening, happens, starves, takes}
-use Rattle.httpedge.specs.Steps.{Event, State, opens, comes, goes, pumps, ticks, compacts, after_turn, by_connection, connection_after, dead, dead_or_ticked, opening, received_by, refusal, carried_out, starved, unless_refused, turn_bytes, with_connection, with_turn, writes_at}
+use Rattle.httpedge.specs.Steps.{Event, Refusal, State, id_not_above, opens, comes, goes, pumps, ticks, compacts, after_turn, by_connection, connection_after, dead, dead_or_ticked, opening, received_by, refusal, carried_out, starved, unless_refused, turn_bytes, with_connection, with_turn, writes_at}
 use Rattle.requests.specs.Replies.{answer_bytes, refusal_reply}
 use Rattle.httpedge.specs.Watches.{Turn, Watch, pumped, ticked}
 use Rattle.verbs.specs.Step.{planned}
@@ -85,15 +85,15 @@ each_grows f all q grows = subst (Grows (fin.get all q)) (sym (got_each f all q)
 
 -- nothing was written on a connection that is not there
 opens_grows : (s : State) (id q : ℕ) (b : Bool) → is_new s.connections id ≡ b
-    → Grows (fin.get s.connections q) (fin.get (unless_refused (cond b None (Some 1)) s (with_connection s id (opening s.connections))).connections q)
+    → Grows (fin.get s.connections q) (fin.get (unless_refused (cond b None (Some id_not_above)) s (with_connection s id (opening s.connections))).connections q)
 opens_grows s id q true isnew =
     put_grows s.connections id q (opening s.connections)
     (subst (λ (o : Option Connection). Grows o (Some (opening s.connections))) (sym (unknown s.connections id (fin.get s.connections id) refl isnew)) ((opening s.connections).written, refl))
 opens_grows s id q false isnew = same (fin.get s.connections q)
 
-unless_grows : (s t : State) (o : Option ℕ) (q : ℕ) → Grows (fin.get s.connections q) (fin.get t.connections q) → Grows (fin.get s.connections q) (fin.get (unless_refused o s t).connections q)
+unless_grows : (s t : State) (o : Option Refusal) (q : ℕ) → Grows (fin.get s.connections q) (fin.get t.connections q) → Grows (fin.get s.connections q) (fin.get (unless_refused o s t).connections q)
 unless_grows s t None q then = then
-unless_grows s t (Some n) q then = same (fin.get s.connections q)
+unless_grows s t (Some why) q then = same (fin.get s.connections q)
 
 stepped_grows : (s : State) (e : Event) (asked : CallDecision) (q : ℕ) → Grows (fin.get s.connections q) (fin.get (unless_refused (refusal s e) s (carried_out s e asked)).connections q)
 stepped_grows s (opens id) asked q = opens_grows s id q (is_new s.connections id) refl

@@ -5,12 +5,11 @@ use Rattle.std.specs.Result.{is_ok}
 use Rattle.std.specs.Io.KnownBytes.{Consumes, Keeps}
 use Rattle.std.proofs.KnownBytes.{Consumes-kept, Consumes-nil}
 use Rattle.std.proofs.lemmas.Bool.{le-ltb, lt-ltb}
-use Rattle.httpedge.specs.HubSeen.{Happened, IsIn, refusal_number}
+use Rattle.httpedge.specs.HubSeen.{Happened, IsIn, Outcome, done, refused, starved, outcome_of, refusal_in}
 use Rattle.httpedge.specs.Runs.{Follows, Happening, Runs, happens, starves, takes}
 use Rattle.httpedge.specs.Steps.{Event, State, compacts, refusal}
 use Rattle.httpedge.specs.Streams.{Compacts, MovesBy, Hands, HandsIf, IsDone, event_in}
 use Rattle.httpedge.specs.declared.fault.HubFault.{HubFault}
-use Rattle.httpedge.specs.declared.fault.HubFault.TheVariants as fault
 use Rattle.httpedge.specs.declared.hub.Hub.{Hub}
 
 -- ---- what happens in turn
@@ -22,31 +21,26 @@ runs_then s mid t (h ∷ hs) gs (next, follows, rest) then = (next, follows, run
 -- ---- one event
 
 -- an event that happened, or found no memory
-by_event : {A : Type 0} (e : Event) (r : Result A HubFault) (h : Happening) (P : Happening → Type 0) → P (happens e) → ((which : ℕ → Bool) → P (starves e which)) → Happened e r h → P h
-by_event e (Ok a) h P done none is = subst P (sym is) done
-by_event e (Err fault.IdNotAbove) h P done none is = subst P (sym is) done
-by_event e (Err fault.UnknownId) h P done none is = subst P (sym is) done
-by_event e (Err fault.NoLines) h P done none is = subst P (sym is) done
-by_event e (Err fault.TickBack) h P done none is = subst P (sym is) done
-by_event e (Err fault.CompactionRefused) h P done none is = subst P (sym is) done
-by_event e (Err fault.Memory) h P done none is = subst P (sym is.1) (none is.0)
-by_event e (Err fault.Store) h P done none is = subst P (sym is.1) (none is.0)
+by_event : (e : Event) (o : Outcome) (h : Happening) (P : Happening → Type 0) → P (happens e) → ((which : ℕ → Bool) → P (starves e which)) → Happened e o h → P h
+by_event e done h P one none is = subst P (sym is) one
+by_event e (refused why) h P one none is = subst P (sym is) one
+by_event e starved h P one none is = subst P (sym is.1) (none is.0)
 
 -- what the hub says of an event
 abbrev pub FollowsBy : {A : Type 0} → Hub → Event → Result A HubFault → Hub → Type 0
-FollowsBy x e r y = (s : State) → IsIn x s → (h : Happening) × (t : State) × Happened e r h × Follows s h t × IsIn y t
+FollowsBy x e r y = (s : State) → IsIn x s → (h : Happening) × (t : State) × Happened e (outcome_of r) h × Follows s h t × IsIn y t
 
 pub hands_event : {A : Type 0} (x y : Hub) (e : Event) (r : Result A HubFault) → FollowsBy x e r y → MovesBy (Hands e) x y
 hands_event x y e r follows = λ s is.
     let one = follows s is in
-    (one.1, (one.0, by_event e r one.0 (λ h. event_in h ≡ Some e) refl (λ which. refl) one.2, one.3), one.4)
+    (one.1, (one.0, by_event e (outcome_of r) one.0 (λ h. event_in h ≡ Some e) refl (λ which. refl) one.2, one.3), one.4)
 
-pub done_event : {A : Type 0} (x y : Hub) (e : Event) (r : Result A HubFault) → ((s : State) → IsIn x s → refusal_number r ≡ refusal s e) → FollowsBy x e r y → is_ok r ≡ true
+pub done_event : {A : Type 0} (x y : Hub) (e : Event) (r : Result A HubFault) → ((s : State) → IsIn x s → refusal_in (outcome_of r) ≡ refusal s e) → FollowsBy x e r y → is_ok r ≡ true
     → MovesBy (IsDone e) x y
-done_event x y e (Ok a) refused follows well = λ s is.
+done_event x y e (Ok a) denied follows well = λ s is.
     let one = follows s is in
-    (one.1, (sym (refused s is), subst (λ h. Follows s h one.1) one.2 one.3), one.4)
-done_event x y e (Err f) refused follows well = absurd cc
+    (one.1, (sym (denied s is), subst (λ h. Follows s h one.1) one.2 one.3), one.4)
+done_event x y e (Err f) denied follows well = absurd cc
 
 same_event : (d e : Event) → Some d ≡ Some e → d ≡ e
 same_event d e same = ap (λ (o : Option Event). unwrap_or o e) same
@@ -56,9 +50,9 @@ isnt_there e same = cc
 
 -- what is so of an event that was handed over, also where it finds no memory, is so of what happened
 pub by_hands : (e : Event) (P : Happening → Type 0) → P (happens e) → ((which : ℕ → Bool) → P (starves e which)) → (h : Happening) → event_in h ≡ Some e → P h
-by_hands e P done none (happens d) is = subst (λ (x : Event). P (happens x)) (sym (same_event d e is)) done
-by_hands e P done none (starves d which) is = subst (λ (x : Event). P (starves x which)) (sym (same_event d e is)) (none which)
-by_hands e P done none (takes id n) is = absurd (isnt_there e (sym is))
+by_hands e P one none (happens d) is = subst (λ (x : Event). P (happens x)) (sym (same_event d e is)) one
+by_hands e P one none (starves d which) is = subst (λ (x : Event). P (starves x which)) (sym (same_event d e is)) (none which)
+by_hands e P one none (takes id n) is = absurd (isnt_there e (sym is))
 
 -- ---- a compaction
 
@@ -94,12 +88,12 @@ pub compacts_then : {E : Type 0} (x y : Hub) (keep current compacted revision : 
     → revision ≡ current - keep → compacted < revision → MovesBy (Hands (compacts revision)) x y → MovesBy (Compacts keep) x y
 compacts_then x y keep current compacted revision told tells is at rises hands = λ s here.
     let same = parts current compacted s.machine.current s.machine.compacted (sym is ∙ tells s here) in
-    let done = hands s here in
+    let ran = hands s here in
     let now : revision ≡ s.machine.current - keep = at ∙ ap (λ n. n - keep) same.0 in (
-      done.0,
-      hands_if (nat_lt s.machine.compacted (s.machine.current - keep)) (compacts (s.machine.current - keep)) s done.0 (sym (ap₂ nat_lt same.1 now) ∙ lt-ltb compacted revision rises)
-          (subst (λ n. Hands (compacts n) s done.0) now done.1),
-      done.2,
+      ran.0,
+      hands_if (nat_lt s.machine.compacted (s.machine.current - keep)) (compacts (s.machine.current - keep)) s ran.0 (sym (ap₂ nat_lt same.1 now) ∙ lt-ltb compacted revision rises)
+          (subst (λ n. Hands (compacts n) s ran.0) now ran.1),
+      ran.2,
     )
 
 pub compacts_not : {E : Type 0} (x : Hub) (keep current compacted revision : ℕ) (told : Result (ℕ × ℕ) E) → IsTold x told → told ≡ Ok (current, compacted)

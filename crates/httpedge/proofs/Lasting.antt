@@ -20,7 +20,7 @@ use Rattle.httpedge.specs.Connections.{Connection, Standing, waiting, watching, 
 use Rattle.requests.specs.Decision.{Decision, undecided, refused, accepted, and_then, decided_by}
 use Rattle.requests.specs.Heads.{HeadDecision, Request}
 use Rattle.httpedge.specs.Runs.{AsksIf, Follows, Happening, Runs, bytes_at, happens, starves, takes}
-use Rattle.httpedge.specs.Steps.{Event, State, opens, comes, goes, pumps, ticks, compacts, by_connection, carried_out, machine_after, received_by, refusal, starved, unless_refused}
+use Rattle.httpedge.specs.Steps.{Event, Refusal, State, compaction_refused, opens, comes, goes, pumps, ticks, compacts, by_connection, carried_out, machine_after, received_by, refusal, starved, unless_refused}
 
 -- ---- the body of a call that bytes ask is a value that a JSON text spells
 
@@ -107,11 +107,11 @@ both true true e = (refl, refl)
 both true false e = absurd (true≢false (sym e))
 both false b e = absurd (true≢false (sym e))
 
-abbrev is_none : Option ℕ → Bool
+abbrev is_none : Option Refusal → Bool
 is_none None = true
-is_none (Some n) = false
+is_none (Some why) = false
 
-in_range : (b : Bool) → cond {A = Option ℕ} b None (Some 5) ≡ None → b ≡ true
+in_range : (b : Bool) → cond {A = Option Refusal} b None (Some compaction_refused) ≡ None → b ≡ true
 in_range true e = refl
 in_range false e = absurd (true≢false (sym (ap is_none e)))
 
@@ -125,9 +125,9 @@ carried_lasts s (compacts c) asked json free is =
     let range = both (nat_le s.machine.compacted c) (nat_le c s.machine.current) (in_range _ free) in
     compactions_keep_machines s.types s.machine c is (leb-true _ _ range.0) (leb-true _ _ range.1)
 
-unless_lasts : (s t : State) (o : Option ℕ) → (o ≡ None → Lasts t) → Lasts s → Lasts (unless_refused o s t)
+unless_lasts : (s t : State) (o : Option Refusal) → (o ≡ None → Lasts t) → Lasts s → Lasts (unless_refused o s t)
 unless_lasts s t None stays is = stays refl
-unless_lasts s t (Some n) stays is = is
+unless_lasts s t (Some why) stays is = is
 
 starved_lasts : (s : State) (e : Event) (which : ℕ → Bool) → Lasts s → Lasts (starved s e which)
 starved_lasts s (opens id) which is = is

@@ -1,4 +1,6 @@
+pub mod Adding
 pub mod Connected
+pub mod Ended
 pub mod Going
 pub mod Turning
 pub mod Ticked

@@ -12,7 +12,7 @@ use Rattle.httpedge.specs.Connections.{Connection, Standing, waiting, watching, 
 use Rattle.requests.specs.Decision.{undecided, refused, accepted}
 use Rattle.requests.specs.Heads.{HeadDecision, ReadsHead}
 use Rattle.httpedge.specs.Runs.{AsksIf, all_bytes, bytes_at, Steps, Happening, happens, starves, takes, Follows, Runs}
-use Rattle.httpedge.specs.Steps.{State, Event, answer_standing, comes, by_connection, connection_after, machine_after, received, received_by, stepped, with_connection, with_connections, with_machine, unless_refused}
+use Rattle.httpedge.specs.Steps.{State, Event, answer_standing, comes, by_connection, connection_after, machine_after, received, received_by, stepped, unknown_id, with_connection, with_connections, with_machine, unless_refused}
 use Rattle.requests.specs.Replies.{answer_bytes, refusal_reply}
 use Rattle.requests.proofs.Deciding.{asks_more, asks_one}
 use Rattle.httpedge.proofs.Connected.{put_there, put_again}
@@ -23,7 +23,7 @@ use Rattle.httpedge.proofs.Connected.{put_there, put_again}
 abbrev pub ComesBy : State → ℕ → Option Connection → List ℕ → State → Type 0
 ComesBy s id o bytes t =
     (asked : CallDecision) × AsksIf s (option_and_then (λ c. all_bytes c.standing bytes) o) asked
-    × (t ≡ unless_refused (cond (is_some o) None (Some 2)) s (by_connection s o (λ c. received_by s id c c.standing bytes asked)))
+    × (t ≡ unless_refused (cond (is_some o) None (Some unknown_id)) s (by_connection s o (λ c. received_by s id c c.standing bytes asked)))
 
 -- the same of a connection that stands so
 abbrev pub ComesOn : State → ℕ → Connection → Standing → List ℕ → State → Type 0

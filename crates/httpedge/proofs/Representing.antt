@@ -21,8 +21,6 @@ use Rattle.verbs.specs.declared.fault.Fault.TheVariants as failed
 use Rattle.httpedge.specs.declared.connection.Connection as conns
 use Rattle.httpedge.specs.declared.connection.Connection.TheVariants as conn
 use Rattle.httpedge.specs.declared.out.Out.{Out}
-use Rattle.httpedge.specs.declared.fault.HubFault.{HubFault}
-use Rattle.httpedge.specs.declared.fault.HubFault.TheVariants.{IdNotAbove, UnknownId, NoLines, TickBack, CompactionRefused, Memory, Store}
 use Rattle.std.specs.BTreeSet.{BTreeSet, contains}
 use Rattle.std.proofs.lemmas.List.{length-drop}
 use Rattle.httpedge.specs.declared.watching.Watch.{Watch as TheWatch}
@@ -31,12 +29,11 @@ use Rattle.httpedge.specs.Connections.{Connection, Connections, Standing, waitin
 use Rattle.requests.specs.Decision.{undecided, refused, accepted}
 use Rattle.httpedge.specs.Held.{BecomesAt, DiesAt, Holds, HoldsAt, Lists, PutAt, ReceivedAt, ReceivedBy, Represents, count_after, has_ended_in, is_above, is_open_in, is_waiting_in, is_watching_in, left, out_in, waiting_for}
 use Rattle.httpedge.specs.Faults.{hub_fault_of}
-use Rattle.httpedge.specs.declared.event.Event as events
-use Rattle.httpedge.specs.HubSeen.{Happened, IsIn, event_of, found_none, refusal_number}
+use Rattle.httpedge.specs.HubSeen.{IsIn, outcome_of, refusal_in}
 use Rattle.httpedge.specs.declared.hub.Hub.{Hub}
 use Rattle.requests.specs.Refusals.{as_denied, too_many_connections}
-use Rattle.httpedge.specs.Runs.{Follows, Happening, happens, starves, Runs, Steps}
-use Rattle.httpedge.specs.Steps.{Event, State, opens, comes, goes, pumps, ticks, compacts, after_turn, by_connection, connection_after, dead, machine_after, opening, received, refusal, start, carried_out, unless_refused, with_bytes_taken, with_connection, with_connections, with_machine, with_turn, Starves}
+use Rattle.httpedge.specs.Runs.{Steps}
+use Rattle.httpedge.specs.Steps.{Event, Refusal, State, id_not_above, unknown_id, no_lines, compaction_refused, opens, comes, goes, pumps, ticks, compacts, after_turn, by_connection, connection_after, dead, machine_after, opening, received, refusal, start, carried_out, unless_refused, with_bytes_taken, with_connection, with_connections, with_machine, with_turn, Starves}
 use Rattle.requests.specs.Replies.{refusal_reply}
 use Rattle.httpedge.specs.Watches.{Turn, Watch, pumped}
 use Rattle.httpedge.proofs.Connected.{Entries, ids, itself, new_put, new_still, one_if, open_put, opens_in, opens_of, tied_same, unknown}
@@ -207,7 +204,7 @@ opens_well s id count' api old new count highest d held above holds put is =
     let same : one_if (is_open_in d) ≡ one_if (is_open c.standing) = ap one_if (same_open s.types d c holds) in
     let was = held.count_is in (
       t,
-      (undecided, refl, sym (ap (λ (b : Bool). unless_refused (cond b None (Some 1)) s t) isnew)),
+      (undecided, refl, sym (ap (λ (b : Bool). unless_refused (cond b None (Some id_not_above)) s t) isnew)),
       record {
         machine = held.machine;
         connections = held_put s.types old new s.connections id d c held.connections put holds;
@@ -357,7 +354,7 @@ goes_well s id api old new count count' highest c d held got holds (e, then, put
       (
         undecided,
         refl,
-        sym (ap (λ (o : Option Connection). unless_refused (cond (is_some o) None (Some 2)) s (by_connection s o (λ x. with_connection s id (with_standing x (gone (has_ended x.standing)))))) got),
+        sym (ap (λ (o : Option Connection). unless_refused (cond (is_some o) None (Some unknown_id)) s (by_connection s o (λ x. with_connection s id (with_standing x (gone (has_ended x.standing)))))) got),
       ),
       moves s s.machine id api api old new count count' highest c c' d e held held.machine got holds holds' (λ now. absurd (false_true now)) put counts,
     )
@@ -381,7 +378,7 @@ pumps_well s id max api api' old new count count' highest c d held serves got ho
       (
         undecided,
         refl,
-        sym (ap₂ (λ (o : Option Connection) (b : Bool). unless_refused (cond (is_some o) (cond b (Some 3) None) (Some 2)) s (by_connection s o (λ x. with_connection s id (with_turn turn x)))) got some),
+        sym (ap₂ (λ (o : Option Connection) (b : Bool). unless_refused (cond (is_some o) (cond b (Some no_lines) None) (Some unknown_id)) s (by_connection s o (λ x. with_connection s id (with_turn turn x)))) got some),
       ),
       moves s s.machine id api api' old new count count' highest c (with_turn turn c) d e held serves got holds then (turn_opens turn c c.standing refl) put counts,
     )
@@ -428,7 +425,7 @@ comes_dies s id bytes api api' old new count count' highest c d held serves got 
     let dies = dies_by s id api api' old new count count' highest c d held serves got holds (waiting_open c.standing was) becomes counts in (
       dies.0,
       (
-        ap (λ (o : Option Connection). cond (is_some o) None (Some 2)) got,
+        ap (λ (o : Option Connection). cond (is_some o) None (Some unknown_id)) got,
         ap (λ (o : Option Connection). unwrap_or (option_map (λ x. is_waiting x.standing) o) false) got ∙ was,
         dies.1,
       ),
@@ -444,75 +441,12 @@ pumps_dies s id max api api' old new count count' highest c d held serves got ho
     let dies = dies_by s id api api' old new count count' highest c d held serves got holds (watching_open c.standing was) becomes counts in (
       dies.0,
       (
-        ap₂ (λ (o : Option Connection) (b : Bool). cond (is_some o) (cond b (Some 3) None) (Some 2)) got some,
+        ap₂ (λ (o : Option Connection) (b : Bool). cond (is_some o) (cond b (Some no_lines) None) (Some unknown_id)) got some,
         ap (λ (o : Option Connection). unwrap_or (option_map (λ x. is_watching x.standing) o) false) got ∙ was,
         dies.1,
       ),
       dies.2,
     )
-
--- ---- events in turn
-
-pub comes_refused : (s : State) (id : ℕ) (bytes : List ℕ) (o : Option Connection) (n : ℕ) → fin.get s.connections id ≡ o → cond (is_some o) None (Some 2) ≡ Some n → Steps s (comes id bytes) s
-comes_refused s id bytes None n got is = subst (λ (o : Option Connection). ComesBy s id o bytes s) (sym got) (undecided, refl, refl)
-comes_refused s id bytes (Some c) n got is = absurd cc
-
-pub refused_stays : (s : State) (e : Event) (n : ℕ) → refusal s e ≡ Some n → Steps s e s
-refused_stays s (opens id) n is = (undecided, refl, sym (ap (λ (o : Option ℕ). unless_refused o s (carried_out s (opens id) undecided)) is))
-refused_stays s (comes id bytes) n is = comes_refused s id bytes (fin.get s.connections id) n refl is
-refused_stays s (goes id) n is = (undecided, refl, sym (ap (λ (o : Option ℕ). unless_refused o s (carried_out s (goes id) undecided)) is))
-refused_stays s (pumps id max) n is = (undecided, refl, sym (ap (λ (o : Option ℕ). unless_refused o s (carried_out s (pumps id max) undecided)) is))
-refused_stays s (ticks ms) n is = (undecided, refl, sym (ap (λ (o : Option ℕ). unless_refused o s (carried_out s (ticks ms) undecided)) is))
-refused_stays s (compacts c) n is = (undecided, refl, sym (ap (λ (o : Option ℕ). unless_refused o s (carried_out s (compacts c) undecided)) is))
-
-pub runs_on : (r s t : State) (before : List Happening) (h : Happening) → Runs r before s → Follows s h t → Runs r (before ++ h ∷ []) t
-runs_on r s t [] h start follows = (t, subst (λ (x : State). Follows x h t) start follows, refl)
-runs_on r s t (g ∷ before) h (mid, first, rest) follows = (mid, first, runs_on mid s t before h rest follows)
-
--- what happened, and the state after it
-abbrev pub FollowsIn : {A H : Type 0} → (H → State → Type 0) → State → Event → Result A HubFault → H → Type 0
-FollowsIn In s e result new = (h : Happening) × (t : State) × Happened e result h × Follows s h t × In new t
-
-abbrev pub StarvesIn : {H : Type 0} → (H → State → Type 0) → State → Event → H → Type 0
-StarvesIn In s e new = (which : ℕ → Bool) × (t : State) × Starves s e which t × In new t
-
-pub follows : {A H : Type 0} (In : H → State → Type 0) (s : State) (e : Event) (old new : H) (result : Result A HubFault) → In old s
-    → OnOk result ((t : State) × Steps s e t × In new t) → refusal_number result ≡ refusal s e → (refusal_number result ≢ None → new ≡ old)
-    → (found_none result ≡ true → StarvesIn In s e new) → FollowsIn In s e result new
-follows In s e old new (Ok a) is (t, steps, now) denied same memory = (happens e, t, refl, steps, now)
-follows In s e old new (Err IdNotAbove) is ok denied same memory =
-    (happens e, s, refl, refused_stays s e 1 (sym denied), subst (λ h. In h s) (sym (same (λ n. absurd cc))) is)
-follows In s e old new (Err UnknownId) is ok denied same memory =
-    (happens e, s, refl, refused_stays s e 2 (sym denied), subst (λ h. In h s) (sym (same (λ n. absurd cc))) is)
-follows In s e old new (Err NoLines) is ok denied same memory =
-    (happens e, s, refl, refused_stays s e 3 (sym denied), subst (λ h. In h s) (sym (same (λ n. absurd cc))) is)
-follows In s e old new (Err TickBack) is ok denied same memory =
-    (happens e, s, refl, refused_stays s e 4 (sym denied), subst (λ h. In h s) (sym (same (λ n. absurd cc))) is)
-follows In s e old new (Err CompactionRefused) is ok denied same memory =
-    (happens e, s, refl, refused_stays s e 5 (sym denied), subst (λ h. In h s) (sym (same (λ n. absurd cc))) is)
-follows In s e old new (Err Memory) is ok denied same memory =
-    let found = memory refl in (starves e found.0, found.1, (found.0, refl), found.2, found.3)
-follows In s e old new (Err Store) is ok denied same memory =
-    let found = memory refl in (starves e found.0, found.1, (found.0, refl), found.2, found.3)
-
-pub goes_on : {A H : Type 0} (In : H → State → Type 0) (r s : State) (before : List Happening) (e : Event) (result : Result A HubFault) (new : H) → Runs r before s → FollowsIn In s e result new
-    → (h : Happening) × (t : State) × Happened e result h × Runs r (before ++ h ∷ []) t × In new t
-goes_on In r s before e result new ran (h, t, happened, follows, is) = (h, t, happened, runs_on r s t before h ran follows, is)
-
--- ---- what an event does to a hub, in whatever state it is
-
-abbrev pub CarriesOut : {A : Type 0} → Hub → Event → Result A HubFault → Hub → Type 0
-CarriesOut old e result new = (s : State) → IsIn old s → FollowsIn IsIn s e result new
-
-pub carries_out : {A : Type 0} (old new : Hub) (taken : events.Event) (e : Event) (result : Result A HubFault) → event_of taken ≡ e
-    → ((s : State) → IsIn old s → OnOk result ((t : State) × Steps s e t × IsIn new t)) → ((s : State) → IsIn old s → refusal_number result ≡ refusal s e)
-    → (refusal_number result ≢ None → new ≡ old) → ((s : State) → IsIn old s → found_none result ≡ true → StarvesIn IsIn s e new) → CarriesOut old (event_of taken) result new
-carries_out old new taken e result is_of ok denied same memory =
-    subst (λ (x : Event). CarriesOut old x result new) (sym is_of) (λ s is. follows IsIn s e old new result is (ok s is) (denied s is) same (memory s is))
-
-pub runs_out : {A : Type 0} (old new : Hub) (e : Event) (result : Result A HubFault) → CarriesOut old e result new → (r s : State) (before : List Happening) → Runs r before s → IsIn old s
-    → (h : Happening) × (t : State) × Happened e result h × Runs r (before ++ h ∷ []) t × IsIn new t
-runs_out old new e result carries r s before ran is = goes_on IsIn r s before e result new ran (carries s is)
 
 -- ---- what the hub's calls find
 
@@ -526,7 +460,7 @@ kept_held s api old new count highest held same = record {
 }
 
 pub opens_unrefused : (s : State) (api : Api) (held : Held) (count : ℕ) (highest : Option ℕ) (id : ℕ) → Represents api held count highest s → is_above highest id ≡ true → refusal s (opens id) ≡ None
-opens_unrefused s api held count highest id is above = ap (λ (b : Bool). cond b None (Some 1)) (is.highest_is id ∙ above)
+opens_unrefused s api held count highest id is above = ap (λ (b : Bool). cond b None (Some id_not_above)) (is.highest_is id ∙ above)
 
 pub mapped_some : (o : Option conns.Connection) (b : Bool) → option_map is_open_in o ≡ Some b → (d : conns.Connection) × (o ≡ Some d) × (is_open_in d ≡ b)
 mapped_some None b is = absurd cc
@@ -545,19 +479,19 @@ within low c high above below = elim (leb_tells low c) [
 ]
 
 unrefused : (s : State) (c : ℕ) → (c < s.machine.compacted → ⊥) → (s.machine.current < c → ⊥) → refusal s (compacts c) ≡ None
-unrefused s c above below = ap (λ (b : Bool). cond b None (Some 5)) (within s.machine.compacted c s.machine.current above below)
+unrefused s c above below = ap (λ (b : Bool). cond b None (Some compaction_refused)) (within s.machine.compacted c s.machine.current above below)
 
-refused_low : (s : State) (c : ℕ) → c < s.machine.compacted → refusal s (compacts c) ≡ Some 5
-refused_low s c low = ap (λ (b : Bool). cond (b && nat_le c s.machine.current) None (Some 5)) (lt-leb s.machine.compacted c low)
+refused_low : (s : State) (c : ℕ) → c < s.machine.compacted → refusal s (compacts c) ≡ Some compaction_refused
+refused_low s c low = ap (λ (b : Bool). cond (b && nat_le c s.machine.current) None (Some compaction_refused)) (lt-leb s.machine.compacted c low)
 
 no_first : (b : Bool) → b && false ≡ false
 no_first true = refl
 no_first false = refl
 
-refused_high : (s : State) (c : ℕ) → s.machine.current < c → refusal s (compacts c) ≡ Some 5
+refused_high : (s : State) (c : ℕ) → s.machine.current < c → refusal s (compacts c) ≡ Some compaction_refused
 refused_high s c high =
-    ap (λ (b : Bool). cond (nat_le s.machine.compacted c && b) None (Some 5)) (lt-leb c s.machine.current high)
-    ∙ ap (λ (b : Bool). cond b None (Some 5)) (no_first (nat_le s.machine.compacted c))
+    ap (λ (b : Bool). cond (nat_le s.machine.compacted c && b) None (Some compaction_refused)) (lt-leb c s.machine.current high)
+    ∙ ap (λ (b : Bool). cond b None (Some compaction_refused)) (no_first (nat_le s.machine.compacted c))
 
 ok_isnt : {A E : Type 0} (a : A) (e : E) → Ok a ≡ Err e → ⊥
 ok_isnt a e h = cc
@@ -583,10 +517,10 @@ failed_fits A s c r e f (early, late) is failed =
     let back : failed_with A (broken.Failed f) ≡ r = sym (is ∙ ap (failed_with A) failed) in
     unrefused s c (λ h. early_isnt A f (back ∙ early.1 h)) (λ h. late_isnt A f (back ∙ late.1 h))
 
-pub early_refused : (A : Type 0) (s : State) (c : ℕ) (r : Result A CompactFault) (e : CompactFault) → Answers s c r → r ≡ Err e → e ≡ broken.Expired → refusal s (compacts c) ≡ Some 5
+pub early_refused : (A : Type 0) (s : State) (c : ℕ) (r : Result A CompactFault) (e : CompactFault) → Answers s c r → r ≡ Err e → e ≡ broken.Expired → refusal s (compacts c) ≡ Some compaction_refused
 early_refused A s c r e (early, late) is expired = refused_low s c (early.0 (is ∙ ap (failed_with A) expired))
 
-pub late_refused : (A : Type 0) (s : State) (c : ℕ) (r : Result A CompactFault) (e : CompactFault) → Answers s c r → r ≡ Err e → e ≡ broken.TooLarge → refusal s (compacts c) ≡ Some 5
+pub late_refused : (A : Type 0) (s : State) (c : ℕ) (r : Result A CompactFault) (e : CompactFault) → Answers s c r → r ≡ Err e → e ≡ broken.TooLarge → refusal s (compacts c) ≡ Some compaction_refused
 late_refused A s c r e (early, late) is large = refused_high s c (late.0 (is ∙ ap (failed_with A) large))
 
 -- the same connections over another API
@@ -595,7 +529,7 @@ pub compacts_well : (s : State) (c : ℕ) (hub : Hub) (api : Api) → IsIn hub s
 compacts_well s c hub api is free stands =
     let t = with_machine s (compacted_to c s.machine) in (
       t,
-      (undecided, refl, sym (ap (λ (o : Option ℕ). unless_refused o s t) free)),
+      (undecided, refl, sym (ap (λ (o : Option Refusal). unless_refused o s t) free)),
       (record { machine = stands; connections = is.0.connections; count_is = is.0.count_is; highest_is = is.0.highest_is }, is.1, is.2),
     )
 
@@ -605,7 +539,7 @@ same_held s hub api is stands =
 
 -- ---- what failed below
 
-pub no_refusal : (A : Type 0) (f : Fault) → refusal_number {A = A} (Err (hub_fault_of f)) ≡ None
+pub no_refusal : (A : Type 0) (f : Fault) → refusal_in (outcome_of {A = A} (Err (hub_fault_of f))) ≡ None
 no_refusal A failed.Memory = refl
 no_refusal A failed.Store = refl
 no_refusal A failed.Unreadable = refl

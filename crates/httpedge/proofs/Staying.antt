@@ -7,8 +7,8 @@ use Rattle.std.specs.Ordering.{nat_cmp, eq_by_cmp}
 use Rattle.schema.specs.TypesFile.{ServedShape}
 use Rattle.requests.specs.Asks.{CallDecision}
 use Rattle.httpedge.specs.Connections.{Connection, Connections, Standing, waiting, watching, ended, gone, each, ended_on, has_ended, is_new, is_open, is_watching, watching_on, with_standing, with_taken}
-use Rattle.httpedge.specs.Runs.{Follows, Happening, HappensElsewhere, IsElsewhere, Steps, happens, starves, takes}
-use Rattle.httpedge.specs.Steps.{Event, State, opens, comes, goes, pumps, ticks, compacts, after_turn, by_connection, dead, dead_or_ticked, opening, received_by, refusal, starved, carried_out, unless_refused, with_connection, with_turn, writes_at, Starves}
+use Rattle.httpedge.specs.Runs.{Follows, Happening, HappensElsewhere, IsElsewhere, Steps, happens, starves, subject, takes}
+use Rattle.httpedge.specs.Steps.{Event, Refusal, State, id_not_above, opens, comes, goes, pumps, ticks, compacts, after_turn, by_connection, dead, dead_or_ticked, opening, received_by, refusal, starved, carried_out, unless_refused, with_connection, with_turn, writes_at, Starves}
 use Rattle.httpedge.specs.Watches.{Turn, Watch, pumped, ticked}
 use Rattle.httpedge.proofs.Connected.{got_each, tied_same, unknown}
 
@@ -36,7 +36,7 @@ received_elsewhere s id q c (watching w) bytes asked isnt = refl
 received_elsewhere s id q c ended bytes asked isnt = refl
 received_elsewhere s id q c (gone had_ended) bytes asked isnt = refl
 
-carried_elsewhere : (s : State) (e : Event) (asked : CallDecision) (q : ℕ) → IsElsewhere e q → fin.get (carried_out s e asked).connections q ≡ fin.get s.connections q
+carried_elsewhere : (s : State) (e : Event) (asked : CallDecision) (q : ℕ) → IsElsewhere (subject e) q → fin.get (carried_out s e asked).connections q ≡ fin.get s.connections q
 carried_elsewhere s (opens id) asked q isnt = put_elsewhere s.connections id q (opening s.connections) isnt
 carried_elsewhere s (comes id bytes) asked q isnt =
     by_elsewhere s q (fin.get s.connections id) _ (λ c. received_elsewhere s id q c c.standing bytes asked isnt)
@@ -45,11 +45,11 @@ carried_elsewhere s (pumps id max) asked q isnt = by_elsewhere s q (fin.get s.co
 carried_elsewhere s (ticks ms) asked q isnt = absurd isnt
 carried_elsewhere s (compacts c) asked q isnt = refl
 
-unless_elsewhere : (s t : State) (o : Option ℕ) (q : ℕ) → fin.get t.connections q ≡ fin.get s.connections q → fin.get (unless_refused o s t).connections q ≡ fin.get s.connections q
+unless_elsewhere : (s t : State) (o : Option Refusal) (q : ℕ) → fin.get t.connections q ≡ fin.get s.connections q → fin.get (unless_refused o s t).connections q ≡ fin.get s.connections q
 unless_elsewhere s t None q same = same
-unless_elsewhere s t (Some n) q same = refl
+unless_elsewhere s t (Some why) q same = refl
 
-starved_elsewhere : (s : State) (e : Event) (which : ℕ → Bool) (q : ℕ) → IsElsewhere e q → fin.get (starved s e which).connections q ≡ fin.get s.connections q
+starved_elsewhere : (s : State) (e : Event) (which : ℕ → Bool) (q : ℕ) → IsElsewhere (subject e) q → fin.get (starved s e which).connections q ≡ fin.get s.connections q
 starved_elsewhere s (opens id) which q isnt = refl
 starved_elsewhere s (comes id bytes) which q isnt = by_elsewhere s q (fin.get s.connections id) _ (λ c. put_elsewhere s.connections id q _ isnt)
 starved_elsewhere s (goes id) which q isnt = refl
@@ -160,14 +160,14 @@ of_ended : (all : Connections) (id : ℕ) (c : Connection) → fin.get all id �
 of_ended all id c at is = sym (ap ended_in at) ∙ is
 
 opened_ended : (s : State) (id q : ℕ) (b : Bool) → is_new s.connections id ≡ b → ended_on s.connections q ≡ true
-    → ended_on (unless_refused (cond b None (Some 1)) s (with_connection s id (opening s.connections))).connections q ≡ true
+    → ended_on (unless_refused (cond b None (Some id_not_above)) s (with_connection s id (opening s.connections))).connections q ≡ true
 opened_ended s id q true new is =
     put_ended s.connections id q (opening s.connections) (λ e. absurd (wrong (sym (ap ended_in (unknown s.connections id (fin.get s.connections id) refl new)) ∙ e))) is
 opened_ended s id q false new is = is
 
-unless_ended : (s t : State) (o : Option ℕ) (q : ℕ) → ended_on t.connections q ≡ true → ended_on s.connections q ≡ true → ended_on (unless_refused o s t).connections q ≡ true
+unless_ended : (s t : State) (o : Option Refusal) (q : ℕ) → ended_on t.connections q ≡ true → ended_on s.connections q ≡ true → ended_on (unless_refused o s t).connections q ≡ true
 unless_ended s t None q then is = then
-unless_ended s t (Some n) q then is = is
+unless_ended s t (Some why) q then is = is
 
 stepped_ended : (s : State) (e : Event) (asked : CallDecision) (q : ℕ) → ended_on s.connections q ≡ true → ended_on (unless_refused (refusal s e) s (carried_out s e asked)).connections q ≡ true
 stepped_ended s (opens id) asked q is = opened_ended s id q (is_new s.connections id) refl is

@@ -19,7 +19,7 @@ use Rattle.httpedge.specs.Connections.{Connection, Connections, Standing, waitin
 use Rattle.requests.specs.Decision.{undecided}
 use Rattle.httpedge.specs.Held.{Holds, HoldsAt, Lists, PutAt, Represents, count_after, is_open_in}
 use Rattle.httpedge.specs.Runs.{Steps}
-use Rattle.httpedge.specs.Steps.{State, ticks, dead_or_ticked, refusal, unless_refused, with_tick, with_turn, writes_at, Starves}
+use Rattle.httpedge.specs.Steps.{Refusal, State, tick_back, ticks, dead_or_ticked, refusal, unless_refused, with_tick, with_turn, writes_at, Starves}
 use Rattle.httpedge.specs.Ticks.{HoldsAll, TicksAll, TicksAt, TicksOne, due_on, put_where, ticked_all, ticked_at}
 use Rattle.httpedge.specs.Watches.{ticked}
 use Rattle.httpedge.proofs.Connected.{Entries, changed, got_each, ids, itself, put_there, sorted_same, tied_same}
@@ -285,7 +285,7 @@ ticked_in s ms which api old new count count' highest old_ids new_ids held liste
     )
 
 not_back : (s : State) (ms last_tick : ℕ) → last_tick ≡ s.last_tick → nat_lt ms last_tick ≡ false → refusal s (ticks ms) ≡ None
-not_back s ms last_tick same forward = ap (λ (b : Bool). cond b (Some 4) None) (ap (nat_lt ms) (sym same) ∙ forward)
+not_back s ms last_tick same forward = ap (λ (b : Bool). cond b (Some tick_back) None) (ap (nat_lt ms) (sym same) ∙ forward)
 
 pub ticks_well : (s : State) (ms last_tick : ℕ) (api : Api) (old new : Held) (count : ℕ) (highest : Option ℕ) (ids ids' : BTreeSet ℕ) (r : ℕ × Bool) → Represents api old count highest s
     → last_tick ≡ s.last_tick → Lists ids s.connections → nat_lt ms last_tick ≡ false → TicksAll s.types ms s.connections new r → r.1 ≡ false
@@ -296,7 +296,7 @@ ticks_well s ms last_tick api old new count highest old_ids new_ids r held same 
     let all : ticked_all s.types ms which s.connections ≡ each g s.connections =
     each_same _ g s.connections (λ q c. ap (λ (b : Bool). dead_or_ticked s.types ms b c) (none fine q)) in (
       with_tick s ms (each g s.connections),
-      (undecided, refl, sym (ap (λ (o : Option ℕ). unless_refused o s (with_tick s ms (each g s.connections))) (not_back s ms last_tick same forward))),
+      (undecided, refl, sym (ap (λ (o : Option Refusal). unless_refused o s (with_tick s ms (each g s.connections))) (not_back s ms last_tick same forward))),
       subst (λ (cs : Connections). IsInState api new r.0 highest ms new_ids (with_tick s ms cs)) all (ticked_in s ms which api old new count r.0 highest old_ids new_ids held listed holds counted kept),
     )
 

@@ -1,5 +1,5 @@
 -- While nothing is taken of a connection and its peer doesn't go, all that was written on it is out.
-use Rattle.std.proofs.Common.{◌≡◌, ℕ, Bool, true, false, cond, List, drop, Option, Some, None, refl, sym, ap, subst, ◌∙◌}
+use Rattle.std.proofs.Common.{◌≡◌, ◌≢◌, ℕ, Bool, true, false, cond, List, drop, Option, Some, None, refl, sym, ap, subst, ◌∙◌}
 use Rattle.std.specs.Prelude.{◌&&◌, option_map, unwrap_or}
 use Rattle.std.specs.Cmp.{nat_cmp_total}
 use Rattle.std.specs.FinMap as fin
@@ -10,8 +10,8 @@ use Rattle.requests.specs.Asks.{CallDecision}
 use Rattle.httpedge.specs.Connections.{AllIsOut, Connection, Connections, IsUntaken, Standing, waiting, watching, ended, gone, each, has_gone, is_open, left_out, opened, out_of, out_on, with_standing, with_written, written_on}
 use Rattle.requests.specs.Decision.{undecided, refused, accepted}
 use Rattle.requests.specs.Refusals.{as_denied, too_many_connections}
-use Rattle.httpedge.specs.Runs.{Follows, Happening, IsNoGoing, LeavesOut, Steps, happens, peer_goes, starves, takes}
-use Rattle.httpedge.specs.Steps.{Event, State, opens, comes, goes, pumps, ticks, compacts, after_turn, answer_standing, by_connection, connection_after, dead, dead_or_ticked, opening, received_by, refusal, standing_after, start, starved, carried_out, unless_refused, with_turn, writes_at}
+use Rattle.httpedge.specs.Runs.{Follows, Happening, LeavesOut, Steps, happens, peer_goes, starves, takes}
+use Rattle.httpedge.specs.Steps.{Event, Refusal, State, opens, comes, goes, pumps, ticks, compacts, after_turn, answer_standing, by_connection, connection_after, dead, dead_or_ticked, opening, received_by, refusal, standing_after, start, starved, carried_out, unless_refused, with_turn, writes_at}
 use Rattle.requests.specs.Replies.{refusal_reply}
 use Rattle.httpedge.specs.Watches.{Turn, Watch, pumped, ticked}
 use Rattle.watchline.specs.Opening.{WatchFrom}
@@ -89,19 +89,19 @@ received_one s id q c (watching w) bytes asked got out = out
 received_one s id q c ended bytes asked got out = out
 received_one s id q c (gone had_ended) bytes asked got out = out
 
-carried_one : (s : State) (e : Event) (asked : CallDecision) (q : ℕ) → IsNoGoing e q → IsUntaken (fin.get s.connections q) → IsUntaken (fin.get (carried_out s e asked).connections q)
+carried_one : (s : State) (e : Event) (asked : CallDecision) (q : ℕ) → e ≢ goes q → IsUntaken (fin.get s.connections q) → IsUntaken (fin.get (carried_out s e asked).connections q)
 carried_one s (opens id) asked q stays out = put_one s.connections id q (opening s.connections) (λ same. opened_untaken _ (refusal_reply (as_denied too_many_connections))) out
 carried_one s (comes id bytes) asked q stays out = by_one s q (fin.get s.connections id) _ out (λ c got. received_one s id q c c.standing bytes asked got out)
-carried_one s (goes id) asked q stays out = by_one s q (fin.get s.connections id) _ out (λ c got. put_one s.connections id q _ (λ same. absurd (stays same)) out)
+carried_one s (goes id) asked q stays out = by_one s q (fin.get s.connections id) _ out (λ c got. put_one s.connections id q _ (λ same. absurd (stays (ap goes (sym same)))) out)
 carried_one s (pumps id max) asked q stays out =
     let turn = pumped s.machine max in
     by_one s q (fin.get s.connections id) _ out (λ c got. put_one s.connections id q (with_turn turn c) (λ same. turn_untaken turn c c.standing (this_one s.connections id q c got out same)) out)
 carried_one s (ticks ms) asked q stays out = each_one (λ id c. with_turn (ticked s.types ms) c) s.connections q (λ c is. turn_untaken (ticked s.types ms) c c.standing is) out
 carried_one s (compacts c) asked q stays out = out
 
-unless_one : (s t : State) (o : Option ℕ) (q : ℕ) → IsUntaken (fin.get t.connections q) → IsUntaken (fin.get s.connections q) → IsUntaken (fin.get (unless_refused o s t).connections q)
+unless_one : (s t : State) (o : Option Refusal) (q : ℕ) → IsUntaken (fin.get t.connections q) → IsUntaken (fin.get s.connections q) → IsUntaken (fin.get (unless_refused o s t).connections q)
 unless_one s t None q then out = then
-unless_one s t (Some n) q then out = out
+unless_one s t (Some why) q then out = out
 
 dead_by : (b : Bool) (c : Connection) → IsUntaken (Some c) → IsUntaken (Some (cond b (with_standing c ended) c))
 dead_by true c is = (is.0, refl)
@@ -134,13 +134,11 @@ one_written all id is = out_is_written (fin.get all id) _ is
 
 -- ---- all connections
 
-no_going : (e : Event) (q : ℕ) → peer_goes e ≡ false → IsNoGoing e q
-no_going (opens id) q stays = tt
-no_going (comes id bytes) q stays = tt
-no_going (goes id) q stays = absurd cc
-no_going (pumps id max) q stays = tt
-no_going (ticks ms) q stays = tt
-no_going (compacts c) q stays = tt
+goes_not : true ≡ false → ⊥
+goes_not e = cc
+
+no_going : (e : Event) (q : ℕ) → peer_goes e ≡ false → e ≢ goes q
+no_going e q stays is = goes_not (sym (ap peer_goes is) ∙ stays)
 
 pub all_written : (all : Connections) (id : ℕ) → AllIsOut all → out_on all id ≡ written_on all id
 all_written all id is = one_written all id (is id)

@@ -9,7 +9,7 @@ use Rattle.httpedge.specs.declared.fault.HubFault.TheVariants as fault
 use Rattle.httpedge.specs.declared.hub.Hub as hubs
 use Rattle.httpedge.specs.Held.{Lists, Represents}
 use Rattle.httpedge.specs.Runs.{Happening, happens, starves}
-use Rattle.httpedge.specs.Steps.{Event, State, opens, comes, goes, pumps, ticks, compacts}
+use Rattle.httpedge.specs.Steps.{Event, Refusal, State, opens, comes, goes, pumps, ticks, compacts, id_not_above, unknown_id, no_lines, tick_back, compaction_refused}
 
 abbrev pub event_of : events.Event → Event
 event_of (event.Open id) = opens id
@@ -23,17 +23,6 @@ event_of (event.Compact c) = compacts c
 abbrev pub IsIn : hubs.Hub → State → Type 0
 IsIn hub s = Represents hub.api hub.connections hub.open_count hub.highest s × (hub.last_tick ≡ s.last_tick) × Lists hub.open_ids s.connections
 
--- the number of a refusal; done, or without memory, is none
-abbrev pub refusal_number : {A : Type 0} → Result A faults.HubFault → Option ℕ
-refusal_number (Ok a) = None
-refusal_number (Err fault.IdNotAbove) = Some 1
-refusal_number (Err fault.UnknownId) = Some 2
-refusal_number (Err fault.NoLines) = Some 3
-refusal_number (Err fault.TickBack) = Some 4
-refusal_number (Err fault.CompactionRefused) = Some 5
-refusal_number (Err fault.Memory) = None
-refusal_number (Err fault.Store) = None
-
 -- which events ask the store: bytes, which may be a call, a pump, a compaction
 abbrev pub asks_store : Event → Bool
 asks_store (opens id) = false
@@ -43,28 +32,30 @@ asks_store (pumps id max) = true
 asks_store (ticks ms) = false
 asks_store (compacts c) = true
 
--- no memory was found, or the store failed
-abbrev pub found_none : {A : Type 0} → Result A faults.HubFault → Bool
-found_none (Ok a) = false
-found_none (Err fault.IdNotAbove) = false
-found_none (Err fault.UnknownId) = false
-found_none (Err fault.NoLines) = false
-found_none (Err fault.TickBack) = false
-found_none (Err fault.CompactionRefused) = false
-found_none (Err fault.Memory) = true
-found_none (Err fault.Store) = true
+-- how a call of the hub ends: the event was not refused; it was; no memory was found, or the store failed
+pub data Outcome : Type 0 where
+  done : Outcome
+  refused : Refusal → Outcome
+  starved : Outcome
 
--- the event found no memory, at a tick on some connections
-abbrev pub HasStarved : Event → Happening → Type 0
-HasStarved e h = (which : ℕ → Bool) × (h ≡ starves e which)
+abbrev pub outcome_of : {A : Type 0} → Result A faults.HubFault → Outcome
+outcome_of (Ok a) = done
+outcome_of (Err fault.IdNotAbove) = refused id_not_above
+outcome_of (Err fault.UnknownId) = refused unknown_id
+outcome_of (Err fault.NoLines) = refused no_lines
+outcome_of (Err fault.TickBack) = refused tick_back
+outcome_of (Err fault.CompactionRefused) = refused compaction_refused
+outcome_of (Err fault.Memory) = starved
+outcome_of (Err fault.Store) = starved
 
--- what happened, by the event and what was answered: the event, refused or not, or one that found no memory
-abbrev pub Happened : {A : Type 0} → Event → Result A faults.HubFault → Happening → Type 0
-Happened e (Ok a) h = h ≡ happens e
-Happened e (Err fault.IdNotAbove) h = h ≡ happens e
-Happened e (Err fault.UnknownId) h = h ≡ happens e
-Happened e (Err fault.NoLines) h = h ≡ happens e
-Happened e (Err fault.TickBack) h = h ≡ happens e
-Happened e (Err fault.CompactionRefused) h = h ≡ happens e
-Happened e (Err fault.Memory) h = HasStarved e h
-Happened e (Err fault.Store) h = HasStarved e h
+abbrev pub refusal_in : Outcome → Option Refusal
+refusal_in done = None
+refusal_in (refused why) = Some why
+refusal_in starved = None
+
+-- what happened, by the event and how the call of it ended: the event, refused or not, or one that found no memory, at a tick on some
+-- connections
+abbrev pub Happened : Event → Outcome → Happening → Type 0
+Happened e done h = h ≡ happens e
+Happened e (refused why) h = h ≡ happens e
+Happened e starved h = (which : ℕ → Bool) × (h ≡ starves e which)

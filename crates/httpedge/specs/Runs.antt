@@ -1,6 +1,8 @@
 -- Events in turn: what the bytes of each ask, and the state after all of them.
-use Rattle.std.specs.Prelude.{◌≡◌, ◌≢◌, ℕ, Bool, true, false, List, [], ◌∷◌, ◌++◌, Option, Some, None, option_and_then, ⊤}
+use Rattle.std.specs.Prelude.{◌≡◌, ◌≢◌, ◌≤◌, ℕ, Bool, true, false, List, [], ◌∷◌, ◌++◌, Option, Some, None, option_and_then, ⊤}
 use Rattle.std.specs.FinMap as fin
+use Rattle.history.specs.History.{Change}
+use Rattle.history.specs.Whole.{IsGapless}
 use Rattle.requests.specs.Asks.{CallDecision, Asks}
 use Rattle.httpedge.specs.Connections.{Standing, waiting, watching, ended, gone}
 use Rattle.requests.specs.Decision.{undecided}
@@ -18,11 +20,7 @@ all_bytes (gone had_ended) bytes = None
 -- all the bytes of the connection on which an event brings some, where it waits for them
 abbrev pub bytes_at : State → Event → Option (List ℕ)
 bytes_at s (comes id bytes) = option_and_then (λ c. all_bytes c.standing bytes) (fin.get s.connections id)
-bytes_at s (opens id) = None
-bytes_at s (goes id) = None
-bytes_at s (pumps id max) = None
-bytes_at s (ticks ms) = None
-bytes_at s (compacts c) = None
+bytes_at s _ = None
 
 -- what bytes ask; where none came nothing is decided
 abbrev pub AsksIf : State → Option (List ℕ) → CallDecision → Type 0
@@ -52,43 +50,66 @@ abbrev pub Runs : State → List Happening → State → Type 0
 Runs s [] t = t ≡ s
 Runs s (h ∷ hs) t = (mid : State) × Follows s h mid × Runs mid hs t
 
--- ---- where it happens
+-- ---- where it happens, and what comes
 
--- an event of one connection is not on this one; a tick is on all
-abbrev pub IsElsewhere : Event → ℕ → Type 0
-IsElsewhere (opens id) other = other ≢ id
-IsElsewhere (comes id bytes) other = other ≢ id
-IsElsewhere (goes id) other = other ≢ id
-IsElsewhere (pumps id max) other = other ≢ id
-IsElsewhere (ticks ms) other = ⊥
-IsElsewhere (compacts c) other = ⊤
+-- the connections that it is of: one, all, or none
+pub data Subject : Type 0 where
+  connection : ℕ → Subject
+  all_connections : Subject
+  no_connection : Subject
+
+abbrev pub subject : Event → Subject
+subject (opens id) = connection id
+subject (comes id bytes) = connection id
+subject (goes id) = connection id
+subject (pumps id max) = connection id
+subject (ticks ms) = all_connections
+subject (compacts c) = no_connection
+
+-- the bytes that it brings
+abbrev pub bytes_of : Event → List ℕ
+bytes_of (comes id bytes) = bytes
+bytes_of _ = []
+
+-- the same of what happens
+abbrev pub happens_on : Happening → Subject
+happens_on (happens e) = subject e
+happens_on (starves e found_none) = subject e
+happens_on (takes id n) = connection id
+
+abbrev pub came : Happening → List ℕ
+came (happens e) = bytes_of e
+came (starves e found_none) = bytes_of e
+came (takes id n) = []
+
+-- it is not of this connection
+abbrev pub IsElsewhere : Subject → ℕ → Type 0
+IsElsewhere (connection id) other = other ≢ id
+IsElsewhere all_connections other = ⊥
+IsElsewhere no_connection other = ⊤
 
 abbrev pub HappensElsewhere : Happening → ℕ → Type 0
-HappensElsewhere (happens e) other = IsElsewhere e other
-HappensElsewhere (starves e found_none) other = IsElsewhere e other
-HappensElsewhere (takes id n) other = other ≢ id
+HappensElsewhere h other = IsElsewhere (happens_on h) other
 
 -- ---- what is out of a connection
 
--- the event isn't that the peer of this connection goes
-abbrev pub IsNoGoing : Event → ℕ → Type 0
-IsNoGoing (opens id) q = ⊤
-IsNoGoing (comes id bytes) q = ⊤
-IsNoGoing (goes id) q = q ≢ id
-IsNoGoing (pumps id max) q = ⊤
-IsNoGoing (ticks ms) q = ⊤
-IsNoGoing (compacts c) q = ⊤
-
 -- no bytes are taken of this connection, and its peer doesn't go
 abbrev pub LeavesOut : Happening → ℕ → Type 0
-LeavesOut (happens e) q = IsNoGoing e q
+LeavesOut (happens e) q = e ≢ goes q
 LeavesOut (starves e found_none) q = ⊤
 LeavesOut (takes id n) q = q ≢ id
 
+-- a peer goes
 abbrev pub peer_goes : Event → Bool
-peer_goes (opens id) = false
-peer_goes (comes id bytes) = false
 peer_goes (goes id) = true
-peer_goes (pumps id max) = false
-peer_goes (ticks ms) = false
-peer_goes (compacts c) = false
+peer_goes _ = false
+
+-- ---- what it adds
+
+-- t is a later state of the hub: its types are the same, changes were added, each of the next revision, none is lost, and neither number
+-- went down
+pub record HasGrown (s t : State) : Type 0 where
+  pub types : t.types ≡ s.types
+  pub changes : (more : List Change) × (t.machine.changes ≡ s.machine.changes ++ more) × IsGapless s.machine.current more t.machine.current
+  pub current : s.machine.current ≤ t.machine.current
+  pub compacted : s.machine.compacted ≤ t.machine.compacted

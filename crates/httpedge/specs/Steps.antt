@@ -38,18 +38,25 @@ pub data Event : Type 0 where
 
 -- ---- why an event is refused
 
-abbrev pub unless_known : Connections → ℕ → Option ℕ → Option ℕ
-unless_known all id other = if is_known all id then other else Some 2
+-- the id is not above all earlier ones; it is unknown; a pump of no lines; a tick that goes back; a compaction below the compacted number or
+-- past the current one. They stand in their order: of several causes the first counts
+pub data Refusal : Type 0 where
+  id_not_above : Refusal
+  unknown_id : Refusal
+  no_lines : Refusal
+  tick_back : Refusal
+  compaction_refused : Refusal
 
--- by the number of the cause, and of several by the least: 1 the id is not above all earlier ones; 2 it is unknown; 3 a pump of no lines;
--- 4 a tick that goes back; 5 a compaction below the compacted number or past the current one
-abbrev pub refusal : State → Event → Option ℕ
-refusal s (opens id) = if is_new s.connections id then None else Some 1
+abbrev pub unless_known : Connections → ℕ → Option Refusal → Option Refusal
+unless_known all id other = if is_known all id then other else Some unknown_id
+
+abbrev pub refusal : State → Event → Option Refusal
+refusal s (opens id) = if is_new s.connections id then None else Some id_not_above
 refusal s (comes id bytes) = unless_known s.connections id None
 refusal s (goes id) = unless_known s.connections id None
-refusal s (pumps id max) = unless_known s.connections id (if max == 0 then Some 3 else None)
-refusal s (ticks ms) = if nat_lt ms s.last_tick then Some 4 else None
-refusal s (compacts c) = if nat_le s.machine.compacted c && nat_le c s.machine.current then None else Some 5
+refusal s (pumps id max) = unless_known s.connections id (if max == 0 then Some no_lines else None)
+refusal s (ticks ms) = if nat_lt ms s.last_tick then Some tick_back else None
+refusal s (compacts c) = if nat_le s.machine.compacted c && nat_le c s.machine.current then None else Some compaction_refused
 
 -- ---- parts of a state
 
@@ -148,9 +155,9 @@ carried_out s (ticks ms) asked = with_tick s ms (each (λ id c. with_turn (ticke
 -- no change is lost: the compacted number alone is another
 carried_out s (compacts c) asked = with_machine s (compacted_to c s.machine)
 
-abbrev pub unless_refused : Option ℕ → State → State → State
+abbrev pub unless_refused : Option Refusal → State → State → State
 unless_refused None s t = t
-unless_refused (Some n) s t = s
+unless_refused (Some why) s t = s
 
 -- a refused event changes nothing
 abbrev pub stepped : State → Event → CallDecision → State

@@ -6,7 +6,7 @@ ghost use Rattle.history.specs.History.{History};
 ghost use Rattle.verbs.specs.Seen.{Stands};
 ghost use Rattle.httpedge.specs.Connections.{ended_on, out_on, waiting_on};
 ghost use Rattle.httpedge.specs.Held.{is_above};
-ghost use Rattle.httpedge.specs.HubSeen.{Happened, IsIn, asks_store, event_of, found_none, refusal_number};
+ghost use Rattle.httpedge.specs.HubSeen.{Happened, IsIn, asks_store, event_of, outcome_of, refusal_in, starved};
 ghost use Rattle.httpedge.specs.Runs.{Follows, Happening, Runs, Steps, takes};
 ghost use Rattle.httpedge.specs.Steps.{State, comes, compacts, goes, opens, pumps, refusal, start, ticks, with_bytes_taken, Starves};
 
@@ -80,9 +80,9 @@ impl Hub {
 
     fn open(&mut self, id: u64) -> Result<(), HubFault>
         ensures ok { (s : State) → IsIn self.old s → OnOk result ((t : State) × Steps s (opens id) t × IsIn self.new t) }
-        ensures refused { (s : State) → IsIn self.old s → refusal_number result ≡ refusal s (opens id) }
-        ensures unchanged { refusal_number result ≢ None → self.new ≡ self.old }
-        ensures memory { (s : State) → IsIn self.old s → found_none result ≡ true → (which : ℕ → Bool) × (t : State) × Starves s (opens id) which t × IsIn self.new t }
+        ensures refused { (s : State) → IsIn self.old s → refusal_in (outcome_of result) ≡ refusal s (opens id) }
+        ensures unchanged { refusal_in (outcome_of result) ≢ None → self.new ≡ self.old }
+        ensures memory { (s : State) → IsIn self.old s → outcome_of result ≡ starved → (which : ℕ → Bool) × (t : State) × Starves s (opens id) which t × IsIn self.new t }
         ensures store { result ≢ Err HubFault.Store }
     {
         if !is_above(self.highest, id) {
@@ -99,9 +99,9 @@ impl Hub {
 
     fn receive(&mut self, id: u64, bytes: &[u8]) -> Result<(), HubFault>
         ensures ok { (s : State) → IsIn self.old s → OnOk result ((t : State) × Steps s (comes id bytes.now) t × IsIn self.new t) }
-        ensures refused { (s : State) → IsIn self.old s → refusal_number result ≡ refusal s (comes id bytes.now) }
-        ensures unchanged { refusal_number result ≢ None → self.new ≡ self.old }
-        ensures memory { (s : State) → IsIn self.old s → found_none result ≡ true → (which : ℕ → Bool) × (t : State) × Starves s (comes id bytes.now) which t × IsIn self.new t }
+        ensures refused { (s : State) → IsIn self.old s → refusal_in (outcome_of result) ≡ refusal s (comes id bytes.now) }
+        ensures unchanged { refusal_in (outcome_of result) ≢ None → self.new ≡ self.old }
+        ensures memory { (s : State) → IsIn self.old s → outcome_of result ≡ starved → (which : ℕ → Bool) × (t : State) × Starves s (comes id bytes.now) which t × IsIn self.new t }
     {
         let Some(was_open) = open_at(&self.connections, id) else {
             return Err(HubFault::UnknownId);
@@ -120,9 +120,9 @@ impl Hub {
 
     fn go(&mut self, id: u64) -> Result<(), HubFault>
         ensures ok { (s : State) → IsIn self.old s → OnOk result ((t : State) × Steps s (goes id) t × IsIn self.new t) }
-        ensures refused { (s : State) → IsIn self.old s → refusal_number result ≡ refusal s (goes id) }
-        ensures unchanged { refusal_number result ≢ None → self.new ≡ self.old }
-        ensures memory { (s : State) → IsIn self.old s → found_none result ≡ true → (which : ℕ → Bool) × (t : State) × Starves s (goes id) which t × IsIn self.new t }
+        ensures refused { (s : State) → IsIn self.old s → refusal_in (outcome_of result) ≡ refusal s (goes id) }
+        ensures unchanged { refusal_in (outcome_of result) ≢ None → self.new ≡ self.old }
+        ensures memory { (s : State) → IsIn self.old s → outcome_of result ≡ starved → (which : ℕ → Bool) × (t : State) × Starves s (goes id) which t × IsIn self.new t }
         ensures store { result ≢ Err HubFault.Store }
     {
         let Some(was_open) = open_at(&self.connections, id) else {
@@ -135,9 +135,9 @@ impl Hub {
 
     fn pump(&mut self, id: u64, max: u64) -> Result<(), HubFault>
         ensures ok { (s : State) → IsIn self.old s → OnOk result ((t : State) × Steps s (pumps id max) t × IsIn self.new t) }
-        ensures refused { (s : State) → IsIn self.old s → refusal_number result ≡ refusal s (pumps id max) }
-        ensures unchanged { refusal_number result ≢ None → self.new ≡ self.old }
-        ensures memory { (s : State) → IsIn self.old s → found_none result ≡ true → (which : ℕ → Bool) × (t : State) × Starves s (pumps id max) which t × IsIn self.new t }
+        ensures refused { (s : State) → IsIn self.old s → refusal_in (outcome_of result) ≡ refusal s (pumps id max) }
+        ensures unchanged { refusal_in (outcome_of result) ≢ None → self.new ≡ self.old }
+        ensures memory { (s : State) → IsIn self.old s → outcome_of result ≡ starved → (which : ℕ → Bool) × (t : State) × Starves s (pumps id max) which t × IsIn self.new t }
     {
         let Some(was_open) = open_at(&self.connections, id) else {
             return Err(HubFault::UnknownId);
@@ -158,9 +158,9 @@ impl Hub {
 
     fn tick(&mut self, ms: u64) -> Result<(), HubFault>
         ensures ok { (s : State) → IsIn self.old s → OnOk result ((t : State) × Steps s (ticks ms) t × IsIn self.new t) }
-        ensures refused { (s : State) → IsIn self.old s → refusal_number result ≡ refusal s (ticks ms) }
-        ensures unchanged { refusal_number result ≢ None → self.new ≡ self.old }
-        ensures memory { (s : State) → IsIn self.old s → found_none result ≡ true → (which : ℕ → Bool) × (t : State) × Starves s (ticks ms) which t × IsIn self.new t }
+        ensures refused { (s : State) → IsIn self.old s → refusal_in (outcome_of result) ≡ refusal s (ticks ms) }
+        ensures unchanged { refusal_in (outcome_of result) ≢ None → self.new ≡ self.old }
+        ensures memory { (s : State) → IsIn self.old s → outcome_of result ≡ starved → (which : ℕ → Bool) × (t : State) × Starves s (ticks ms) which t × IsIn self.new t }
         ensures store { result ≢ Err HubFault.Store }
     {
         if ms < self.last_tick {
@@ -185,9 +185,9 @@ impl Hub {
 
     fn compact(&mut self, revision: u64) -> Result<(), HubFault>
         ensures ok { (s : State) → IsIn self.old s → OnOk result ((t : State) × Steps s (compacts revision) t × IsIn self.new t) }
-        ensures refused { (s : State) → IsIn self.old s → refusal_number result ≡ refusal s (compacts revision) }
-        ensures unchanged { refusal_number result ≢ None → self.new ≡ self.old }
-        ensures memory { (s : State) → IsIn self.old s → found_none result ≡ true → (which : ℕ → Bool) × (t : State) × Starves s (compacts revision) which t × IsIn self.new t }
+        ensures refused { (s : State) → IsIn self.old s → refusal_in (outcome_of result) ≡ refusal s (compacts revision) }
+        ensures unchanged { refusal_in (outcome_of result) ≢ None → self.new ≡ self.old }
+        ensures memory { (s : State) → IsIn self.old s → outcome_of result ≡ starved → (which : ℕ → Bool) × (t : State) × Starves s (compacts revision) which t × IsIn self.new t }
     {
         match self.api.compact(revision) {
             Ok(()) => Ok(()),
@@ -204,10 +204,10 @@ impl Hub {
     /// memory. A compaction that fails changes nothing. The store is asked where bytes come, at a pump and at a
     /// compaction: no other event fails by it.
     pub fn on(&mut self, event: &Event) -> Result<(), HubFault>
-        ensures follows { (s : State) → IsIn self.old s → (h : Happening) × (t : State) × Happened (event_of event.now) result h × Follows s h t × IsIn self.new t }
-        ensures runs { (r s : State) (before : List Happening) → Runs r before s → IsIn self.old s → (h : Happening) × (t : State) × Happened (event_of event.now) result h × Runs r (before ++ h ∷ []) t × IsIn self.new t }
-        ensures refused { (s : State) → IsIn self.old s → refusal_number result ≡ refusal s (event_of event.now) }
-        ensures unchanged { refusal_number result ≢ None → self.new ≡ self.old }
+        ensures follows { (s : State) → IsIn self.old s → (h : Happening) × (t : State) × Happened (event_of event.now) (outcome_of result) h × Follows s h t × IsIn self.new t }
+        ensures runs { (r s : State) (before : List Happening) → Runs r before s → IsIn self.old s → (h : Happening) × (t : State) × Happened (event_of event.now) (outcome_of result) h × Runs r (before ++ h ∷ []) t × IsIn self.new t }
+        ensures refused { (s : State) → IsIn self.old s → refusal_in (outcome_of result) ≡ refusal s (event_of event.now) }
+        ensures unchanged { refusal_in (outcome_of result) ≢ None → self.new ≡ self.old }
         ensures store { asks_store (event_of event.now) ≡ false → result ≢ Err HubFault.Store }
     {
         match event {

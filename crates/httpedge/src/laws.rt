@@ -1,13 +1,13 @@
 //! Laws of what a hub does, which crates above build on. Each function does nothing useful; what it promises is the
 //! law. The hub itself stands in `hub`; that clients read what it writes is said in the crate `wire_laws`.
 
-ghost use Rattle.std.specs.Prelude.{◌≡◌, ◌++◌, ℕ, Bool, true, false, List, [], Some, None, drop, option_map, take};
+ghost use Rattle.std.specs.Prelude.{◌≡◌, ◌≤◌, ◌++◌, ℕ, Bool, true, false, List, [], Some, None, drop, option_map, take};
 ghost use Rattle.std.specs.FinMap as fin;
 ghost use Rattle.schema.specs.TypesFile.{ServedShape};
-ghost use Rattle.history.specs.History.{History};
+ghost use Rattle.history.specs.History.{History, up_to};
 ghost use Rattle.verbs.specs.Machine.{IsMachine};
 ghost use Rattle.httpedge.specs.Connections.{AllIsOut, Connection, Connections, IsUntaken, each, ended_on, gone_on, has_gone, out_on, watching_on, written_on};
-ghost use Rattle.httpedge.specs.Runs.{Follows, Happening, HappensElsewhere, LeavesOut, Runs, Steps, bytes_at, peer_goes};
+ghost use Rattle.httpedge.specs.Runs.{Follows, Happening, HappensElsewhere, HasGrown, LeavesOut, Runs, Steps, bytes_at, peer_goes};
 ghost use Rattle.httpedge.specs.Steps.{Event, State, comes, start, ticks, with_bytes_taken, Starves};
 
 use requests::read_head;
@@ -84,4 +84,12 @@ pub fn written_stays()
 /// memory.
 pub fn machines_last()
     ensures { (s t : State) (hs : List Happening) → IsMachine s.types s.machine → Runs s hs t → IsMachine t.types t.machine }
+{}
+
+/// Whatever happens to a hub, its types stay, its history only grows, each change of the next revision, and neither of its
+/// numbers goes down; so the changes up to a revision that has come stay.
+pub fn machines_grow()
+    ensures one { (s t : State) (h : Happening) → Follows s h t → HasGrown s t }
+    ensures all { (s t : State) (hs : List Happening) → Runs s hs t → HasGrown s t }
+    ensures stays { (s t : State) (r : ℕ) → HasGrown s t → r ≤ s.machine.current → up_to r t.machine.changes ≡ up_to r s.machine.changes }
 {}

@@ -8,12 +8,12 @@ use Rattle.std.specs.Io.KnownBytes.{Appends, Consumes, Keeps}
 use Rattle.std.proofs.KnownBytes.{Appends-kept, Appends-nil, Appends-trans, Consumes-nil, Consumes-trans}
 use Rattle.httpedge.specs.Connections.{out_on}
 use Rattle.httpedge.specs.HubSeen.{IsIn}
-use Rattle.httpedge.specs.Runs.{Happening, IsElsewhere, Runs, happens, starves, takes}
-use Rattle.httpedge.specs.Steps.{Event, State, opens, comes, goes, pumps, ticks, compacts, with_bytes_taken}
+use Rattle.httpedge.specs.Runs.{Happening, IsElsewhere, Runs, came, happens, starves, subject, takes}
+use Rattle.httpedge.specs.Steps.{Event, State, comes, with_bytes_taken}
 use Rattle.httpedge.specs.Streams.{Compacts, MovesBy, Hands, HandsIf}
 use Rattle.httpedge.specs.declared.hub.Hub.{Hub}
 use Rattle.httpedge.proofs.Handed.{by_hands, reads_none, runs_then}
-use Rattle.polling.specs.Happens.{Brings, Each, Hears, IsAny, IsComing, IsOn, IsTaking, Leads, LeadsBy, LeadsOn, Tells, came}
+use Rattle.polling.specs.Happens.{Each, Hears, IsAny, IsComing, IsOn, IsTaking, Leads, LeadsBy, LeadsOn, Tells}
 
 wrong : false ≡ true → ⊥
 wrong e = cc
@@ -70,7 +70,7 @@ leads_event x y e P done none hands = λ s is.
     let one = hands s is in
     (one.1.0 ∷ [], one.0, (one.0, one.1.2, refl), (by_hands e P done none one.1.0 one.1.1, tt), one.2)
 
-pub leads_on : (id : ℕ) (x y : Hub) (e : Event) → ((other : ℕ) → other ≢ id → IsElsewhere e other) → MovesBy (Hands e) x y → LeadsOn id x y
+pub leads_on : (id : ℕ) (x y : Hub) (e : Event) → ((other : ℕ) → other ≢ id → IsElsewhere (subject e) other) → MovesBy (Hands e) x y → LeadsOn id x y
 leads_on id x y e apart hands = leads_event x y e (IsOn id) apart (λ which. apart) hands
 
 pub leads_by_any : (x y : Hub) (e : Event) → MovesBy (Hands e) x y → Leads x y
@@ -98,7 +98,7 @@ hears_one id piece x y hands = λ s is.
       one.1.0 ∷ [],
       one.0,
       (one.0, one.1.2, refl),
-      (by_hands (comes id piece) (IsComing id) refl (λ which. refl) one.1.0 one.1.1, tt),
+      (by_hands (comes id piece) (IsComing id) (piece, refl) (λ which. (piece, refl)) one.1.0 one.1.1, tt),
       append-nil (came one.1.0) ∙ by_hands (comes id piece) (λ h. came h ≡ piece) refl (λ which. refl) one.1.0 one.1.1,
       one.2,
     )
@@ -115,18 +115,8 @@ hears_then id a b x y z first second = λ s is.
       two.5,
     )
 
-brings_on : (id : ℕ) (e : Event) → Brings id e → (other : ℕ) → other ≢ id → IsElsewhere e other
-brings_on id (opens k) is = absurd is
-brings_on id (comes k bytes) is = λ other isnt. subst (λ (n : ℕ). other ≢ n) (sym is) isnt
-brings_on id (goes k) is = absurd is
-brings_on id (pumps k max) is = absurd is
-brings_on id (ticks ms) is = absurd is
-brings_on id (compacts c) is = absurd is
-
 coming_on : (id : ℕ) (h : Happening) → IsComing id h → IsOn id h
-coming_on id (happens e) is = brings_on id e is
-coming_on id (starves e which) is = brings_on id e is
-coming_on id (takes k n) is = absurd is
+coming_on id h (bytes, is) = by_hands (comes id bytes) (IsOn id) (λ other isnt. isnt) (λ which other isnt. isnt) h is
 
 pub hears_leads : (id : ℕ) (heard : List ℕ) (x y : Hub) → Hears id heard x y → LeadsOn id x y
 hears_leads id heard x y hears = λ s is.
@@ -148,7 +138,7 @@ tells_take law id n out x y outs taken = λ s is. (
   takes id n ∷ [],
   with_bytes_taken s id n,
   (with_bytes_taken s id n, refl, refl),
-  (refl, tt),
+  ((n, refl), tt),
   sym (outs s is) ∙ sym (take-append-drop n out) ∙ ap (λ (l : List ℕ). take n out ++ drop n l) (outs s is) ∙ ap (λ (l : List ℕ). take n out ++ l) (sym (law s id n)),
   taken s is,
 )
@@ -166,9 +156,7 @@ tells_then id a b x y z first second = λ s is.
     )
 
 taking_on : (id : ℕ) (h : Happening) → IsTaking id h → IsOn id h
-taking_on id (happens e) is = absurd is
-taking_on id (starves e which) is = absurd is
-taking_on id (takes k n) is = λ other isnt. subst (λ (m : ℕ). other ≢ m) (sym is) isnt
+taking_on id h (n, is) = subst (IsOn id) (sym is) (λ other isnt. isnt)
 
 pub tells_leads : (id : ℕ) (told : List ℕ) (x y : Hub) → Tells id told x y → LeadsOn id x y
 tells_leads id told x y tells = λ s is.

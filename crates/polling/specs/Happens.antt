@@ -1,10 +1,11 @@
 -- What happens to a hub while its connections are served (RFC 9112, section 9): events, and bytes that are taken, in turn.
-use Rattle.std.specs.Prelude.{◌≡◌, ◌≢◌, ℕ, List, [], ◌∷◌, ◌++◌, ⊤}
+use Rattle.std.specs.Prelude.{◌≡◌, ◌≢◌, ℕ, List, [], ◌∷◌, ◌++◌, Some, ⊤}
 use Rattle.std.specs.List.{flat_map}
 use Rattle.httpedge.specs.Connections.{out_on}
 use Rattle.httpedge.specs.HubSeen.{IsIn}
-use Rattle.httpedge.specs.Runs.{Happening, HappensElsewhere, Runs, happens, starves, takes}
-use Rattle.httpedge.specs.Steps.{Event, State, opens, comes, goes, pumps, ticks, compacts}
+use Rattle.httpedge.specs.Runs.{Happening, HappensElsewhere, Runs, came, takes}
+use Rattle.httpedge.specs.Steps.{State, comes}
+use Rattle.httpedge.specs.Streams.{event_in}
 use Rattle.httpedge.specs.declared.hub.Hub.{Hub}
 
 -- each of them is so
@@ -33,33 +34,9 @@ LeadsOn id old new = LeadsBy (IsOn id) old new
 
 -- ---- bytes that come
 
-abbrev pub brought : Event → List ℕ
-brought (opens k) = []
-brought (comes k bytes) = bytes
-brought (goes k) = []
-brought (pumps k max) = []
-brought (ticks ms) = []
-brought (compacts c) = []
-
--- the bytes that it brings
-abbrev pub came : Happening → List ℕ
-came (happens e) = brought e
-came (starves e found_none) = brought e
-came (takes k n) = []
-
--- the event brings bytes on this connection
-abbrev pub Brings : ℕ → Event → Type 0
-Brings id (opens k) = ⊥
-Brings id (comes k bytes) = k ≡ id
-Brings id (goes k) = ⊥
-Brings id (pumps k max) = ⊥
-Brings id (ticks ms) = ⊥
-Brings id (compacts c) = ⊥
-
+-- some come on this connection, also where no memory is found
 abbrev pub IsComing : ℕ → Happening → Type 0
-IsComing id (happens e) = Brings id e
-IsComing id (starves e found_none) = Brings id e
-IsComing id (takes k n) = ⊥
+IsComing id h = (bytes : List ℕ) × (event_in h ≡ Some (comes id bytes))
 
 -- these bytes come on the connection in order, and nothing else happens
 abbrev pub Hears : ℕ → List ℕ → Hub → Hub → Type 0
@@ -69,9 +46,7 @@ Hears id heard old new =
 -- ---- bytes that are taken
 
 abbrev pub IsTaking : ℕ → Happening → Type 0
-IsTaking id (happens e) = ⊥
-IsTaking id (starves e found_none) = ⊥
-IsTaking id (takes k n) = k ≡ id
+IsTaking id h = (n : ℕ) × (h ≡ takes id n)
 
 -- these bytes, the first of those that were out on the connection, are taken of it, the others are out still, and nothing else happens
 abbrev pub Tells : ℕ → List ℕ → Hub → Hub → Type 0

@@ -8,11 +8,14 @@ use Rattle.std.specs.declared.cmp.Ordering.{Ordering}
 use Rattle.std.specs.declared.cmp.Ordering.TheVariants.{Less, Equal, Greater}
 use Rattle.requests.specs.Asks.{CallDecision}
 use Rattle.httpedge.specs.Connections.{Connection, Connections, IsUntaken, gone, has_ended, has_gone, with_standing, written_on}
-use Rattle.httpedge.specs.Runs.{Follows, Happening, IsNoGoing, LeavesOut, Steps, happens, peer_goes}
-use Rattle.httpedge.specs.Steps.{Event, State, by_connection, carried_out, comes, compacts, goes, opens, pumps, refusal, ticks, unless_refused, with_connection}
+use Rattle.httpedge.specs.Runs.{Follows, Happening, LeavesOut, Steps, happens, peer_goes}
+use Rattle.httpedge.specs.Steps.{Event, Refusal, State, by_connection, carried_out, goes, refusal, unknown_id, unless_refused, with_connection}
 use Rattle.programs.specs.Recorded.{HasGone, IsKept, kept_after}
 
 -- ---- ids
+
+one_goes : (id q : ℕ) → goes id ≡ goes q → id ≡ q
+one_goes id q is = cc
 
 tied : (id : ℕ) → eq_by_cmp nat_cmp id id ≡ true
 tied id = ap is_eq (sym (nat_cmp_is id id Equal refl))
@@ -44,13 +47,11 @@ gone_stays law s t e q bytes None at has steps = absurd has
 gone_stays law s t e q bytes (Some c) at has steps =
     subst (HasGone bytes) (sym (law s t (happens e) q c steps at has.0)) has
 
-no_going : (e : Event) (q : ℕ) → peer_goes e ≡ false → IsNoGoing e q
-no_going (opens id) q stays = tt
-no_going (comes id bytes) q stays = tt
-no_going (goes id) q stays = absurd cc
-no_going (pumps id max) q stays = tt
-no_going (ticks ms) q stays = tt
-no_going (compacts c) q stays = tt
+goes_not : true ≡ false → ⊥
+goes_not e = cc
+
+no_going : (e : Event) (q : ℕ) → peer_goes e ≡ false → e ≢ goes q
+no_going e q stays is = goes_not (sym (ap peer_goes is) ∙ stays)
 
 -- what is kept of a connection, or is out on it, is so after an event by which no peer goes
 pub kept_stays : OneStays → GoneStays → (s t : State) (e : Event) → peer_goes e ≡ false → Steps s e t → (q : ℕ) (o : Option (List ℕ)) → IsKept o (fin.get s.connections q) → IsKept o (fin.get t.connections q)
@@ -68,7 +69,7 @@ went_by : (s : State) (id : ℕ) (asked : CallDecision) (o : Option Connection) 
 went_by s id asked None at known = absurd cc
 went_by s id asked (Some c) at known = subst (HasGone c.written) (sym (put_here s.connections id (with_standing c (gone (has_ended c.standing))))) (refl, refl)
 
-known_by : (b : Bool) (o : Option ℕ) → is_none (cond b o (Some 2)) ≡ true → b ≡ true
+known_by : (b : Bool) (o : Option Refusal) → is_none (cond b o (Some unknown_id)) ≡ true → b ≡ true
 known_by true o is = refl
 known_by false o is = absurd cc
 
@@ -77,16 +78,16 @@ went s t id taken (asked, asks, is) =
     subst (λ (x : State). HasGone (written_on s.connections id) (fin.get x.connections id)) (sym (is ∙ unrefused (refusal s (goes id)) taken))
     (went_by s id asked (fin.get s.connections id) refl (known_by (is_some (fin.get s.connections id)) None taken))
   where
-    unrefused : (o : Option ℕ) → is_none o ≡ true → unless_refused o s (carried_out s (goes id) asked) ≡ carried_out s (goes id) asked
+    unrefused : (o : Option Refusal) → is_none o ≡ true → unless_refused o s (carried_out s (goes id) asked) ≡ carried_out s (goes id) asked
     unrefused None e = refl
-    unrefused (Some n) e = absurd cc
+    unrefused (Some why) e = absurd cc
 
 gone_by : OneStays → (s t : State) (id q : ℕ) (b : Bool) → eq_by_cmp nat_cmp id q ≡ b → (written : List ℕ) → (id ≡ q → written ≡ written_on s.connections id)
     → is_none (refusal s (goes id)) ≡ true → Steps s (goes id) t → IsUntaken (fin.get s.connections q) → IsKept (kept_after None b written) (fin.get t.connections q)
 gone_by one s t id q true e written is taken steps untaken =
     let here = same id q e in
     subst (λ (bytes : List ℕ). HasGone bytes (fin.get t.connections q)) (sym (is here)) (subst (λ (k : ℕ). HasGone (written_on s.connections id) (fin.get t.connections k)) here (went s t id taken steps))
-gone_by one s t id q false e written is taken steps untaken = one s t (happens (goes id)) q (apart id q e) untaken steps
+gone_by one s t id q false e written is taken steps untaken = one s t (happens (goes id)) q (λ goes_there. apart id q e (sym (one_goes id q goes_there))) untaken steps
 
 -- what was out on the connection that goes is kept, unless something is; what is kept of the others, or out on them, is so
 pub kept_goes : OneStays → GoneStays → (s t : State) (id : ℕ) (written : List ℕ) → (IsUntaken (fin.get s.connections id) → written ≡ written_on s.connections id)
@@ -100,9 +101,9 @@ kept_goes one law s t id written is taken steps q (Some bytes) kept = gone_stays
 pub refused_same : (s t : State) (e : Event) → is_none (refusal s e) ≡ false → Steps s e t → t ≡ s
 refused_same s t e refused (asked, asks, is) = is ∙ unchanged (refusal s e) refused
   where
-    unchanged : (o : Option ℕ) → is_none o ≡ false → unless_refused o s (carried_out s e asked) ≡ s
+    unchanged : (o : Option Refusal) → is_none o ≡ false → unless_refused o s (carried_out s e asked) ≡ s
     unchanged None r = absurd cc
-    unchanged (Some n) r = refl
+    unchanged (Some why) r = refl
 
 -- ---- what was written
 

@@ -15,9 +15,9 @@ one_more s p t e steps (es, ran) = (e ∷ es, (p, steps, ran))
 leads_run : (r p : Run) (t : edge.State) (e : edge.Event) (text : List ℕ) → Leads r e text p → IsRun p.hub t → IsRun r.hub t
 leads_run r p t e text (is_empty, (mid, steps, is)) ran = one_more r.hub mid t e steps (subst (λ (x : Run). IsRun x.hub t) is ran)
 
-noted_hub : (r : Run) (id : ℕ) (o : Option ℕ) (t : edge.State) → (noted r id o t).hub ≡ t
+noted_hub : (r : Run) (id : ℕ) (o : Option edge.Refusal) (t : edge.State) → (noted r id o t).hub ≡ t
 noted_hub r id None t = refl
-noted_hub r id (Some n) t = refl
+noted_hub r id (Some why) t = refl
 
 applies_run : (r p : Run) (t : edge.State) (a : Apply) (o : Option ℕ) (text : List ℕ) → Applies r a o text p → IsRun p.hub t → IsRun r.hub t
 applies_run r p t a None text (is_empty, is) ran = subst (λ (x : Run). IsRun x.hub t) is ran

@@ -49,10 +49,10 @@ none_by old false is over = rw (is) refl
 pub none_next : (old highest : ℕ) → old ≡ highest → (old + 1 < 2 ^ 64 → ⊥) → next_id highest ≡ None
 none_next old highest same over = subst (λ (h : ℕ). next_id h ≡ None) same (none_by old (nat_lt old 18446744073709551615) refl over)
 
-pub none_is : (o : Option ℕ) → is_none o ≡ true → o ≡ None
+pub none_is : {A : Type 0} (o : Option A) → is_none o ≡ true → o ≡ None
 none_is None is = refl
-none_is (Some n) is = absurd cc
+none_is (Some a) is = absurd cc
 
-pub some_is : (o : Option ℕ) → is_none o ≡ false → (n : ℕ) × (o ≡ Some n)
+pub some_is : {A : Type 0} (o : Option A) → is_none o ≡ false → (a : A) × (o ≡ Some a)
 some_is None is = absurd cc
-some_is (Some n) is = (n, refl)
+some_is (Some a) is = (a, refl)

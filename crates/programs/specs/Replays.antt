@@ -56,9 +56,9 @@ Applies r a None text q = (text ≡ []) × (q ≡ r)
 Applies r a (Some id) text q = (t : edge.State) × Answers r.hub id a text t × (q ≡ record { hub = t; highest = id; others = r.others })
 
 -- a connection that opened, so whose event was not refused, is one of the others
-abbrev pub noted : Run → ℕ → Option ℕ → edge.State → Run
+abbrev pub noted : Run → ℕ → Option edge.Refusal → edge.State → Run
 noted r id None t = record { hub = t; highest = id; others = r.others ++ id ∷ [] }
-noted r id (Some n) t = record { hub = t; highest = r.highest; others = r.others }
+noted r id (Some why) t = record { hub = t; highest = r.highest; others = r.others }
 
 -- an event of the hub that prints nothing
 abbrev pub Leads : Run → edge.Event → List ℕ → Run → Type 0

@@ -14,7 +14,7 @@ use Rattle.httpedge.specs.Connections.{Connection, Connections, Standing, waitin
 use Rattle.requests.specs.Decision.{undecided, refused, accepted}
 use Rattle.requests.specs.Refusals.{as_denied, too_many_connections}
 use Rattle.httpedge.specs.Runs.{Follows, Happening, happens, starves, takes}
-use Rattle.httpedge.specs.Steps.{Event, State, opens, comes, goes, pumps, ticks, compacts, after_turn, answer_standing, standing_after, turn_bytes, by_connection, carried_out, connection_after, dead, dead_or_ticked, opening, received_by, refusal, starved, unless_refused, with_bytes_taken, with_connection, with_turn, writes_at}
+use Rattle.httpedge.specs.Steps.{Event, Refusal, State, id_not_above, opens, comes, goes, pumps, ticks, compacts, after_turn, answer_standing, standing_after, turn_bytes, by_connection, carried_out, connection_after, dead, dead_or_ticked, opening, received_by, refusal, starved, unless_refused, with_bytes_taken, with_connection, with_turn, writes_at}
 use Rattle.requests.specs.Replies.{answer_bytes, refusal_reply}
 use Rattle.httpedge.specs.Watches.{Turn, Watch, pumped, ticked}
 use Rattle.httpedge.proofs.Connected.{got_each, put_there, tied_same, unknown}
@@ -96,13 +96,13 @@ received_one given s id q c (watching w) bytes asked got out = out
 received_one given s id q c ended bytes asked got out = out
 received_one given s id q c (gone had_ended) bytes asked got out = out
 
-unless_one : (given : List ℕ) (s t : State) (o : Option ℕ) (q : ℕ) → IsGiven given (fin.get t.connections q) → IsGiven given (fin.get s.connections q)
+unless_one : (given : List ℕ) (s t : State) (o : Option Refusal) (q : ℕ) → IsGiven given (fin.get t.connections q) → IsGiven given (fin.get s.connections q)
     → IsGiven given (fin.get (unless_refused o s t).connections q)
 unless_one given s t None q then out = then
-unless_one given s t (Some n) q then out = out
+unless_one given s t (Some why) q then out = out
 
 opened_one : (given : List ℕ) (s : State) (id q : ℕ) (b : Bool) → is_new s.connections id ≡ b → IsGiven given (fin.get s.connections q)
-    → IsGiven given (fin.get (unless_refused (cond b None (Some 1)) s (with_connection s id (opening s.connections))).connections q)
+    → IsGiven given (fin.get (unless_refused (cond b None (Some id_not_above)) s (with_connection s id (opening s.connections))).connections q)
 opened_one given s id q true new out =
     put_one given s.connections id q (opening s.connections) (λ same. opened_given given _ (refusal_reply (as_denied too_many_connections))
     (this_one given s.connections id q None (unknown s.connections id (fin.get s.connections id) refl new) out same)) out

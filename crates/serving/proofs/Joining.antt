@@ -7,8 +7,8 @@ use Rattle.std.proofs.Math.Dec.{eqb_refl}
 use Rattle.std.proofs.lemmas.List.{map-append}
 use Rattle.httpedge.specs.Connections.{Connection, gone, has_ended, is_open, open_on, out_on, with_standing}
 use Rattle.httpedge.specs.HubSeen.{IsIn}
-use Rattle.httpedge.specs.Runs.{Follows, Happening, HappensElsewhere, IsElsewhere, Runs, happens, starves, takes}
-use Rattle.httpedge.specs.Steps.{Event, State, by_connection, comes, goes, ticks, unless_refused, with_bytes_taken, with_connection}
+use Rattle.httpedge.specs.Runs.{Follows, Happening, HappensElsewhere, IsElsewhere, Runs, Subject, bytes_of, connection, happens, starves, subject, takes}
+use Rattle.httpedge.specs.Steps.{Event, State, by_connection, comes, goes, ticks, unknown_id, unless_refused, with_bytes_taken, with_connection}
 use Rattle.httpedge.specs.Streams.{Compacts, MovesBy, Hands, HandsIf}
 use Rattle.httpedge.specs.declared.hub.Hub.{Hub}
 use Rattle.httpedge.proofs.Connected.{put_there}
@@ -17,7 +17,7 @@ use Rattle.httpedge.proofs.Staying.{others}
 use Rattle.serving.specs.declared.server.Limits.{Limits}
 use Rattle.serving.specs.Serving.{DoesRounds, Goes, HasTurn, IsPumped, Leads, Served, Serves, ServesOne}
 use Rattle.serving.specs.Tidies.{Pumps, PumpsAll, Tidies}
-use Rattle.serving.specs.Turns.{IsGiven, Turns, brought, came}
+use Rattle.serving.specs.Turns.{IsGiven, Turns, came_on, is_on}
 use Rattle.serving.proofs.Givens.{TakesNone, given_grows, given_stays}
 
 truth_of : (b : Bool) → T b → b ≡ true
@@ -39,29 +39,37 @@ pub turns_then : (id : ℕ) (s mid t : State) (a b c d : List ℕ) → Turns id 
 turns_then id s mid t a b c d (hs, ran, heard, gives, stay) (gs, runs, hears, given, stays) = (
   hs ++ gs,
   runs_then s mid t hs gs ran runs,
-  flat_map-append (came id) hs gs ∙ ap₂ (λ (x y : List ℕ). x ++ y) heard hears,
+  flat_map-append (came_on id) hs gs ∙ ap₂ (λ (x y : List ℕ). x ++ y) heard hears,
   (λ g is. subst (λ (x : List ℕ). IsGiven x (fin.get t.connections id)) (append_assoc g b d) (given (g ++ b) (gives g is))),
   (λ other isnt. stays other isnt ∙ stay other isnt),
 )
 
-one_turn : (id : ℕ) (s t : State) (h : Happening) → TakesNone h id → ((other : ℕ) → other ≢ id → HappensElsewhere h other) → Follows s h t → Turns id s (came id h) [] t
+one_turn : (id : ℕ) (s t : State) (h : Happening) → TakesNone h id → ((other : ℕ) → other ≢ id → HappensElsewhere h other) → Follows s h t → Turns id s (came_on id h) [] t
 one_turn id s t h none apart follows = (
   h ∷ [],
   (t, follows, refl),
-  append-nil (came id h),
+  append-nil (came_on id h),
   (λ given is. none_told id given t (given_stays given s t h id none is follows)),
   (λ other isnt. others s t h other (apart other isnt) follows),
 )
 
-event_turn : (id : ℕ) (s t : State) (e : Event) → ((other : ℕ) → other ≢ id → IsElsewhere e other) → Hands e s t → Turns id s (brought id e) [] t
-event_turn id s t e apart (h, is, follows) =
-    by_hands e (λ x. Follows s x t → Turns id s (brought id e) [] t) (λ f. one_turn id s t (happens e) tt apart f) (λ which f. one_turn id s t (starves e which) tt apart f) h is follows
+-- all the bytes of an event of the connection come on it
+all_on : (id : ℕ) (e : Event) → subject e ≡ connection id → cond (is_on (subject e) id) (bytes_of e) [] ≡ bytes_of e
+all_on id e of_it = ap (λ (x : Subject). cond (is_on x id) (bytes_of e) []) of_it ∙ ap (λ (b : Bool). cond b (bytes_of e) []) (same_id id)
+
+event_turn : (id : ℕ) (s t : State) (e : Event) → subject e ≡ connection id → Hands e s t → Turns id s (bytes_of e) [] t
+event_turn id s t e of_it (h, is, follows) =
+    let apart : (other : ℕ) → other ≢ id → IsElsewhere (subject e) other = λ other isnt. subst (λ (x : Subject). IsElsewhere x other) (sym of_it) isnt in
+    let turn : Turns id s (cond (is_on (subject e) id) (bytes_of e) []) [] t =
+    by_hands e (λ x. Follows s x t → Turns id s (cond (is_on (subject e) id) (bytes_of e) []) [] t)
+    (λ f. one_turn id s t (happens e) tt apart f) (λ which f. one_turn id s t (starves e which) tt apart f) h is follows in
+    subst (λ (bytes : List ℕ). Turns id s bytes [] t) (all_on id e of_it) turn
 
 take_turn : (id : ℕ) (s : State) (n : ℕ) (out : List ℕ) → out_on s.connections id ≡ out → Turns id s [] (take n out) (with_bytes_taken s id n)
 take_turn id s n out outs = (
   takes id n ∷ [],
   (with_bytes_taken s id n, refl, refl),
-  refl,
+  ap (λ (b : Bool). cond {A = List ℕ} b [] [] ++ []) (same_id id),
   (λ given is. given_grows given s id n out is outs),
   (λ other isnt. others s (with_bytes_taken s id n) (takes id n) other isnt refl),
 )
@@ -72,7 +80,7 @@ abbrev open_in : Option Connection → Bool
 open_in o = unwrap_or (option_map (λ c. is_open c.standing) o) false
 
 gone_closed : (s : State) (id : ℕ) (o : Option Connection) → fin.get s.connections id ≡ o
-    → open_on (unless_refused (cond (is_some o) None (Some 2)) s (by_connection s o (λ c. with_connection s id (with_standing c (gone (has_ended c.standing)))))).connections id ≡ false
+    → open_on (unless_refused (cond (is_some o) None (Some unknown_id)) s (by_connection s o (λ c. with_connection s id (with_standing c (gone (has_ended c.standing)))))).connections id ≡ false
 gone_closed s id None at = ap open_in at
 gone_closed s id (Some c) at = ap open_in (put_there s.connections id (with_standing c (gone (has_ended c.standing))))
 
@@ -96,19 +104,18 @@ serves_then id x y z a b c d first second = λ s is.
     let two = second one.0 one.2 in
     (two.0, turns_then id s one.0 two.0 a b c d one.1 two.1, two.2)
 
-pub serves_event : (id : ℕ) (x y : Hub) (e : Event) → ((other : ℕ) → other ≢ id → IsElsewhere e other) → MovesBy (Hands e) x y → Serves id x (brought id e) [] y
-serves_event id x y e apart hands = λ s is.
+pub serves_event : (id : ℕ) (x y : Hub) (e : Event) → subject e ≡ connection id → MovesBy (Hands e) x y → Serves id x (bytes_of e) [] y
+serves_event id x y e of_it hands = λ s is.
     let one = hands s is in
-    (one.0, event_turn id s one.0 e apart one.1, one.2)
+    (one.0, event_turn id s one.0 e of_it one.1, one.2)
 
 pub serves_comes : (id : ℕ) (x y : Hub) (bytes : List ℕ) → MovesBy (Hands (comes id bytes)) x y → Serves id x bytes [] y
-serves_comes id x y bytes hands =
-    subst (λ (b : List ℕ). Serves id x b [] y) (ap (λ (b : Bool). cond b bytes []) (same_id id)) (serves_event id x y (comes id bytes) (λ other isnt. isnt) hands)
+serves_comes id x y bytes hands = serves_event id x y (comes id bytes) refl hands
 
 pub serves_goes : (id : ℕ) (x y : Hub) → MovesBy (Hands (goes id)) x y → Goes id x y
 serves_goes id x y hands = λ s is.
     let one = hands s is in
-    (one.0, event_turn id s one.0 (goes id) (λ other isnt. isnt) one.1, goes_closed id s one.0 one.1, one.2)
+    (one.0, event_turn id s one.0 (goes id) refl one.1, goes_closed id s one.0 one.1, one.2)
 
 pub serves_take : (id : ℕ) (x y : Hub) (n : ℕ) (out : List ℕ) → ((s : State) → IsIn x s → out ≡ out_on s.connections id) → ((s : State) → IsIn x s → IsIn y (with_bytes_taken s id n))
     → Serves id x [] (take n out) y

@@ -1,24 +1,20 @@
 -- The turn of a connection (RFC 9112, section 9): what came on it, and what its stream was given.
-use Rattle.std.specs.Prelude.{◌≡◌, ◌≢◌, ℕ, ◌==◌, if◌then◌else◌, List, [], ◌++◌, length, Option, Some, None}
+use Rattle.std.specs.Prelude.{◌≡◌, ◌≢◌, ℕ, Bool, true, false, ◌==◌, if◌then◌else◌, List, [], ◌++◌, length, Option, Some, None}
 use Rattle.std.specs.FinMap as fin
 use Rattle.std.specs.List.{flat_map}
 use Rattle.httpedge.specs.Connections.{Connection}
-use Rattle.httpedge.specs.Runs.{Happening, Runs, happens, starves, takes}
-use Rattle.httpedge.specs.Steps.{Event, State, opens, comes, goes, pumps, ticks, compacts}
+use Rattle.httpedge.specs.Runs.{Happening, Runs, Subject, connection, all_connections, no_connection, came, happens_on}
+use Rattle.httpedge.specs.Steps.{State}
 
--- the bytes that an event brings on a connection
-abbrev pub brought : ℕ → Event → List ℕ
-brought id (opens k) = []
-brought id (comes k bytes) = if k == id then bytes else []
-brought id (goes k) = []
-brought id (pumps k max) = []
-brought id (ticks ms) = []
-brought id (compacts c) = []
+-- something of these connections is of this one
+abbrev pub is_on : Subject → ℕ → Bool
+is_on (connection k) id = k == id
+is_on all_connections id = true
+is_on no_connection id = false
 
-abbrev pub came : ℕ → Happening → List ℕ
-came id (happens e) = brought id e
-came id (starves e found_none) = brought id e
-came id (takes k n) = []
+-- the bytes that come on a connection
+abbrev pub came_on : ℕ → Happening → List ℕ
+came_on id h = if is_on (happens_on h) id then came h else []
 
 -- these bytes, a front of what was written on the connection, are those that were taken of it; of an unknown one there are none
 abbrev pub IsGiven : List ℕ → Option Connection → Type 0
@@ -29,6 +25,6 @@ IsGiven given (Some c) = (c.taken ≡ length given) × ((rest : List ℕ) × (c.
 -- was given before; every other connection stays as it is
 abbrev pub Turns : ℕ → State → List ℕ → List ℕ → State → Type 0
 Turns id s heard told t =
-    (hs : List Happening) × Runs s hs t × (flat_map (came id) hs ≡ heard)
+    (hs : List Happening) × Runs s hs t × (flat_map (came_on id) hs ≡ heard)
     × ((given : List ℕ) → IsGiven given (fin.get s.connections id) → IsGiven (given ++ told) (fin.get t.connections id))
     × ((other : ℕ) → other ≢ id → fin.get t.connections other ≡ fin.get s.connections other)

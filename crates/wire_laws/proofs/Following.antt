@@ -9,7 +9,7 @@ use Rattle.history.specs.History.{History}
 use Rattle.requests.specs.Asks.{CallDecision}
 use Rattle.httpedge.specs.Connections.{Connection, Connections, Standing, waiting, watching, ended, gone, each, has_ended, is_new, with_standing, with_taken}
 use Rattle.httpedge.specs.Runs.{Follows, Happening, happens, starves, takes}
-use Rattle.httpedge.specs.Steps.{Event, State, opens, comes, goes, pumps, ticks, compacts, by_connection, connection_after, dead, dead_or_ticked, opening, received_by, refusal, starved, carried_out, unless_refused, with_connection, with_turn, writes_at}
+use Rattle.httpedge.specs.Steps.{Event, Refusal, State, id_not_above, opens, comes, goes, pumps, ticks, compacts, by_connection, connection_after, dead, dead_or_ticked, opening, received_by, refusal, starved, carried_out, unless_refused, with_connection, with_turn, writes_at}
 use Rattle.httpedge.specs.Watches.{Turn, Watch, pumped, ticked}
 use Rattle.httpedge.proofs.Connected.{got_each, tied_same, unknown}
 
@@ -62,15 +62,15 @@ each_holds : (R : Between) → Holds R → (f : ℕ → Connection → Connectio
 each_holds R is f all q holds = subst (R (fin.get all q)) (sym (got_each f all q)) (each_by R is f q (fin.get all q) holds)
 
 opens_holds : (R : Between) → Holds R → (s : State) (id q : ℕ) (b : Bool) → is_new s.connections id ≡ b
-    → R (fin.get s.connections q) (fin.get (unless_refused (cond b None (Some 1)) s (with_connection s id (opening s.connections))).connections q)
+    → R (fin.get s.connections q) (fin.get (unless_refused (cond b None (Some id_not_above)) s (with_connection s id (opening s.connections))).connections q)
 opens_holds R is s id q true new =
     put_holds R s.connections id q (opening s.connections) (is.same (fin.get s.connections q))
     (subst (λ (o : Option Connection). R o (Some (opening s.connections))) (sym (unknown s.connections id (fin.get s.connections id) refl new)) (is.opened (opening s.connections)))
 opens_holds R is s id q false new = is.same (fin.get s.connections q)
 
-unless_holds : (R : Between) → Holds R → (s t : State) (o : Option ℕ) (q : ℕ) → R (fin.get s.connections q) (fin.get t.connections q) → R (fin.get s.connections q) (fin.get (unless_refused o s t).connections q)
+unless_holds : (R : Between) → Holds R → (s t : State) (o : Option Refusal) (q : ℕ) → R (fin.get s.connections q) (fin.get t.connections q) → R (fin.get s.connections q) (fin.get (unless_refused o s t).connections q)
 unless_holds R is s t None q then = then
-unless_holds R is s t (Some n) q then = is.same (fin.get s.connections q)
+unless_holds R is s t (Some why) q then = is.same (fin.get s.connections q)
 
 dead_or : (R : Between) → Holds R → (types : List ServedShape) (ms : ℕ) (b : Bool) (c : Connection) → R (Some c) (Some (cond b (dead c) (with_turn (ticked types ms) c)))
 dead_or R is types ms true c = is.died c

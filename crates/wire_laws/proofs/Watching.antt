@@ -10,7 +10,7 @@ use Rattle.httpedge.specs.Connections.{Connection, Standing, waiting, watching, 
 use Rattle.requests.specs.Decision.{accepted}
 use Rattle.requests.specs.ReplyBytes.{watch_head}
 use Rattle.httpedge.specs.Runs.{Steps}
-use Rattle.httpedge.specs.Steps.{State, after_turn, answer_standing, answered, by_connection, carried_out, comes, pumps, received, standing_after, ticks, turn_bytes, unless_refused, with_connection, with_turn}
+use Rattle.httpedge.specs.Steps.{State, after_turn, answer_standing, answered, by_connection, carried_out, comes, no_lines, pumps, received, standing_after, tick_back, ticks, turn_bytes, unknown_id, unless_refused, with_connection, with_turn}
 use Rattle.requests.specs.Replies.{answer_bytes}
 use Rattle.httpedge.specs.Watches.{Turn, Watch, begun_at, pumped, ticked}
 use Rattle.httpedge.proofs.Connected.{got_each, put_there}
@@ -37,7 +37,7 @@ pub pumps_write : (s t : State) (id max : ℕ) (c : Connection) (w : Watch) → 
 pumps_write s t id max c w (asked, asks, is) got stands some =
     let turn = pumped s.machine max in
     ap (λ (x : State). fin.get x.connections id)
-    (is ∙ ap₂ (λ (o : Option Connection) (b : Bool). unless_refused (cond (is_some o) (cond b (Some 3) None) (Some 2)) s (by_connection s o (λ x. with_connection s id (with_turn turn x)))) got some)
+    (is ∙ ap₂ (λ (o : Option Connection) (b : Bool). unless_refused (cond (is_some o) (cond b (Some no_lines) None) (Some unknown_id)) s (by_connection s o (λ x. with_connection s id (with_turn turn x)))) got some)
     ∙ put_there s.connections id (with_turn turn c) ∙ turn_is turn c w stands
 
 pub ticks_write : (s t : State) (ms id : ℕ) (c : Connection) (w : Watch) → Steps s (ticks ms) t → fin.get s.connections id ≡ Some c → c.standing ≡ watching w → nat_lt ms s.last_tick ≡ false
@@ -45,5 +45,5 @@ pub ticks_write : (s t : State) (ms id : ℕ) (c : Connection) (w : Watch) → S
 ticks_write s t ms id c w (asked, asks, is) got stands forward =
     let turn = ticked s.types ms in
     let f = λ (q : ℕ) (x : Connection). with_turn turn x in
-    ap (λ (x : State). fin.get x.connections id) (is ∙ ap (λ (b : Bool). unless_refused (cond b (Some 4) None) s (carried_out s (ticks ms) asked)) forward)
+    ap (λ (x : State). fin.get x.connections id) (is ∙ ap (λ (b : Bool). unless_refused (cond b (Some tick_back) None) s (carried_out s (ticks ms) asked)) forward)
     ∙ got_each f s.connections id ∙ ap (option_map (with_turn turn)) got ∙ turn_is turn c w stands

@@ -3,19 +3,19 @@ use Rattle.std.specs.Prelude.{is_none, ⊤}
 use Rattle.std.specs.declared.result.Result.TheVariants.{Err}
 use Rattle.httpedge.specs.declared.fault.HubFault.{HubFault}
 use Rattle.httpedge.specs.declared.hub.Hub.{Hub}
-use Rattle.httpedge.specs.HubSeen.{Happened, IsIn, event_of, refusal_number}
+use Rattle.httpedge.specs.HubSeen.{Happened, IsIn, event_of, outcome_of, refusal_in}
 use Rattle.httpedge.specs.Runs.{Follows, Happening, Steps, happens}
 use Rattle.httpedge.specs.Steps as edge
 use Rattle.programs.proofs.recording.is_taken.Goals as goal
 
-refused_as : (s : edge.State) (e : edge.Event) (f g : HubFault) → f ≡ g → refusal_number {A = ⊤} (Err f) ≡ edge.refusal s e → refusal_number {A = ⊤} (Err g) ≡ edge.refusal s e
-refused_as s e f g is refused = subst (λ (h : HubFault). refusal_number {A = ⊤} (Err h) ≡ edge.refusal s e) is refused
+refused_as : (s : edge.State) (e : edge.Event) (f g : HubFault) → f ≡ g → refusal_in (outcome_of {A = ⊤} (Err f)) ≡ edge.refusal s e → refusal_in (outcome_of {A = ⊤} (Err g)) ≡ edge.refusal s e
+refused_as s e f g is refused = subst (λ (h : HubFault). refusal_in (outcome_of {A = ⊤} (Err h)) ≡ edge.refusal s e) is refused
 
 follows_as : (hub : Hub) (s : edge.State) (e : edge.Event) (f g : HubFault) → f ≡ g
-    → (h : Happening) × (t : edge.State) × Happened {A = ⊤} e (Err f) h × Follows s h t × IsIn hub t
-    → (h : Happening) × (t : edge.State) × Happened {A = ⊤} e (Err g) h × Follows s h t × IsIn hub t
+    → (h : Happening) × (t : edge.State) × Happened e (outcome_of {A = ⊤} (Err f)) h × Follows s h t × IsIn hub t
+    → (h : Happening) × (t : edge.State) × Happened e (outcome_of {A = ⊤} (Err g)) h × Follows s h t × IsIn hub t
 follows_as hub s e f g is follows =
-    subst (λ (x : HubFault). (h : Happening) × (t : edge.State) × Happened {A = ⊤} e (Err x) h × Follows s h t × IsIn hub t) is follows
+    subst (λ (x : HubFault). (h : Happening) × (t : edge.State) × Happened e (outcome_of {A = ⊤} (Err x)) h × Follows s h t × IsIn hub t) is follows
 
 -- an event that happened led on
 leads_on : (hub : Hub) (s : edge.State) (e : edge.Event) → (h : Happening) × (t : edge.State) × (h ≡ happens e) × Follows s h t × IsIn hub t

@@ -1,7 +1,7 @@
 use Rattle.std.proofs.Common.{Err, false, ap, sym, refl, ◌∙◌}
 use Rattle.std.specs.Prelude.{⊤}
 use Rattle.httpedge.specs.declared.fault.HubFault.{HubFault}
-use Rattle.httpedge.specs.HubSeen.{refusal_number}
+use Rattle.httpedge.specs.HubSeen.{outcome_of, refusal_in}
 use Rattle.httpedge.proofs.Representing.{Answers, compacts_well, done_fits, early_refused, failed_fits, late_refused, no_refusal, same_held}
 use Rattle.httpedge.proofs.hub.Hub.compact.Goals as goal
 
@@ -36,7 +36,7 @@ pub returns-in-Err-Failed-clause-refused : goal.returns-in-Err-Failed-clause-ref
 returns-in-Err-Failed-clause-refused c = λ s is.
     let stands = is.0.machine in
     let answers : Answers s c.args.revision c.compact.result = (c.compact.ensures.expired s.types s.machine stands, c.compact.ensures.too_large s.types s.machine stands) in
-    ap (λ (f : HubFault). refusal_number {A = ⊤} (Err f)) c.from-in-Err-Failed.ensures ∙ no_refusal ⊤ c.from.result
+    ap (λ (f : HubFault). refusal_in (outcome_of {A = ⊤} (Err f))) c.from-in-Err-Failed.ensures ∙ no_refusal ⊤ c.from.result
     ∙ sym (failed_fits ⊤ s c.args.revision c.compact.result c.in-Err-Failed.field-0 c.in-Err-Failed.fault answers c.in-Err-Failed.is c.in-Err-Failed.field-0-is)
 
 pub returns-in-Err-Failed-clause-memory : goal.returns-in-Err-Failed-clause-memory

@@ -1,7 +1,7 @@
 use Rattle.std.proofs.Common.{sym, ap, ◌∙◌}
 use Rattle.httpedge.specs.HubSeen.{event_of}
 use Rattle.httpedge.specs.Steps.{opens, comes, goes, pumps, ticks, compacts}
-use Rattle.httpedge.proofs.Representing.{carries_out, runs_out}
+use Rattle.httpedge.proofs.Ended.{carries_out, runs_out}
 use Rattle.httpedge.proofs.hub.Hub.on.Goals as goal
 
 pub returns-in-Open-clause-follows : goal.returns-in-Open-clause-follows

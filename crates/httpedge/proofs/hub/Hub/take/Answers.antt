@@ -3,7 +3,8 @@ use Rattle.std.specs.BTreeMap.{get}
 use Rattle.std.specs.Ordering.{nat_cmp}
 use Rattle.httpedge.specs.Runs.{takes}
 use Rattle.httpedge.specs.Steps.{with_bytes_taken}
-use Rattle.httpedge.proofs.Representing.{runs_on, takes_well}
+use Rattle.httpedge.proofs.Ended.{runs_on}
+use Rattle.httpedge.proofs.Representing.{takes_well}
 use Rattle.httpedge.proofs.hub.Hub.take.Goals as goal
 
 pub returns-clause-takes : goal.returns-clause-takes
