@@ -1,9 +1,7 @@
--- Events that were handed to a hub, and pieces that were read for it.
+-- Events that were handed to a hub.
 use Rattle.std.proofs.Common.{◌≡◌, ◌<◌, ◌≤◌, ◌∙◌, ℕ, Bool, true, false, List, [], ◌∷◌, ◌++◌, length, Option, Some, None, Result, Ok, Err, refl, sym, ap, ap₂, subst, arith}
 use Rattle.std.specs.Prelude.{◌-◌, ◌==◌, nat_lt, unwrap_or, IsErrAnd, MatchResult}
 use Rattle.std.specs.Result.{is_ok}
-use Rattle.std.specs.Io.KnownBytes.{Consumes, Keeps}
-use Rattle.std.proofs.KnownBytes.{Consumes-kept, Consumes-nil}
 use Rattle.std.proofs.lemmas.Bool.{le-ltb, lt-ltb}
 use Rattle.httpedge.specs.HubSeen.{Happened, IsIn, Outcome, done, refused, starved, outcome_of, refusal_in}
 use Rattle.httpedge.specs.Runs.{Follows, Happening, Runs, happens, starves, takes}
@@ -109,18 +107,3 @@ told_none e p told is isnt = cc
 -- a hub whose marks can't be told is in no state
 pub compacts_none : {E : Type 0} (x : Hub) (keep : ℕ) (e : E) (told : Result (ℕ × ℕ) E) → IsTold x told → told ≡ Err e → MovesBy (Compacts keep) x x
 compacts_none x keep e told tells is = λ s here. absurd (told_none e (s.machine.current, s.machine.compacted) told is (tells s here))
-
--- ---- a piece
-
-empty_is : (piece : List ℕ) → (length piece == 0) ≡ true → piece ≡ []
-empty_is [] is = refl
-empty_is (n ∷ ns) is = grind (arith)
-
--- a read that gave nothing
-pub reads_none : (a b : Option (List ℕ)) (piece : List ℕ) → Consumes a b piece → (length piece == 0) ≡ true → Consumes a b []
-reads_none a b piece read none = subst (Consumes a b) (empty_is piece none) read
-
--- an error, where no byte left the reader
-pub none_left : {T E : Type 0} (P : T → Type 0) (Q : E → Type 0) (r : Result T E) (a b : Option (List ℕ)) → IsErrAnd r Q → Keeps a b → MatchResult r P (λ _. Consumes a b [])
-none_left P Q (Ok x) a b is keeps = absurd is
-none_left P Q (Err e) a b is keeps = Consumes-kept a a b [] (Consumes-nil a) keeps

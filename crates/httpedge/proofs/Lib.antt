@@ -13,3 +13,4 @@ pub mod Taking
 pub mod Untaken
 pub mod Growing
 pub mod Handed
+pub mod NextIds

@@ -1,5 +1,5 @@
 -- The connections of a hub (RFC 9112, section 9: one request on each, and the server closes it).
-use Rattle.std.specs.Prelude.{◌≡◌, ℕ, ◌+◌, Bool, true, false, nat_lt, List, [], ◌++◌, length, map, drop, min, Option, Some, None, unwrap_or, option_map, ⊤}
+use Rattle.std.specs.Prelude.{◌≡◌, ℕ, ◌+◌, Bool, true, false, nat_lt, if◌then◌else◌, List, [], ◌∷◌, ◌++◌, length, map, drop, max, min, Option, Some, None, unwrap_or, option_map, ⊤}
 use Rattle.std.specs.List.{filter, list_all}
 use Rattle.std.specs.Ordering.{nat_cmp}
 use Rattle.std.specs.FinMap as fin
@@ -92,6 +92,19 @@ is_known all id = fin.contains_key all id
 -- an id is new where it is above each that is known
 abbrev pub is_new : Connections → ℕ → Bool
 is_new all id = list_all (λ known. nat_lt known id) (fin.keys all)
+
+-- the highest of these ids, or 0
+abbrev pub highest : List ℕ → ℕ
+highest [] = 0
+highest (id ∷ ids) = max id (highest ids)
+
+-- ids are numbers of 64 bits
+abbrev pub id_after : ℕ → Option ℕ
+id_after id = if nat_lt id 18446744073709551615 then Some (id + 1) else None
+
+-- the id after all that are known, if one is left
+abbrev pub next_id : Connections → Option ℕ
+next_id all = id_after (highest (fin.keys all))
 
 abbrev pub open_count : Connections → ℕ
 open_count all = length (filter (λ c. is_open c.standing) (fin.values all))

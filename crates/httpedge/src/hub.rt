@@ -4,7 +4,7 @@ ghost use Rattle.std.specs.Prelude.{◌≡◌, ◌≢◌, ◌++◌, ◌∷◌, [
 ghost use Rattle.schema.specs.TypesFile.{ServedShape};
 ghost use Rattle.history.specs.History.{History};
 ghost use Rattle.verbs.specs.Seen.{Stands};
-ghost use Rattle.httpedge.specs.Connections.{ended_on, out_on, waiting_on};
+ghost use Rattle.httpedge.specs.Connections.{ended_on, next_id, out_on, waiting_on};
 ghost use Rattle.httpedge.specs.Held.{is_above};
 ghost use Rattle.httpedge.specs.HubSeen.{Happened, IsIn, asks_store, event_of, outcome_of, refusal_in, starved};
 ghost use Rattle.httpedge.specs.Runs.{Follows, Happening, Runs, Steps, takes};
@@ -248,6 +248,13 @@ impl Hub {
         ensures { (s : State) → IsIn self.now s → result ≡ waiting_on s.connections id }
     {
         waiting_at(&self.connections, id).unwrap_or(false)
+    }
+
+    /// The id after those of all connections that were ever opened: 1 at the start, none where no id is left.
+    pub fn next_id(&self) -> Option<u64>
+        ensures { (s : State) → IsIn self.now s → result ≡ next_id s.connections }
+    {
+        self.highest.unwrap_or(0).checked_add(1)
     }
 
     /// The current revision and the compacted number.

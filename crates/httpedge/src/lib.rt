@@ -27,4 +27,4 @@ pub use laws::{
     all_is_out, bytes_are_taken, each_changes, each_steps, ends_stay, gone_stays, machines_grow,
     machines_last, one_outcome, others_stay, pieces, ticks_are_for_watches, written_stays,
 };
-pub use streams::{LINGER, PIECE, compact, hand, read_piece};
+pub use streams::{LINGER, compact, hand};

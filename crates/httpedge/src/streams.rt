@@ -1,19 +1,12 @@
-//! What every server of streams does with a hub: it hands over events and the pieces that it reads, reads on after a
-//! reply, and forgets what isn't kept. What an event changes stands in `hub`.
+//! What every server of streams does with a hub: it hands over events, reads on after a reply, and forgets what isn't
+//! kept. What an event changes stands in `hub`; how streams are read and written, in the crate `streams`.
 
-ghost use Rattle.std.specs.Prelude.{◌≡◌, [], MatchResult, true};
-ghost use Rattle.std.specs.Io.KnownBytes.{Consumes};
+ghost use Rattle.std.specs.Prelude.{◌≡◌, true};
 ghost use Rattle.httpedge.specs.HubSeen.{event_of};
 ghost use Rattle.httpedge.specs.Streams.{Compacts, MovesBy, Hands, IsDone};
 
 use crate::event::Event;
 use crate::hub::Hub;
-use std::alloc::Global;
-use std::io;
-use std::io::Read;
-
-/// The most bytes that are read at a time.
-pub const PIECE: usize = 4096;
 
 /// How many milliseconds at most a connection is read on after its reply: a close with bytes unread may lose the reply
 /// (RFC 9112, section 9.6).
@@ -38,15 +31,4 @@ pub fn compact(hub: &mut Hub, keep: u64)
     if compacted < revision {
         hand(hub, Event::Compact(revision));
     }
-}
-
-/// Some of the bytes that a reader has next; none where its peer sends no more. Room is made first, so that no byte
-/// leaves the reader for which there is none.
-pub fn read_piece<R: Read>(alloc: Global, reader: &mut R) -> io::Result<Vec<u8>>
-    ensures { MatchResult result (λ piece. Consumes (R.remaining reader.old) (R.remaining reader.new) piece.items) (λ _. Consumes (R.remaining reader.old) (R.remaining reader.new) []) }
-{
-    let mut piece = vec![in alloc; 0u8; PIECE]?;
-    let count = reader.read(&mut piece)?;
-    piece.truncate(count);
-    Ok(piece)
 }

@@ -4,10 +4,11 @@ ghost use Rattle.std.specs.Prelude.{List, ℕ};
 ghost use Rattle.std.specs.Io.KnownBytes.{Consumes};
 ghost use Rattle.polling.specs.Happens.{Hears};
 
-use httpedge::{Event, Hub, hand, read_piece};
+use httpedge::{Event, Hub, hand};
 use std::alloc::Global;
 use std::io;
 use std::io::{ErrorKind, Read};
+use streams::read_piece;
 
 /// The most reads of one connection in its turn.
 const READS: u32 = 16;

@@ -1,6 +1,5 @@
 mod CommandParts
 mod FrontLemmas
-mod Kept
 mod PlayRuns
 mod ReplayArguments
 mod RunLemmas

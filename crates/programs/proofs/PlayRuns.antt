@@ -1,8 +1,9 @@
 -- The plays of a script are runs of the hub.
 use Rattle.std.proofs.Common.{◌≡◌, ◌∙◌, ℕ, ap, refl, subst, List, [], ◌∷◌, map, Option, Some, None}
+use Rattle.httpedge.specs.Connections.{next_id}
 use Rattle.httpedge.specs.Runs as runs
 use Rattle.httpedge.specs.Steps as edge
-use Rattle.programs.specs.Replays.{Applies, Does, Leads, Plays, Run, next_id, noted}
+use Rattle.programs.specs.Replays.{Applies, Does, Leads, Plays, Run, noted}
 use Rattle.programs.specs.Script.{Apply, Event, apply, opens, comes, goes, pumps, ticks, compacts}
 
 -- events of the hub lead from a state to another
@@ -25,7 +26,7 @@ applies_run r p t a (Some id) text (mid, (opened, bytes, opening, request, comin
     one_more r.hub opened t (edge.opens id) opening (one_more opened mid t (edge.comes id bytes) coming (subst (λ (x : Run). IsRun x.hub t) is ran))
 
 does_run : (r p : Run) (t : edge.State) (e : Event) (text : List ℕ) → Does r e text p → IsRun p.hub t → IsRun r.hub t
-does_run r p t (apply a) text did ran = applies_run r p t a (next_id r.highest) text did ran
+does_run r p t (apply a) text did ran = applies_run r p t a (next_id r.hub.connections) text did ran
 does_run r p t (opens id) text (is_empty, (mid, steps, is)) ran =
     one_more r.hub mid t (edge.opens id) steps (subst (λ (x : edge.State). IsRun x t) (ap (λ (x : Run). x.hub) is ∙ noted_hub r id (edge.refusal r.hub (edge.opens id)) mid) ran)
 does_run r p t (comes id bytes) text did ran = leads_run r p t (edge.comes id bytes) text did ran

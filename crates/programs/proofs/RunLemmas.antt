@@ -2,11 +2,10 @@
 use Rattle.std.proofs.Common.{◌≡◌, ◌∙◌, ◌<◌, ◌+◌, ◌^◌, ℕ, ap, refl, sym, subst, arith, List, [], ◌∷◌, ◌++◌, length, map, take, Bool, true, false, Option, Some, None, append_assoc, append-nil}
 use Rattle.std.specs.Prelude.{is_none, nat_lt}
 use Rattle.std.specs.List.{slice_index_or}
-use Rattle.std.proofs.lemmas.Bool.{lt-ltb, ltb-true}
 use Rattle.std.proofs.lemmas.List.{flat_map_more, map_more, take_more}
 use Rattle.httpedge.specs.Connections.{written_on}
 use Rattle.httpedge.specs.Steps.{State}
-use Rattle.programs.specs.Replays.{Does, Run, Plays, connection_text, connections_text, next_id}
+use Rattle.programs.specs.Replays.{Does, Run, Plays, connection_text, connections_text}
 use Rattle.programs.specs.Script.{Event}
 
 pub plays_more : (r : Run) (es : List Event) (e : Event) (text more : List ℕ) (p q : Run)
@@ -35,19 +34,6 @@ pub events_more : {A B : Type 0} (f : A → B) (xs : List A) (i : ℕ) (x : A) �
     → map f (take i xs) ++ f x ∷ [] ≡ map f (take (i + 1) xs)
 events_more f xs i x lt is =
     ap (λ y. map f (take i xs) ++ f y ∷ []) is ∙ sym (map_more f xs i x lt)
-
--- the next id
-pub next_is : (old highest id : ℕ) → old ≡ highest → old + 1 < 2 ^ 64 → id ≡ old + 1 → next_id highest ≡ Some id
-next_is old highest id same fits is =
-    subst (λ (h : ℕ). next_id h ≡ Some id) same (rw (lt-ltb old 18446744073709551615 (omega arith)) (ap Some (sym is)))
-
-none_by : (old : ℕ) (b : Bool) → nat_lt old 18446744073709551615 ≡ b → (old + 1 < 2 ^ 64 → ⊥) → next_id old ≡ None
-none_by old true is over = let lt : old < 18446744073709551615 = ltb-true old 18446744073709551615 is in absurd (over (omega arith))
-none_by old false is over = rw (is) refl
-
--- no id is left
-pub none_next : (old highest : ℕ) → old ≡ highest → (old + 1 < 2 ^ 64 → ⊥) → next_id highest ≡ None
-none_next old highest same over = subst (λ (h : ℕ). next_id h ≡ None) same (none_by old (nat_lt old 18446744073709551615) refl over)
 
 pub none_is : {A : Type 0} (o : Option A) → is_none o ≡ true → o ≡ None
 none_is None is = refl

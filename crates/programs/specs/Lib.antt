@@ -1,6 +1,5 @@
 pub mod ApplyLine
 pub mod Commands
-pub mod Recorded
 pub mod ReplayCommand
 pub mod ReplayFaults
 pub mod ReplayProgram

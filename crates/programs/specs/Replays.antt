@@ -1,10 +1,10 @@
 -- The play of a script: its events are handed in order to one hub, at first without connections and objects, and what is printed of them.
-use Rattle.std.specs.Prelude.{◌≡◌, ℕ, ◌+◌, nat_lt, if◌then◌else◌, List, [], ◌∷◌, ◌++◌, length, Option, Some, None, codes}
+use Rattle.std.specs.Prelude.{◌≡◌, ℕ, List, [], ◌∷◌, ◌++◌, length, Option, Some, None, codes}
 use Rattle.std.specs.List.{flat_map}
 use Rattle.std.specs.Fmt.{decimal}
 use Rattle.schema.specs.TypesFile.{ServedShape}
 use Rattle.history.specs.History.{fresh}
-use Rattle.httpedge.specs.Connections.{written_on}
+use Rattle.httpedge.specs.Connections.{next_id, written_on}
 use Rattle.httpedge.specs.Runs as runs
 use Rattle.httpedge.specs.Steps as edge
 use Rattle.wireclient.specs.Reads as reads
@@ -32,18 +32,13 @@ connection_text id bytes = codes "connection " ++ (decimal id ++ (32 ∷ (decima
 
 -- ---- one event
 
--- the hub, the highest id so far, and the connections that are not of an apply, in the order of their ids
+-- the hub, and the connections that are not of an apply, in the order of their ids
 pub record Run : Type 0 where
   pub hub : edge.State
-  pub highest : ℕ
   pub others : List ℕ
 
 abbrev pub start : List ServedShape → Run
-start types = record { hub = edge.start types (fresh 1); highest = 0; others = [] }
-
--- the connection of an apply is the next one, if there is one
-abbrev pub next_id : ℕ → Option ℕ
-next_id highest = if nat_lt highest 18446744073709551615 then Some (highest + 1) else None
+start types = record { hub = edge.start types (fresh 1); others = [] }
 
 -- it opens, the request comes on it, and the text tells its reply
 abbrev pub Answers : edge.State → ℕ → Apply → List ℕ → edge.State → Type 0
@@ -51,22 +46,23 @@ Answers s id a text t =
     (opened : edge.State) × (bytes : List ℕ) × runs.Steps s (edge.opens id) opened × IsRequestOf a bytes × runs.Steps opened (edge.comes id bytes) t
     × TellsReply (written_on t.connections id) text
 
+-- the connection of an apply is the next one, if there is one
 abbrev pub Applies : Run → Apply → Option ℕ → List ℕ → Run → Type 0
 Applies r a None text q = (text ≡ []) × (q ≡ r)
-Applies r a (Some id) text q = (t : edge.State) × Answers r.hub id a text t × (q ≡ record { hub = t; highest = id; others = r.others })
+Applies r a (Some id) text q = (t : edge.State) × Answers r.hub id a text t × (q ≡ record r { hub = t })
 
 -- a connection that opened, so whose event was not refused, is one of the others
 abbrev pub noted : Run → ℕ → Option edge.Refusal → edge.State → Run
-noted r id None t = record { hub = t; highest = id; others = r.others ++ id ∷ [] }
-noted r id (Some why) t = record { hub = t; highest = r.highest; others = r.others }
+noted r id None t = record { hub = t; others = r.others ++ id ∷ [] }
+noted r id (Some why) t = record r { hub = t }
 
 -- an event of the hub that prints nothing
 abbrev pub Leads : Run → edge.Event → List ℕ → Run → Type 0
-Leads r e text q = (text ≡ []) × ((t : edge.State) × runs.Steps r.hub e t × (q ≡ record { hub = t; highest = r.highest; others = r.others }))
+Leads r e text q = (text ≡ []) × ((t : edge.State) × runs.Steps r.hub e t × (q ≡ record r { hub = t }))
 
 -- the event leads from a run to another, and prints the text
 abbrev pub Does : Run → Event → List ℕ → Run → Type 0
-Does r (apply a) text q = Applies r a (next_id r.highest) text q
+Does r (apply a) text q = Applies r a (next_id r.hub.connections) text q
 Does r (opens id) text q = (text ≡ []) × ((t : edge.State) × runs.Steps r.hub (edge.opens id) t × (q ≡ noted r id (edge.refusal r.hub (edge.opens id)) t))
 Does r (comes id bytes) text q = Leads r (edge.comes id bytes) text q
 Does r (goes id) text q = Leads r (edge.goes id) text q

@@ -1,8 +1,8 @@
 -- What a run of the code stands for.
 use Rattle.std.specs.Prelude.{◌≡◌}
 use Rattle.programs.specs.declared.replaying.Run as runs
-use Rattle.programs.specs.Recorded.{Records}
+use Rattle.recorder.specs.Recorded.{Records}
 use Rattle.programs.specs.Replays.{Run}
 
 abbrev pub RunStands : runs.Run → Run → Type 0
-RunStands run r = Records run.recorder r.hub × (run.highest ≡ r.highest) × (run.others.items ≡ r.others)
+RunStands run r = Records run.recorder r.hub × (run.others.items ≡ r.others)

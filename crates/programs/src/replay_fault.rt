@@ -1,5 +1,6 @@
 //! Why a play of a script ends before its last event. Faults of a whole program stand in `run_fault`.
 
+use recorder::RecorderFault;
 use std::alloc::{AllocError, AllocFailed};
 use std::io;
 use thiserror::Error;
@@ -29,6 +30,20 @@ impl From<Fault> for ReplayFault {
         match fault {
             Fault::Memory => ReplayFault::Memory,
             Fault::Store | Fault::Unreadable => ReplayFault::Store,
+        }
+    }
+}
+
+impl From<RecorderFault> for ReplayFault {
+    ghost use Rattle.std.specs.Prelude.{◌≡◌};
+    ghost use Rattle.programs.specs.ReplayFaults.{recording_fault_of};
+
+    ghost from_gives = { λ f e. e ≡ recording_fault_of f };
+
+    fn from(fault: RecorderFault) -> ReplayFault {
+        match fault {
+            RecorderFault::Memory => ReplayFault::Memory,
+            RecorderFault::Store => ReplayFault::Store,
         }
     }
 }

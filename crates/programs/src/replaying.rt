@@ -3,23 +3,23 @@ ghost use Rattle.std.specs.Prelude.{◌≡◌, ◌++◌, ℕ, [], List, false, I
 ghost use Rattle.std.specs.Io.KnownBytes.{Appends};
 ghost use Rattle.std.specs.List.{flat_map};
 ghost use Rattle.schema.specs.Served.{types_view};
+ghost use Rattle.httpedge.specs.Connections.{next_id};
 ghost use Rattle.httpedge.specs.HubSeen.{event_of};
-ghost use Rattle.httpedge.specs.Runs.{peer_goes};
 ghost use Rattle.httpedge.specs.Steps as edge;
+ghost use Rattle.recorder.specs.Recorded.{Records};
 ghost use Rattle.wireclient.specs.Views.{told_of};
 ghost use Rattle.programs.specs.ApplyLine.{apply_of, event_view};
-ghost use Rattle.programs.specs.Recorded.{Records};
 ghost use Rattle.programs.specs.ReplayFaults.{IsStarved};
-ghost use Rattle.programs.specs.Replays.{Answers, Applies, Does, Leads, Plays, Prints, PrintsFront, TellsReply, connection_text, connections_text, next_id, start, words_of};
+ghost use Rattle.programs.specs.Replays.{Answers, Applies, Does, Leads, Plays, Prints, PrintsFront, TellsReply, connection_text, connections_text, start, words_of};
 ghost use Rattle.programs.specs.Replays as replays;
 ghost use Rattle.programs.specs.Requests.{IsRequestOf, query_of, request_target_of};
 ghost use Rattle.programs.specs.Running.{RunStands};
-ghost use Rattle.programs.specs.Script.{opens, comes, goes};
+ghost use Rattle.programs.specs.Script.{opens, comes};
 
-use crate::recording::Recorder;
 use crate::replay_fault::ReplayFault;
 use crate::script::{ApplyLine, Event};
 use form_urlencoded::Serializer;
+use recorder::Recorder;
 use schema::Types;
 use std::alloc::{AllocError, Global};
 use std::io::Write;
@@ -129,8 +129,6 @@ fn answer(
 struct Run {
     alloc: Global,
     recorder: Recorder,
-    /// The highest id so far.
-    highest: u64,
     /// The connections that no apply line opened, in the order of their ids.
     others: Vec<u64>,
 }
@@ -142,35 +140,31 @@ impl Run {
         Ok(Run {
             alloc,
             recorder: Recorder::new(alloc, Api::new(alloc, types)?),
-            highest: 0,
             others: Vec::new(alloc),
         })
     }
 
     fn apply(&mut self, line: &ApplyLine) -> Result<Vec<u8>, ReplayFault>
-        ensures { (r : replays.Run) → RunStands self.old r → IfOk result (λ v. (q : replays.Run) × Applies r (apply_of line.now) (next_id r.highest) v.items q × RunStands self.new q) }
+        ensures { (r : replays.Run) → RunStands self.old r → IfOk result (λ v. (q : replays.Run) × Applies r (apply_of line.now) (next_id r.hub.connections) v.items q × RunStands self.new q) }
     {
-        let Some(id) = self.highest.checked_add(1) else {
+        let Some(id) = self.recorder.next_id() else {
             return Ok(Vec::new(self.alloc));
         };
-        let text = answer(self.alloc, &mut self.recorder, id, line)?;
-        self.highest = id;
-        Ok(text)
+        answer(self.alloc, &mut self.recorder, id, line)
     }
 
     fn open(&mut self, id: u64) -> Result<(), ReplayFault>
         ensures { (r : replays.Run) → RunStands self.old r → OnOk result ((q : replays.Run) × Does r (opens id) [] q × RunStands self.new q) }
     {
         if self.recorder.on(&httpedge::Event::Open(id))? {
-            self.highest = id;
             self.others.push(id)?;
         }
         Ok(())
     }
 
-    /// Hands the hub an event that prints nothing, other than that a peer goes.
+    /// Hands the hub an event that prints nothing.
     fn hand(&mut self, event: &httpedge::Event) -> Result<Vec<u8>, ReplayFault>
-        ensures { (r : replays.Run) → RunStands self.old r → peer_goes (event_of event.now) ≡ false → IfOk result (λ v. (q : replays.Run) × Leads r (event_of event.now) v.items q × RunStands self.new q) }
+        ensures { (r : replays.Run) → RunStands self.old r → IfOk result (λ v. (q : replays.Run) × Leads r (event_of event.now) v.items q × RunStands self.new q) }
     {
         self.recorder.on(event)?;
         Ok(Vec::new(self.alloc))
@@ -181,13 +175,6 @@ impl Run {
     {
         let bytes = Vec::from_slice(self.alloc, text.as_bytes())?;
         self.hand(&httpedge::Event::In(id, bytes))
-    }
-
-    fn go(&mut self, id: u64) -> Result<Vec<u8>, ReplayFault>
-        ensures { (r : replays.Run) → RunStands self.old r → IfOk result (λ v. (q : replays.Run) × Does r (goes id) v.items q × RunStands self.new q) }
-    {
-        self.recorder.go(id)?;
-        Ok(Vec::new(self.alloc))
     }
 
     /// Handles one event: what is printed of it.
@@ -201,7 +188,7 @@ impl Run {
                 Ok(Vec::new(self.alloc))
             }
             Event::In(id, text) => self.receive(*id, text.as_str()),
-            Event::Gone(id) => self.go(*id),
+            Event::Gone(id) => self.hand(&httpedge::Event::Gone(*id)),
             Event::Pump(id, max) => self.hand(&httpedge::Event::Pump(*id, *max)),
             Event::Tick(ms) => self.hand(&httpedge::Event::Tick(*ms)),
             Event::Compact(revision) => self.hand(&httpedge::Event::Compact(*revision)),

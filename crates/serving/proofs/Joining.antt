@@ -65,7 +65,8 @@ event_turn id s t e of_it (h, is, follows) =
     (λ f. one_turn id s t (happens e) tt apart f) (λ which f. one_turn id s t (starves e which) tt apart f) h is follows in
     subst (λ (bytes : List ℕ). Turns id s bytes [] t) (all_on id e of_it) turn
 
-take_turn : (id : ℕ) (s : State) (n : ℕ) (out : List ℕ) → out_on s.connections id ≡ out → Turns id s [] (take n out) (with_bytes_taken s id n)
+-- bytes that are taken are a turn
+pub take_turn : (id : ℕ) (s : State) (n : ℕ) (out : List ℕ) → out_on s.connections id ≡ out → Turns id s [] (take n out) (with_bytes_taken s id n)
 take_turn id s n out outs = (
   takes id n ∷ [],
   (with_bytes_taken s id n, refl, refl),
@@ -116,10 +117,6 @@ pub serves_goes : (id : ℕ) (x y : Hub) → MovesBy (Hands (goes id)) x y → G
 serves_goes id x y hands = λ s is.
     let one = hands s is in
     (one.0, event_turn id s one.0 (goes id) refl one.1, goes_closed id s one.0 one.1, one.2)
-
-pub serves_take : (id : ℕ) (x y : Hub) (n : ℕ) (out : List ℕ) → ((s : State) → IsIn x s → out ≡ out_on s.connections id) → ((s : State) → IsIn x s → IsIn y (with_bytes_taken s id n))
-    → Serves id x [] (take n out) y
-serves_take id x y n out outs taken = λ s is. (with_bytes_taken s id n, take_turn id s n out (sym (outs s is)), taken s is)
 
 -- ---- what leads from a hub to another
 

@@ -1,5 +1,5 @@
 -- What a server's calls make of its hub.
-use Rattle.std.specs.Prelude.{◌≡◌, ℕ, false, List, [], Option, Result, Ok, Err}
+use Rattle.std.specs.Prelude.{◌≡◌, ℕ, false, List, [], Option, Result, Ok, Err, OnOk}
 use Rattle.std.specs.Io.KnownBytes.{Appends, Consumes}
 use Rattle.httpedge.specs.Connections.{open_on, out_on}
 use Rattle.httpedge.specs.HubSeen.{IsIn}
@@ -18,6 +18,11 @@ Serves id old heard told new = (s : State) → IsIn old s → (t : State) × Tur
 -- the same of no bytes, after which the connection isn't open
 abbrev pub Goes : ℕ → Hub → Hub → Type 0
 Goes id old new = (s : State) → IsIn old s → (t : State) × Turns id s [] [] t × (open_on t.connections id ≡ false) × IsIn new t
+
+-- the hub before and after such a turn, after which, where it ends well, all that was written on the connection was taken
+abbrev pub ServesAll : {A E : Type 0} → Result A E → ℕ → Hub → List ℕ → List ℕ → Hub → Type 0
+ServesAll result id old heard told new =
+    (s : State) → IsIn old s → (t : State) × Turns id s heard told t × OnOk result (out_on t.connections id ≡ []) × IsIn new t
 
 -- all that was written on the connection was taken; after an error it isn't open
 abbrev pub IsLeft : {A E : Type 0} → Result A E → ℕ → State → Type 0

@@ -1,17 +1,15 @@
 //! The turn of one connection, and of its watch: reading, the hub, writing. All connections stand in `server`.
 
-ghost use Rattle.std.specs.Prelude.{◌≡◌, [], List, MatchResult, ℕ, OnOk};
+ghost use Rattle.std.specs.Prelude.{[], List, MatchResult, ℕ};
 ghost use Rattle.std.specs.Io.KnownBytes.{Appends, Consumes};
-ghost use Rattle.httpedge.specs.Connections.{out_on};
-ghost use Rattle.httpedge.specs.HubSeen.{IsIn};
-ghost use Rattle.httpedge.specs.Steps.{State};
 ghost use Rattle.httpedge.specs.Streams.{MovesBy};
-ghost use Rattle.serving.specs.Serving.{Goes, HasTurn, IsPumped, Serves};
+ghost use Rattle.serving.specs.Serving.{Goes, HasTurn, IsPumped, Serves, ServesAll};
 
-use httpedge::{Event, Hub, hand, read_piece};
+use httpedge::{Event, Hub, hand};
 use std::alloc::Global;
 use std::io;
 use std::io::{ErrorKind, Read, Write};
+use streams::{read_piece, write_front};
 
 fn open(hub: &mut Hub, id: u64) -> io::Result<()>
     ensures { Serves id hub.old [] [] hub.new }
@@ -59,24 +57,14 @@ fn hand_over<R: Read>(alloc: Global, hub: &mut Hub, id: u64, reader: &mut R) -> 
     Ok(())
 }
 
-/// Writes what is out on the connection, and takes it.
+/// Writes what is out on the connection, and takes what the writer got.
 fn write_out<W: Write>(hub: &mut Hub, id: u64, writer: &mut W) -> io::Result<()>
-    ensures told { (told : List ℕ) × Appends (W.contents writer.old) (W.contents writer.new) told × Serves id hub.old [] told hub.new }
-    ensures all { OnOk result ((s : State) → IsIn hub.new s → out_on s.connections id ≡ []) }
+    ensures { (told : List ℕ) × Appends (W.contents writer.old) (W.contents writer.new) told × ServesAll result id hub.old [] told hub.new }
 {
-    'writes: for _ in 0..u64::MAX {
-        let out = hub.out(id);
-        if out.is_empty() {
-            return Ok(());
-        }
-        match writer.write(out) {
-            Ok(0) => break,
-            Ok(count) => hub.take(id, count),
-            Err(error) if error.kind() == ErrorKind::Interrupted => {}
-            Err(error) => return Err(error),
-        }
-    }
-    Err(io::Error::from(ErrorKind::WriteZero))
+    httpedge::bytes_are_taken();
+    let (count, done) = write_front(writer, hub.out(id));
+    hub.take(id, count);
+    done
 }
 
 fn converse<R: Read, W: Write>(
@@ -86,9 +74,8 @@ fn converse<R: Read, W: Write>(
     reader: &mut R,
     writer: &mut W,
 ) -> io::Result<()>
-    ensures served { (heard : List ℕ) × (told : List ℕ) × Consumes (R.remaining reader.old) (R.remaining reader.new) heard
-        × Appends (W.contents writer.old) (W.contents writer.new) told × Serves id hub.old heard told hub.new }
-    ensures all { OnOk result ((s : State) → IsIn hub.new s → out_on s.connections id ≡ []) }
+    ensures { (heard : List ℕ) × (told : List ℕ) × Consumes (R.remaining reader.old) (R.remaining reader.new) heard
+        × Appends (W.contents writer.old) (W.contents writer.new) told × ServesAll result id hub.old heard told hub.new }
 {
     open(hub, id)?;
     hand_over(alloc, hub, id, reader)?;

@@ -6,12 +6,13 @@ ghost use Rattle.serving.specs.ServerSeen.{hub_of, limits_of};
 ghost use Rattle.serving.specs.Serving.{DoesRounds, Leads, ServesOne};
 
 use crate::server::Server;
-use httpedge::{LINGER, PIECE};
+use httpedge::LINGER;
 use std::io::{Read, Write};
 use std::net::{OpenListener, OpenStream, Shutdown};
 use std::rt::Clock;
 use std::time::{Duration, Instant};
 use std::{io, thread};
+use streams::PIECE;
 
 /// How many milliseconds a listener waits after it could not accept, as where no descriptors are left.
 const PAUSE: u64 = 10;

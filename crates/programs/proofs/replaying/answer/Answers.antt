@@ -1,12 +1,12 @@
-use Rattle.std.proofs.Common.{refl, subst}
+use Rattle.std.proofs.Common.{subst}
 use Rattle.std.proofs.lemmas.Result.{IfOk-weaker}
 use Rattle.programs.specs.Replays.{TellsReply}
 use Rattle.programs.proofs.replaying.answer.Goals as goal
 
 pub returns : goal.returns
 returns c = λ s stands.
-    let opened = (c.in_ok-on.ensures s stands refl).1 in
-    let t = (c.in_ok-on-2.ensures opened.0 opened.2 refl).1 in
+    let opened = (c.in_ok-on.ensures s stands).1 in
+    let t = (c.in_ok-on-2.ensures opened.0 opened.2).1 in
     IfOk-weaker c.reply_line.result _ _ (λ v tells. (
       t.0,
       (

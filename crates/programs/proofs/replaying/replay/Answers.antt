@@ -21,7 +21,7 @@ returns-clause-ok g c =
     let all = c.in_ok-take_all.ensures.ok (start (types_view c.args.types)) c.in_ok-run.ensures in
     let stated = connections_text all.0.hub all.0.others in
     let written = subst (λ ids. OnOk c.write_connections.result (Appends (g.W.Write.contents c.take_all.new.writer) (g.W.Write.contents c.write_connections.new.writer) (connections_text all.0.hub ids)))
-    (c.deref.ensures.value ∙ all.3.2) (c.write_connections.ensures.ok all.0.hub all.3.0) in
+    (c.deref.ensures.value ∙ all.3.1) (c.write_connections.ensures.ok all.0.hub all.3.0) in
     on_ok_weaker c.write_connections.result (λ more. (all.1 ++ stated, (all.0, all.1, all.2, refl), Appends-trans _ _ _ _ _ all.4 more)) written
 
 pub returns-in_err-run-clause-starved : goal.returns-in_err-run-clause-starved
@@ -42,7 +42,7 @@ returns-clause-starved g c = λ e.
     let all = c.in_ok-take_all.ensures.ok (start types) c.in_ok-run.ensures in
     let some = c.write_connections.ensures.starved all.0.hub all.3.0 e in
     let more = subst (λ ids. Appends (g.W.Write.contents c.take_all.new.writer) (g.W.Write.contents c.write_connections.new.writer) (connections_text all.0.hub (take some.0 ids)))
-    (c.deref.ensures.value ∙ all.3.2) some.1 in (
+    (c.deref.ensures.value ∙ all.3.1) some.1 in (
       all.1 ++ connections_text all.0.hub (take some.0 all.0.others),
       at_connection types (map event_view c.args.events.now) some.0 all.0 all.1 all.2,
       Appends-trans _ _ _ _ _ all.4 more,

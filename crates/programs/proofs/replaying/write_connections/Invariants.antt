@@ -2,7 +2,7 @@ use Rattle.std.proofs.Common.{take}
 use Rattle.std.specs.Io.KnownBytes.{Appends}
 use Rattle.httpedge.specs.Steps as edge
 use Rattle.programs.specs.Replays.{connections_text}
-use Rattle.programs.specs.Recorded.{Records}
+use Rattle.recorder.specs.Recorded.{Records}
 use Rattle.programs.proofs.replaying.write_connections.Given as goal
 
 abbrev pub invariant-loop-id : goal.invariant-loop-id

@@ -4,4 +4,4 @@ use Rattle.history.specs.History.{fresh}
 use Rattle.programs.proofs.replaying.Run.new.Goals as goal
 
 pub returns : goal.returns
-returns c = (c.new-2.ensures (types_view c.args.types) (fresh 1) c.in_ok-new.ensures.stands, refl, c.new-3.ensures.items)
+returns c = (c.new-2.ensures (types_view c.args.types) (fresh 1) c.in_ok-new.ensures.stands, c.new-3.ensures.items)

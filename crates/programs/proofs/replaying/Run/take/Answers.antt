@@ -1,4 +1,4 @@
-use Rattle.std.proofs.Common.{refl, subst}
+use Rattle.std.proofs.Common.{subst}
 use Rattle.std.specs.Result.{IfOk}
 use Rattle.programs.specs.Replays.{Does, Run}
 use Rattle.programs.specs.Running.{RunStands}
@@ -17,13 +17,13 @@ returns-in-In c = λ r stands.
     (subst (λ bytes. IfOk c.receive.result (λ v. (q : Run) × Does r (comes c.in-In.id bytes) v.items q × RunStands c.receive.new.self q)) c.as_str.ensures.value (c.receive.ensures r stands))
 
 pub returns-in-Gone : goal.returns-in-Gone
-returns-in-Gone c = λ r stands. rw c.in-Gone.is (c.go.ensures r stands)
+returns-in-Gone c = λ r stands. rw c.in-Gone.is (c.hand.ensures r stands)
 
 pub returns-in-Pump : goal.returns-in-Pump
-returns-in-Pump c = λ r stands. rw c.in-Pump.is (c.hand.ensures r stands refl)
+returns-in-Pump c = λ r stands. rw c.in-Pump.is (c.hand-in-Pump.ensures r stands)
 
 pub returns-in-Tick : goal.returns-in-Tick
-returns-in-Tick c = λ r stands. rw c.in-Tick.is (c.hand-in-Tick.ensures r stands refl)
+returns-in-Tick c = λ r stands. rw c.in-Tick.is (c.hand-in-Tick.ensures r stands)
 
 pub returns-in-Compact : goal.returns-in-Compact
-returns-in-Compact c = λ r stands. rw c.in-Compact.is (c.hand-in-Compact.ensures r stands refl)
+returns-in-Compact c = λ r stands. rw c.in-Compact.is (c.hand-in-Compact.ensures r stands)
