@@ -1,6 +1,5 @@
 pub mod Feeds
 pub mod Kept
-pub mod Lengths
 pub mod Objects
 pub mod Pages
 pub mod Renumbered

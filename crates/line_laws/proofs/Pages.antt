@@ -113,7 +113,7 @@ deeper : (a b : ℕ) → a ≤ 22 → b ≤ 22 → max a b ≤ 22
 deeper a b h k = omega (arith, h, k)
 
 module _ (wanted : Wanted) (of : Collection) (is : IsWanted wanted of) where
-  place : (k : Key) (o : Object) → IsKept of k o → is_in wanted.namespace k.namespace ≡ true → HasPlace wanted (identity_of of k)
+  pub place : (k : Key) (o : Object) → IsKept of k o → is_in wanted.namespace k.namespace ≡ true → HasPlace wanted (identity_of of k)
   place k o kept within =
       record {
         of_version = is.of_version;
@@ -136,13 +136,13 @@ module _ (wanted : Wanted) (of : Collection) (is : IsWanted wanted of) where
     fits : IsShown value × (o.body ≡ compact_text value)
     fits = object_shown kept.shape (identity_of of k) o.revision kept.state o.body kept.shaped kept.says
 
-    taken_as : (x : Stored) × (object_of wanted value ≡ Ok x) × IsStored kept.shape (identity_of of k) o.revision kept.state x
+    pub taken_as : (x : Stored) × (object_of wanted value ≡ Ok x) × IsStored kept.shape (identity_of of k) o.revision kept.state x
     taken_as = object_read wanted kept.shape (identity_of of k) o.revision kept.state kept.shaped kept.says.placed kept.says.numbered (place k o kept within)
 
     low : depth value ≤ 22
     low = value_within kept.shape kept.shaped.1 kept.state kept.says.placed.0 (identity_of of k) o.revision
 
-    one_read : IsReadAs wanted k o taken_as.0
+    pub one_read : IsReadAs wanted k o taken_as.0
     one_read =
         let stored = taken_as.2 in
         record {

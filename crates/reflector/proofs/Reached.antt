@@ -12,7 +12,7 @@ use Rattle.reflector.specs.Follows.{Server, IsCache, IsAsked, Comes, Follows, Go
 use Rattle.reflector.proofs.Follows.{items_heard}
 
 -- a client that asks nothing hears nothing
-stays : (wanted : Wanted) (c : Client) (xs : List Told) → c.is_asking ≡ false → hears_all wanted c xs ≡ c
+pub stays : (wanted : Wanted) (c : Client) (xs : List Told) → c.is_asking ≡ false → hears_all wanted c xs ≡ c
 stays wanted c [] h = refl
 stays wanted c (x ∷ xs) h = ap (λ b. hears_all wanted (cond b (with_item wanted c c.asks x) c) xs) h ∙ stays wanted c xs h
 
@@ -24,7 +24,7 @@ was_asking wanted c xs e = go c.is_asking refl
     go false h = absurd (true≢false (sym e ∙ ap (λ d. d.is_asking) (stays wanted c xs h) ∙ h))
 
 -- it still asks, and for changes
-abbrev Stays : Client → Type 0
+abbrev pub Stays : Client → Type 0
 Stays c = c.is_asking ≡ true → c.asks ≡ follow
 
 checked : (b : Bool) (c : Client) (revision : ℕ) (objects : Objects) (notices : List Notice) → Stays (cond b (moved c revision objects notices) (again c))
@@ -61,7 +61,7 @@ step_stays wanted c x is = go c.is_asking
     go true = item_stays wanted c c.asks x is is
     go false = λ e. is
 
-all_stay : (wanted : Wanted) (c : Client) (xs : List Told) → c.asks ≡ follow → Stays (hears_all wanted c xs)
+pub all_stay : (wanted : Wanted) (c : Client) (xs : List Told) → c.asks ≡ follow → Stays (hears_all wanted c xs)
 all_stay wanted c [] is e = is
 all_stay wanted c (x ∷ xs) is e = all_stay wanted (hears wanted c x) xs (step_stays wanted c x is (was_asking wanted (hears wanted c x) xs e)) e
 

@@ -17,16 +17,19 @@ last_size = record { are_digits = refl; some = omega arith; few = omega arith; v
 abbrev pub chunks_of : List (List ℕ) → List Chunk
 chunks_of texts = map (λ text. chunk_of (with_feed text)) texts
 
-is_chunk : (text : List ℕ) → IsLine text → IsChunk (chunk_of (with_feed text))
-is_chunk text is =
-    let long : length (with_feed text) ≡ length text + 1 = length-append text (10 ∷ []) in
-    let short = is.fits in
-    let low : length (with_feed text) < 18446744073709551616 = omega (arith, long, short) in
-    record { size = size_read (length (with_feed text)) low; some = omega (arith, long); fits = low }
+pub fed_long : (text : List ℕ) → length (with_feed text) ≡ length text + 1
+fed_long text = length-append text (10 ∷ [])
+
+pub is_chunk : (text : List ℕ) → length (with_feed text) < 18446744073709551616 → IsChunk (chunk_of (with_feed text))
+is_chunk text low = let long = fed_long text in record { size = size_read (length (with_feed text)) low; some = omega (arith, long); fits = low }
 
 pub are_chunks : (texts : List (List ℕ)) → All IsLine texts → All IsChunk (chunks_of texts)
 are_chunks [] are = All-nil IsChunk
-are_chunks (text ∷ texts) are = All-cons IsChunk (chunk_of (with_feed text)) (chunks_of texts) (is_chunk text (All-head IsLine text texts are)) (are_chunks texts (All-tail IsLine text texts are))
+are_chunks (text ∷ texts) are =
+    let is = All-head IsLine text texts are in
+    let short = is.fits in
+    let long = fed_long text in
+    All-cons IsChunk (chunk_of (with_feed text)) (chunks_of texts) (is_chunk text (omega (arith, long, short))) (are_chunks texts (All-tail IsLine text texts are))
 
 -- what stands in the chunks are the lines
 pub contents : (texts : List (List ℕ)) → flat_map (λ c. c.content) (chunks_of texts) ≡ print_lines texts
@@ -53,7 +56,7 @@ flat_both : (xs ys : List (List ℕ)) → flat_map chunk (xs ++ ys) ≡ flat_map
 flat_both [] ys = refl
 flat_both (x ∷ xs) ys = ap (λ (rest : List ℕ). chunk x ++ rest) (flat_both xs ys) ∙ sym (append_assoc (chunk x) (flat_map chunk xs) (flat_map chunk ys))
 
-turn_then : (texts more : List (List ℕ)) (has_ended : Bool) → chunks (map with_feed texts) false ++ chunks (map with_feed more) has_ended ≡ chunks (map with_feed (texts ++ more)) has_ended
+pub turn_then : (texts more : List (List ℕ)) (has_ended : Bool) → chunks (map with_feed texts) false ++ chunks (map with_feed more) has_ended ≡ chunks (map with_feed (texts ++ more)) has_ended
 turn_then texts more has_ended =
     let first = flat_map chunk (map with_feed texts) in
     let second = flat_map chunk (map with_feed more) in

@@ -1,16 +1,19 @@
-mod Asking
-mod Fields
-mod Following
-mod Heading
-mod LineTexts
-mod Listings
-mod PrintedReplies
-mod PrintedRequests
-mod Queries
-mod Statuses
-mod Chunking
-mod PrintedWatches
-mod Silence
-mod Watching
-mod Written
-mod TurnTexts
+pub mod Answering
+pub mod Asking
+pub mod Fields
+pub mod Following
+pub mod Heading
+pub mod LineTexts
+pub mod Listings
+pub mod LongLines
+pub mod LongSizes
+pub mod PrintedReplies
+pub mod PrintedRequests
+pub mod Queries
+pub mod Statuses
+pub mod Chunking
+pub mod PrintedWatches
+pub mod Silence
+pub mod Watching
+pub mod Written
+pub mod TurnTexts

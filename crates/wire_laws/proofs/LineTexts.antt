@@ -1,12 +1,12 @@
 -- The lines of a watch are lines to a client.
-use Rattle.std.proofs.Common.{arith, ◌≡◌, ℕ, ◌+◌, ◌≤◌, Bool, true, false, List, [], ◌∷◌, ◌++◌, length, refl, sym, ap, ap₂, ◌∙◌, append_assoc, length-append}
+use Rattle.std.proofs.Common.{arith, ◌≡◌, ℕ, ◌+◌, ◌≤◌, ◌<◌, Bool, true, false, List, [], ◌∷◌, ◌++◌, length, refl, sym, ap, ap₂, ◌∙◌, append_assoc, length-append}
 use Rattle.std.specs.Prelude.{◌||◌, ◌==◌, codes}
 use Rattle.std.specs.List.{list_any}
 use Rattle.watchline.specs.declared.event.EventType.{EventType}
 use Rattle.watchline.specs.declared.event.EventType.TheVariants as event
 use Rattle.watchline.specs.Lines.{line, type_text}
-use Rattle.wireclient.specs.Lines.{IsLine, with_feed}
-use Rattle.wireclient.specs.Reply.{max_line}
+use Rattle.line_laws.specs.Shown.{shown}
+use Rattle.wireclient.specs.Lines.{HasNoFeed, with_feed}
 
 abbrev has_feed : List ℕ → Bool
 has_feed text = list_any (λ b. b == 10) text
@@ -37,24 +37,17 @@ before_short event.Deleted = omega arith
 before_short event.Bookmark = omega arith
 before_short event.Error = omega arith
 
-abbrev without_feed : EventType → List ℕ → List ℕ
-without_feed what text = before what ++ text ++ codes "}"
-
-plain : (what : EventType) (text : List ℕ) → has_feed text ≡ false → has_feed (without_feed what text) ≡ false
+pub plain : (what : EventType) (text : List ℕ) → HasNoFeed text → HasNoFeed (shown what text)
 plain what text none =
     feed_in (before what ++ text) (codes "}")
     ∙ ap (λ (b : Bool). b || false) (feed_in (before what) text ∙ ap₂ (λ (a b : Bool). a || b) (before_plain what) none)
 
-short : (what : EventType) (text : List ℕ) → length text + 64 ≤ max_line → length (without_feed what text) + 1 ≤ max_line
-short what text low =
+pub room : (what : EventType) (text : List ℕ) → length (shown what text) < length text + 64
+room what text =
     let first : length (before what ++ text) ≡ length (before what) + length text = length-append (before what) text in
-    let whole : length (without_feed what text) ≡ length (before what ++ text) + 1 = length-append (before what ++ text) (codes "}") in
+    let whole : length (shown what text) ≡ length (before what ++ text) + 1 = length-append (before what ++ text) (codes "}") in
     let few = before_short what in
-    omega (arith, first, whole, few, low)
+    omega (arith, first, whole, few)
 
-pub line_text : (what : EventType) (text : List ℕ) → has_feed text ≡ false → length text + 64 ≤ max_line → (shown : List ℕ) × IsLine shown × (line what text ≡ with_feed shown)
-line_text what text none low = (
-  without_feed what text,
-  (let fits = short what text low in record { one = plain what text none; fits = omega (arith, fits) }),
-  sym (append_assoc (before what ++ text) (codes "}") (10 ∷ [])),
-)
+pub with_its_feed : (what : EventType) (text : List ℕ) → line what text ≡ with_feed (shown what text)
+with_its_feed what text = sym (append_assoc (before what ++ text) (codes "}") (10 ∷ []))

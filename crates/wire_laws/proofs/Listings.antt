@@ -1,27 +1,35 @@
--- What a machine keeps of a served type, and the answer of a call that lists it.
-use Rattle.std.proofs.Common.{◌≡◌, ℕ, ◌≤◌, true, true≢false, List, [], Option, None, Some, Result, Ok, Err, IsUtf8, sym, ap, subst, ◌∙◌}
-use Rattle.std.specs.Prelude.{slice_get}
+-- What a machine keeps of a served type, and the plan of a call that lists it or watches it.
+use Rattle.std.proofs.Common.{◌≡◌, ℕ, ◌≤◌, ◌<◌, Bool, true, false, true≢false, List, [], Option, None, Some, Result, Ok, Err, IsUtf8, sym, ap, subst, ◌∙◌, arith}
+use Rattle.std.proofs.lemmas.Bool.{le-ltb, lt-ltb, ne_eqb}
+use Rattle.std.specs.Prelude.{if◌then◌else◌, nat_lt, slice_get}
 use Rattle.schema.specs.TypesFile.{ServedShape}
 use Rattle.names.specs.Names.{is_dns_label, is_dns_subdomain}
 use Rattle.history.specs.History.{History, IsHistory, Key, Object, Objects, standing, state_at}
 use Rattle.history.proofs.Wholes.{whole_is}
 use Rattle.objects.specs.ReadBack.{IsObjectText, max_version}
 use Rattle.objects.proofs.Taken.{same_some}
-use Rattle.params.specs.Values.{Values}
+use Rattle.params.specs.Values.{Values, Watch}
+use Rattle.params.specs.declared.params.Asked.TheVariants as asked
 use Rattle.lists.specs.declared.refusal.Refusal.{Refusal}
+use Rattle.lists.specs.declared.refusal.Refusal.TheVariants.{Expired}
 use Rattle.lists.specs.Body.{Collection, list_text}
 use Rattle.lists.specs.Lists.{list_of, page_of, text_at}
 use Rattle.lists.specs.Revision.{revision_of}
 use Rattle.decoder.specs.Wanted.{Wanted}
+use Rattle.watchline.specs.declared.opening.Initial.{Initial}
+use Rattle.watchline.specs.declared.opening.Initial.TheVariants.{Changes}
+use Rattle.watchline.specs.Opening.{from_parts, initial_in, opened_by, starts}
 use Rattle.watchline.specs.Watches.{from_history}
 use Rattle.line_laws.specs.Listed.{AreKept, IsKept, IsReadAsPage, IsWanted}
-use Rattle.verbs.specs.Calls.{Call}
+use Rattle.verbs.specs.declared.method.Method.TheVariants.{Get}
+use Rattle.verbs.specs.Calls.{Call, Plan}
 use Rattle.verbs.specs.Machine.{IsMachine, IsTextAt, identity_of}
+use Rattle.verbs.specs.Parameters.{parameters_validated}
 use Rattle.verbs.specs.Promise.{TextsSayStates}
-use Rattle.verbs.specs.Step.{all_validated_by, collection_of, collection_validated_by, list_answered, list_validated, lists_of, page_shown, plan_for, planned, shown_by, validated_at, validated_in, validated_over}
+use Rattle.verbs.specs.Step.{all_validated_by, collection_of, collection_validated_by, list_answered, list_refusal, list_validated, lists_of, page_shown, plan_for, planned, refused, shown_by, validated_at, validated_in, validated_over, watch_shown}
 use Rattle.verbs.specs.Validated.{Validated, and_then}
 use Rattle.verbs.proofs.Said.{shapes_of}
-use Rattle.wire_laws.specs.Listings.{IsListing, listed_by}
+use Rattle.wire_laws.specs.Listings.{IsListing, IsWatching, listed_by, page_plan, watch_after, watch_plan}
 
 -- ---- what is kept
 
@@ -48,36 +56,66 @@ pub machine_keeps : TextsSayStates → (types : List ServedShape) (m : History) 
     → AreKept (collection_of t kind namespace) (state_at m.changes r)
 machine_keeps say types m t kind namespace r is served k o same there = text_kept types t kind namespace m k o is served same (say types m r k o is there).0
 
--- ---- the answer
+-- ---- the plan of a list or a watch
 
 abbrev page_text : ServedShape → Call → Values → ℕ → History → List ℕ
 page_text t call values revision m = list_text (listed_by t call) revision (page_of (listed_by t call) values (state_at m.changes revision))
 
-module _ (types : List ServedShape) (m : History) (call : Call) (t : ServedShape) (values : Values) (is : IsListing types call t values) where
+module _ (types : List ServedShape) (m : History) (call : Call) (t : ServedShape) (values : Values) (served : slice_get types call.target.kind ≡ Some t) (gets : call.target.method ≡ Get)
+    (unnamed : call.target.name ≡ None) (says : parameters_validated asked.List call.query ≡ Ok values) where
   validated_by : (namespace : Option (List ℕ))
       → validated_in t m.current (standing m) (lists_of m) call namespace None ≡ list_validated t (lists_of m) call.target.kind namespace call.query
-  validated_by None = ap (λ how. all_validated_by how t (lists_of m) call.target.kind call.query) is.gets
-  validated_by (Some namespace) = ap (λ how. collection_validated_by how t m.current (standing m) (lists_of m) call.target.kind namespace call.query call.body) is.gets
+  validated_by None = ap (λ how. all_validated_by how t (lists_of m) call.target.kind call.query) gets
+  validated_by (Some namespace) = ap (λ how. collection_validated_by how t m.current (standing m) (lists_of m) call.target.kind namespace call.query call.body) gets
 
-  list_is : list_validated t (lists_of m) call.target.kind call.target.namespace call.query ≡ list_answered (page_shown (list_of (listed_by t call) values m.current m.compacted (state_at m.changes)))
-  list_is =
-      ap (λ (v : Validated Values). and_then v (λ said. list_answered (lists_of m (listed_by t call) said))) is.says
-      ∙ ap (λ watch. list_answered (shown_by (from_history m) (listed_by t call) values watch)) is.unwatched
-
-  validated_is : validated_over types m.current (standing m) (lists_of m) call ≡ list_answered (page_shown (list_of (listed_by t call) values m.current m.compacted (state_at m.changes)))
+  validated_is : validated_over types m.current (standing m) (lists_of m) call ≡ list_answered (shown_by (from_history m) (listed_by t call) values values.watch)
   validated_is =
-      ap (λ o. validated_at o m.current (standing m) (lists_of m) call) is.served
-      ∙ ap (λ name. validated_in t m.current (standing m) (lists_of m) call call.target.namespace name) is.unnamed
-      ∙ validated_by call.target.namespace ∙ list_is
+      ap (λ o. validated_at o m.current (standing m) (lists_of m) call) served
+      ∙ ap (λ name. validated_in t m.current (standing m) (lists_of m) call call.target.namespace name) unnamed
+      ∙ validated_by call.target.namespace
+      ∙ ap (λ (v : Validated Values). and_then v (λ said. list_answered (lists_of m (listed_by t call) said))) says
 
-  module _ (revision : ℕ) (at : revision_of m.current m.compacted values ≡ Ok revision) where
-    pub text_is : list_of (listed_by t call) values m.current m.compacted (state_at m.changes) ≡ Ok (page_text t call values revision m)
-    text_is = ap (text_at (listed_by t call) values (state_at m.changes)) at
+  shown_as : (watch : Option Watch) → values.watch ≡ watch → planned types m call ≡ plan_for (list_answered (shown_by (from_history m) (listed_by t call) values watch))
+  shown_as watch is = ap plan_for validated_is ∙ ap (λ o. plan_for (list_answered (shown_by (from_history m) (listed_by t call) values o))) is
 
-    pub answer_is : (planned types m call).answer.body ≡ page_text t call values revision m
-    answer_is =
-        ap (λ v. (plan_for v).answer.body) validated_is
-        ∙ ap (λ text. (plan_for (list_answered (page_shown text))).answer.body) text_is
+-- ---- of a list
+
+module _ (types : List ServedShape) (m : History) (call : Call) (t : ServedShape) (values : Values) (is : IsListing types call t values) where
+  list_planned : planned types m call ≡ plan_for (list_answered (page_shown (list_of (listed_by t call) values m.current m.compacted (state_at m.changes))))
+  list_planned = shown_as types m call t values is.served is.gets is.unnamed is.says None is.unwatched
+
+  pub text_is : (revision : ℕ) → revision_of m.current m.compacted values ≡ Ok revision → list_of (listed_by t call) values m.current m.compacted (state_at m.changes) ≡ Ok (page_text t call values revision m)
+  text_is revision at = ap (text_at (listed_by t call) values (state_at m.changes)) at
+
+  pub page_planned : (revision : ℕ) → revision_of m.current m.compacted values ≡ Ok revision → planned types m call ≡ page_plan (page_text t call values revision m)
+  page_planned revision at = list_planned ∙ ap (λ text. plan_for (list_answered (page_shown text))) (text_is revision at)
+
+  pub list_refused : (refusal : Refusal) → revision_of m.current m.compacted values ≡ Err refusal → planned types m call ≡ refused (list_refusal refusal)
+  list_refused refusal at = list_planned ∙ ap (λ r. plan_for (list_answered (page_shown (text_at (listed_by t call) values (state_at m.changes) r)))) at
+
+-- ---- of a watch
+
+-- by whether the version is 0, and whether changes after it were forgotten
+abbrev plan_by : Call → Values → Watch → ℕ → History → Initial → Bool → Bool → Plan
+plan_by call values watch v m objects any forgotten =
+    plan_for (list_answered (watch_shown (opened_by (from_parts call.target.kind call.target.namespace values.selector watch)
+    (if any then Ok (m.current, objects) else (if forgotten then Err (Expired v m.compacted) else Ok (v, Changes))))))
+
+module _ (types : List ServedShape) (m : History) (call : Call) (t : ServedShape) (values : Values) (watch : Watch) (v : ℕ) (is : IsWatching types call t values watch v) (some : 0 < v) where
+  objects : Initial
+  objects = initial_in (from_history m) call.target.kind call.target.namespace values.selector
+
+  watch_planned : planned types m call ≡ plan_by call values watch v m objects false (nat_lt v m.compacted)
+  watch_planned =
+      shown_as types m call t values is.served is.gets is.unnamed is.says (Some watch) is.watches
+      ∙ ap (λ o. plan_for (list_answered (watch_shown (opened_by (from_parts call.target.kind call.target.namespace values.selector watch) (starts (from_history m) o objects))))) is.after
+      ∙ ap (λ b. plan_by call values watch v m objects b (nat_lt v m.compacted)) (ne_eqb v 0 (λ none. absurd (omega (arith, none, some))))
+
+  pub watch_opens : m.compacted ≤ v → planned types m call ≡ watch_plan (watch_after call values watch v)
+  watch_opens low = watch_planned ∙ ap (plan_by call values watch v m objects false) (le-ltb v m.compacted low)
+
+  pub watch_expired : v < m.compacted → planned types m call ≡ refused (list_refusal (Expired v m.compacted))
+  watch_expired past = watch_planned ∙ ap (plan_by call values watch v m objects false) (lt-ltb v m.compacted past)
 
 -- ---- what a client reads
 
@@ -99,7 +137,7 @@ list_read say read wanted types m call t values revision is lists asks at text =
     let of = listed_by t call in
     let history : IsHistory m = whole_is is.first m is.whole in
     let page = page_text t call values revision m in
-    let same : (planned types m call).answer.body ≡ page = answer_is types m call t values lists revision at in
+    let same : (planned types m call).answer.body ≡ page = ap (λ (p : Plan). p.answer.body) (page_planned types m call t values lists revision at) in
     let found = read wanted of values m.current m.compacted (state_at m.changes) page asks
     (λ r low high. machine_keeps say types m t call.target.kind call.target.namespace r is lists.served) history.low history.high
     (text_is types m call t values lists revision at) (subst IsUtf8 same text) in

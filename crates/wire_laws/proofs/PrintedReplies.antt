@@ -1,9 +1,10 @@
 -- The bytes of a reply as a head of the grammar.
-use Rattle.std.proofs.Common.{arith, ◌≡◌, ℕ, ◌+◌, ◌≤◌, ◌<◌, ◌^◌, zero, suc, List, [], ◌∷◌, ◌++◌, length, map, Option, Some, None, refl, sym, ap, subst, ◌∙◌, append_assoc, append-nil, length-append}
+use Rattle.std.proofs.Common.{arith, ◌≡◌, ℕ, ◌+◌, ◌≤◌, ◌<◌, ◌^◌, zero, suc, Bool, true, false, List, [], ◌∷◌, ◌++◌, length, map, Option, Some, None, refl, sym, ap, subst, ◌∙◌, append_assoc, append-nil, length-append}
+use Rattle.std.proofs.lemmas.Bool.{le-leb, leb-false, leb-true}
 use Rattle.std.proofs.lemmas.Fmt.{decimal_is_IsNumeral, length-decimal-le}
 use Rattle.std.proofs.lemmas.Int.Digits.{digits_value-lt}
 use Rattle.std.proofs.lemmas.List.Elements.{All-cons, All-nil}
-use Rattle.std.specs.Prelude.{codes}
+use Rattle.std.specs.Prelude.{codes, if◌then◌else◌, nat_le}
 use Rattle.std.specs.Char.{is_ascii_digit}
 use Rattle.std.specs.Fmt.{decimal}
 use Rattle.std.specs.List.{All, flat_map}
@@ -17,8 +18,9 @@ use Rattle.wire.specs.Lengths.{length_in}
 use Rattle.wire.proofs.Lines.{passes_each}
 use Rattle.requests.specs.ReplyBytes.{phrase_of, allow_field, reply}
 use Rattle.wireclient.specs.Reads.{Items, framed_by_length, framing_of, max_body}
-use Rattle.wireclient.specs.Reply.{by_length, end, head, whole}
+use Rattle.wireclient.specs.Reply.{by_length, end, head, malformed, whole}
 use Rattle.wire_laws.specs.Printed.{IsAllowed}
+use Rattle.wire_laws.specs.Replied.{reply_told}
 use Rattle.wire_laws.proofs.Fields.{field, decimal_digits, decimal_is_value, is_field, trimmed}
 use Rattle.wire_laws.proofs.Statuses.{phrase_passes, phrase_short}
 
@@ -130,40 +132,81 @@ allow_short (Some methods) is =
     let short = is.1 in
     omega (arith, inner, outer, short)
 
-head_fits : (code phrase : List ℕ) (allow : Option (List ℕ)) (count : List ℕ) → length code ≤ 3 → length phrase ≤ 64 → IsAllowed allow → length count ≤ 10 → length (head_text code phrase allow count) ≤ max_head
-head_fits code phrase allow count three short allowed ten =
+head_fits : (code phrase : List ℕ) (allow : Option (List ℕ)) (count : List ℕ) → length code ≤ 3 → length phrase ≤ 64 → IsAllowed allow → length count ≤ 20 → length (head_text code phrase allow count) ≤ max_head
+head_fits code phrase allow count three short allowed few =
     let after = allow_short allow allowed in
     let counted : length (count ++ after_count allow) ≡ length count + length (after_count allow) = length-append count (after_count allow) in
     let text : length (phrase ++ after_phrase allow count) ≡ length phrase + length (after_phrase allow count) = length-append phrase (after_phrase allow count) in
     let line : length (code ++ (32 ∷ (phrase ++ after_phrase allow count))) ≡ length code + length (32 ∷ (phrase ++ after_phrase allow count)) = length-append code (32 ∷ (phrase ++ after_phrase allow count)) in
-    omega (arith, after, counted, text, line, three, short, ten)
+    omega (arith, after, counted, text, line, three, short, few)
+
+record HasHead (code phrase : List ℕ) (allow : Option (List ℕ)) (count : List ℕ) : Type 0 where
+  is : IsResponseHead (head_of code phrase allow count)
+  same : print_response (head_of code phrase allow count) ≡ head_text code phrase allow count
+  fits : length (print_response (head_of code phrase allow count)) ≤ max_head
+
+has_head : (code phrase : List ℕ) (allow : Option (List ℕ)) (count : List ℕ) → (length code ≡ 3) × AllPass is_ascii_digit code → AllPass is_value_byte phrase → length phrase ≤ 64 → IsAllowed allow
+    → AllPass is_value_byte count → length count ≤ 20 → HasHead code phrase allow count
+has_head code phrase allow count digits pass short allowed value few =
+    let same = printed code phrase allow count in
+    let three : length code ≤ 3 = let exact = digits.0 in omega (arith, exact) in
+    record {
+      is = record { minor = omega arith; digits = digits; reason = pass; fields = are_fields allow count allowed value };
+      same = same;
+      fits = subst (λ (xs : List ℕ). length xs ≤ max_head) (sym same) (head_fits code phrase allow count three short allowed few);
+    }
 
 -- ---- the law
 
--- what the reader's own law gives of a head
+-- what the reader's own laws give of a head, and of a printed length
 abbrev pub ReadsBack : Type 0
 ReadsBack = (h : ResponseHead) (body : List ℕ) → IsResponseHead h → length (print_response h) ≤ max_head → length h.fields ≤ max_fields
     → framing_of (map name_and_value h.fields) ≡ Some (by_length (length body))
     → Items (print_response h ++ body) (head (status_code h) ∷ whole body ∷ end ∷ [])
 
-head_read : ReadsBack → (code phrase : List ℕ) (allow : Option (List ℕ)) (count body : List ℕ) → (length code ≡ 3) × AllPass is_ascii_digit code → AllPass is_value_byte phrase → length phrase ≤ 64 → IsAllowed allow
-    → AllPass is_value_byte count → length count ≤ 10 → trim_ows (32 ∷ count) ≡ count → framed_by_length (length_in count) ≡ Some (by_length (length body))
-    → Items (head_text code phrase allow count ++ body) (head (digits_value 10 code) ∷ whole body ∷ end ∷ [])
-head_read reads code phrase allow count body digits pass short allowed value ten trim counts =
-    let is : IsResponseHead (head_of code phrase allow count) = record { minor = omega arith; digits = digits; reason = pass; fields = are_fields allow count allowed value } in
-    let same = printed code phrase allow count in
-    let three : length code ≤ 3 = let exact = digits.0 in omega (arith, exact) in
-    let fits : length (print_response (head_of code phrase allow count)) ≤ max_head = subst (λ (xs : List ℕ). length xs ≤ max_head) (sym same) (head_fits code phrase allow count three short allowed ten) in
-    subst (λ (xs : List ℕ). Items (xs ++ body) (head (digits_value 10 code) ∷ whole body ∷ end ∷ [])) same
-    (reads (head_of code phrase allow count) body is fits (few_fields allow count) (framed allow count trim ∙ counts))
+abbrev pub ReadsNone : Type 0
+ReadsNone = (h : ResponseHead) (more : List ℕ) → IsResponseHead h → length (print_response h) ≤ max_head → framing_of (map name_and_value h.fields) ≡ None → Items (print_response h ++ more) (malformed ∷ [])
 
-pub reply_read : ReadsBack → ((n : ℕ) → n ≤ max_body → framed_by_length (length_in (decimal n)) ≡ Some (by_length n)) → (code : ℕ) (allow : Option (List ℕ)) (body : List ℕ)
-    → IsStatusCode code → IsAllowed allow → length body ≤ max_body → Items (reply code allow body) (head code ∷ whole body ∷ end ∷ [])
-reply_read reads counts code allow body is allowed small =
+pub record Reader : Type 0 where
+  pub reply : ReadsBack
+  pub counted : (n : ℕ) → n ≤ max_body → framed_by_length (length_in (decimal n)) ≡ Some (by_length n)
+  pub none : ReadsNone
+  pub uncounted : (n : ℕ) → max_body < n → n < 2 ^ 64 → framed_by_length (length_in (decimal n)) ≡ None
+
+head_read : ReadsBack → (code phrase : List ℕ) (allow : Option (List ℕ)) (count body : List ℕ) → HasHead code phrase allow count → trim_ows (32 ∷ count) ≡ count
+    → framed_by_length (length_in count) ≡ Some (by_length (length body)) → Items (head_text code phrase allow count ++ body) (head (digits_value 10 code) ∷ whole body ∷ end ∷ [])
+head_read reads code phrase allow count body has trim counts =
+    subst (λ (xs : List ℕ). Items (xs ++ body) (head (digits_value 10 code) ∷ whole body ∷ end ∷ [])) has.same
+    (reads (head_of code phrase allow count) body has.is has.fits (few_fields allow count) (framed allow count trim ∙ counts))
+
+head_refused : ReadsNone → (code phrase : List ℕ) (allow : Option (List ℕ)) (count body : List ℕ) → HasHead code phrase allow count → trim_ows (32 ∷ count) ≡ count
+    → framed_by_length (length_in count) ≡ None → Items (head_text code phrase allow count ++ body) (malformed ∷ [])
+head_refused none code phrase allow count body has trim counts =
+    subst (λ (xs : List ℕ). Items (xs ++ body) (malformed ∷ [])) has.same (none (head_of code phrase allow count) body has.is has.fits (framed allow count trim ∙ counts))
+
+pub reply_read : Reader → (code : ℕ) (allow : Option (List ℕ)) (body : List ℕ) → IsStatusCode code → IsAllowed allow → length body < 2 ^ 64 → Items (reply code allow body) (reply_told code body)
+reply_read reader code allow body is allowed wide =
     let low : code < 2 ^ 64 = let top = is.1 in omega (arith, top) in
-    let wide : length body < 2 ^ 64 = omega (arith, small) in
-    let ten : length (decimal (length body)) ≤ 10 = length-decimal-le 10 (length body) (omega arith) (omega (arith, small)) wide in
-    let value : digits_value 10 (decimal code) ≡ code = (decimal_is_IsNumeral code low).1 in
-    subst (λ (n : ℕ). Items (reply code allow body) (head n ∷ whole body ∷ end ∷ [])) value
-    (head_read reads (decimal code) (phrase_of code) allow (decimal (length body)) body (three_digits code is, decimal_digits code low) (phrase_passes code) (phrase_short code) allowed
-    (decimal_is_value (length body) wide) ten (trimmed (length body) wide) (counts (length body) small))
+    let few : length (decimal (length body)) ≤ 20 = length-decimal-le 20 (length body) (omega arith) (omega (arith, wide)) wide in
+    let has = has_head (decimal code) (phrase_of code) allow (decimal (length body)) (three_digits code is, decimal_digits code low) (phrase_passes code) (phrase_short code) allowed (decimal_is_value (length body) wide) few in
+    by_length (nat_le (length body) max_body) refl has (decimal_is_IsNumeral code low).1
+  where
+    by_length : (t : Bool) → nat_le (length body) max_body ≡ t → HasHead (decimal code) (phrase_of code) allow (decimal (length body)) → digits_value 10 (decimal code) ≡ code
+        → Items (reply code allow body) (if t then head code ∷ whole body ∷ end ∷ [] else malformed ∷ [])
+    by_length true short has value =
+        subst (λ (n : ℕ). Items (reply code allow body) (head n ∷ whole body ∷ end ∷ [])) value
+        (head_read reader.reply (decimal code) (phrase_of code) allow (decimal (length body)) body has (trimmed (length body) wide) (reader.counted (length body) (leb-true (length body) max_body short)))
+    by_length false long has value =
+        head_refused reader.none (decimal code) (phrase_of code) allow (decimal (length body)) body has (trimmed (length body) wide) (reader.uncounted (length body) (leb-false (length body) max_body long) wide)
+
+pub short_told : (code : ℕ) (body : List ℕ) → length body ≤ max_body → reply_told code body ≡ head code ∷ whole body ∷ end ∷ []
+short_told code body short = by_length (nat_le (length body) max_body) (le-leb (length body) max_body short)
+  where
+    by_length : (t : Bool) → t ≡ true → (if t then head code ∷ whole body ∷ end ∷ [] else malformed ∷ []) ≡ head code ∷ whole body ∷ end ∷ []
+    by_length true is = refl
+    by_length false is = absurd cc
+
+-- of a body that isn't too long
+pub short_read : ((code : ℕ) (allow : Option (List ℕ)) (body : List ℕ) → IsStatusCode code → IsAllowed allow → length body < 2 ^ 64 → Items (reply code allow body) (reply_told code body))
+    → (code : ℕ) (allow : Option (List ℕ)) (body : List ℕ) → IsStatusCode code → IsAllowed allow → length body ≤ max_body → Items (reply code allow body) (head code ∷ whole body ∷ end ∷ [])
+short_read reads code allow body is allowed short = subst (Items (reply code allow body)) (short_told code body short) (reads code allow body is allowed (omega (arith, short)))

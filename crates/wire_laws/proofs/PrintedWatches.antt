@@ -1,11 +1,12 @@
 -- The head of a watch as a head of the grammar, and what is read of a watch.
-use Rattle.std.proofs.Common.{arith, ◌≡◌, ℕ, ◌+◌, ◌≤◌, ◌<◌, ◌^◌, Bool, true, false, List, [], ◌∷◌, ◌++◌, length, map, Some, refl, sym, ap, subst, ◌∙◌, append-nil, length-append}
+use Rattle.std.proofs.Common.{arith, ◌≡◌, ℕ, ◌+◌, ◌≤◌, ◌<◌, ◌^◌, Bool, true, false, List, [], ◌∷◌, ◌++◌, length, map, Some, refl, sym, ap, subst, ◌∙◌, ◌⊎◌, inl, inr, append-nil, length-append}
+use Rattle.std.proofs.lemmas.Bool.{ltb-false, ltb-true}
 use Rattle.std.proofs.lemmas.Fmt.{decimal_is_IsNumeral}
 use Rattle.std.proofs.lemmas.List.Elements.{All-cons, All-nil}
-use Rattle.std.specs.Prelude.{codes}
-use Rattle.std.specs.Char.{is_ascii_digit}
+use Rattle.std.specs.Prelude.{codes, nat_lt}
+use Rattle.std.specs.Char.{is_ascii_digit, is_ascii_hexdigit}
 use Rattle.std.specs.Fmt.{decimal}
-use Rattle.std.specs.List.{All, flat_map}
+use Rattle.std.specs.List.{All, flat_map, list_all}
 use Rattle.std.specs.Str.Parse.{digits_value}
 use Rattle.http.specs.StatusCode.{IsStatusCode}
 use Rattle.httparse.specs.Grammar as grammar
@@ -13,15 +14,17 @@ use Rattle.httparse.specs.Grammar.{AllPass, is_token_byte, is_value_byte, Field,
 use Rattle.httparse.specs.Spans.{name_and_value}
 use Rattle.wire.specs.Chunks.{Chunk, IsChunk, print_chunk, print_chunks}
 use Rattle.wire.specs.Heads.{crlf, max_fields, max_head}
-use Rattle.wire.specs.Lengths.{IsSize}
+use Rattle.wire.specs.Lengths.{IsSize, hexadecimal}
 use Rattle.wire.proofs.Lines.{passes_each}
 use Rattle.requests.specs.ReplyBytes.{chunks, phrase_of, watch_head}
-use Rattle.wireclient.specs.Lines.{IsLine, print_lines, with_feed}
+use Rattle.wireclient.specs.Lines.{BeginsTooLong, HasNoFeed, IsLine, print_lines, with_feed}
 use Rattle.wireclient.specs.Reads.{Items, framing_of}
-use Rattle.wireclient.specs.Reply.{by_chunks, end, head, line}
-use Rattle.wire_laws.specs.Watched.{joined, told_of}
+use Rattle.wireclient.specs.Reply.{by_chunks, Told, end, head, line, malformed, max_line}
+use Rattle.wire_laws.specs.Watched.{end_told, joined, lines_told, told_of}
 use Rattle.wire_laws.proofs.Chunking.{are_chunks, chunks_of, contents, ended_chunks, last_size, open_chunks, turns_joined}
 use Rattle.wire_laws.proofs.Fields.{decimal_digits, field, is_field}
+use Rattle.wire_laws.proofs.LongLines.{HasLong, begins_long, behind_size, lines_or_long, long_chunks, long_contents, long_told, short_told, with_chunks, with_size}
+use Rattle.wire_laws.proofs.LongSizes.{hex_digits, hex_long}
 use Rattle.wire_laws.proofs.PrintedReplies.{is_connection, is_content_type, status_line, three_digits}
 use Rattle.wire_laws.proofs.Statuses.{phrase_passes, phrase_short}
 
@@ -61,6 +64,21 @@ fits code phrase three short =
     let whole : length (code ++ (32 ∷ (phrase ++ after_phrase))) ≡ length code + length (32 ∷ (phrase ++ after_phrase)) = length-append code (32 ∷ (phrase ++ after_phrase)) in
     omega (arith, text, whole, three, short)
 
+record HasHead (code phrase : List ℕ) : Type 0 where
+  is : IsResponseHead (head_of code phrase)
+  same : print_response (head_of code phrase) ≡ head_text code phrase
+  low : length (print_response (head_of code phrase)) ≤ max_head
+
+has_head : (code phrase : List ℕ) → (length code ≡ 3) × AllPass is_ascii_digit code → AllPass is_value_byte phrase → length phrase ≤ 64 → HasHead code phrase
+has_head code phrase digits pass short =
+    let same = printed code phrase in
+    let three : length code ≤ 3 = let exact = digits.0 in omega (arith, exact) in
+    record {
+      is = record { minor = omega arith; digits = digits; reason = pass; fields = are_fields };
+      same = same;
+      low = subst (λ (xs : List ℕ). length xs ≤ max_head) (sym same) (fits code phrase three short);
+    }
+
 -- ---- the law
 
 -- what the reader's own laws give of a head and chunks
@@ -71,43 +89,80 @@ ReadsEnded = (h : ResponseHead) (chunks : List Chunk) (last : List ℕ) (lines :
 
 abbrev pub ReadsOpen : Type 0
 ReadsOpen = (h : ResponseHead) (chunks : List Chunk) (lines : List (List ℕ)) (rest : List ℕ) → IsResponseHead h → length (print_response h) ≤ max_head → length h.fields ≤ max_fields
-    → framing_of (map name_and_value h.fields) ≡ Some by_chunks → All IsChunk chunks → All IsLine lines → IsLine rest → flat_map (λ c. c.content) chunks ≡ print_lines lines ++ rest
+    → framing_of (map name_and_value h.fields) ≡ Some by_chunks → All IsChunk chunks → All IsLine lines → HasNoFeed rest → length rest ≤ max_line → flat_map (λ c. c.content) chunks ≡ print_lines lines ++ rest
     → Items (print_response h ++ flat_map print_chunk chunks) (head (status_code h) ∷ map line lines)
 
-no_line : IsLine []
-no_line = record { one = refl; fits = omega arith }
+abbrev pub ReadsLong : Type 0
+ReadsLong = (h : ResponseHead) (chunks : List Chunk) (lines : List (List ℕ)) (rest more : List ℕ) → IsResponseHead h → length (print_response h) ≤ max_head → length h.fields ≤ max_fields
+    → framing_of (map name_and_value h.fields) ≡ Some by_chunks → All IsChunk chunks → All IsLine lines → BeginsTooLong rest → flat_map (λ c. c.content) chunks ≡ print_lines lines ++ rest
+    → Items (print_response h ++ (flat_map print_chunk chunks ++ more)) (head (status_code h) ∷ (map line lines ++ malformed ∷ []))
 
-read_by : ReadsEnded → ReadsOpen → (code phrase : List ℕ) (texts : List (List ℕ)) (has_ended : Bool) → (length code ≡ 3) × AllPass is_ascii_digit code → AllPass is_value_byte phrase → length phrase ≤ 64
-    → All IsLine texts → Items (head_text code phrase ++ chunks (map with_feed texts) has_ended) (told_of (digits_value 10 code) texts has_ended)
-read_by ended still code phrase texts has_ended digits pass short lines =
-    let is : IsResponseHead (head_of code phrase) = record { minor = omega arith; digits = digits; reason = pass; fields = are_fields } in
-    let same = printed code phrase in
-    let three : length code ≤ 3 = let exact = digits.0 in omega (arith, exact) in
-    let low : length (print_response (head_of code phrase)) ≤ max_head = subst (λ (xs : List ℕ). length xs ≤ max_head) (sym same) (fits code phrase three short) in
-    by_end is same low has_ended
+abbrev pub ReadsSized : Type 0
+ReadsSized = (h : ResponseHead) (chunks : List Chunk) (lines : List (List ℕ)) (digits more : List ℕ) → IsResponseHead h → length (print_response h) ≤ max_head → length h.fields ≤ max_fields
+    → framing_of (map name_and_value h.fields) ≡ Some by_chunks → All IsChunk chunks → All IsLine lines → flat_map (λ c. c.content) chunks ≡ print_lines lines
+    → list_all is_ascii_hexdigit digits ≡ true → 16 < length digits
+    → Items (print_response h ++ (flat_map print_chunk chunks ++ (digits ++ more))) (head (status_code h) ∷ (map line lines ++ malformed ∷ []))
+
+pub record Reader : Type 0 where
+  pub ended : ReadsEnded
+  pub still : ReadsOpen
+  pub long : ReadsLong
+  pub sized : ReadsSized
+
+-- the head of these digits and this phrase, and then chunks that are told so
+abbrev ReadsAs : List ℕ → List ℕ → List ℕ → List Told → Type 0
+ReadsAs code phrase bytes told = Items (head_text code phrase ++ bytes) (head (digits_value 10 code) ∷ told)
+
+lines_read : Reader → (code phrase : List ℕ) (texts : List (List ℕ)) (has_ended : Bool) → HasHead code phrase → All IsLine texts
+    → ReadsAs code phrase (chunks (map with_feed texts) has_ended) (map line texts ++ end_told has_ended)
+lines_read reader code phrase texts true has lines =
+    subst (λ (bytes : List ℕ). ReadsAs code phrase bytes (map line texts ++ end_told true)) (sym (ended_chunks texts))
+    (subst (λ (xs : List ℕ). Items (xs ++ print_chunks (chunks_of texts) (codes "0")) (head (digits_value 10 code) ∷ (map line texts ++ end_told true))) has.same
+    (reader.ended (head_of code phrase) (chunks_of texts) (codes "0") texts has.is has.low (omega arith) framed (are_chunks texts lines) last_size lines (contents texts)))
+lines_read reader code phrase texts false has lines =
+    subst (λ (items : List Told). ReadsAs code phrase (chunks (map with_feed texts) false) items) (sym (append-nil (map line texts)))
+    (subst (λ (bytes : List ℕ). ReadsAs code phrase bytes (map line texts)) (sym (open_chunks texts))
+    (subst (λ (xs : List ℕ). Items (xs ++ flat_map print_chunk (chunks_of texts)) (head (digits_value 10 code) ∷ map line texts)) has.same
+    (reader.still (head_of code phrase) (chunks_of texts) texts [] has.is has.low (omega arith) framed (are_chunks texts lines) lines refl (omega arith) (contents texts ∙ sym (append-nil (print_lines texts))))))
+
+long_read : Reader → (code phrase : List ℕ) (before : List (List ℕ)) (long : List ℕ) (after : List (List ℕ)) (has_ended : Bool) → HasHead code phrase → All IsLine before → HasNoFeed long → max_line ≤ length long
+    → ReadsAs code phrase (chunks (map with_feed (before ++ long ∷ after)) has_ended) (map line before ++ malformed ∷ [])
+long_read reader code phrase before long after has_ended has lines plain over = by_size (nat_lt (length (with_feed long)) 18446744073709551616) refl
   where
-    by_end : IsResponseHead (head_of code phrase) → print_response (head_of code phrase) ≡ head_text code phrase → length (print_response (head_of code phrase)) ≤ max_head → (b : Bool)
-        → Items (head_text code phrase ++ chunks (map with_feed texts) b) (told_of (digits_value 10 code) texts b)
-    by_end is same low true =
-        subst (λ (bytes : List ℕ). Items (head_text code phrase ++ bytes) (told_of (digits_value 10 code) texts true)) (sym (ended_chunks texts))
-        (subst (λ (xs : List ℕ). Items (xs ++ print_chunks (chunks_of texts) (codes "0")) (told_of (digits_value 10 code) texts true)) same
-        (ended (head_of code phrase) (chunks_of texts) (codes "0") texts is low (omega arith) framed (are_chunks texts lines) last_size lines (contents texts)))
-    by_end is same low false =
-        subst (λ (items : List _). Items (head_text code phrase ++ chunks (map with_feed texts) false) (head (digits_value 10 code) ∷ items)) (sym (append-nil (map line texts)))
-        (subst (λ (bytes : List ℕ). Items (head_text code phrase ++ bytes) (head (digits_value 10 code) ∷ map line texts)) (sym (open_chunks texts))
-        (subst (λ (xs : List ℕ). Items (xs ++ flat_map print_chunk (chunks_of texts)) (head (digits_value 10 code) ∷ map line texts)) same
-        (still (head_of code phrase) (chunks_of texts) texts [] is low (omega arith) framed (are_chunks texts lines) lines no_line (contents texts ∙ sym (append-nil (print_lines texts))))))
+    by_size : (t : Bool) → nat_lt (length (with_feed long)) 18446744073709551616 ≡ t → ReadsAs code phrase (chunks (map with_feed (before ++ long ∷ after)) has_ended) (map line before ++ malformed ∷ [])
+    by_size true few =
+        subst (λ (bytes : List ℕ). ReadsAs code phrase bytes (map line before ++ malformed ∷ [])) (sym (with_chunks before long after has_ended))
+        (subst (λ (xs : List ℕ). Items (xs ++ (flat_map print_chunk (chunks_of (before ++ long ∷ [])) ++ chunks (map with_feed after) has_ended)) (head (digits_value 10 code) ∷ (map line before ++ malformed ∷ []))) has.same
+        (reader.long (head_of code phrase) (chunks_of (before ++ long ∷ [])) before (with_feed long) (chunks (map with_feed after) has_ended) has.is has.low (omega arith) framed
+        (long_chunks before long lines (ltb-true (length (with_feed long)) 18446744073709551616 few)) lines (begins_long long plain over) (long_contents before long)))
+    by_size false many =
+        subst (λ (bytes : List ℕ). ReadsAs code phrase bytes (map line before ++ malformed ∷ [])) (sym (with_size before long after has_ended))
+        (subst (λ (xs : List ℕ). Items (xs ++ (flat_map print_chunk (chunks_of before) ++ (hexadecimal (length (with_feed long)) ++ behind_size long after has_ended))) (head (digits_value 10 code) ∷ (map line before ++ malformed ∷ []))) has.same
+        (reader.sized (head_of code phrase) (chunks_of before) before (hexadecimal (length (with_feed long))) (behind_size long after has_ended) has.is has.low (omega arith) framed
+        (are_chunks before lines) lines (contents before) (hex_digits (length (with_feed long))) (hex_long (length (with_feed long)) (ltb-false (length (with_feed long)) 18446744073709551616 many))))
 
-pub watch_read : ReadsEnded → ReadsOpen → (code : ℕ) (texts : List (List ℕ)) (has_ended : Bool) → IsStatusCode code → All IsLine texts
+texts_read : Reader → (code phrase : List ℕ) (texts : List (List ℕ)) (has_ended : Bool) → HasHead code phrase → All HasNoFeed texts
+    → ReadsAs code phrase (chunks (map with_feed texts) has_ended) (lines_told texts (end_told has_ended))
+texts_read reader code phrase texts has_ended has plain = by_lines (lines_or_long texts plain)
+  where
+    by_lines : All IsLine texts ⊎ HasLong texts → ReadsAs code phrase (chunks (map with_feed texts) has_ended) (lines_told texts (end_told has_ended))
+    by_lines (inl lines) =
+        subst (λ (told : List Told). ReadsAs code phrase (chunks (map with_feed texts) has_ended) told) (sym (short_told texts (end_told has_ended) lines)) (lines_read reader code phrase texts has_ended has lines)
+    by_lines (inr x) =
+        subst (λ (all : List (List ℕ)). ReadsAs code phrase (chunks (map with_feed all) has_ended) (lines_told all (end_told has_ended))) (sym x.are)
+        (subst (λ (told : List Told). ReadsAs code phrase (chunks (map with_feed (x.before ++ x.long ∷ x.after)) has_ended) told) (sym (long_told x.before x.long x.after (end_told has_ended) x.lines x.over))
+        (long_read reader code phrase x.before x.long x.after has_ended has x.lines x.plain x.over))
+
+pub watch_read : Reader → (code : ℕ) (texts : List (List ℕ)) (has_ended : Bool) → IsStatusCode code → All HasNoFeed texts
     → Items (watch_head code ++ chunks (map with_feed texts) has_ended) (told_of code texts has_ended)
-watch_read ended still code texts has_ended is lines =
+watch_read reader code texts has_ended is plain =
     let low : code < 2 ^ 64 = let top = is.1 in omega (arith, top) in
     let value : digits_value 10 (decimal code) ≡ code = (decimal_is_IsNumeral code low).1 in
-    subst (λ (n : ℕ). Items (watch_head code ++ chunks (map with_feed texts) has_ended) (told_of n texts has_ended)) value
-    (read_by ended still (decimal code) (phrase_of code) texts has_ended (three_digits code is, decimal_digits code low) (phrase_passes code) (phrase_short code) lines)
+    let has = has_head (decimal code) (phrase_of code) (three_digits code is, decimal_digits code low) (phrase_passes code) (phrase_short code) in
+    subst (λ (n : ℕ). Items (watch_head code ++ chunks (map with_feed texts) has_ended) (told_of n texts has_ended)) value (texts_read reader (decimal code) (phrase_of code) texts has_ended has plain)
 
-pub turns_read : ((code : ℕ) (texts : List (List ℕ)) (has_ended : Bool) → IsStatusCode code → All IsLine texts → Items (watch_head code ++ chunks (map with_feed texts) has_ended) (told_of code texts has_ended))
-    → (code : ℕ) (turns : List (List (List ℕ))) (last : List (List ℕ)) (has_ended : Bool) → IsStatusCode code → All IsLine (joined turns ++ last)
+pub turns_read : ((code : ℕ) (texts : List (List ℕ)) (has_ended : Bool) → IsStatusCode code → All HasNoFeed texts → Items (watch_head code ++ chunks (map with_feed texts) has_ended) (told_of code texts has_ended))
+    → (code : ℕ) (turns : List (List (List ℕ))) (last : List (List ℕ)) (has_ended : Bool) → IsStatusCode code → All HasNoFeed (joined turns ++ last)
     → Items (watch_head code ++ (flat_map (λ texts. chunks (map with_feed texts) false) turns ++ chunks (map with_feed last) has_ended)) (told_of code (joined turns ++ last) has_ended)
-turns_read reads code turns last has_ended is lines =
-    subst (λ (bytes : List ℕ). Items (watch_head code ++ bytes) (told_of code (joined turns ++ last) has_ended)) (sym (turns_joined turns last has_ended)) (reads code (joined turns ++ last) has_ended is lines)
+turns_read reads code turns last has_ended is plain =
+    subst (λ (bytes : List ℕ). Items (watch_head code ++ bytes) (told_of code (joined turns ++ last) has_ended)) (sym (turns_joined turns last has_ended)) (reads code (joined turns ++ last) has_ended is plain)

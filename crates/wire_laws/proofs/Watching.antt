@@ -1,5 +1,5 @@
 -- What the hub writes of a watch: its head, and then what each turn writes.
-use Rattle.std.proofs.Common.{◌≡◌, ℕ, Bool, false, cond, List, ◌++◌, Option, Some, None, ap, ap₂, subst, ◌∙◌}
+use Rattle.std.proofs.Common.{◌≡◌, ℕ, Bool, false, cond, List, ◌++◌, Option, Some, None, ap, ap₂, ◌∙◌}
 use Rattle.std.specs.Prelude.{◌==◌, is_some, nat_lt, option_map}
 use Rattle.std.specs.FinMap as fin
 use Rattle.verbs.specs.Calls.{Answer, Call}
@@ -10,23 +10,18 @@ use Rattle.httpedge.specs.Connections.{Connection, Standing, waiting, watching, 
 use Rattle.requests.specs.Decision.{accepted}
 use Rattle.requests.specs.ReplyBytes.{watch_head}
 use Rattle.httpedge.specs.Runs.{Steps}
-use Rattle.httpedge.specs.Steps.{State, after_turn, answer_standing, answered, by_connection, carried_out, comes, no_lines, pumps, received, standing_after, tick_back, ticks, turn_bytes, unknown_id, unless_refused, with_connection, with_turn}
+use Rattle.httpedge.specs.Steps.{State, after_turn, answer_standing, by_connection, carried_out, comes, no_lines, pumps, standing_after, tick_back, ticks, turn_bytes, unknown_id, unless_refused, with_connection, with_turn}
 use Rattle.requests.specs.Replies.{answer_bytes}
 use Rattle.httpedge.specs.Watches.{Turn, Watch, begun_at, pumped, ticked}
 use Rattle.httpedge.proofs.Connected.{got_each, put_there}
-use Rattle.requests.proofs.Deciding.{asks_one}
-use Rattle.httpedge.proofs.Outcomes.{ComesBy, ComesOn}
+use Rattle.wire_laws.proofs.Answering.{came}
 
 pub begins : (s t : State) (id : ℕ) (bytes front : List ℕ) (c : Connection) (call : Call) (from : WatchFrom) → Steps s (comes id bytes) t → fin.get s.connections id ≡ Some c → c.standing ≡ waiting front
     → Asks s.types (front ++ bytes) (accepted call) → (planned s.types s.machine call).answer.watch ≡ Some from
     → fin.get t.connections id ≡ Some (with_written c (watch_head (planned s.types s.machine call).answer.status) (watching (begun_at s.last_tick from)))
 begins s t id bytes front c call from steps got stands asks opens =
     let answer : Answer = (planned s.types s.machine call).answer in
-    let came : ComesBy s id (Some c) bytes t = subst (λ (o : Option Connection). ComesBy s id o bytes t) got steps in
-    let on : ComesOn s id c (waiting front) bytes t = subst (λ (st : Standing). ComesOn s id c st bytes t) stands (came.0, came.1, came.2) in
-    let same = asks_one s.types (front ++ bytes) on.0 (accepted call) on.1 asks in
-    ap (λ (x : State). fin.get x.connections id) (on.2 ∙ ap (received s id c (front ++ bytes)) same)
-    ∙ put_there s.connections id (answered s.last_tick c answer)
+    came s t id bytes front c (accepted call) steps got stands asks
     ∙ ap (λ (o : Option WatchFrom). Some (with_written c (answer_bytes answer o) (answer_standing s.last_tick o))) opens
 
 turn_is : (turn : Watch → Turn) (c : Connection) (w : Watch) → c.standing ≡ watching w → Some (with_turn turn c) ≡ Some (with_written c (turn_bytes (turn w)) (standing_after (turn w).next))

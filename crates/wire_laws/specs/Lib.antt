@@ -1,4 +1,5 @@
 pub mod Listings
 pub mod Printed
+pub mod Replied
 pub mod TurnLines
 pub mod Watched

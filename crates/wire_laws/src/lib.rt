@@ -6,14 +6,18 @@
 //! `line_laws` for what a client reads in a page.
 #![tactic(auto)]
 
+mod answering;
 mod calls;
+mod plans;
 mod replies;
 mod turn_lines;
 mod watches;
 
+pub use answering::{connections_begin, refused_stay, replies_are_written};
 pub use calls::{
     bodies_are_read, long_requests_are_refused, queries_are_read, requests_are_read, requests_ask,
 };
+pub use plans::{lists_are_planned, watches_are_planned};
 pub use replies::{answers_are_read, lists_are_read, refusals_are_read, replies_are_read};
 pub use turn_lines::{answers_are_written, turns_are_lines};
 pub use watches::{

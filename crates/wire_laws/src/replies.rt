@@ -1,6 +1,6 @@
 //! Laws: the client reads the replies that the server prints. Watches stand in `watches`.
 
-ghost use Rattle.std.specs.Prelude.{◌≡◌, ◌≤◌, ℕ, List, [], ◌∷◌, length, IsUtf8, None, Ok, Option, Some, slice_get};
+ghost use Rattle.std.specs.Prelude.{◌≡◌, ◌≤◌, ◌<◌, ◌^◌, ℕ, List, [], ◌∷◌, length, IsUtf8, None, Ok, Option, Some, slice_get};
 ghost use Rattle.http.specs.StatusCode.{IsStatusCode};
 ghost use Rattle.serde_json.specs.Written.{compact_text};
 ghost use Rattle.schema.specs.TypesFile.{ServedShape};
@@ -24,14 +24,18 @@ ghost use Rattle.wireclient.specs.Reads.{Items, max_body};
 ghost use Rattle.wireclient.specs.Reply.{end, head, whole};
 ghost use Rattle.wire_laws.specs.Listings.{IsListing, listed_by};
 ghost use Rattle.wire_laws.specs.Printed.{IsAllowed};
+ghost use Rattle.wire_laws.specs.Replied.{reply_told};
 
 /// A reply that the server prints (RFC 9112, section 4), of any status, is read by the client as this status, this
-/// body and the end.
+/// body and the end, and as malformed where the body is too long for a client (`replies`). `short` is of a body that
+/// isn't. A body of 2^64 bytes and more is none that memory has.
 pub fn replies_are_read()
-    ensures { (code : ℕ) (allow : Option (List ℕ)) (body : List ℕ) → IsStatusCode code → IsAllowed allow → length body ≤ max_body
-        → Items (reply code allow body) (head code ∷ whole body ∷ end ∷ []) }
+    ensures replies { (code : ℕ) (allow : Option (List ℕ)) (body : List ℕ) → IsStatusCode code → IsAllowed allow → length body < 2 ^ 64
+        → Items (reply code allow body) (reply_told code body) }
+    ensures short { (code : ℕ) (body : List ℕ) → length body ≤ max_body → reply_told code body ≡ head code ∷ whole body ∷ end ∷ [] }
 {
     wireclient::reply_reads_back();
+    wireclient::long_replies_are_malformed();
 }
 
 /// A refusal that the hub writes, of what bytes ask or because too many connections are open, is read by the client as its
@@ -45,11 +49,11 @@ pub fn refusals_are_read()
     replies_are_read();
 }
 
-/// The answer of a call is read by the client as its status, its body and the end, where the body is not too long for
-/// a client.
+/// The answer of a call is read by the client as its status, its body and the end, and as malformed where the body is
+/// too long for a client.
 pub fn answers_are_read()
-    ensures { (types : List ServedShape) (m : History) (call : Call) → length (planned types m call).answer.body ≤ max_body
-        → Items (answer_reply (planned types m call).answer) (head (planned types m call).answer.status ∷ whole (planned types m call).answer.body ∷ end ∷ []) }
+    ensures { (types : List ServedShape) (m : History) (call : Call) → length (planned types m call).answer.body < 2 ^ 64
+        → Items (answer_reply (planned types m call).answer) (reply_told (planned types m call).answer.status (planned types m call).answer.body) }
 {
     replies_are_read();
 }

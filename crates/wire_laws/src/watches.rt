@@ -1,8 +1,8 @@
 //! Laws: the client reads what the server writes of a watch. Other replies stand in `replies`.
 
-ghost use Rattle.std.specs.Prelude.{◌+◌, ◌≤◌, length, ◌≡◌, ◌++◌, ℕ, Bool, true, false, List, map, Some, nat_lt, ◌==◌};
+ghost use Rattle.std.specs.Prelude.{◌+◌, ◌<◌, length, ◌≡◌, ◌++◌, ℕ, Bool, true, false, List, map, Some, nat_lt, ◌==◌};
 ghost use Rattle.std.specs.FinMap as fin;
-ghost use Rattle.std.specs.List.{All, flat_map, list_any};
+ghost use Rattle.std.specs.List.{All, flat_map};
 ghost use Rattle.http.specs.StatusCode.{IsStatusCode};
 ghost use Rattle.verbs.specs.Calls.{Call};
 ghost use Rattle.verbs.specs.Step.{planned};
@@ -16,31 +16,38 @@ ghost use Rattle.requests.specs.ReplyBytes.{chunks, watch_head};
 ghost use Rattle.httpedge.specs.Runs.{Follows, Happening, Steps};
 ghost use Rattle.httpedge.specs.Steps.{State, comes, pumps, standing_after, ticks, turn_bytes};
 ghost use Rattle.httpedge.specs.Watches.{Watch, begun_at, pumped, ticked};
-ghost use Rattle.wireclient.specs.Lines.{IsLine, with_feed};
+ghost use Rattle.line_laws.specs.Shown.{shown};
+ghost use Rattle.wireclient.specs.Lines.{HasNoFeed, IsLine, with_feed};
 ghost use Rattle.wireclient.specs.Reads.{Items};
-ghost use Rattle.wireclient.specs.Reply.{max_line};
-ghost use Rattle.wire_laws.specs.Watched.{joined, told_of};
+ghost use Rattle.wireclient.specs.Reply as reply;
+ghost use Rattle.wireclient.specs.Reply.{Told};
+ghost use Rattle.wire_laws.specs.Watched.{joined, lines_told, told_of};
 
-/// A line of a watch is a text that is a line to the client, with its line feed, where the text of its object has no line
-/// feed and leaves room for what stands around it.
+/// A line of a watch has one line feed, its last byte, where the text of its object has none, and what stands around
+/// that text is less than 64 bytes.
 pub fn texts_are_lines()
-    ensures { (what : EventType) (text : List ℕ) → list_any (λ b. b == 10) text ≡ false → length text + 64 ≤ max_line → (shown : List ℕ) × IsLine shown × (line what text ≡ with_feed shown) }
+    ensures feeds { (what : EventType) (text : List ℕ) → line what text ≡ with_feed (shown what text) }
+    ensures plain { (what : EventType) (text : List ℕ) → HasNoFeed text → HasNoFeed (shown what text) }
+    ensures room { (what : EventType) (text : List ℕ) → length (shown what text) < length text + 64 }
 {}
 
 /// The head of a watch and its chunks, a chunk for each line, are read by the client as the status, each line, and the
-/// end where the watch has ended.
+/// end where the watch has ended; where a line is too long for a client, as the status, the lines before it, and
+/// malformed (`lines`). `short` is of lines of which none is too long.
 pub fn watches_are_read()
-    ensures { (code : ℕ) (texts : List (List ℕ)) (has_ended : Bool) → IsStatusCode code → All IsLine texts
+    ensures lines { (code : ℕ) (texts : List (List ℕ)) (has_ended : Bool) → IsStatusCode code → All HasNoFeed texts
         → Items (watch_head code ++ chunks (map with_feed texts) has_ended) (told_of code texts has_ended) }
+    ensures short { (texts : List (List ℕ)) (last : List Told) → All IsLine texts → lines_told texts last ≡ map reply.line texts ++ last }
 {
     wireclient::chunks_read_back();
     wireclient::watch_reads_back();
+    wireclient::long_lines_are_malformed();
 }
 
 /// The same of a watch that is written in turns: the lines of each turn come one after the other, however they lie in
 /// the turns.
 pub fn turns_are_read()
-    ensures { (code : ℕ) (turns : List (List (List ℕ))) (last : List (List ℕ)) (has_ended : Bool) → IsStatusCode code → All IsLine (joined turns ++ last)
+    ensures { (code : ℕ) (turns : List (List (List ℕ))) (last : List (List ℕ)) (has_ended : Bool) → IsStatusCode code → All HasNoFeed (joined turns ++ last)
         → Items (watch_head code ++ (flat_map (λ texts. chunks (map with_feed texts) false) turns ++ chunks (map with_feed last) has_ended)) (told_of code (joined turns ++ last) has_ended) }
 {
     watches_are_read();

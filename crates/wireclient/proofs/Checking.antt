@@ -19,7 +19,7 @@ pub within_limit : (t : Bool) (n : ℕ) → t ≡ true → (if t then Some (by_l
 within_limit true n is = refl
 within_limit false n is = absurd cc
 
-over_limit : (t : Bool) (n : ℕ) → t ≡ false → (if t then Some (by_length n) else None) ≡ None
+pub over_limit : (t : Bool) (n : ℕ) → t ≡ false → (if t then Some (by_length n) else None) ≡ None
 over_limit true n is = absurd cc
 over_limit false n is = refl
 

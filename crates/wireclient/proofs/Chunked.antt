@@ -12,7 +12,7 @@ use Rattle.httparse.specs.Spans.{name_and_value}
 use Rattle.wire.specs.Chunks.{Chunk, IsChunk, print_chunk, print_chunks}
 use Rattle.wire.specs.Heads.{crlf, max_fields, max_head}
 use Rattle.wire.specs.Lengths.{IsSize}
-use Rattle.wireclient.specs.Lines.{IsLine, print_lines}
+use Rattle.wireclient.specs.Lines.{HasNoFeed, IsLine, print_lines}
 use Rattle.wireclient.specs.Reads.{Items, Checked, Leads, framing_of, start}
 use Rattle.wireclient.specs.Reply.{by_chunks, Told, head, line, end, State, size, size_lf, data_in, data_cr, last_cr, ended, max_line, Next, fails, goes_to, data_after, digit_onto, step}
 use Rattle.wireclient.proofs.Leading.{leads_append}
@@ -20,53 +20,53 @@ use Rattle.wireclient.proofs.Lengthened.{after_more, data_next, none_first, none
 use Rattle.wireclient.proofs.Printed.{head_ends}
 use Rattle.wireclient.proofs.ReadBack.{whole_head_read}
 
-picked : (t : Bool) (n m : Next) → t ≡ true → cond t n m ≡ n
+pub picked : (t : Bool) (n m : Next) → t ≡ true → cond t n m ≡ n
 picked true n m is = refl
 picked false n m is = absurd cc
 
-first_of : (a b : Bool) → (a && b) ≡ true → a ≡ true
+pub first_of : (a b : Bool) → (a && b) ≡ true → a ≡ true
 first_of true b is = refl
 first_of false b is = absurd cc
 
-rest_of : (a b : Bool) → (a && b) ≡ true → b ≡ true
+pub rest_of : (a b : Bool) → (a && b) ≡ true → b ≡ true
 rest_of true b is = is
 rest_of false b is = absurd cc
 
 -- ---- the data, cut at line feeds
 
-abbrev next_text : List ℕ → ℕ → List ℕ
+abbrev pub next_text : List ℕ → ℕ → List ℕ
 next_text text b = if b == 10 then [] else text ++ b ∷ []
 
-abbrev told_at : List ℕ → ℕ → List Told
+abbrev pub told_at : List ℕ → ℕ → List Told
 told_at text b = if b == 10 then line text ∷ [] else []
 
-abbrev lines_in : List ℕ → List ℕ → List Told
+abbrev pub lines_in : List ℕ → List ℕ → List Told
 lines_in text [] = []
 lines_in text (b ∷ bytes) = told_at text b ++ lines_in (next_text text b) bytes
 
-abbrev rest_in : List ℕ → List ℕ → List ℕ
+abbrev pub rest_in : List ℕ → List ℕ → List ℕ
 rest_in text [] = text
 rest_in text (b ∷ bytes) = rest_in (next_text text b) bytes
 
-abbrev Fits : List ℕ → List ℕ → Type 0
+abbrev pub Fits : List ℕ → List ℕ → Type 0
 Fits text [] = Unit {0}
 Fits text (b ∷ bytes) = (length text < max_line) × Fits (next_text text b) bytes
 
-lines_append : (text xs ys : List ℕ) → lines_in text (xs ++ ys) ≡ lines_in text xs ++ lines_in (rest_in text xs) ys
+pub lines_append : (text xs ys : List ℕ) → lines_in text (xs ++ ys) ≡ lines_in text xs ++ lines_in (rest_in text xs) ys
 lines_append text [] ys = refl
 lines_append text (x ∷ xs) ys =
     ap (λ (told : List Told). told_at text x ++ told) (lines_append (next_text text x) xs ys)
     ∙ sym (append_assoc (told_at text x) (lines_in (next_text text x) xs) (lines_in (rest_in (next_text text x) xs) ys))
 
-rest_append : (text xs ys : List ℕ) → rest_in text (xs ++ ys) ≡ rest_in (rest_in text xs) ys
+pub rest_append : (text xs ys : List ℕ) → rest_in text (xs ++ ys) ≡ rest_in (rest_in text xs) ys
 rest_append text [] ys = refl
 rest_append text (x ∷ xs) ys = rest_append (next_text text x) xs ys
 
-fits_first : (text xs ys : List ℕ) → Fits text (xs ++ ys) → Fits text xs
+pub fits_first : (text xs ys : List ℕ) → Fits text (xs ++ ys) → Fits text xs
 fits_first text [] ys fits = tt
 fits_first text (x ∷ xs) ys fits = (fits.0, fits_first (next_text text x) xs ys fits.1)
 
-fits_rest : (text xs ys : List ℕ) → Fits text (xs ++ ys) → Fits (rest_in text xs) ys
+pub fits_rest : (text xs ys : List ℕ) → Fits text (xs ++ ys) → Fits (rest_in text xs) ys
 fits_rest text [] ys fits = fits
 fits_rest text (x ∷ xs) ys fits = fits_rest (next_text text x) xs ys fits.1
 
@@ -186,7 +186,7 @@ last_ends count some =
 
 -- ---- a chunk's data
 
-abbrev with_told : List Told → State → Next
+abbrev pub with_told : List Told → State → Next
 with_told told s = (s, told)
 
 data_read : (left : ℕ) (text : List ℕ) (b : ℕ) (bytes : List ℕ) → left ≡ length bytes + 1 → Fits text (b ∷ bytes) → Leads (data_in left text) (b ∷ bytes) (data_cr (rest_in text (b ∷ bytes))) (lines_in text (b ∷ bytes))
@@ -217,17 +217,23 @@ some_data text (b ∷ bytes) some fits = data_read (length (b ∷ bytes)) text b
 
 -- ---- chunk after chunk
 
-chunk_read : (chunk : Chunk) (text : List ℕ) → IsChunk chunk → Fits text chunk.content → Leads (size 0 0 text) (print_chunk chunk) (size 0 0 (rest_in text chunk.content)) (lines_in text chunk.content)
-chunk_read chunk text is fits =
+-- a chunk's size leads into its data
+pub chunk_begins : (chunk : Chunk) (text rest : List ℕ) (t : State) (items : List Told) → IsChunk chunk → Leads (data_in (length chunk.content) text) rest t items
+    → Leads (size 0 0 text) (chunk.size ++ (crlf ++ rest)) t items
+chunk_begins chunk text rest t items is inside =
     let long : digits_value 16 chunk.size ≤ 18446744073709551615 = omega (arith, is.size.value, is.fits) in
     let digits = size_read 0 0 text chunk.size is.size.are_digits (omega (arith, is.size.few)) long in
     let sized = subst (λ (n : ℕ). Leads (size 0 0 text) chunk.size (size (0 + length chunk.size) n text) []) is.size.value digits in
     let ends = size_ends (0 + length chunk.size) (length chunk.content) text (omega (arith, is.size.some)) is.some in
+    leads_append (size 0 0 text) (size (0 + length chunk.size) (length chunk.content) text) t chunk.size (crlf ++ rest) [] items sized
+    (leads_append (size (0 + length chunk.size) (length chunk.content) text) (data_in (length chunk.content) text) t crlf rest [] items ends inside)
+
+pub chunk_read : (chunk : Chunk) (text : List ℕ) → IsChunk chunk → Fits text chunk.content → Leads (size 0 0 text) (print_chunk chunk) (size 0 0 (rest_in text chunk.content)) (lines_in text chunk.content)
+chunk_read chunk text is fits =
     let after : Leads (data_cr (rest_in text chunk.content)) crlf (size 0 0 (rest_in text chunk.content)) [] = (None, [], tt, (None, [], tt, (refl, refl), refl), refl) in
     let read = leads_append (data_in (length chunk.content) text) (data_cr (rest_in text chunk.content)) (size 0 0 (rest_in text chunk.content)) chunk.content crlf (lines_in text chunk.content) [] (some_data text chunk.content is.some fits) after in
     let plain = subst (λ (told : List Told). Leads (data_in (length chunk.content) text) (chunk.content ++ crlf) (size 0 0 (rest_in text chunk.content)) told) (append-nil (lines_in text chunk.content)) read in
-    leads_append (size 0 0 text) (size (0 + length chunk.size) (length chunk.content) text) (size 0 0 (rest_in text chunk.content)) chunk.size (crlf ++ (chunk.content ++ crlf)) [] (lines_in text chunk.content) sized
-    (leads_append (size (0 + length chunk.size) (length chunk.content) text) (data_in (length chunk.content) text) (size 0 0 (rest_in text chunk.content)) crlf (chunk.content ++ crlf) [] (lines_in text chunk.content) ends plain)
+    chunk_begins chunk text (chunk.content ++ crlf) (size 0 0 (rest_in text chunk.content)) (lines_in text chunk.content) is plain
 
 abbrev pub data_of : List Chunk → List ℕ
 data_of chunks = flat_map (λ c. c.content) chunks
@@ -243,54 +249,70 @@ chunks_read (chunk ∷ chunks) text all fits =
     (sym (lines_append text chunk.content (data_of chunks))) both in
     subst (λ (rest : List ℕ). Leads (size 0 0 text) (print_chunk chunk ++ flat_map print_chunk chunks) (size 0 0 rest) (lines_in text (chunk.content ++ data_of chunks))) (sym (rest_append text chunk.content (data_of chunks))) told
 
+-- chunks of whole lines
+pub lines_lead : (chunks : List Chunk) (lines : List (List ℕ)) → All IsChunk chunks → All IsLine lines → data_of chunks ≡ print_lines lines
+    → Leads (size 0 0 []) (flat_map print_chunk chunks) (size 0 0 []) (map line lines)
+lines_lead chunks lines chunked lined joined =
+    let cut = subst (λ (bytes : List ℕ). AreCut bytes lines) (sym joined) (lines_cut lines lined) in
+    let read = chunks_read chunks [] chunked cut.fits in
+    let told = subst (λ (told : List Told). Leads (size 0 0 []) (flat_map print_chunk chunks) (size 0 0 (rest_in [] (data_of chunks))) told) cut.told read in
+    subst (λ (rest : List ℕ). Leads (size 0 0 []) (flat_map print_chunk chunks) (size 0 0 rest) (map line lines)) cut.rest told
+
 last_read : (last : List ℕ) → IsSize last 0 → Leads (size 0 0 []) (last ++ (crlf ++ crlf)) ended (end ∷ [])
 last_read last is =
     let digits = size_read 0 0 [] last is.are_digits (omega (arith, is.few)) (omega (arith, is.value)) in
     let sized = subst (λ (n : ℕ). Leads (size 0 0 []) last (size (0 + length last) n []) []) is.value digits in
     leads_append (size 0 0 []) (size (0 + length last) 0 []) ended last (crlf ++ crlf) [] (end ∷ []) sized (last_ends (0 + length last) (omega (arith, is.some)))
 
--- the lines of which the beginning of another came
-record AreBegun (bytes : List ℕ) (lines : List (List ℕ)) (rest : List ℕ) : Type 0 where
-  told : lines_in [] bytes ≡ map line lines
-  fits : Fits [] bytes
+-- lines and the beginning of another
+pub record AreBegun (bytes : List ℕ) (lines : List (List ℕ)) (begun : List ℕ) : Type 0 where
+  pub told : lines_in [] bytes ≡ map line lines
+  pub rest : rest_in [] bytes ≡ begun
+  pub fits : Fits [] bytes
 
-line_begun : (text bytes : List ℕ) → list_any (λ b. b == 10) bytes ≡ false → length text + length bytes < max_line → (lines_in text bytes ≡ []) × Fits text bytes
-line_begun text [] one fits = (refl, tt)
+record IsBegun (text bytes : List ℕ) : Type 0 where
+  told : lines_in text bytes ≡ []
+  rest : rest_in text bytes ≡ text ++ bytes
+  fits : Fits text bytes
+
+begun_later : (t : Bool) (text bytes : List ℕ) (b : ℕ) → t ≡ false → IsBegun (text ++ b ∷ []) bytes
+    → (cond t (line text ∷ []) [] ++ lines_in (cond t [] (text ++ b ∷ [])) bytes ≡ []) × (rest_in (cond t [] (text ++ b ∷ [])) bytes ≡ (text ++ b ∷ []) ++ bytes) × Fits (cond t [] (text ++ b ∷ [])) bytes
+begun_later true text bytes b is later = absurd cc
+begun_later false text bytes b is later = (later.told, later.rest, later.fits)
+
+line_begun : (text bytes : List ℕ) → HasNoFeed bytes → length text + length bytes ≤ max_line → IsBegun text bytes
+line_begun text [] one fits = record { told = refl; rest = sym (append-nil text); fits = tt }
 line_begun text (b ∷ bytes) one fits =
     let long : length (text ++ b ∷ []) ≡ length text + 1 = length-append text (b ∷ []) in
     let later = line_begun (text ++ b ∷ []) bytes (none_rest (b == 10) (list_any (λ c. c == 10) bytes) one) (omega (arith, long, fits)) in
-    let both = begun_later (b == 10) text bytes b (none_first (b == 10) (list_any (λ c. c == 10) bytes) one) later in
-    (both.0, (omega (arith, fits), both.1))
-  where
-    begun_later : (t : Bool) (text bytes : List ℕ) (b : ℕ) → t ≡ false → (lines_in (text ++ b ∷ []) bytes ≡ []) × Fits (text ++ b ∷ []) bytes
-        → (cond t (line text ∷ []) [] ++ lines_in (cond t [] (text ++ b ∷ [])) bytes ≡ []) × Fits (cond t [] (text ++ b ∷ [])) bytes
-    begun_later true text bytes b is later = absurd cc
-    begun_later false text bytes b is later = later
+    let begun = begun_later (b == 10) text bytes b (none_first (b == 10) (list_any (λ c. c == 10) bytes) one) later in
+    record { told = begun.0; rest = begun.1 ∙ append_assoc text (b ∷ []) bytes; fits = (omega (arith, fits), begun.2) }
 
-lines_begun : (lines : List (List ℕ)) (rest : List ℕ) → All IsLine lines → IsLine rest → AreBegun (print_lines lines ++ rest) lines rest
-lines_begun lines rest all is =
+pub lines_begun : (lines : List (List ℕ)) (begun : List ℕ) → All IsLine lines → HasNoFeed begun → length begun ≤ max_line → AreBegun (print_lines lines ++ begun) lines begun
+lines_begun lines begun all one low =
     let before = lines_cut lines all in
-    let after = line_begun [] rest is.one (omega (arith, is.fits)) in
+    let after = line_begun [] begun one (omega (arith, low)) in
     record {
-      told = lines_append [] (print_lines lines) rest
-          ∙ ap₂ (λ (told : List Told) (text : List ℕ). told ++ lines_in text rest) before.told before.rest
-          ∙ ap (λ (told : List Told). map line lines ++ told) after.0
+      told = lines_append [] (print_lines lines) begun
+          ∙ ap₂ (λ (told : List Told) (text : List ℕ). told ++ lines_in text begun) before.told before.rest
+          ∙ ap (λ (told : List Told). map line lines ++ told) after.told
           ∙ append-nil (map line lines);
-      fits = fits_both [] (print_lines lines) rest before.fits (subst (λ (text : List ℕ). Fits text rest) (sym before.rest) after.1);
+      rest = rest_append [] (print_lines lines) begun ∙ ap (λ (text : List ℕ). rest_in text begun) before.rest ∙ after.rest;
+      fits = fits_both [] (print_lines lines) begun before.fits (subst (λ (text : List ℕ). Fits text begun) (sym before.rest) after.fits);
     }
 
 -- the head of a reply in chunks
-head_then_chunks : (h : ResponseHead) → IsResponseHead h → length (print_response h) ≤ max_head → length h.fields ≤ max_fields → framing_of (map name_and_value h.fields) ≡ Some by_chunks
+pub head_then_chunks : (h : ResponseHead) → IsResponseHead h → length (print_response h) ≤ max_head → length h.fields ≤ max_fields → framing_of (map name_and_value h.fields) ≡ Some by_chunks
     → Leads start (print_response h) (size 0 0 []) (head (status_code h) ∷ [])
 head_then_chunks h is fits few framed =
     let checked : Checked (print_response h) (Some (status_code h, by_chunks)) = (h, (is, sym (append-nil (print_response h))), few, refl, framed) in
     whole_head_read (print_response h) (Some (status_code h, by_chunks)) fits (head_ends h is) checked
 
 pub watch_read : (h : ResponseHead) (chunks : List Chunk) (lines : List (List ℕ)) (rest : List ℕ) → IsResponseHead h → length (print_response h) ≤ max_head → length h.fields ≤ max_fields
-    → framing_of (map name_and_value h.fields) ≡ Some by_chunks → All IsChunk chunks → All IsLine lines → IsLine rest → data_of chunks ≡ print_lines lines ++ rest
+    → framing_of (map name_and_value h.fields) ≡ Some by_chunks → All IsChunk chunks → All IsLine lines → HasNoFeed rest → length rest ≤ max_line → data_of chunks ≡ print_lines lines ++ rest
     → Items (print_response h ++ flat_map print_chunk chunks) (head (status_code h) ∷ map line lines)
-watch_read h chunks lines rest is fits few framed chunked lined begun joined =
-    let cut = subst (λ (bytes : List ℕ). AreBegun bytes lines rest) (sym joined) (lines_begun lines rest lined begun) in
+watch_read h chunks lines rest is fits few framed chunked lined one low joined =
+    let cut = subst (λ (bytes : List ℕ). AreBegun bytes lines rest) (sym joined) (lines_begun lines rest lined one low) in
     let read = chunks_read chunks [] chunked cut.fits in
     let told = subst (λ (told : List Told). Leads (size 0 0 []) (flat_map print_chunk chunks) (size 0 0 (rest_in [] (data_of chunks))) told) cut.told read in (
       size 0 0 (rest_in [] (data_of chunks)),
@@ -302,9 +324,5 @@ pub chunked_read : (h : ResponseHead) (chunks : List Chunk) (last : List ℕ) (l
     → Items (print_response h ++ print_chunks chunks last) (head (status_code h) ∷ (map line lines ++ end ∷ []))
 chunked_read h chunks last lines is fits few framed chunked ends lined joined =
     let first = head_then_chunks h is fits few framed in
-    let cut = subst (λ (bytes : List ℕ). AreCut bytes lines) (sym joined) (lines_cut lines lined) in
-    let read = chunks_read chunks [] chunked cut.fits in
-    let told = subst (λ (told : List Told). Leads (size 0 0 []) (flat_map print_chunk chunks) (size 0 0 (rest_in [] (data_of chunks))) told) cut.told read in
-    let whole = subst (λ (rest : List ℕ). Leads (size 0 0 []) (flat_map print_chunk chunks) (size 0 0 rest) (map line lines)) cut.rest told in
-    let body = leads_append (size 0 0 []) (size 0 0 []) ended (flat_map print_chunk chunks) (last ++ (crlf ++ crlf)) (map line lines) (end ∷ []) whole (last_read last ends) in
+    let body = leads_append (size 0 0 []) (size 0 0 []) ended (flat_map print_chunk chunks) (last ++ (crlf ++ crlf)) (map line lines) (end ∷ []) (lines_lead chunks lines chunked lined joined) (last_read last ends) in
     (ended, leads_append start (size 0 0 []) ended (print_response h) (print_chunks chunks last) (head (status_code h) ∷ []) (map line lines ++ end ∷ []) first body)

@@ -8,7 +8,7 @@ use Rattle.wire.specs.declared.place.Place.{Place}
 use Rattle.wire.specs.Heads.{max_head, place_after}
 use Rattle.wireclient.specs.Reply.{Framing, HeadCheck, Told, State, heading, body, size, size_lf, data_in, data_cr, data_lf, last_cr, last_lf, ended, broken, Next, fails, headed, step}
 
-framed_alike : (h k : ResponseHead) → h ≡ k → framing_of (map name_and_value h.fields) ≡ framing_of (map name_and_value k.fields)
+pub framed_alike : (h k : ResponseHead) → h ≡ k → framing_of (map name_and_value h.fields) ≡ framing_of (map name_and_value k.fields)
 framed_alike h k same = ap (λ (m : ResponseHead). framing_of (map name_and_value m.fields)) same
 
 checked_once : (bytes : List ℕ) (j k : HeadCheck) → Checked bytes j → Checked bytes k → j ≡ k

@@ -1,11 +1,12 @@
-mod Chunked
+pub mod Chunked
 mod Closing
 mod Determined
-mod Fronts
+pub mod Fronts
 pub mod Heads
 mod Checking
 pub mod Leading
-mod Lengthened
-mod Printed
-mod ReadBack
+pub mod Lengthened
+pub mod Printed
+pub mod ReadBack
 pub mod Requests
+pub mod TooLong

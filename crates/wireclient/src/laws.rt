@@ -1,17 +1,18 @@
 //! Laws of reading, which crates above build on. Each function does nothing; what it promises is the law. Replies are
 //! read in `reader`; that those of the server are read is said in the crate `wire_laws`.
 
-ghost use Rattle.std.specs.Prelude.{◌≡◌, ◌≤◌, ℕ, List, [], ◌∷◌, ◌++◌, length, map, Option, Some, IsTrue};
+ghost use Rattle.std.specs.Prelude.{◌≡◌, ◌≤◌, ◌<◌, ◌^◌, ℕ, List, [], ◌∷◌, ◌++◌, length, map, Option, None, Some, IsTrue, true};
+ghost use Rattle.std.specs.Char.{is_ascii_hexdigit};
 ghost use Rattle.std.specs.Fmt.{decimal};
-ghost use Rattle.std.specs.List.{All, flat_map};
+ghost use Rattle.std.specs.List.{All, flat_map, list_all};
 ghost use Rattle.httparse.specs.Grammar.{ResponseHead, IsResponseHead, print_response, status_code};
 ghost use Rattle.httparse.specs.Spans.{name_and_value};
 ghost use Rattle.wire.specs.Chunks.{Chunk, IsChunk, print_chunk, print_chunks};
 ghost use Rattle.wire.specs.Heads.{max_fields, max_head};
 ghost use Rattle.wire.specs.Lengths.{IsSize, length_in};
-ghost use Rattle.wireclient.specs.Lines.{IsLine, print_lines};
+ghost use Rattle.wireclient.specs.Lines.{BeginsTooLong, HasNoFeed, IsLine, print_lines};
 ghost use Rattle.wireclient.specs.Reads.{Items, Stands, framed_by_length, framing_of, has_closed, max_body};
-ghost use Rattle.wireclient.specs.Reply.{State, Told, by_chunks, by_length, end, head, line, whole};
+ghost use Rattle.wireclient.specs.Reply.{State, Told, by_chunks, by_length, end, head, line, malformed, max_line, whole};
 
 /// Bytes hold one list of items, and two readers that took the same bytes, however these were cut, stand alike.
 pub fn one_reading()
@@ -51,6 +52,27 @@ pub fn chunks_read_back()
 /// beginning of a line, are told as the status and each whole line.
 pub fn watch_reads_back()
     ensures { (h : ResponseHead) (chunks : List Chunk) (lines : List (List ℕ)) (rest : List ℕ) → IsResponseHead h → length (print_response h) ≤ max_head → length h.fields ≤ max_fields
-        → framing_of (map name_and_value h.fields) ≡ Some by_chunks → All IsChunk chunks → All IsLine lines → IsLine rest → flat_map (λ c. c.content) chunks ≡ print_lines lines ++ rest
+        → framing_of (map name_and_value h.fields) ≡ Some by_chunks → All IsChunk chunks → All IsLine lines → HasNoFeed rest → length rest ≤ max_line → flat_map (λ c. c.content) chunks ≡ print_lines lines ++ rest
         → Items (print_response h ++ flat_map print_chunk chunks) (head (status_code h) ∷ map line lines) }
+{}
+
+/// A reply that is too long is malformed: a head of the grammar within the limit of which no field frames a body is told
+/// as a bad byte and no more, whatever stands behind it, and a printed length over the limit frames none.
+pub fn long_replies_are_malformed()
+    ensures reply { (h : ResponseHead) (more : List ℕ) → IsResponseHead h → length (print_response h) ≤ max_head → framing_of (map name_and_value h.fields) ≡ None
+        → Items (print_response h ++ more) (malformed ∷ []) }
+    ensures length { (n : ℕ) → max_body < n → n < 2 ^ 64 → framed_by_length (length_in (decimal n)) ≡ None }
+{}
+
+/// A line that is too long is malformed: of chunks whose data are lines and then begin with one that is too long, the
+/// status is told, each line before it, and a bad byte, whatever stands behind (`lines`). So it is of chunks of lines
+/// and the size of another of more than 16 digits (`sizes`).
+pub fn long_lines_are_malformed()
+    ensures lines { (h : ResponseHead) (chunks : List Chunk) (lines : List (List ℕ)) (rest more : List ℕ) → IsResponseHead h → length (print_response h) ≤ max_head → length h.fields ≤ max_fields
+        → framing_of (map name_and_value h.fields) ≡ Some by_chunks → All IsChunk chunks → All IsLine lines → BeginsTooLong rest → flat_map (λ c. c.content) chunks ≡ print_lines lines ++ rest
+        → Items (print_response h ++ (flat_map print_chunk chunks ++ more)) (head (status_code h) ∷ (map line lines ++ malformed ∷ [])) }
+    ensures sizes { (h : ResponseHead) (chunks : List Chunk) (lines : List (List ℕ)) (digits more : List ℕ) → IsResponseHead h → length (print_response h) ≤ max_head → length h.fields ≤ max_fields
+        → framing_of (map name_and_value h.fields) ≡ Some by_chunks → All IsChunk chunks → All IsLine lines → flat_map (λ c. c.content) chunks ≡ print_lines lines
+        → list_all is_ascii_hexdigit digits ≡ true → 16 < length digits
+        → Items (print_response h ++ (flat_map print_chunk chunks ++ (digits ++ more))) (head (status_code h) ∷ (map line lines ++ malformed ∷ [])) }
 {}

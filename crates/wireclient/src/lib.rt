@@ -18,6 +18,9 @@ mod state;
 mod taking;
 
 pub use item::Item;
-pub use laws::{chunks_read_back, fronts_stand, one_reading, reply_reads_back, watch_reads_back};
+pub use laws::{
+    chunks_read_back, fronts_stand, long_lines_are_malformed, long_replies_are_malformed,
+    one_reading, reply_reads_back, watch_reads_back,
+};
 pub use reader::{ReadFault, ReplyReader};
 pub use request::request_bytes;

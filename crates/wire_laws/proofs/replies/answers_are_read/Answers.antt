@@ -5,6 +5,6 @@ use Rattle.wire_laws.proofs.Written.{status_is}
 use Rattle.wire_laws.proofs.replies.answers_are_read.Goals as goal
 
 pub returns : goal.returns
-returns c = λ types m call short.
+returns c = λ types m call wide.
     let answer : Answer = (planned types m call).answer in
-    c.replies_are_read.ensures answer.status None answer.body (status_is types m call) (tt {0}) short
+    c.replies_are_read.ensures.replies answer.status None answer.body (status_is types m call) (tt {0}) wide
