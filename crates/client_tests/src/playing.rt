@@ -2,9 +2,8 @@
 
 use crate::replies::{replies, reply};
 use crate::rows::expect_text;
-use decoder::Wanted;
 use indexer::{IndexBy, Indexer, Object};
-use reflector::{Informer, Notice, Settings};
+use reflector::{Informer, Notice, Source};
 use std::alloc::{AllocError, Global};
 use std::test::Fail;
 use summary::Summary;
@@ -30,18 +29,12 @@ impl IndexBy for Namespace {
     }
 }
 
-/// Widgets of all namespaces, two in a page.
-pub fn settings(alloc: Global, selector: &str) -> Result<Settings, AllocError> {
-    Ok(Settings {
-        wanted: Wanted {
-            group: String::from_str(alloc, "demo.example")?,
-            version: String::from_str(alloc, "v1")?,
-            kind: String::from_str(alloc, "Widget")?,
-            plural: String::from_str(alloc, "widgets")?,
-            namespace: None,
-        },
-        selector: String::from_str(alloc, selector)?,
-        page: 2,
+pub fn widgets(alloc: Global) -> Result<Source, AllocError> {
+    Ok(Source {
+        group: String::from_str(alloc, "demo.example")?,
+        version: String::from_str(alloc, "v1")?,
+        kind: String::from_str(alloc, "Widget")?,
+        plural: String::from_str(alloc, "widgets")?,
     })
 }
 
@@ -50,8 +43,11 @@ pub fn indexer(alloc: Global) -> Result<Indexer<Namespace>, Fail> {
     Ok(Indexer::new(alloc, vec![in alloc; Namespace]?)?)
 }
 
+/// Of all namespaces, two in a page.
 fn informer(alloc: Global, selector: &str) -> Result<Informer<Namespace>, Fail> {
-    let made = Informer::new(alloc, settings(alloc, selector)?, indexer(alloc)?);
+    let selector = String::from_str(alloc, selector)?;
+    let indexer = indexer(alloc)?;
+    let made = Informer::new(alloc, widgets(alloc)?, None, selector, 2, indexer);
     Ok(made.map_err(|_| "refused settings")?)
 }
 
@@ -254,10 +250,20 @@ fn push_named(text: &mut String, sign: &str, object: &Object) -> Result<(), Allo
     text.push_str(object.name.as_str())
 }
 
+/// The request that is due. Whether one is under way is told before, and one is then.
+fn due(informer: &mut Informer<Namespace>) -> Result<Option<Vec<u8>>, Fail> {
+    let was_asking = informer.is_asking();
+    let request = informer.next_request()?;
+    if request.is_some() == was_asking || !informer.is_asking() {
+        return Err("told another state".into());
+    }
+    Ok(request)
+}
+
 /// What of the target of the request that is due stands behind the type's group and version; `none` while a request is
 /// under way.
 pub fn ask(alloc: Global, informer: &mut Informer<Namespace>) -> Result<String, Fail> {
-    match informer.next_request()? {
+    match due(informer)? {
         Some(request) => target_of(alloc, &request),
         None => Ok(String::from_str(alloc, "none")?),
     }

@@ -1,23 +1,27 @@
 //! The settings that an informer is made with: its first request, or why it is refused. Replies are played in `lists` and
 //! `watches`.
 
-use crate::playing::{ask, indexer, settings};
+use crate::playing::{Namespace, ask, indexer, widgets};
 use crate::rows::expect_text;
-use reflector::{Informer, Settings};
+use reflector::{Informer, SettingsFault};
 use std::alloc::Global;
 use std::test::Fail;
 
-/// Settings with this page size and namespace.
-fn of(alloc: Global, page: u32, namespace: &str) -> Result<Settings, Fail> {
-    let mut made = settings(alloc, "a=b,c!=d")?;
-    made.page = page;
-    made.wanted.namespace = Some(String::from_str(alloc, namespace)?);
-    Ok(made)
+/// An informer with this page size and namespace, or why it is refused.
+fn informer(
+    alloc: Global,
+    page: u32,
+    namespace: &str,
+) -> Result<Result<Informer<Namespace>, SettingsFault>, Fail> {
+    let namespace = Some(String::from_str(alloc, namespace)?);
+    let selector = String::from_str(alloc, "a=b,c!=d")?;
+    let indexer = indexer(alloc)?;
+    Ok(Informer::new(alloc, widgets(alloc)?, namespace, selector, page, indexer))
 }
 
 /// The first target, or why the settings are refused.
 fn first_target(alloc: Global, page: u32, namespace: &str) -> Result<String, Fail> {
-    match Informer::new(alloc, of(alloc, page, namespace)?, indexer(alloc)?) {
+    match informer(alloc, page, namespace)? {
         Ok(mut made) => ask(alloc, &mut made),
         Err(fault) => Ok(format!(in alloc; "{fault:?}")?),
     }

@@ -1,5 +1,6 @@
 -- What the crate's values say, and what its calls return beside what is to be read.
-use Rattle.std.specs.Prelude.{◌≡◌, ℕ, List, map, option_map, option_and_then, string_bytes, codes, ⊤}
+use Rattle.std.specs.Prelude.{◌≡◌, ℕ, List, Option, String, map, option_map, option_and_then, string_bytes, codes, ⊤}
+use Rattle.std.specs.declared.alloc.Global.{Global}
 use Rattle.std.specs.declared.result.Result.{Result}
 use Rattle.std.specs.declared.result.Result.TheVariants.{Ok, Err}
 use Rattle.serde_json.specs.Data.{Data, Members, Items}
@@ -9,6 +10,7 @@ use Rattle.decoder.specs.declared.malformed.Malformed.{Malformed}
 use Rattle.decoder.specs.declared.malformed.Malformed.TheVariants as malformed
 use Rattle.decoder.specs.declared.fault.DecodeFault.{DecodeFault}
 use Rattle.decoder.specs.declared.fault.DecodeFault.TheVariants as fault
+use Rattle.decoder.specs.declared.wanted.Source as sources
 use Rattle.decoder.specs.declared.wanted.Wanted as asked
 use Rattle.decoder.specs.declared.page.Page as pages
 use Rattle.decoder.specs.declared.line.Line as lines
@@ -18,8 +20,12 @@ use Rattle.decoder.specs.Members.{Read, or_malformed, at, text_at}
 use Rattle.decoder.specs.Pages.{Page}
 use Rattle.decoder.specs.Lines.{Line, put, deleted, bookmark, error}
 
+-- the objects of a type, in a namespace or in all
+abbrev pub wanted_from : sources.Source → Option (String Global) → Wanted
+wanted_from s namespace = record { group = string_bytes s.group; version = string_bytes s.version; kind = string_bytes s.kind; plural = string_bytes s.plural; namespace = option_map string_bytes namespace }
+
 abbrev pub wanted_of : asked.Wanted → Wanted
-wanted_of w = record { group = string_bytes w.group; version = string_bytes w.version; kind = string_bytes w.kind; plural = string_bytes w.plural; namespace = option_map string_bytes w.namespace }
+wanted_of w = wanted_from w.source w.namespace
 
 abbrev pub page_seen : pages.Page → Page
 page_seen p = record { revision = p.revision; token = option_map string_bytes p.token; objects = map stored_of p.objects.items }

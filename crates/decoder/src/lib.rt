@@ -24,4 +24,4 @@ pub use law::objects_are_their_texts;
 pub use line::{Line, read_line};
 pub use malformed::Malformed;
 pub use page::{Page, read_page};
-pub use wanted::Wanted;
+pub use wanted::{Source, Wanted};

@@ -5,13 +5,19 @@ ghost use Rattle.std.specs.Str.{bytes_eq};
 ghost use Rattle.decoder.specs.Seen.{wanted_of};
 ghost use Rattle.decoder.specs.Wanted.{api_version_of, is_in};
 
-/// The objects of one type, in a namespace or, without one, in all.
+/// A type of objects, as a server serves it: below `/apis/{group}/{version}`, where `plural` stands in the path.
 #[derive(Debug, Drop)]
-pub struct Wanted {
+pub struct Source {
     pub group: String,
     pub version: String,
     pub kind: String,
     pub plural: String,
+}
+
+/// The objects of a type, in a namespace or, without one, in all.
+#[derive(Debug, Drop)]
+pub struct Wanted {
+    pub source: Source,
     pub namespace: Option<String>,
 }
 
@@ -38,20 +44,24 @@ fn is_group_and_version(text: &str, group: &str, version: &str) -> bool
 pub(crate) fn is_api_version(wanted: &Wanted, text: &str) -> bool
     ensures { result ≡ bytes_eq text.now (api_version_of (wanted_of wanted.now)) }
 {
-    is_group_and_version(text, wanted.group.as_str(), wanted.version.as_str())
+    is_group_and_version(
+        text,
+        wanted.source.group.as_str(),
+        wanted.source.version.as_str(),
+    )
 }
 
 pub(crate) fn is_kind(wanted: &Wanted, text: &str) -> bool
     ensures { result ≡ bytes_eq text.now (wanted_of wanted.now).kind }
 {
-    text == wanted.kind.as_str()
+    text == wanted.source.kind.as_str()
 }
 
 /// Whether a text is the kind of a list of them.
 pub(crate) fn is_list_kind(wanted: &Wanted, text: &str) -> bool
     ensures { result ≡ bytes_eq text.now ((wanted_of wanted.now).kind ++ codes "List") }
 {
-    is_joined(text, wanted.kind.as_str(), "List")
+    is_joined(text, wanted.source.kind.as_str(), "List")
 }
 
 pub(crate) fn is_in(wanted: &Wanted, namespace: &str) -> bool

@@ -56,7 +56,8 @@ fn request_of(alloc: Global, line: &ApplyLine) -> Result<Vec<u8>, AllocError>
         alloc,
         "PATCH",
         request_target.as_str(),
-        Some((APPLY_TYPE, body.as_bytes())),
+        APPLY_TYPE,
+        Some(body.as_bytes()),
     )
 }
 

@@ -1,9 +1,11 @@
 -- What the crate's values say, without where they lie in memory.
-use Rattle.std.specs.Prelude.{List, [], ◌∷◌, Option, Some, None, option_map, string_bytes}
+use Rattle.std.specs.Prelude.{ℕ, List, [], ◌∷◌, Option, Some, None, String, option_map, string_bytes}
+use Rattle.std.specs.declared.alloc.Global.{Global}
 use Rattle.std.specs.FinMap as fin
 use Rattle.indexer.specs.Kept.{Held}
 use Rattle.indexer.specs.Objects.{Place, Stored, stored_of}
-use Rattle.decoder.specs.Seen.{wanted_of}
+use Rattle.decoder.specs.declared.wanted.Source as sources
+use Rattle.decoder.specs.Seen.{wanted_from, wanted_of}
 use Rattle.reflector.specs.Aside.{aside_of}
 use Rattle.reflector.specs.Client.{Asks, first, next, follow, Notice, added, updated, deleted}
 use Rattle.reflector.specs.Requests.{Settings}
@@ -12,6 +14,10 @@ use Rattle.reflector.specs.declared.asks.Asks as asks
 use Rattle.reflector.specs.declared.asks.Asks.TheVariants as ask
 use Rattle.reflector.specs.declared.notice.Notice as notices
 use Rattle.reflector.specs.declared.notice.Notice.TheVariants as notice
+
+-- what an informer is made with
+abbrev pub settings_from : sources.Source → Option (String Global) → String Global → ℕ → Settings
+settings_from source namespace selector page = record { wanted = wanted_from source namespace; selector = string_bytes selector; page = page }
 
 abbrev pub settings_of : settings.Settings → Settings
 settings_of s = record { wanted = wanted_of s.wanted; selector = string_bytes s.selector; page = s.page }

@@ -12,6 +12,7 @@ use crate::notice::Notice;
 use crate::replying::{Open, hear_open};
 use crate::requests::request_of;
 use crate::settings::{Settings, SettingsFault, fault_in};
+use decoder::{Source, Wanted};
 use indexer::{IndexBy, Indexer};
 use std::alloc::{AllocError, Global};
 use std::mem;
@@ -65,22 +66,32 @@ impl<I: IndexBy> Informer<I> {
     ghost use Rattle.reflector.specs.Mirrors.{keyed};
     ghost use Rattle.reflector.specs.Reading.{AreHeard};
     ghost use Rattle.reflector.specs.Run.{again, asked, closed, hears_all, taken};
-    ghost use Rattle.reflector.specs.Seen.{notice_seen, settings_of};
+    ghost use Rattle.reflector.specs.Seen.{notice_seen, settings_from};
     ghost use Rattle.reflector.specs.Standing.{keys_in};
 
-    /// An informer that keeps nothing yet; the indexer's functions stay, its objects don't.
+    /// An informer of the source's objects, in a namespace or in all, that the label selector selects: the empty text
+    /// selects all. A page has at most `page` objects, 1 to 500. It keeps nothing yet: the indexer's functions stay, its
+    /// objects don't.
     pub fn new(
         alloc: Global,
-        settings: Settings,
+        source: Source,
+        namespace: Option<String>,
+        selector: String,
+        page: u32,
         indexer: Indexer<I>,
     ) -> Result<Informer<I>, SettingsFault>
         ensures fresh { IfOk result (λ i. Runs (λ b s. I.keys b s) i fresh [] []) }
-        ensures settings { IfOk result (λ i. settings_in i ≡ settings_of settings) }
+        ensures settings { IfOk result (λ i. settings_in i ≡ settings_from source namespace selector page) }
         ensures indexes { IfOk result (λ i. indexes_in i ≡ indexes_of indexer) }
         ensures names { IfOk result (λ i. names_in i ≡ names_of indexer) }
-        ensures lawful { OnOk result (fault_in (settings_of settings) ≡ None) }
-        ensures fault { IfErr result (λ f. fault_in (settings_of settings) ≡ Some f) }
+        ensures lawful { OnOk result (fault_in (settings_from source namespace selector page) ≡ None) }
+        ensures fault { IfErr result (λ f. fault_in (settings_from source namespace selector page) ≡ Some f) }
     {
+        let settings = Settings {
+            wanted: Wanted { source, namespace },
+            selector,
+            page,
+        };
         if let Some(fault) = fault_in(&settings) {
             return Err(fault);
         }
@@ -168,6 +179,13 @@ impl<I: IndexBy> Informer<I> {
         forget(self.alloc, &mut self.mirror);
         self.asks = Asks::First;
         self.reader = None;
+    }
+
+    /// Whether a request is under way: pieces of its reply are still awaited.
+    pub fn is_asking(&self) -> bool
+        ensures { (c : Client) (bytes : List ℕ) (told : List Told) → Runs (λ b s. I.keys b s) self.now c bytes told → result ≡ c.is_asking }
+    {
+        self.reader.is_some()
     }
 
     /// The revision of the server whose objects these are; None before the first whole list, and after a restart until

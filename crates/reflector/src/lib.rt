@@ -25,10 +25,11 @@ mod requests;
 mod settings;
 mod taking;
 
+pub use decoder::Source;
 pub use informer::Informer;
 pub use laws::{
     follows_the_server, mirrors_the_server, notices_lead_on, notices_tell, notices_tell_exactly,
     takes_fitting_items, takes_whole_lists,
 };
 pub use notice::Notice;
-pub use settings::{Settings, SettingsFault};
+pub use settings::SettingsFault;

@@ -18,9 +18,9 @@ use wireclient::request_bytes;
 fn api_version(alloc: Global, wanted: &Wanted) -> Result<String, AllocError>
     ensures { IfOk result (λ s. string_bytes s ≡ api_version_of (wanted_of wanted.now)) }
 {
-    let mut text = String::from_str(alloc, wanted.group.as_str())?;
+    let mut text = String::from_str(alloc, wanted.source.group.as_str())?;
     text.push_str("/")?;
-    text.push_str(wanted.version.as_str())?;
+    text.push_str(wanted.source.version.as_str())?;
     Ok(text)
 }
 
@@ -44,7 +44,7 @@ fn path_of(alloc: Global, wanted: &Wanted) -> Result<String, AllocError>
     path.push_str(api_version(alloc, wanted)?.as_str())?;
     path.push_str(namespace_part(alloc, &wanted.namespace)?.as_str())?;
     path.push_str("/")?;
-    path.push_str(wanted.plural.as_str())?;
+    path.push_str(wanted.source.plural.as_str())?;
     Ok(path)
 }
 
@@ -143,5 +143,5 @@ pub(crate) fn request_of(
     let path = path_of(alloc, &settings.wanted)?;
     let query = query_of(alloc, settings, asks, revision)?;
     let target = format!(in alloc; "{path}?{query}")?;
-    request_bytes(alloc, "GET", target.as_str(), None)
+    request_bytes(alloc, "GET", target.as_str(), "", None)
 }

@@ -1,4 +1,4 @@
-//! The settings of an informer: which objects it mirrors, and how many a page has. The informer stands in `informer`.
+//! The settings of an informer: which objects it mirrors, and how many a page has. It is made with them in `informer`.
 
 ghost use Rattle.std.specs.Prelude.{◌≡◌, option_map, string_bytes};
 ghost use Rattle.names.specs.Names.{is_dns_label};
@@ -14,12 +14,10 @@ const MAX_PAGE: u32 = 500;
 
 /// The wanted objects that the selector's text selects, in pages of so many.
 #[derive(Debug, Drop)]
-pub struct Settings {
-    pub wanted: Wanted,
-    /// A label selector; the empty text selects all.
-    pub selector: String,
-    /// 1 to 500.
-    pub page: u32,
+pub(crate) struct Settings {
+    pub(crate) wanted: Wanted,
+    pub(crate) selector: String,
+    pub(crate) page: u32,
 }
 
 /// Why nothing can be mirrored so: the first of these.

@@ -59,8 +59,8 @@ fn request_of(alloc: Global, line: &str) -> Result<Vec<u8>, Fail> {
         "PATCH" => "application/apply-patch+yaml",
         _ => "application/json",
     };
-    let content = (media, body.as_bytes());
-    Ok(request_bytes(alloc, method, target.as_str(), Some(content))?)
+    let body = Some(body.as_bytes());
+    Ok(request_bytes(alloc, method, target.as_str(), media, body)?)
 }
 
 /// A call in a function of its own, so that what calls it carries none of its clauses.

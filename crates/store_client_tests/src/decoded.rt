@@ -4,7 +4,7 @@
 //! answer is what it says, or what is wrong with it.
 
 use crate::rows::{Answers, play_all};
-use decoder::{DecodeFault, Line, Page, Wanted, read_line, read_page};
+use decoder::{DecodeFault, Line, Page, Source, Wanted, read_line, read_page};
 use indexer::Object;
 use std::alloc::{AllocError, Global};
 use std::test::Fail;
@@ -28,10 +28,12 @@ impl Answers for Decoded {
 
 fn wanted(alloc: Global, namespace: Option<&str>) -> Result<Wanted, AllocError> {
     Ok(Wanted {
-        group: String::from_str(alloc, "demo.example")?,
-        version: String::from_str(alloc, "v1")?,
-        kind: String::from_str(alloc, "Widget")?,
-        plural: String::from_str(alloc, "widgets")?,
+        source: Source {
+            group: String::from_str(alloc, "demo.example")?,
+            version: String::from_str(alloc, "v1")?,
+            kind: String::from_str(alloc, "Widget")?,
+            plural: String::from_str(alloc, "widgets")?,
+        },
         namespace: match namespace {
             Some(namespace) => Some(String::from_str(alloc, namespace)?),
             None => None,

@@ -215,9 +215,9 @@ fn request(alloc: Global, words: &str) -> Result<String, Fail> {
     let (media, content) = first_word(words);
     let body = match media {
         "" => None,
-        _ => Some((media, content.as_bytes())),
+        _ => Some(content.as_bytes()),
     };
-    let bytes = request_bytes(alloc, method, target, body)?;
+    let bytes = request_bytes(alloc, method, target, media, body)?;
     let mut text = String::new(alloc);
     push_bytes(&mut text, "", &bytes)?;
     Ok(text)

@@ -93,7 +93,8 @@ impl Summary {
             self.alloc,
             "PATCH",
             target.as_str(),
-            Some((media, body.as_bytes())),
+            media,
+            Some(body.as_bytes()),
         )
     }
 }

@@ -31,18 +31,19 @@ fn with_body(
 }
 
 /// The bytes of a request over HTTP/1.1 (RFC 9112, sections 3 and 5): the request line, `Host: localhost`,
-/// of a body its `Content-Type` and `Content-Length`, an empty line and the body. `body` is its media type
-/// and its bytes.
+/// of a body its `Content-Type` (`media`) and `Content-Length`, an empty line and the body. A request without a body
+/// says neither, whatever `media` is.
 pub fn request_bytes(
     alloc: Global,
     method: &str,
     target: &str,
-    body: Option<(&str, &[u8])>,
+    media: &str,
+    body: Option<&[u8]>,
 ) -> Result<Vec<u8>, AllocError>
-    ensures { IfOk result (λ v. v.items ≡ request method.now target.now (option_map (λ b. (b.0.now, b.1.now)) body.entry)) }
+    ensures { IfOk result (λ v. v.items ≡ request method.now target.now (option_map (λ b. (media.now, b.now)) body.entry)) }
 {
     match body {
-        Some((media, body)) => with_body(alloc, method, target, media, body),
+        Some(body) => with_body(alloc, method, target, media, body),
         None => without_body(alloc, method, target),
     }
 }
