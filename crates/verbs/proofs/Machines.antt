@@ -26,11 +26,11 @@ use Rattle.verbs.specs.Json.{IsJsonBody}
 use Rattle.verbs.specs.Machine.{IsMachine}
 use Rattle.verbs.specs.Promise.{CallsKeepMachines, CompactionsKeepMachines, MachinesBegin, PlansByViews}
 use Rattle.verbs.specs.Step.{lists_in, lists_of, page_shown, planned_over, shown_by, step, steps, watch_shown}
-use Rattle.verbs.proofs.Changes.{is_history}
+use Rattle.verbs.proofs.Changes.{is_history, no_texts}
 use Rattle.verbs.proofs.Promise.{steps_keep_machines}
 
 pub machines_begin : MachinesBegin
-machines_begin types n shapes from to = record { first = n; whole = whole_fresh n from to; shapes = shapes; texts = tt }
+machines_begin types n shapes from to = record { first = n; whole = whole_fresh n from to; shapes = shapes; texts = tt; stand = no_texts types }
 
 calls_keep : (types : List ServedShape) (calls : List Call) (m : History) → IsMachine types m → AllByRecursion (λ call. IsJsonBody call.body) calls → IsMachine types (steps types m calls).1
 calls_keep types [] m is json = is
@@ -40,7 +40,7 @@ pub calls_keep_machines : CallsKeepMachines
 calls_keep_machines types m calls is json = calls_keep types calls m is json
 
 pub compactions_keep_machines : CompactionsKeepMachines
-compactions_keep_machines types m c is low high = record { first = is.first; whole = whole_compacts is.first m c is.whole low high; shapes = is.shapes; texts = is.texts }
+compactions_keep_machines types m c is low high = record { first = is.first; whole = whole_compacts is.first m c is.whole low high; shapes = is.shapes; texts = is.texts; stand = is.stand }
 
 -- what stands is seen in the view
 pub standing_seen : (types : List ServedShape) (m : History) → IsMachine types m → state_in (view m) m.current ≡ standing m

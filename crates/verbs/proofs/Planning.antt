@@ -19,7 +19,7 @@ use Rattle.verbs.specs.declared.change.Change.{Change as TheChange}
 use Rattle.verbs.specs.Json.{IsJsonBody}
 use Rattle.verbs.specs.Calls.{Call, Plan}
 use Rattle.verbs.specs.Machine.{AreTexts, IsMachine, IsNext, IsReadable, after, identity_of}
-use Rattle.verbs.proofs.Changes.{all_push, is_history, machine_next, standing_texts}
+use Rattle.verbs.proofs.Changes.{all_push, is_history, machine_next}
 use Rattle.verbs.proofs.Machines.{compactions_keep_machines, lists_seen, standing_seen}
 use Rattle.verbs.proofs.Promise.{plans_come_next}
 use Rattle.verbs.specs.Seen.{Stands, body_seen, call_of, change_of, plan_of, types_of, objects_in}
@@ -39,7 +39,7 @@ module _ (api : Api) (types : List ServedShape) (m : History) (call : Call) (sta
   pub stands_texts : AreTexts (types_of api) (objects_in api.store)
   stands_texts =
       subst (λ ts. AreTexts ts (objects_in api.store)) (sym stands.serves)
-      (subst (AreTexts types) (sym (ap objects_in stands.store ∙ standing_seen types m stands.is_machine)) (standing_texts types m stands.is_machine))
+      (subst (AreTexts types) (sym (ap objects_in stands.store ∙ standing_seen types m stands.is_machine)) stands.is_machine.stand)
 
 -- what stands under a key of the type is readable
 pub readable_at : (types : List ServedShape) (t : ServedShape) (k : Key) (objects : Objects) (found : Option Object) → fin.get objects k ≡ found → slice_get types k.kind ≡ Some t
@@ -47,7 +47,7 @@ pub readable_at : (types : List ServedShape) (t : ServedShape) (k : Key) (object
 readable_at types t k objects None is serves texts = tt
 readable_at types t k objects (Some o) is serves texts =
     let x = texts k o is in
-    (o.revision, x.state, subst (λ (u : ServedShape). IsObjectText u.shape (identity_of u k) o.revision x.state o.body) (same_some x.t t (sym x.served ∙ serves)) x.says)
+    (o.revision, x.is_text.state, subst (λ (u : ServedShape). IsObjectText u.shape (identity_of u k) o.revision x.is_text.state o.body) (same_some x.t t (sym x.served ∙ serves)) x.is_text.says)
 
 -- ---- what is planned may come next
 

@@ -43,14 +43,14 @@ use Rattle.std.specs.declared.result.Result.{Result}
 use Rattle.lists.specs.declared.refusal.Refusal.{Refusal}
 use Rattle.verbs.specs.declared.reason.Reason.TheVariants.{Invalid}
 use Rattle.verbs.specs.Validated.{Validated, and_then, require}
-use Rattle.verbs.specs.Machine.{AreTexts, IsBodyAt, IsMachine, IsNamed, IsNext, IsOfTypes, after, identity_of, no_state, state_by, state_of_live, state_said, state_under}
+use Rattle.verbs.specs.Machine.{AreTexts, IsMachine, IsNamed, IsNext, IsOfTypes, IsSomeTextAt, IsTextAt, after, identity_of, no_state, state_by, state_of_live, state_said, state_under}
 use Rattle.verbs.specs.Naming.{marks_validated, metadata_object, names_validated, path_validated, required_name}
 use Rattle.verbs.specs.Options.{options_validated}
 use Rattle.verbs.specs.Parameters.{parameters_validated}
-use Rattle.verbs.specs.Promise.{AppliesKeepOthers, BodiesSayStates, OthersKeepUnchanged, PlansComeNext, SaysState, StepsKeepMachines, TextsSayStates, UpdatesTakeChanges}
+use Rattle.verbs.specs.Promise.{AppliesKeepOthers, BodiesSayStates, OthersKeepUnchanged, PlansAreShort, PlansComeNext, SaysState, StandingTextsSayStates, StepsKeepMachines, TextsSayStates, UpdatesTakeChanges}
 use Rattle.verbs.specs.Size.{count_if_there, is_over, max_bytes, max_labels, size_validated}
 use Rattle.verbs.specs.Step.{Intent, applied_over, apply_validated, at_path, body_of, collection_validated_by, conflict_refusal, Creation, create_validated, created_as, creation_validated, delete_validated, deleted_over, get_validated, intent_of, validated_at, validated_in, validated_over, as_it_stands, key_at, not_there, object_validated_by, ownership_validated, planned, printed, revisions_left, shape_validated, store_state, store_unless_same, text_at, there, plan_for, update_validated, updated_by, updated_over, version_checked, version_come, all_validated_by, collection_of, list_answered, list_validated, Lists, lists_of}
-use Rattle.verbs.proofs.Changes.{machine_next, standing_next, standing_texts, texts_at}
+use Rattle.verbs.proofs.Changes.{machine_next, standing_next, texts_at}
 use Rattle.verbs.proofs.Checks.{change_in, held, no_err, ok_is, passed}
 use Rattle.verbs.proofs.Contents.{intended_content}
 use Rattle.verbs.proofs.Said.{Shapes, nothing_placed, printed_is_text, said_back, shapes_of}
@@ -191,7 +191,7 @@ module _ (types : List ServedShape) (current : ℕ) (objects : Objects) (shapes 
       let x = texts k o is in
       let same : x.t ≡ t = same_some x.t t (sym x.served ∙ serves) in
       subst (λ (u : ServedShape). IsPlacedState u.shape (state_said u.shape o.body)) same
-      (subst (IsPlacedState x.t.shape) (sym (said_back x.t.shape _ o.revision x.state o.body (shapes k.kind x.t x.served) x.says)) x.says.placed)
+      (subst (IsPlacedState x.t.shape) (sym (said_back x.t.shape _ o.revision x.is_text.state o.body (shapes k.kind x.t x.served) x.is_text.says)) x.is_text.says.placed)
 
   module _ (t : ServedShape) (k : Key) (serves : slice_get types k.kind ≡ Some t) (D : Type 0) (R : State → State → Type 0) where
     shaped : IsObjectShape t.shape
@@ -224,7 +224,7 @@ module _ (types : List ServedShape) (current : ℕ) (objects : Objects) (shapes 
         let before = state_said t.shape o.body in
         over_writes types current objects t k serves D R (Some o) (updated_by intent before) p
         (updated_placed before intent.content (manager_of intent.manager update_operation) t.shape content (live_placed t k serves (Some o) is))
-        (subst (λ found. R (state_of_live t found) (updated_by intent before)) (sym is) (keeps before)) (texts k o is).named version.2
+        (subst (λ found. R (state_of_live t found) (updated_by intent before)) (sym is) (keeps before)) (texts k o is).is_text.named version.2
 
     update_writes : (query : List ℕ) (body : Data) (p : Plan) → IsJson body
         → ((i : Intent) → intent_of (at_path t k Put) asked.Put query body ≡ Ok i → (before : State) → R before (updated_by i before))
@@ -338,15 +338,17 @@ module _ (types : List ServedShape) (current : ℕ) (objects : Objects) (shapes 
 
 -- ---- what is planned may come next
 
-written_text : (types : List ServedShape) (objects : Objects) (D : Type 0) (R : State → State → Type 0) (c : Change) (body : Option (List ℕ)) → c.revision ≤ last_revision → BodyBy types objects D R c body → IsBodyAt types c.key c.revision body
+written_text : (types : List ServedShape) (objects : Objects) (D : Type 0) (R : State → State → Type 0) (c : Change) (body : Option (List ℕ)) → c.revision ≤ last_revision → BodyBy types objects D R c body
+    → IfSome body (IsTextAt types c.key c.revision)
 written_text types objects D R c None low is = tt
 written_text types objects D R c (Some text) low is = record {
   t = is.0;
   served = is.1;
-  state = is.2;
-  says = subst (λ x. IsObjectText is.0.shape (identity_of is.0 c.key) c.revision is.2 x) (sym is.4) (printed_is_text is.0 c.key c.revision is.2 is.3 low);
-  short = is.6;
-  named = is.7;
+  is_text = record {
+    state = is.2;
+    says = subst (λ x. IsObjectText is.0.shape (identity_of is.0 c.key) c.revision is.2 x) (sym is.4) (printed_is_text is.0 c.key c.revision is.2 is.3 low);
+    named = is.7;
+  };
 }
 
 gone_there : (types : List ServedShape) (objects : Objects) (D : Type 0) (R : State → State → Type 0) (c : Change) (body : Option (List ℕ)) → BodyBy types objects D R c body → body ≡ None → fin.contains_key objects c.key ≡ true
@@ -365,10 +367,23 @@ if_next : (types : List ServedShape) (m : History) (D : Type 0) (R : State → S
 if_next types m D R None is = tt
 if_next types m D R (Some c) is = comes_next types m D R c is
 
+any_writes : (types : List ServedShape) (m : History) (call : Call) → IsMachine types m → IsJsonBody call.body → WritesBy types m.current (standing m) (Unit {0}) (λ old new. Unit {0}) (planned types m call).change
+any_writes types m call is json = call_writes types m.current (standing m) (shapes_of types is.shapes) is.stand (lists_of m) call json (validated_over types m.current (standing m) (lists_of m) call) refl
+
 pub plans_come_next : PlansComeNext
-plans_come_next types m call is json =
-    if_next types m (Unit {0}) (λ old new. Unit {0}) (planned types m call).change
-    (call_writes types m.current (standing m) (shapes_of types is.shapes) (standing_texts types m is) (lists_of m) call json (validated_over types m.current (standing m) (lists_of m) call) refl)
+plans_come_next types m call is json = if_next types m (Unit {0}) (λ old new. Unit {0}) (planned types m call).change (any_writes types m call is json)
+
+short_body : (types : List ServedShape) (objects : Objects) (D : Type 0) (R : State → State → Type 0) (c : Change) (body : Option (List ℕ)) → BodyBy types objects D R c body → IfSome body (λ text. length text ≤ max_bytes)
+short_body types objects D R c None is = tt
+short_body types objects D R c (Some text) is = is.6
+
+short_change : (types : List ServedShape) (m : History) (change : Option Change) → WritesBy types m.current (standing m) (Unit {0}) (λ old new. Unit {0}) change
+    → IfSome change (λ c. IfSome c.body (λ text. length text ≤ max_bytes))
+short_change types m None is = tt
+short_change types m (Some c) is = short_body types (standing m) (Unit {0}) (λ old new. Unit {0}) c c.body is.2
+
+pub plans_are_short : PlansAreShort
+plans_are_short types m call is json = short_change types m (planned types m call).change (any_writes types m call is json)
 
 pub after_machine : (types : List ServedShape) (m : History) (change : Option Change) → IsMachine types m → IfSome change (IsNext types m) → IsMachine types (after m change)
 after_machine types m None is next = is
@@ -377,21 +392,30 @@ after_machine types m (Some c) is next = machine_next types m c is next
 pub steps_keep_machines : StepsKeepMachines
 steps_keep_machines types m call is json = after_machine types m (planned types m call).change is (plans_come_next types m call is json)
 
+-- ---- texts say their states
+
+text_says : (types : List ServedShape) (k : Key) (r : ℕ) (text : List ℕ) → IsSomeTextAt types k r text → SaysState types k r text
+text_says types k r text is = (is, sym (said_back is.shape _ r is.is_text.state text is.shaped is.is_text.says))
+
 pub texts_say_states : TextsSayStates
-texts_say_states types m r k o is there =
-    let x = texts_at types m r is k o there in
-    (x, sym (ap (λ u. state_by u (fin.get (state_at m.changes r) k)) x.served ∙ ap (state_of_live x.t) there ∙ said_back x.t.shape _ o.revision x.state o.body ((shapes_of types is.shapes) k.kind x.t x.served) x.says))
+texts_say_states types m r k o is there = text_says types k o.revision o.body (texts_at types m r k o is there)
 
-body_says : (types : List ServedShape) → Shapes types → (c : Change) (body : Option (List ℕ)) → IsBodyAt types c.key c.revision body → SaysState types c body
-body_says types shapes c None is = tt
-body_says types shapes c (Some text) is = (is, sym (said_back is.t.shape _ c.revision is.state text (shapes c.key.kind is.t is.served) is.says))
+pub standing_texts_say_states : StandingTextsSayStates
+standing_texts_say_states types m k o is there =
+    let x = is.stand k o there in
+    (x, sym (ap (λ u. state_by u (fin.get (standing m) k)) x.served ∙ ap (state_of_live x.t) there
+    ∙ said_back x.t.shape _ o.revision x.is_text.state o.body ((shapes_of types is.shapes) k.kind x.t x.served) x.is_text.says))
 
-all_say : (types : List ServedShape) → Shapes types → (cs : List Change) → AllByRecursion (IsOfTypes types) cs → AllByRecursion (λ c. SaysState types c c.body) cs
-all_say types shapes [] all = tt
-all_say types shapes (c ∷ cs) all = (body_says types shapes c c.body all.0, all_say types shapes cs all.1)
+body_says : (types : List ServedShape) (c : Change) (body : Option (List ℕ)) → IfSome body (IsSomeTextAt types c.key c.revision) → IfSome body (SaysState types c.key c.revision)
+body_says types c None is = tt
+body_says types c (Some text) is = text_says types c.key c.revision text is
+
+all_say : (types : List ServedShape) (cs : List Change) → AllByRecursion (IsOfTypes types) cs → AllByRecursion (λ c. IfSome c.body (SaysState types c.key c.revision)) cs
+all_say types [] all = tt
+all_say types (c ∷ cs) all = (body_says types c c.body all.0, all_say types cs all.1)
 
 pub bodies_say_states : BodiesSayStates
-bodies_say_states types m is = all_say types (shapes_of types is.shapes) m.changes is.texts
+bodies_say_states types m is = all_say types m.changes is.texts
 
 -- ---- a call whose method is a write of an object
 
@@ -456,11 +480,10 @@ module _ (types : List ServedShape) (m : History) (is : IsMachine types m) (R : 
 pub applies_keep_others : AppliesKeepOthers
 applies_keep_others types m call values is json patch read gentle =
     let R = AsApplied values.manager in
-    let texts = standing_texts types m is in
     after_keeps types m is R (λ s k p apart owns. (refl, owns)) (plan_for (validated_over types m.current (standing m) (lists_of m) call)).change
     (plan_keeps types m.current (standing m) (lists_of m) call json R Patch (λ t k. apply_validated t m.current (fin.get (standing m) k) k call.query) patch
     (λ t kind namespace p e. no_err _ p e) (λ t kind p e. no_err _ p e) (λ t k. refl)
-    (λ t k serves body p spelled e. apply_writes types m.current (standing m) (shapes_of types is.shapes) texts t k serves ⊥ R call.query body p spelled
+    (λ t k serves body p spelled e. apply_writes types m.current (standing m) (shapes_of types is.shapes) is.stand t k serves ⊥ R call.query body p spelled
     (λ i intends before s owned.
     let said = intended (at_path t k Patch) asked.Apply call.query body i values intends read in
     subst (λ w. AsApplied w before s) (sym said.0)
@@ -470,11 +493,10 @@ applies_keep_others types m call values is json patch read gentle =
 pub updates_take_changes : UpdatesTakeChanges
 updates_take_changes types m call values is json put read =
     let R = AsUpdated values.manager in
-    let texts = standing_texts types m is in
     after_keeps types m is R (λ s k p apart owns same. owns) (plan_for (validated_over types m.current (standing m) (lists_of m) call)).change
     (plan_keeps types m.current (standing m) (lists_of m) call json R Put (λ t k. update_validated t m.current (fin.get (standing m) k) k call.query) put
     (λ t kind namespace p e. no_err _ p e) (λ t kind p e. no_err _ p e) (λ t k. refl)
-    (λ t k serves body p spelled e. update_writes types m.current (standing m) (shapes_of types is.shapes) texts t k serves ⊥ R call.query body p spelled
+    (λ t k serves body p spelled e. update_writes types m.current (standing m) (shapes_of types is.shapes) is.stand t k serves ⊥ R call.query body p spelled
     (λ i intends before.
     let said = intended (at_path t k Put) asked.Put call.query body i values intends read in
     subst (λ w. AsUpdated w before (updated_by i before)) (sym said.0)

@@ -1,6 +1,6 @@
 -- The machine: a history whose bodies are texts of objects, each of the type and key of its change
 -- (resourceVersion and its order: Kubernetes "API Concepts", "Resource versions").
-use Rattle.std.specs.Prelude.{◌≡◌, ℕ, suc, ◌≤◌, true, IfSome, IsUtf8, List, length, Option, Some, None, option_and_then, slice_get}
+use Rattle.std.specs.Prelude.{◌≡◌, ℕ, suc, ◌≤◌, true, IfSome, IsUtf8, List, Option, Some, None, option_and_then, slice_get}
 use Rattle.std.specs.FinMap as fin
 use Rattle.std.specs.List.{All, AllByRecursion}
 use Rattle.serde_json.specs.Read.{read}
@@ -17,7 +17,6 @@ use Rattle.schema.specs.ObjectShape.{IsObjectShape}
 use Rattle.objects.specs.ReadBack.{IsObjectText}
 use Rattle.names.specs.Names.{is_dns_label, is_dns_subdomain}
 use Rattle.verbs.specs.Envelope.{api_version_of}
-use Rattle.verbs.specs.Size.{max_bytes}
 
 -- ---- what stands
 
@@ -57,17 +56,28 @@ pub record IsNamed (k : Key) : Type 0 where
   pub namespace : is_dns_label k.namespace ≡ true
   pub name : is_dns_subdomain k.name ≡ true
 
--- the text is that of an object of the key and its type, at the revision: of a content of the type, with owners of its paths;
--- it is no longer than an object may be, and the key has a namespace and a name that an object may have
+-- the text is that of an object of the type and the key, at the revision: of a content of the type, with owners of its paths;
+-- the key has a namespace and a name that an object may have
+pub record IsTextOf (t : ServedShape) (k : Key) (revision : ℕ) (text : List ℕ) : Type 0 where
+  pub state : State
+  pub says : IsObjectText t.shape (identity_of t k) revision state text
+  pub named : IsNamed k
+
+-- of the key's type, as it is served now
 pub record IsTextAt (types : List ServedShape) (k : Key) (revision : ℕ) (text : List ℕ) : Type 0 where
   pub t : ServedShape
   pub served : slice_get types k.kind ≡ Some t
-  pub state : State
-  pub says : IsObjectText t.shape (identity_of t k) revision state text
-  pub short : length text ≤ max_bytes
-  pub named : IsNamed k
+  pub is_text : IsTextOf t k revision text
 
--- each text is that of an object of its key and its type
+-- of the key's type, under some schema that a type of its names could have
+pub record IsSomeTextAt (types : List ServedShape) (k : Key) (revision : ℕ) (text : List ℕ) : Type 0 where
+  pub t : ServedShape
+  pub served : slice_get types k.kind ≡ Some t
+  pub shape : Shape
+  pub shaped : IsObjectShape shape
+  pub is_text : IsTextOf (record t { shape = shape }) k revision text
+
+-- each text is that of an object of its key and its type, as it is served now
 abbrev pub AreTexts : List ServedShape → Objects → Type 0
 AreTexts types s = (k : Key) (o : Object) → fin.get s k ≡ Some o → IsTextAt types k o.revision o.body
 
@@ -76,13 +86,9 @@ abbrev pub IsReadable : ServedShape → Key → Option Object → Type 0
 IsReadable t k None = Unit {0}
 IsReadable t k (Some o) = (revision : ℕ) × (state : State) × IsObjectText t.shape (identity_of t k) revision state o.body
 
--- a deletion has no text
-abbrev pub IsBodyAt : List ServedShape → Key → ℕ → Option (List ℕ) → Type 0
-IsBodyAt types k revision None = Unit {0}
-IsBodyAt types k revision (Some text) = IsTextAt types k revision text
-
+-- the text of a change, if it has one, is that of an object of its key and its type, under the schema of its time
 abbrev pub IsOfTypes : List ServedShape → Change → Type 0
-IsOfTypes types c = IsBodyAt types c.key c.revision c.body
+IsOfTypes types c = IfSome c.body (IsSomeTextAt types c.key c.revision)
 
 -- each type's schema is that of an object
 abbrev pub AreObjectTypes : List ServedShape → Type 0
@@ -90,12 +96,13 @@ AreObjectTypes types = All (λ t. IsObjectShape t.shape) types
 
 -- ---- the machine
 
--- nothing of it is forgotten since it began at a revision, and each body is an object's text
+-- nothing of it is forgotten since it began at a revision; each body is an object's text, and what stands is of the types that are served now
 pub record IsMachine (types : List ServedShape) (m : History) : Type 0 where
   pub first : ℕ
   pub whole : IsWhole first m
   pub shapes : AreObjectTypes types
   pub texts : AllByRecursion (IsOfTypes types) m.changes
+  pub stand : AreTexts types (standing m)
 
 -- each body is Unicode, encoded in UTF-8 (RFC 8259, section 8.1)
 abbrev pub AreUnicode : List Change → Type 0
@@ -106,12 +113,12 @@ abbrev pub after : History → Option Change → History
 after m None = m
 after m (Some c) = written m c.key c.body
 
--- a change that may come next: it has the next revision; a deletion is of what stands, and a text is an object's
+-- a change that may come next: it has the next revision; a deletion is of what stands, and a text is an object's of a type that is served now
 pub record IsNext (types : List ServedShape) (m : History) (c : Change) : Type 0 where
   pub next : c.revision ≡ suc m.current
   pub high : c.revision ≤ last_revision
   pub there : c.body ≡ None → fin.contains_key (standing m) c.key ≡ true
-  pub is_text : IsOfTypes types c
+  pub is_text : IfSome c.body (IsTextAt types c.key c.revision)
 
 -- a change that may come after what is seen: it has the next revision, and a deletion is of what stands
 pub record ComesAfter (v : View) (c : Change) : Type 0 where

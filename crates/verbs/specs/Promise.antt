@@ -1,6 +1,6 @@
 -- What a call leaves to the managers of other fields (Kubernetes docs, "Server-Side Apply", "Conflicts", "Transferring ownership"),
 -- and what it leaves of the machine.
-use Rattle.std.specs.Prelude.{◌≡◌, ◌≤◌, ℕ, false, List, Option, Some, None, IfSome}
+use Rattle.std.specs.Prelude.{◌≡◌, ◌≤◌, ℕ, false, List, length, Some, None, IfSome}
 use Rattle.std.specs.declared.result.Result.TheVariants.{Ok, Err}
 use Rattle.std.specs.FinMap as fin
 use Rattle.std.specs.List.{AllByRecursion}
@@ -17,8 +17,9 @@ use Rattle.objects.specs.Placed.{Owns}
 use Rattle.verbs.specs.declared.method.Method.TheVariants.{Get, Patch, Put}
 use Rattle.verbs.specs.Calls.{Call, Target}
 use Rattle.verbs.specs.Json.{IsJsonBody}
-use Rattle.verbs.specs.Machine.{AreObjectTypes, IsMachine, IsNext, IsTextAt, state_said, state_under}
+use Rattle.verbs.specs.Machine.{AreObjectTypes, IsMachine, IsNext, IsSomeTextAt, IsTextAt, state_said, state_under}
 use Rattle.verbs.specs.Parameters.{parameters_validated}
+use Rattle.verbs.specs.Size.{max_bytes}
 use Rattle.lists.specs.declared.refusal.Refusal.TheVariants.{Expired}
 use Rattle.watchline.specs.Lines.{expired_message, expired_value}
 use Rattle.verbs.specs.Step.{list_refusal, lists_of, planned, planned_in, step, steps, validated_over}
@@ -45,19 +46,31 @@ CompactionsKeepMachines = (types : List ServedShape) (m : History) (c : ℕ) →
 abbrev pub PlansByViews : Type 0
 PlansByViews = (types : List ServedShape) (m : History) (call : Call) → IsMachine types m → planned types m call ≡ planned_in types (view m) call
 
--- what stands under a key, at any revision, is the text of the state that is read of it, at the revision of its own
+-- a text that a call writes is no longer than an object may be
+abbrev pub PlansAreShort : Type 0
+PlansAreShort =
+    (types : List ServedShape) (m : History) (call : Call) → IsMachine types m → IsJsonBody call.body
+    → IfSome (planned types m call).change (λ c. IfSome c.body (λ text. length text ≤ max_bytes))
+
+-- the text is an object's, and the state is the one that is read of it under the schema of its time
+abbrev pub SaysState : List ServedShape → Key → ℕ → List ℕ → Type 0
+SaysState types k revision text = (t : IsSomeTextAt types k revision text) × (t.is_text.state ≡ state_said t.shape text)
+
+-- so it is of what stands under a key, at any revision
 abbrev pub TextsSayStates : Type 0
 TextsSayStates =
     (types : List ServedShape) (m : History) (r : ℕ) (k : Key) (o : Object) → IsMachine types m → fin.get (state_at m.changes r) k ≡ Some o
-    → (t : IsTextAt types k o.revision o.body) × (t.state ≡ state_under types (state_at m.changes r) k)
+    → SaysState types k o.revision o.body
 
--- so is the body of each change; a deletion has none
-abbrev pub SaysState : List ServedShape → Change → Option (List ℕ) → Type 0
-SaysState types c None = Unit {0}
-SaysState types c (Some text) = (t : IsTextAt types c.key c.revision text) × (t.state ≡ state_said t.t.shape text)
-
+-- and of the body of each change; a deletion has none
 abbrev pub BodiesSayStates : Type 0
-BodiesSayStates = (types : List ServedShape) (m : History) → IsMachine types m → AllByRecursion (λ c. SaysState types c c.body) m.changes
+BodiesSayStates = (types : List ServedShape) (m : History) → IsMachine types m → AllByRecursion (λ c. IfSome c.body (SaysState types c.key c.revision)) m.changes
+
+-- what stands now is the text of the state that a call starts from
+abbrev pub StandingTextsSayStates : Type 0
+StandingTextsSayStates =
+    (types : List ServedShape) (m : History) (k : Key) (o : Object) → IsMachine types m → fin.get (standing m) k ≡ Some o
+    → (t : IsTextAt types k o.revision o.body) × (t.is_text.state ≡ state_under types (standing m) k)
 
 -- An apply without force changes no field that another manager owns: after the call, whatever it answers, each path of each
 -- object that another manager owned has the value and the owner that it had.

@@ -1,13 +1,14 @@
 //! Laws of calls (the step of a machine); paths stand in `route_laws`. Each function does nothing; what it promises is
 //! the law.
 
-ghost use Rattle.verbs.specs.Promise.{AppliesKeepOthers, BodiesSayStates, CallsChangeOneObject, CallsKeepMachines, CompactionsKeepMachines, ErrorsAreRefusals, GetsChangeNothing, MachinesBegin, PlansByViews, PlansComeNext, RefusalsChangeNothing, StepsKeepMachines, TextsSayStates, UpdatesTakeChanges};
+ghost use Rattle.verbs.specs.Promise.{AppliesKeepOthers, BodiesSayStates, CallsChangeOneObject, CallsKeepMachines, CompactionsKeepMachines, ErrorsAreRefusals, GetsChangeNothing, MachinesBegin, PlansAreShort, PlansByViews, PlansComeNext, RefusalsChangeNothing, StandingTextsSayStates, StepsKeepMachines, TextsSayStates, UpdatesTakeChanges};
 
-/// A machine begins without a change. What a call plans may come next; a machine stays one over each call, over calls
-/// one after the other, and over a compaction.
+/// A machine begins without a change. What a call plans may come next, and a text in it is no longer than an object may
+/// be; a machine stays one over each call, over calls one after the other, and over a compaction.
 pub fn machines_stay()
     ensures begins { MachinesBegin }
     ensures next { PlansComeNext }
+    ensures short { PlansAreShort }
     ensures stays { StepsKeepMachines }
     ensures calls { CallsKeepMachines }
     ensures compacts { CompactionsKeepMachines }
@@ -18,10 +19,12 @@ pub fn plans_by_views()
     ensures { PlansByViews }
 {}
 
-/// Each text that stands at a revision is that of one state, the one that is read of it, and so is each change's.
+/// Each text that stands at a revision is that of one state, the one that is read of it under the schema of its time,
+/// and so is each change's. What stands now is the text of the state that a call starts from.
 pub fn texts_say_states()
-    ensures stands { TextsSayStates }
+    ensures revisions { TextsSayStates }
     ensures changes { BodiesSayStates }
+    ensures stands { StandingTextsSayStates }
 {}
 
 /// An apply without force changes no field that another manager owns.

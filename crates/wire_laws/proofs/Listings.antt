@@ -23,12 +23,11 @@ use Rattle.watchline.specs.Watches.{from_history}
 use Rattle.line_laws.specs.Listed.{AreKept, IsKept, IsReadAsPage, IsWanted}
 use Rattle.verbs.specs.declared.method.Method.TheVariants.{Get}
 use Rattle.verbs.specs.Calls.{Call, Plan}
-use Rattle.verbs.specs.Machine.{IsMachine, IsTextAt, identity_of}
+use Rattle.verbs.specs.Machine.{IsMachine, IsSomeTextAt, identity_of}
 use Rattle.verbs.specs.Parameters.{parameters_validated}
 use Rattle.verbs.specs.Promise.{TextsSayStates}
 use Rattle.verbs.specs.Step.{all_validated_by, collection_of, collection_validated_by, list_answered, list_refusal, list_validated, lists_of, page_shown, plan_for, planned, refused, shown_by, validated_at, validated_in, validated_over, watch_shown}
 use Rattle.verbs.specs.Validated.{Validated, and_then}
-use Rattle.verbs.proofs.Said.{shapes_of}
 use Rattle.wire_laws.specs.Listings.{IsListing, IsWatching, listed_by, page_plan, watch_after, watch_plan}
 
 -- ---- what is kept
@@ -39,22 +38,23 @@ no_label text named none = true≢false (sym named ∙ ap is_dns_label none)
 no_subdomain : (text : List ℕ) → is_dns_subdomain text ≡ true → text ≡ [] → ⊥
 no_subdomain text named none = true≢false (sym named ∙ ap is_dns_subdomain none)
 
-text_kept : (types : List ServedShape) (t : ServedShape) (kind : ℕ) (namespace : Option (List ℕ)) (m : History) (k : Key) (o : Object) → IsMachine types m → slice_get types kind ≡ Some t → k.kind ≡ kind
-    → IsTextAt types k o.revision o.body → IsKept (collection_of t kind namespace) k o
-text_kept types t kind namespace m k o is served same x =
+-- the type that is served has the names of the one whose object it is
+text_kept : (types : List ServedShape) (t : ServedShape) (kind : ℕ) (namespace : Option (List ℕ)) (k : Key) (o : Object) → slice_get types kind ≡ Some t → k.kind ≡ kind
+    → IsSomeTextAt types k o.revision o.body → IsKept (collection_of t kind namespace) k o
+text_kept types t kind namespace k o served same x =
     let own : x.t ≡ t = same_some x.t t (sym x.served ∙ ap (slice_get types) same ∙ served) in
     record {
-      shape = t.shape;
-      shaped = shapes_of types is.shapes kind t served;
-      state = x.state;
-      says = subst (λ (u : ServedShape). IsObjectText u.shape (identity_of u k) o.revision x.state o.body) own x.says;
-      has_namespace = no_label k.namespace x.named.namespace;
-      has_name = no_subdomain k.name x.named.name;
+      shape = x.shape;
+      shaped = x.shaped;
+      state = x.is_text.state;
+      says = subst (λ (u : ServedShape). IsObjectText x.shape (identity_of u k) o.revision x.is_text.state o.body) own x.is_text.says;
+      has_namespace = no_label k.namespace x.is_text.named.namespace;
+      has_name = no_subdomain k.name x.is_text.named.name;
     }
 
 pub machine_keeps : TextsSayStates → (types : List ServedShape) (m : History) (t : ServedShape) (kind : ℕ) (namespace : Option (List ℕ)) (r : ℕ) → IsMachine types m → slice_get types kind ≡ Some t
     → AreKept (collection_of t kind namespace) (state_at m.changes r)
-machine_keeps say types m t kind namespace r is served k o same there = text_kept types t kind namespace m k o is served same (say types m r k o is there).0
+machine_keeps say types m t kind namespace r is served k o same there = text_kept types t kind namespace k o served same (say types m r k o is there).0
 
 -- ---- the plan of a list or a watch
 

@@ -4,10 +4,10 @@ use Rattle.std.specs.Prelude.{IfSome, ◌==◌, decimal, nat_lt, slice_get}
 use Rattle.std.specs.List.{AllByRecursion, list_any}
 use Rattle.std.proofs.lemmas.List.Elements.{All-cons, All-nil}
 use Rattle.serde_json.specs.Written.{compact_text}
-use Rattle.schema.specs.ObjectShape.{IsObjectShape}
 use Rattle.schema.specs.TypesFile.{ServedShape}
 use Rattle.history.specs.History.{Change, History, Key, Object, object_by}
 use Rattle.history.specs.Seen.{SeenChange, SeenKind}
+use Rattle.objects.specs.State.{State}
 use Rattle.objects.specs.ObjectText.{Identity, object_value}
 use Rattle.watchline.specs.declared.event.EventType.{EventType}
 use Rattle.watchline.specs.declared.event.EventType.TheVariants as event
@@ -20,9 +20,8 @@ use Rattle.line_laws.proofs.Said.{bookmark_fits, expired_fits, shown_text}
 use Rattle.line_laws.proofs.Told.{marked_line as with_mark, unmarked}
 use Rattle.line_laws.proofs.SeenBodies.{AllSeen, Leaves, Stays, all_coming, all_taken}
 use Rattle.verbs.specs.Envelope.{api_version_of}
-use Rattle.verbs.specs.Machine.{AreObjectTypes, AreUnicode, IsBodyAt, IsMachine, IsOfTypes, IsTextAt, identity_of}
+use Rattle.verbs.specs.Machine.{AreUnicode, IsMachine, IsOfTypes, IsSomeTextAt, identity_of}
 use Rattle.verbs.specs.Watching.{bookmarked_as}
-use Rattle.verbs.proofs.Said.{shapes_of}
 use Rattle.httpedge.specs.Watches.{Watch, line_list, marked, pumped, ticked, turned}
 use Rattle.wireclient.specs.Lines.{HasNoFeed}
 use Rattle.wire_laws.specs.TurnLines.{AreLines}
@@ -36,14 +35,14 @@ one_more what text lines none others = (shown what text ∷ others.0, All-cons H
 
 -- ---- objects and changes
 
--- its text is that of some object of a type, at a revision that there may be
+-- its text is that of some object of a type, under the schema of its time, at a revision that there may be
 abbrev IsTold : List ServedShape → Object → Type 0
-IsTold types o = (k : Key) × (r : ℕ) × IsTextAt types k r o.body
+IsTold types o = (k : Key) × (r : ℕ) × IsSomeTextAt types k r o.body
 
 told_stays : (types : List ServedShape) → Stays (IsTold types) (λ r. Unit {0})
 told_stays types = record { holds = λ o r low told. told }
 
-left_told : (types : List ServedShape) (k : Key) (r : ℕ) (body : Option (List ℕ)) → IsBodyAt types k r body → IfSome (object_by r body) (IsTold types)
+left_told : (types : List ServedShape) (k : Key) (r : ℕ) (body : Option (List ℕ)) → IfSome body (IsSomeTextAt types k r) → IfSome (object_by r body) (IsTold types)
 left_told types k r None is = tt
 left_told types k r (Some text) is = (k, r, is)
 
@@ -54,17 +53,17 @@ changes_told types (c ∷ cs) are = ((tt, left_told types c.key c.revision c.bod
 pub coming_told : (types : List ServedShape) (m : History) (w : Cursor) → IsMachine types m → AllSeen (IsTold types) (coming (from_history m) w)
 coming_told types m w is = all_coming (IsTold types) (λ r. Unit {0}) (told_stays types) m w (changes_told types m.changes is.texts)
 
-plain_text : (types : List ServedShape) → AreObjectTypes types → (o : Object) → IsTold types o → (kind : SeenKind) → HasNoFeed (text_shown kind o)
-plain_text types shapes o (k, r, text) kind =
-    let shaped : IsObjectShape text.t.shape = shapes_of types shapes k.kind text.t text.served in
+plain_text : (types : List ServedShape) (o : Object) → IsTold types o → (kind : SeenKind) → HasNoFeed (text_shown kind o)
+plain_text types o (k, r, text) kind =
     let of : Identity = identity_of text.t k in
     let version = version_shown kind r o.revision in
-    ap (list_any (λ b. b == 10)) (shown_text kind text.t.shape of r text.state o shaped text.says)
-    ∙ text_has_none (object_value text.t.shape of version text.state) (has_room text.t.shape of version text.state shaped.1 text.says.placed.0).spelled
+    let state : State = text.is_text.state in
+    ap (list_any (λ b. b == 10)) (shown_text kind text.shape of r state o text.shaped text.is_text.says)
+    ∙ text_has_none (object_value text.shape of version state) (has_room text.shape of version state text.shaped.1 text.is_text.says.placed.0).spelled
 
-told_lines : (types : List ServedShape) → AreObjectTypes types → (xs : List SeenChange) → AllSeen (IsTold types) xs → AreLines (map line_of xs)
-told_lines types shapes [] told = no_lines
-told_lines types shapes (x ∷ xs) told = one_more (type_of x.kind) (text_shown x.kind x.object) (map line_of xs) (plain_text types shapes x.object told.0 x.kind) (told_lines types shapes xs told.1)
+told_lines : (types : List ServedShape) (xs : List SeenChange) → AllSeen (IsTold types) xs → AreLines (map line_of xs)
+told_lines types [] told = no_lines
+told_lines types (x ∷ xs) told = one_more (type_of x.kind) (text_shown x.kind x.object) (map line_of xs) (plain_text types x.object told.0 x.kind) (told_lines types xs told.1)
 
 -- ---- a turn at a pump
 
@@ -79,7 +78,7 @@ pumped_lines types m max w is = by_test (nat_lt w.cursor.position m.compacted)
     by_test : (b : Bool) → AreLines (turned w (cond b (expiring (from_history m) w.cursor) (telling (from_history m) max w.cursor))).lines
     by_test true = expired_line w.cursor.position m.compacted
     by_test false =
-        told_lines types is.shapes (take max (coming (from_history m) w.cursor)) (all_taken (λ (x : SeenChange). IsTold types x.object) max (coming (from_history m) w.cursor) (coming_told types m w.cursor is))
+        told_lines types (take max (coming (from_history m) w.cursor)) (all_taken (λ (x : SeenChange). IsTold types x.object) max (coming (from_history m) w.cursor) (coming_told types m w.cursor is))
 
 -- ---- a turn at a tick
 
