@@ -95,7 +95,8 @@ const READY_TYPES: &str = r#"{"types":[
    "spec":{"type":"object","properties":{"replicas":{"type":"integer"}}},
    "status":{"type":"object","properties":{"ready":{"type":"integer"}}}}}}]}"#;
 
-const BY_STATUS: &str = r#"written_by_status: an entry by `status`; the member in front of `operation`; the same name by the main resource behind it
+const BY_STATUS: &str =
+    r#"written_by_status: an entry by `status`; the member in front of `operation`; the same name by the main resource behind it
 object {"apiVersion":"demo.example/v1","kind":"Widget","metadata":{"managedFields":[{"apiVersion":"demo.example/v1","fieldsType":"FieldsV1","fieldsV1":{"f:spec":{"f:replicas":{}}},"manager":"alice","operation":"Apply"},{"apiVersion":"demo.example/v1","fieldsType":"FieldsV1","fieldsV1":{"f:status":{"f:ready":{}}},"manager":"ctl","operation":"Apply","subresource":"status"}],"name":"w1","namespace":"default","resourceVersion":"3"},"spec":{"replicas":3},"status":{"ready":2}} => same
 object {"apiVersion":"demo.example/v1","kind":"Widget","metadata":{"managedFields":[{"apiVersion":"demo.example/v1","fieldsType":"FieldsV1","fieldsV1":{"f:status":{"f:ready":{}}},"manager":"ctl","subresource":"status","operation":"Apply"}],"name":"w1","namespace":"default","resourceVersion":"3"},"status":{"ready":2}} => refused
 object {"apiVersion":"demo.example/v1","kind":"Widget","metadata":{"managedFields":[{"apiVersion":"demo.example/v1","fieldsType":"FieldsV1","fieldsV1":{"f:status":{"f:ready":{}}},"manager":"ctl","operation":"Apply","subresource":"status"},{"apiVersion":"demo.example/v1","fieldsType":"FieldsV1","fieldsV1":{"f:spec":{"f:replicas":{}}},"manager":"ctl","operation":"Apply"}],"name":"w1","namespace":"default","resourceVersion":"3"},"spec":{"replicas":3},"status":{"ready":2}} => refused"#;

@@ -139,12 +139,7 @@ fn manager(alloc: Global, words: &str) -> Result<Manager, Fail> {
     match operation {
         "Apply" => Ok(Manager::new(alloc, name, Operation::Apply)?),
         "Update" => Ok(Manager::new(alloc, name, Operation::Update)?),
-        "Apply/status" => Ok(Manager::by(
-            alloc,
-            name,
-            Operation::Apply,
-            Subresource::Status,
-        )?),
+        "Apply/status" => Ok(Manager::by(alloc, name, Operation::Apply, Subresource::Status)?),
         _ => Err("no such operation".into()),
     }
 }

@@ -3,7 +3,6 @@ use Rattle.std.proofs.Common.{arith, ◌≡◌, ◌≤◌, ℕ, suc, Bool, true,
 use Rattle.std.specs.Prelude.{◌&&◌, nat_le}
 use Rattle.std.specs.FinMap as fin
 use Rattle.std.proofs.lemmas.List.Elements.{filter-append}
-use Rattle.schema.specs.TypesFile.{ServedShape}
 use Rattle.history.specs.History.{Change, History, IsRising, up_to}
 use Rattle.history.specs.Whole.{IsGapless}
 use Rattle.history.proofs.Revisions.{up_to-below}

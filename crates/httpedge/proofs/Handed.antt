@@ -1,6 +1,6 @@
 -- Events that were handed to a hub.
-use Rattle.std.proofs.Common.{◌≡◌, ◌<◌, ◌≤◌, ◌∙◌, ℕ, Bool, true, false, List, [], ◌∷◌, ◌++◌, length, Option, Some, None, Result, Ok, Err, refl, sym, ap, ap₂, subst, arith}
-use Rattle.std.specs.Prelude.{◌-◌, ◌==◌, nat_lt, unwrap_or, IsErrAnd, MatchResult}
+use Rattle.std.proofs.Common.{◌≡◌, ◌<◌, ◌≤◌, ◌∙◌, ℕ, Bool, true, false, List, [], ◌∷◌, ◌++◌, Option, Some, None, Result, Ok, Err, refl, sym, ap, ap₂, subst}
+use Rattle.std.specs.Prelude.{◌-◌, nat_lt, unwrap_or}
 use Rattle.std.specs.Result.{is_ok}
 use Rattle.std.proofs.lemmas.Bool.{le-ltb, lt-ltb}
 use Rattle.httpedge.specs.HubSeen.{Happened, IsIn, Outcome, done, refused, starved, outcome_of, refusal_in}

@@ -1,6 +1,6 @@
 -- Ids, and the one after all of them.
-use Rattle.std.proofs.Common.{◌≡◌, ◌<◌, ◌≤◌, ◌∙◌, ◌+◌, ℕ, Bool, true, false, ◌&&◌, List, [], ◌∷◌, Option, Some, None, ap, refl, sym, subst, arith}
-use Rattle.std.specs.Prelude.{◌^◌, cond, max, nat_lt, unwrap_or}
+use Rattle.std.proofs.Common.{◌≡◌, ◌<◌, ◌∙◌, ◌+◌, ℕ, Bool, true, false, ◌&&◌, List, [], ◌∷◌, Option, Some, None, ap, refl, sym, arith}
+use Rattle.std.specs.Prelude.{◌^◌, cond, nat_lt, unwrap_or}
 use Rattle.std.specs.Option.{SomeIff}
 use Rattle.std.specs.List.{list_all}
 use Rattle.std.proofs.lemmas.Bool.{le-ltb, lt-ltb, ltb-true}

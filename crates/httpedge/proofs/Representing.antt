@@ -1,6 +1,6 @@
 -- What the hub's values stand for, after each event.
-use Rattle.std.proofs.Common.{arith, ◌≡◌, ◌≢◌, ℕ, ◌+◌, ◌-◌, ◌<◌, ◌≤◌, Bool, true, false, cond, ◌&&◌, List, [], ◌∷◌, ◌++◌, length, drop, min, Option, Some, None, Result, Ok, Err, inl, inr, refl, sym, ap, ap₂, subst, ◌∙◌}
-use Rattle.std.specs.Prelude.{◌↔◌, ◌==◌, is_some, option_map, unwrap_or, nat_le, nat_lt, OnOk}
+use Rattle.std.proofs.Common.{arith, ◌≡◌, ℕ, ◌+◌, ◌-◌, ◌<◌, ◌≤◌, Bool, true, false, cond, ◌&&◌, List, [], ◌∷◌, ◌++◌, length, drop, min, Option, Some, None, Result, Ok, Err, inl, inr, refl, sym, ap, ap₂, subst, ◌∙◌}
+use Rattle.std.specs.Prelude.{◌↔◌, ◌==◌, is_some, option_map, unwrap_or, nat_le, nat_lt}
 use Rattle.std.proofs.lemmas.Bool.{ltb-true, lt-leb, lt-ltb}
 use Rattle.std.proofs.lemmas.Bool.Decides.{leb_tells, nat_tests}
 use Rattle.std.specs.BTreeMap.{BTreeMap, get, is_at}
@@ -33,7 +33,7 @@ use Rattle.httpedge.specs.HubSeen.{IsIn, outcome_of, refusal_in}
 use Rattle.httpedge.specs.declared.hub.Hub.{Hub}
 use Rattle.requests.specs.Refusals.{as_denied, too_many_connections}
 use Rattle.httpedge.specs.Runs.{Steps}
-use Rattle.httpedge.specs.Steps.{Event, Refusal, State, id_not_above, unknown_id, no_lines, compaction_refused, opens, comes, goes, pumps, ticks, compacts, after_turn, by_connection, connection_after, dead, machine_after, opening, received, refusal, start, carried_out, unless_refused, with_bytes_taken, with_connection, with_connections, with_machine, with_turn, Starves}
+use Rattle.httpedge.specs.Steps.{Event, Refusal, State, id_not_above, unknown_id, no_lines, compaction_refused, opens, comes, goes, pumps, compacts, after_turn, by_connection, connection_after, dead, machine_after, opening, received, refusal, start, unless_refused, with_bytes_taken, with_connection, with_connections, with_machine, with_turn, Starves}
 use Rattle.requests.specs.Replies.{refusal_reply}
 use Rattle.httpedge.specs.Watches.{Turn, Watch, pumped}
 use Rattle.httpedge.proofs.Connected.{Entries, ids, itself, new_put, new_still, one_if, open_put, opens_in, opens_of, tied_same, unknown}

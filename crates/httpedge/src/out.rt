@@ -1,8 +1,9 @@
 //! What was written on a connection and not yet taken. The connection stands in `connection`.
 
-ghost use Rattle.std.specs.Prelude.{◌≤◌, length};
+ghost use Rattle.std.specs.Prelude.{◌≡◌, ◌≤◌, drop, length};
 
 use std::alloc::{AllocError, Global};
+use std::mem;
 
 /// The last bytes that were written on a connection, and how many of these were taken.
 #[derive(Debug, Drop)]
@@ -10,6 +11,16 @@ pub(crate) struct Out {
     bytes: Vec<u8>,
     taken: usize,
     ghost within: { taken ≤ length bytes.items },
+}
+
+/// Removes the first n bytes: what is left moves to the front.
+fn remove_front(bytes: &mut Vec<u8>, n: usize)
+    requires { n ≤ length bytes.old.items }
+    ensures { bytes.new.items ≡ drop n bytes.old.items }
+{
+    let end = bytes.len();
+    bytes.as_mut_slice().copy_within(n..end, 0);
+    bytes.truncate(end - n);
 }
 
 impl Out {
@@ -43,8 +54,8 @@ impl Out {
         self.bytes.extend_from_slice(more)
     }
 
-    /// Takes the first n bytes of what is left, at most all; once all is taken, no buffer is kept, and once more was
-    /// taken than is left, only what is left is kept, if there is memory for its copy.
+    /// Takes the first n bytes of what is left, at most all. Once all is taken, no buffer is kept; once more was taken than
+    /// is left, what is left moves to the front of the buffer.
     pub(crate) fn take(&mut self, alloc: Global, n: usize)
         ensures { left self.new ≡ drop n (left self.old) }
     {
@@ -54,15 +65,14 @@ impl Out {
         }
         self.taken += n;
         if self.taken > self.bytes.len() / 2 {
-            self.forget_taken(alloc);
+            self.forget_taken();
         }
     }
 
-    fn forget_taken(&mut self, alloc: Global)
+    fn forget_taken(&mut self)
         ensures { left self.new ≡ left self.old }
     {
-        if let Ok(rest) = Vec::from_slice(alloc, self.left()) {
-            *self = Out::of(rest);
-        }
+        let taken = mem::replace(&mut self.taken, 0);
+        remove_front(&mut self.bytes, taken);
     }
 }

@@ -30,7 +30,7 @@ pub fn lines_are_lines()
 {}
 
 /// A line is JSON, and a client reads it as what it tells: the object that the change's text says, put or deleted, at
-/// the version that is shown; a bookmark's version; an error. The text of an object has room in a line.
+/// the version that is shown; a bookmark's version; an error. An object nests no deeper than what a line shows may.
 pub fn lines_are_read()
     ensures json { (what : EventType) (d : Data) → IsShown d → IsUtf8 (compact_text d) → value_in (shown what (compact_text d)) ≡ Ok (line_value what d) }
     ensures objects { (s : Shape) (of : Identity) (v : ℕ) (state : State) (text : List ℕ) → IsObjectShape s → IsObjectText s of v state text

@@ -4,8 +4,9 @@
 //! Promises: the values of a program's arguments are those of `clap`'s exact matches. A script reads as exactly the
 //! events of its lines, or as the number of its first bad line. A play of events writes the replies of one hub to the
 //! requests of its apply lines, in order. Then it writes what the hub wrote on the other connections, gone or not.
-//! Stands on `httpedge` for what a connection's bytes lead to, on `recorder` for all that was written on it, on `wireclient` for the bytes of a request and the
-//! reading of a reply, on `verbs` and `schema` for the types file and the API, on `clap` for the arguments.
+//! Stands on `httpedge` for what a connection's bytes lead to, on `recorder` for all that was written on it, on
+//! `wireclient` for the bytes of a request and the reading of a reply, on `verbs` and `schema` for the types file and the
+//! API, on `clap` for the arguments.
 #![tactic(auto)]
 
 mod arguments;

@@ -1,5 +1,5 @@
 -- What is kept of connections whose peers have gone.
-use Rattle.std.proofs.Common.{◌≡◌, ◌≢◌, ◌∙◌, ℕ, Bool, true, false, cond, List, [], Option, Some, None, option_map, refl, sym, ap, subst}
+use Rattle.std.proofs.Common.{◌⊎◌, inl, inr, Vec, Global, ◌≡◌, ◌≢◌, ◌∙◌, ℕ, Bool, true, false, cond, List, [], Option, Some, None, option_map, refl, sym, ap, subst}
 use Rattle.std.specs.Prelude.{is_none, is_some, unwrap_or}
 use Rattle.std.specs.Cmp.{nat_cmp_is, nat_cmp_total}
 use Rattle.std.specs.FinMap as fin
@@ -8,6 +8,9 @@ use Rattle.std.specs.declared.cmp.Ordering.{Ordering}
 use Rattle.std.specs.declared.cmp.Ordering.TheVariants.{Less, Equal, Greater}
 use Rattle.requests.specs.Asks.{CallDecision}
 use Rattle.httpedge.specs.Connections.{Connection, Connections, IsUntaken, gone, has_ended, has_gone, with_standing, written_on}
+use Rattle.httpedge.specs.HubSeen.{event_of}
+use Rattle.httpedge.specs.declared.event.Event as events
+use Rattle.httpedge.specs.declared.event.Event.TheVariants as event
 use Rattle.httpedge.specs.Runs.{Follows, Happening, LeavesOut, Steps, happens, peer_goes}
 use Rattle.httpedge.specs.Steps.{Event, Refusal, State, by_connection, carried_out, goes, refusal, unknown_id, unless_refused, with_connection}
 use Rattle.recorder.specs.Recorded.{HasGone, IsKept, kept_after}
@@ -52,6 +55,16 @@ goes_not e = cc
 
 no_going : (e : Event) (q : ℕ) → peer_goes e ≡ false → e ≢ goes q
 no_going e q stays is = goes_not (sym (ap peer_goes is) ∙ stays)
+
+-- an event of the code, other than that a peer goes
+pub none_goes : (e : events.Event)
+    → ((id : ℕ) × (e ≡ event.Open id)) ⊎ (((id : ℕ) × (bytes : Vec ℕ Global) × (e ≡ event.In id bytes)) ⊎ (((id : ℕ) × (max : ℕ) × (e ≡ event.Pump id max)) ⊎ (((ms : ℕ) × (e ≡ event.Tick ms)) ⊎ ((c : ℕ) × (e ≡ event.Compact c)))))
+    → peer_goes (event_of e) ≡ false
+none_goes e (inl (id, is)) = ap (λ (x : events.Event). peer_goes (event_of x)) is
+none_goes e (inr (inl (id, bytes, is))) = ap (λ (x : events.Event). peer_goes (event_of x)) is
+none_goes e (inr (inr (inl (id, max, is)))) = ap (λ (x : events.Event). peer_goes (event_of x)) is
+none_goes e (inr (inr (inr (inl (ms, is))))) = ap (λ (x : events.Event). peer_goes (event_of x)) is
+none_goes e (inr (inr (inr (inr (c, is))))) = ap (λ (x : events.Event). peer_goes (event_of x)) is
 
 -- what is kept of a connection, or is out on it, is so after an event by which no peer goes
 pub kept_stays : OneStays → GoneStays → (s t : State) (e : Event) → peer_goes e ≡ false → Steps s e t → (q : ℕ) (o : Option (List ℕ)) → IsKept o (fin.get s.connections q) → IsKept o (fin.get t.connections q)

@@ -1,7 +1,5 @@
 -- What a head and the bytes after it say of the body stays said, whatever bytes follow.
-use Rattle.std.proofs.Common.{arith, ◌≡◌, ◌≢◌, ℕ, ◌≤◌, Bool, true, false, cond, ltb, List, ◌++◌, length, take, Option, None, Some, Result, Ok, Err, refl, sym, ap, ap₂, subst, length-append, ◌∙◌}
-use Rattle.std.specs.Prelude.{IfOk}
-use Rattle.std.proofs.lemmas.Result.{IfOk-weaker}
+use Rattle.std.proofs.Common.{arith, ◌≡◌, ◌≢◌, ℕ, ◌≤◌, Bool, true, false, cond, ltb, List, ◌++◌, length, take, Option, None, Some, Result, Ok, Err, refl, ap, ap₂, length-append}
 use Rattle.std.proofs.lemmas.Bool.{ltb-false, le-ltb}
 use Rattle.std.proofs.lemmas.List.{take-append-le}
 use Rattle.serde_json.specs.Data.{Data}
@@ -35,9 +33,3 @@ declared_more (Ok (Some n)) rest more decided = body_of_more n rest more decided
 
 pub body_more : (request : Request) (rest more : List ℕ) → body_in request rest ≢ undecided → body_in request (rest ++ more) ≡ body_in request rest
 body_more request rest more decided = declared_more (declared_length request) rest more decided
-
--- what was read of the body stays read
-pub stays_said : {A E : Type 0} (seen : A → Body) (request : Request) (rest : List ℕ) (result : Result A E) → IfOk result (λ f. seen f ≡ body_in request rest)
-    → (more : List ℕ) → IfOk result (λ f. seen f ≢ undecided → body_in request (rest ++ more) ≡ seen f)
-stays_said seen request rest result says more =
-    IfOk-weaker result _ _ (λ f e. λ decided. body_more request rest more (subst (λ (b : Body). b ≢ undecided) e decided) ∙ sym e) says

@@ -1,9 +1,9 @@
-//! The body of a request: whether there may be one, how long it is, and its JSON. The head stands in `head`.
+//! The body of a request: whether there may be one, how long it is, and its JSON. It is received in `asking`, and the
+//! head is read in `head`.
 
-ghost use Rattle.std.specs.Prelude.{◌≡◌, ◌≢◌, ◌++◌, ℕ, List, IfOk};
+ghost use Rattle.std.specs.Prelude.{◌≡◌, IfOk};
 ghost use Rattle.wire.specs.Lengths.{decimal_value};
-ghost use Rattle.requests.specs.Bodies.{needs_body, may_have_body, json_in, some_json, sized, needed_length, optional_length, declared_length, body_of, declared_body, body_in};
-ghost use Rattle.requests.specs.Decision.{undecided};
+ghost use Rattle.requests.specs.Bodies.{needs_body, may_have_body, json_in, some_json, sized, needed_length, optional_length, declared_length, body_of};
 ghost use Rattle.requests.specs.Views.{data_of, decision_of, declared_of, length_of, request_in};
 
 use crate::decision::Decision;
@@ -106,29 +106,4 @@ pub(crate) fn body_of(
         return Ok(Decision::Undecided);
     }
     json_in(alloc, &rest[..length])
-}
-
-fn declared_body(
-    alloc: Global,
-    length: Option<usize>,
-    rest: &[u8],
-) -> Result<Decision<Option<Body>>, AllocError>
-    ensures { IfOk result (λ f. decision_of data_of f ≡ declared_body length rest.now) }
-{
-    match length {
-        None => Ok(Decision::Accepted(None)),
-        Some(length) => body_of(alloc, length, rest),
-    }
-}
-
-/// The body of a request, by its head and the bytes that came after it, however they were cut: for who has a whole request at
-/// hand. The server goes by `ask` and `ask_on`.
-pub fn read_body(alloc: Global, head: &Head<'_>) -> Result<Decision<Option<Body>>, AllocError>
-    ensures says { IfOk result (λ f. decision_of data_of f ≡ body_in (request_in head.now) head.now.rest.now) }
-    ensures stays { (more : List ℕ) → IfOk result (λ f. decision_of data_of f ≢ undecided → body_in (request_in head.now) (head.now.rest.now ++ more) ≡ decision_of data_of f) }
-{
-    match declared_length(head) {
-        Ok(length) => declared_body(alloc, length, head.rest),
-        Err(denied) => Ok(Decision::Refused(denied)),
-    }
 }

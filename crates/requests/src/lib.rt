@@ -23,7 +23,6 @@ mod watch_chunks;
 
 pub use answering::{Served, refusal_reply, serve};
 pub use asking::{Pending, Progress, ask, ask_on};
-pub use body::read_body;
 pub use decision::Decision;
 pub use front::Front;
 pub use head::{Head, Length, read_head};

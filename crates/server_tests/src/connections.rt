@@ -2,7 +2,7 @@
 //! `single_objects`, lists in `list_rows`, watches in `watch_rows`.
 
 use requests::{
-    Decision, Head, Refusal, checked_media, path_of, query_of, read_body, read_head, reply_bytes,
+    Decision, Head, Length, Refusal, checked_media, path_of, query_of, read_head, reply_bytes,
 };
 use std::alloc::Global;
 use std::test::Fail;
@@ -56,6 +56,8 @@ stand 1027 => 0 true false
 bytes_are_taken on widgets
 ask 2 PATCH namespaces/default/widgets/w1?fieldManager=alice {"apiVersion":"demo.example/v1","kind":"Widget","metadata":{"name":"w1"},"spec":{"image":"a","replicas":3}} => -
 take 2 96 => 317
+take 2 300 => 17
+out 2 => a","replicas":3}}
 take 2 1000 => 0
 stand 2 => 0 false true
 take 3 5 => 0
@@ -78,18 +80,17 @@ ask 2 GET namespaces/default/widgets/w1 => -
 out 2 => HTTP/1.1 404 Not Found|$Content-Type: application/json|$Content-Length: 149|$Connection: close|$|${"apiVersion":"v1","code":404,"kind":"Status","message":"widgets.demo.example \"w1\" not found","metadata":{},"reason":"NotFound","status":"Failure"}
 stand 1 => 0 true false"#;
 
-/// The path, the query, the media type and the body.
+/// The path, the query, the media type, the length and the bytes after the head.
 fn head_told(alloc: Global, head: &Head<'_>) -> Result<String, Fail> {
     let path = path_of(head.request_target);
     let query = query_of(head.request_target);
     let media = str::from_utf8(checked_media(head).ok_or("no media type")?)?;
-    match read_body(alloc, head)? {
-        Decision::Accepted(Some(body)) => {
-            let body = body.value().to_string(alloc)?;
-            Ok(format!(in alloc; "{path} {query} {media} {body}")?)
-        }
-        _ => Err("no body".into()),
-    }
+    let Length::Digits(digits) = head.length else {
+        return Err("no length".into());
+    };
+    let length = str::from_utf8(digits)?;
+    let rest = str::from_utf8(head.rest)?;
+    Ok(format!(in alloc; "{path} {query} {media} {length} {rest}")?)
 }
 
 fn request_told(alloc: Global, request: &str) -> Result<String, Fail> {
@@ -125,7 +126,7 @@ fn parts_of_requests_and_replies(rt: HostRuntime) -> Result<(), Fail> {
     let alloc = rt.alloc();
     let request =
         "\r\nDELETE /a?b=c HTTP/1.1\nHOST: x\r\ncontent-type: t/u\r\nContent-Length: 02\r\ncontent-length: 2\r\n\r\n{}more";
-    expect(request_told(alloc, request)?, "/a b=c t/u {}")?;
+    expect(request_told(alloc, request)?, "/a b=c t/u 2 {}more")?;
     expect(
         refusal_told(alloc, Refusal::BodyTooLarge)?,
         "413 RequestEntityTooLarge, body over 65536 bytes, none",

@@ -2,7 +2,7 @@
 use Rattle.std.proofs.Common.{◌≡◌, ◌≤◌, ◌∙◌, ◌+◌, ◌-◌, ℕ, true, List, [], ◌∷◌, ◌++◌, length, take, drop, Option, Result, Ok, Err, ap, refl, subst, sym, arith, take-append-drop, take-add}
 use Rattle.std.specs.Prelude.{◌==◌, IsErrAnd, MatchResult}
 use Rattle.std.specs.Io.KnownBytes.{Appends, Consumes, Keeps}
-use Rattle.std.proofs.KnownBytes.{Appends-kept, Appends-trans, Consumes-kept, Consumes-nil}
+use Rattle.std.proofs.KnownBytes.{Appends-trans, Consumes-kept, Consumes-nil}
 use Rattle.std.proofs.lemmas.List.{take_rest, length-drop}
 
 empty_is : (piece : List ℕ) → (length piece == 0) ≡ true → piece ≡ []

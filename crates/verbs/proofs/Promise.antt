@@ -17,7 +17,7 @@ use Rattle.pathmap.proofs.Contents.{path_cmp_total}
 use Rattle.pathmap.proofs.Sets.{contains-changed, contains-dom}
 use Rattle.typed.specs.Fitting.{IsContent}
 use Rattle.typed.specs.Reading.{content_of}
-use Rattle.history.specs.History.{Key, Change, Object, Objects, History, is_same_key, last_revision, object_by, put_or_remove, standing, state_at}
+use Rattle.history.specs.History.{Key, Change, Object, Objects, History, is_same_key, last_revision, object_by, put_or_remove, standing}
 use Rattle.history.proofs.Keys.{get-put_or_remove, tied}
 use Rattle.objects.specs.Owners.{Manager, is_same, manager_of, apply_operation, owned_by, update_operation}
 use Rattle.ownership.specs.Update.{removed, updated}
@@ -402,9 +402,11 @@ texts_say_states types m r k o is there = text_says types k o.revision o.body (t
 
 pub standing_texts_say_states : StandingTextsSayStates
 standing_texts_say_states types m k o is there =
-    let x = is.stand k o there in
-    (x, sym (ap (λ u. state_by u (fin.get (standing m) k)) x.served ∙ ap (state_of_live x.t) there
-    ∙ said_back x.t.shape _ o.revision x.is_text.state o.body ((shapes_of types is.shapes) k.kind x.t x.served) x.is_text.says))
+    let x = is.stand k o there in (
+      x,
+      sym (ap (λ u. state_by u (fin.get (standing m) k)) x.served ∙ ap (state_of_live x.t) there
+          ∙ said_back x.t.shape _ o.revision x.is_text.state o.body ((shapes_of types is.shapes) k.kind x.t x.served) x.is_text.says),
+    )
 
 body_says : (types : List ServedShape) (c : Change) (body : Option (List ℕ)) → IfSome body (IsSomeTextAt types c.key c.revision) → IfSome body (SaysState types c.key c.revision)
 body_says types c None is = tt

@@ -1,6 +1,6 @@
 -- What a call leaves to the managers of other fields (Kubernetes docs, "Server-Side Apply", "Conflicts", "Transferring ownership"),
 -- and what it leaves of the machine.
-use Rattle.std.specs.Prelude.{◌≡◌, ◌≤◌, ℕ, false, List, length, Some, None, IfSome}
+use Rattle.std.specs.Prelude.{◌≡◌, ◌≤◌, ℕ, false, List, length, Some, IfSome}
 use Rattle.std.specs.declared.result.Result.TheVariants.{Ok, Err}
 use Rattle.std.specs.FinMap as fin
 use Rattle.std.specs.List.{AllByRecursion}

@@ -52,3 +52,18 @@ pub struct Plan {
     pub change: Option<Change>,
     ghost answered: { IsAnswered (string_bytes answer.body) change } by { IsAnswered-prop (string_bytes answer.body) change },
 }
+
+impl Plan {
+    ghost use Rattle.std.specs.Prelude.{◌≡◌, option_and_then, option_map};
+    ghost use Rattle.verbs.specs.Seen.{plan_of};
+
+    /// The text that the change stores; None where it deletes, and where nothing is changed.
+    pub fn change_body(&self) -> Option<&str>
+        ensures { option_map (λ b. b.now) result ≡ option_and_then (λ c. c.body) (plan_of self.now).change }
+    {
+        match &self.change {
+            Some(change) if change.text.is_some() => Some(self.answer.body.as_str()),
+            _ => None,
+        }
+    }
+}

@@ -15,3 +15,23 @@ pub struct Change {
     pub(crate) text: Option<Snapshot<String>>,
     ghost numbered: { revision ≤ last_revision },
 }
+
+impl Change {
+    ghost use Rattle.std.specs.Prelude.{◌≡◌};
+    ghost use Rattle.history.specs.Read.{key_of};
+    ghost use Rattle.verbs.specs.Seen.{change_of};
+
+    /// The revision that the objects have with it.
+    pub fn revision(&self) -> u64
+        ensures { result ≡ (change_of self.now).revision }
+    {
+        self.revision
+    }
+
+    /// The key of the object that it changes.
+    pub fn key(&self) -> &Key
+        ensures { key_of result.now ≡ (change_of self.now).key }
+    {
+        &self.key
+    }
+}

@@ -1,4 +1,4 @@
-pub mod Answering
+pub mod BegunAnswers
 pub mod Asking
 pub mod Fields
 pub mod Following

@@ -102,7 +102,7 @@ plan_by call values watch v m objects any forgotten =
     (if any then Ok (m.current, objects) else (if forgotten then Err (Expired v m.compacted) else Ok (v, Changes))))))
 
 module _ (types : List ServedShape) (m : History) (call : Call) (t : ServedShape) (values : Values) (watch : Watch) (v : ℕ) (is : IsWatching types call t values watch v) (some : 0 < v) where
-  objects : Initial
+  abbrev objects : Initial
   objects = initial_in (from_history m) call.target.kind call.target.namespace values.selector
 
   watch_planned : planned types m call ≡ plan_by call values watch v m objects false (nat_lt v m.compacted)

@@ -1,5 +1,5 @@
 -- What a watch over a machine writes at its turn are lines to a client.
-use Rattle.std.proofs.Common.{◌≡◌, ℕ, Bool, true, false, cond, List, [], ◌∷◌, map, take, Option, Some, None, IsUtf8, refl, ap, ap₂, ◌∙◌}
+use Rattle.std.proofs.Common.{ℕ, Bool, true, false, cond, List, [], ◌∷◌, map, take, Option, Some, None, IsUtf8, refl, ap, ap₂, ◌∙◌}
 use Rattle.std.specs.Prelude.{IfSome, ◌==◌, decimal, nat_lt, slice_get}
 use Rattle.std.specs.List.{AllByRecursion, list_any}
 use Rattle.std.proofs.lemmas.List.Elements.{All-cons, All-nil}
@@ -11,7 +11,7 @@ use Rattle.objects.specs.State.{State}
 use Rattle.objects.specs.ObjectText.{Identity, object_value}
 use Rattle.watchline.specs.declared.event.EventType.{EventType}
 use Rattle.watchline.specs.declared.event.EventType.TheVariants as event
-use Rattle.watchline.specs.Lines.{bookmark_line, bookmark_value, error_line, expired_message, expired_value, line, line_of, text_shown, type_of}
+use Rattle.watchline.specs.Lines.{bookmark_value, error_line, expired_message, expired_value, line, line_of, text_shown, type_of}
 use Rattle.watchline.specs.Watches.{Cursor, bookmarked, coming, expiring, from_history, is_bookmark_due, telling}
 use Rattle.line_laws.specs.Shown.{shown, version_shown}
 use Rattle.line_laws.proofs.Feeds.{text_has_none}

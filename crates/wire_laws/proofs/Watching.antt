@@ -14,7 +14,7 @@ use Rattle.httpedge.specs.Steps.{State, after_turn, answer_standing, by_connecti
 use Rattle.requests.specs.Replies.{answer_bytes}
 use Rattle.httpedge.specs.Watches.{Turn, Watch, begun_at, pumped, ticked}
 use Rattle.httpedge.proofs.Connected.{got_each, put_there}
-use Rattle.wire_laws.proofs.Answering.{came}
+use Rattle.wire_laws.proofs.BegunAnswers.{came}
 
 pub begins : (s t : State) (id : ℕ) (bytes front : List ℕ) (c : Connection) (call : Call) (from : WatchFrom) → Steps s (comes id bytes) t → fin.get s.connections id ≡ Some c → c.standing ≡ waiting front
     → Asks s.types (front ++ bytes) (accepted call) → (planned s.types s.machine call).answer.watch ≡ Some from

@@ -9,7 +9,7 @@ ghost use Rattle.requests.specs.Decision.{accepted, refused, undecided};
 ghost use Rattle.requests.specs.Replies.{answer_reply, refusal_reply};
 ghost use Rattle.httpedge.specs.Connections.{Connection, ended, is_new, is_waiting, waiting, with_standing, with_written};
 ghost use Rattle.httpedge.specs.Runs.{Steps};
-ghost use Rattle.httpedge.specs.Steps.{Event, State, comes, opening, opens, refusal};
+ghost use Rattle.httpedge.specs.Steps.{Event, Refusal, State, comes, opening, opens, refusal};
 
 /// A connection under a new id waits for its request, or, where as many are open as may be, has the reply that says so
 /// and has ended.
@@ -33,6 +33,6 @@ pub fn replies_are_written()
 /// An event that is refused changes nothing (`refused`), and neither do bytes on a connection that doesn't wait for them
 /// (`unheard`).
 pub fn refused_stay()
-    ensures refused { (s t : State) (e : Event) (n : ℕ) → refusal s e ≡ Some n → Steps s e t → t ≡ s }
+    ensures refused { (s t : State) (e : Event) (why : Refusal) → refusal s e ≡ Some why → Steps s e t → t ≡ s }
     ensures unheard { (s t : State) (id : ℕ) (bytes : List ℕ) (c : Connection) → Steps s (comes id bytes) t → fin.get s.connections id ≡ Some c → is_waiting c.standing ≡ false → t ≡ s }
 {}

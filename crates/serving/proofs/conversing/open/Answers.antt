@@ -1,3 +1,4 @@
+use Rattle.std.proofs.Common.{refl}
 use Rattle.httpedge.specs.Steps.{opens}
 use Rattle.serving.proofs.Joining.{serves_event}
 use Rattle.serving.proofs.conversing.open.Goals as goal

@@ -1,4 +1,4 @@
-use Rattle.std.proofs.Common.{refl, take}
+use Rattle.std.proofs.Common.{refl}
 use Rattle.std.proofs.KnownBytes.{Appends-kept}
 use Rattle.streams.proofs.Pieces.{front_grows}
 use Rattle.streams.proofs.writing.write_front.Goals.{in-Ok, in-Err}

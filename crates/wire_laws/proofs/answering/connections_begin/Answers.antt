@@ -1,4 +1,4 @@
-use Rattle.wire_laws.proofs.Answering.{opens_so}
+use Rattle.wire_laws.proofs.BegunAnswers.{opens_so}
 use Rattle.wire_laws.proofs.answering.connections_begin.Goals as goal
 
 pub returns : goal.returns

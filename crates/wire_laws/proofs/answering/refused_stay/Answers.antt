@@ -1,4 +1,4 @@
-use Rattle.wire_laws.proofs.Answering.{refused_stays, unheard}
+use Rattle.wire_laws.proofs.BegunAnswers.{refused_stays, unheard}
 use Rattle.wire_laws.proofs.answering.refused_stay.Goals as goal
 
 pub returns : goal.returns

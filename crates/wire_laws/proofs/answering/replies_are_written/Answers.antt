@@ -1,4 +1,4 @@
-use Rattle.wire_laws.proofs.Answering.{answers, refuses, waits}
+use Rattle.wire_laws.proofs.BegunAnswers.{answers, refuses, waits}
 use Rattle.wire_laws.proofs.answering.replies_are_written.Goals as goal
 
 pub returns : goal.returns

@@ -1,5 +1,5 @@
 -- What an event makes of a connection that doesn't watch: it waits, or has its reply and has ended.
-use Rattle.std.proofs.Common.{◌≡◌, ℕ, Bool, true, false, cond, List, ◌++◌, Option, Some, None, refl, ap, subst, ◌∙◌}
+use Rattle.std.proofs.Common.{◌≡◌, ℕ, Bool, true, false, cond, List, ◌++◌, Option, Some, None, ap, subst, ◌∙◌}
 use Rattle.std.specs.FinMap as fin
 use Rattle.verbs.specs.Calls.{Answer, Call, Denied}
 use Rattle.verbs.specs.Step.{planned}
@@ -10,7 +10,7 @@ use Rattle.requests.specs.Replies.{answer_bytes, answer_reply, refusal_reply}
 use Rattle.requests.proofs.Deciding.{asks_one}
 use Rattle.httpedge.specs.Connections.{Connection, Standing, ended, gone, is_new, is_waiting, waiting, watching, with_standing, with_written}
 use Rattle.httpedge.specs.Runs.{Steps}
-use Rattle.httpedge.specs.Steps.{Event, State, answer_standing, carried_out, comes, connection_after, opening, opens, received, refusal, unless_refused}
+use Rattle.httpedge.specs.Steps.{Event, Refusal, State, answer_standing, carried_out, comes, connection_after, id_not_above, opening, opens, received, refusal, unless_refused}
 use Rattle.httpedge.proofs.Connected.{put_there}
 use Rattle.httpedge.proofs.Outcomes.{ComesBy, ComesOn}
 
@@ -54,12 +54,12 @@ unheard s t id bytes c steps got isnt =
     by_standing ended isnt on = on.2
     by_standing (gone had_ended) isnt on = on.2
 
-pub refused_stays : (s t : State) (e : Event) (n : ℕ) → refusal s e ≡ Some n → Steps s e t → t ≡ s
-refused_stays s t e n is steps = steps.2 ∙ ap (λ (o : Option ℕ). unless_refused o s (carried_out s e steps.0)) is
+pub refused_stays : (s t : State) (e : Event) (why : Refusal) → refusal s e ≡ Some why → Steps s e t → t ≡ s
+refused_stays s t e why is steps = steps.2 ∙ ap (λ (o : Option Refusal). unless_refused o s (carried_out s e steps.0)) is
 
 -- ---- it opens
 
 pub opens_so : (s t : State) (id : ℕ) → is_new s.connections id ≡ true → Steps s (opens id) t → fin.get t.connections id ≡ Some (opening s.connections)
 opens_so s t id new steps =
-    ap (λ (x : State). fin.get x.connections id) (steps.2 ∙ ap (λ (b : Bool). unless_refused (cond b None (Some 1)) s (carried_out s (opens id) steps.0)) new)
+    ap (λ (x : State). fin.get x.connections id) (steps.2 ∙ ap (λ (b : Bool). unless_refused (cond b None (Some id_not_above)) s (carried_out s (opens id) steps.0)) new)
     ∙ put_there s.connections id (opening s.connections)
