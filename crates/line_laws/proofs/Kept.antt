@@ -67,10 +67,10 @@ same_namespace None k is = refl
 same_namespace (Some namespace) k is = (bytes_decides k.namespace namespace).1 (text_cmp_antisymmetric k.namespace namespace (is_equal (text_cmp k.namespace namespace) is))
 
 module _ (wanted : Wanted) (of : Collection) (is : IsWanted wanted of) where
-  abbrev Fits : Key × Object → Type 0
+  abbrev pub Fits : Key × Object → Type 0
   Fits e = IsKept of e.0 e.1 × (is_in wanted.namespace e.0.namespace ≡ true)
 
-  one_fits : (e : Key × Object) → (e.0.kind ≡ of.kind → IsKept of e.0 e.1) → is_within of.kind of.namespace e.0 ≡ true → Fits e
+  pub one_fits : (e : Key × Object) → (e.0.kind ≡ of.kind → IsKept of e.0 e.1) → is_within of.kind of.namespace e.0 ≡ true → Fits e
   one_fits e kept within =
       let both = and_parts (e.0.kind == of.kind) (is_in_namespace of.namespace e.0) within in
       (kept (eqb-true e.0.kind of.kind both.0), subst (λ asked. is_in asked e.0.namespace ≡ true) is.of_namespace (same_namespace of.namespace e.0 both.1))

@@ -50,10 +50,10 @@ digit_is_value b low high = go (b == 9) (leb 32 b) (b == 127) (le-leb _ _ (omega
     go false true false t-is u-is = refl
     go false false u t-is u-is = absurd cc
 
-abbrev is_no_blank : ℕ → Bool
+abbrev pub is_no_blank : ℕ → Bool
 is_no_blank b = not (is_ows b)
 
-digit_is_no_blank : (b : ℕ) → 48 ≤ b → b ≤ 57 → is_no_blank b ≡ true
+pub digit_is_no_blank : (b : ℕ) → 48 ≤ b → b ≤ 57 → is_no_blank b ≡ true
 digit_is_no_blank b low high = go (b == 32) (b == 9) (ne_eqb b 32 (λ e. absurd (omega (arith, e, low)))) (ne_eqb b 9 (λ e. absurd (omega (arith, e, low))))
   where
     go : (s t : Bool) → s ≡ false → t ≡ false → not (s || t) ≡ true
@@ -69,10 +69,11 @@ skip_none (b ∷ bytes) pass = go (is_ows b) (All-head (λ v. IsTrue (is_no_blan
     go true is = absurd cc
     go false is = refl
 
+pub unblank_trimmed : (value : List ℕ) → AllPass is_no_blank value → trim_ows (32 ∷ value) ≡ value
+unblank_trimmed value pass = trim_ows_space value (skip_none value pass) (skip_none (reverse value) (AllPass-reverse is_no_blank value pass))
+
 pub trimmed : (n : ℕ) → n < 2 ^ 64 → trim_ows (32 ∷ decimal n) ≡ decimal n
-trimmed n wide =
-    let pass = digits_pass is_no_blank digit_is_no_blank (decimal n) (decimal_is_IsNumeral n wide).0.1 in
-    trim_ows_space (decimal n) (skip_none (decimal n) pass) (skip_none (reverse (decimal n)) (AllPass-reverse is_no_blank (decimal n) pass))
+trimmed n wide = unblank_trimmed (decimal n) (digits_pass is_no_blank digit_is_no_blank (decimal n) (decimal_is_IsNumeral n wide).0.1)
 
 pub decimal_digits : (n : ℕ) → n < 2 ^ 64 → AllPass is_ascii_digit (decimal n)
 decimal_digits n wide = digits_pass is_ascii_digit digit_is_digit (decimal n) (decimal_is_IsNumeral n wide).0.1

@@ -1,3 +1,4 @@
+pub mod AnyLengths
 pub mod BegunAnswers
 pub mod Asking
 pub mod Fields

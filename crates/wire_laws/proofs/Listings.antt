@@ -39,7 +39,7 @@ no_subdomain : (text : List ℕ) → is_dns_subdomain text ≡ true → text ≡
 no_subdomain text named none = true≢false (sym named ∙ ap is_dns_subdomain none)
 
 -- the type that is served has the names of the one whose object it is
-text_kept : (types : List ServedShape) (t : ServedShape) (kind : ℕ) (namespace : Option (List ℕ)) (k : Key) (o : Object) → slice_get types kind ≡ Some t → k.kind ≡ kind
+pub text_kept : (types : List ServedShape) (t : ServedShape) (kind : ℕ) (namespace : Option (List ℕ)) (k : Key) (o : Object) → slice_get types kind ≡ Some t → k.kind ≡ kind
     → IsSomeTextAt types k o.revision o.body → IsKept (collection_of t kind namespace) k o
 text_kept types t kind namespace k o served same x =
     let own : x.t ≡ t = same_some x.t t (sym x.served ∙ ap (slice_get types) same ∙ served) in

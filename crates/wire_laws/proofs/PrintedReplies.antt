@@ -24,14 +24,14 @@ use Rattle.wire_laws.specs.Replied.{reply_told}
 use Rattle.wire_laws.proofs.Fields.{field, decimal_digits, decimal_is_value, is_field, trimmed}
 use Rattle.wire_laws.proofs.Statuses.{phrase_passes, phrase_short}
 
-abbrev allow_of : Option (List ℕ) → List Field
+abbrev pub allow_of : Option (List ℕ) → List Field
 allow_of None = []
 allow_of (Some methods) = field (codes "Allow") methods ∷ []
 
-abbrev fields_of : Option (List ℕ) → List ℕ → List Field
+abbrev pub fields_of : Option (List ℕ) → List ℕ → List Field
 fields_of allow count = field (codes "Content-Type") (codes "application/json") ∷ field (codes "Content-Length") count ∷ field (codes "Connection") (codes "close") ∷ allow_of allow
 
-abbrev head_of : List ℕ → List ℕ → Option (List ℕ) → List ℕ → ResponseHead
+abbrev pub head_of : List ℕ → List ℕ → Option (List ℕ) → List ℕ → ResponseHead
 head_of code phrase allow count = record {
   blank = [];
   minor = 1;
@@ -43,13 +43,13 @@ head_of code phrase allow count = record {
 }
 
 -- the same bytes as the server prints, of any digits and phrase
-abbrev after_count : Option (List ℕ) → List ℕ
+abbrev pub after_count : Option (List ℕ) → List ℕ
 after_count allow = crlf ++ (codes "Connection: close" ++ (crlf ++ (allow_field allow ++ crlf)))
 
-abbrev after_phrase : Option (List ℕ) → List ℕ → List ℕ
+abbrev pub after_phrase : Option (List ℕ) → List ℕ → List ℕ
 after_phrase allow count = crlf ++ (codes "Content-Type: application/json" ++ (crlf ++ (codes "Content-Length: " ++ (count ++ after_count allow))))
 
-abbrev head_text : List ℕ → List ℕ → Option (List ℕ) → List ℕ → List ℕ
+abbrev pub head_text : List ℕ → List ℕ → Option (List ℕ) → List ℕ → List ℕ
 head_text code phrase allow count = codes "HTTP/1.1 " ++ (code ++ (32 ∷ (phrase ++ after_phrase allow count)))
 
 -- ---- the same bytes
@@ -132,7 +132,7 @@ allow_short (Some methods) is =
     let short = is.1 in
     omega (arith, inner, outer, short)
 
-head_fits : (code phrase : List ℕ) (allow : Option (List ℕ)) (count : List ℕ) → length code ≤ 3 → length phrase ≤ 64 → IsAllowed allow → length count ≤ 20 → length (head_text code phrase allow count) ≤ max_head
+head_fits : (code phrase : List ℕ) (allow : Option (List ℕ)) (count : List ℕ) → length code ≤ 3 → length phrase ≤ 64 → IsAllowed allow → length count ≤ 64 → length (head_text code phrase allow count) ≤ max_head
 head_fits code phrase allow count three short allowed few =
     let after = allow_short allow allowed in
     let counted : length (count ++ after_count allow) ≡ length count + length (after_count allow) = length-append count (after_count allow) in
@@ -140,13 +140,13 @@ head_fits code phrase allow count three short allowed few =
     let line : length (code ++ (32 ∷ (phrase ++ after_phrase allow count))) ≡ length code + length (32 ∷ (phrase ++ after_phrase allow count)) = length-append code (32 ∷ (phrase ++ after_phrase allow count)) in
     omega (arith, after, counted, text, line, three, short, few)
 
-record HasHead (code phrase : List ℕ) (allow : Option (List ℕ)) (count : List ℕ) : Type 0 where
+pub record HasHead (code phrase : List ℕ) (allow : Option (List ℕ)) (count : List ℕ) : Type 0 where
   is : IsResponseHead (head_of code phrase allow count)
   same : print_response (head_of code phrase allow count) ≡ head_text code phrase allow count
   fits : length (print_response (head_of code phrase allow count)) ≤ max_head
 
-has_head : (code phrase : List ℕ) (allow : Option (List ℕ)) (count : List ℕ) → (length code ≡ 3) × AllPass is_ascii_digit code → AllPass is_value_byte phrase → length phrase ≤ 64 → IsAllowed allow
-    → AllPass is_value_byte count → length count ≤ 20 → HasHead code phrase allow count
+pub has_head : (code phrase : List ℕ) (allow : Option (List ℕ)) (count : List ℕ) → (length code ≡ 3) × AllPass is_ascii_digit code → AllPass is_value_byte phrase → length phrase ≤ 64 → IsAllowed allow
+    → AllPass is_value_byte count → length count ≤ 64 → HasHead code phrase allow count
 has_head code phrase allow count digits pass short allowed value few =
     let same = printed code phrase allow count in
     let three : length code ≤ 3 = let exact = digits.0 in omega (arith, exact) in
@@ -173,13 +173,13 @@ pub record Reader : Type 0 where
   pub none : ReadsNone
   pub uncounted : (n : ℕ) → max_body < n → n < 2 ^ 64 → framed_by_length (length_in (decimal n)) ≡ None
 
-head_read : ReadsBack → (code phrase : List ℕ) (allow : Option (List ℕ)) (count body : List ℕ) → HasHead code phrase allow count → trim_ows (32 ∷ count) ≡ count
+pub head_read : ReadsBack → (code phrase : List ℕ) (allow : Option (List ℕ)) (count body : List ℕ) → HasHead code phrase allow count → trim_ows (32 ∷ count) ≡ count
     → framed_by_length (length_in count) ≡ Some (by_length (length body)) → Items (head_text code phrase allow count ++ body) (head (digits_value 10 code) ∷ whole body ∷ end ∷ [])
 head_read reads code phrase allow count body has trim counts =
     subst (λ (xs : List ℕ). Items (xs ++ body) (head (digits_value 10 code) ∷ whole body ∷ end ∷ [])) has.same
     (reads (head_of code phrase allow count) body has.is has.fits (few_fields allow count) (framed allow count trim ∙ counts))
 
-head_refused : ReadsNone → (code phrase : List ℕ) (allow : Option (List ℕ)) (count body : List ℕ) → HasHead code phrase allow count → trim_ows (32 ∷ count) ≡ count
+pub head_refused : ReadsNone → (code phrase : List ℕ) (allow : Option (List ℕ)) (count body : List ℕ) → HasHead code phrase allow count → trim_ows (32 ∷ count) ≡ count
     → framed_by_length (length_in count) ≡ None → Items (head_text code phrase allow count ++ body) (malformed ∷ [])
 head_refused none code phrase allow count body has trim counts =
     subst (λ (xs : List ℕ). Items (xs ++ body) (malformed ∷ [])) has.same (none (head_of code phrase allow count) body has.is has.fits (framed allow count trim ∙ counts))
@@ -187,7 +187,8 @@ head_refused none code phrase allow count body has trim counts =
 pub reply_read : Reader → (code : ℕ) (allow : Option (List ℕ)) (body : List ℕ) → IsStatusCode code → IsAllowed allow → length body < 2 ^ 64 → Items (reply code allow body) (reply_told code body)
 reply_read reader code allow body is allowed wide =
     let low : code < 2 ^ 64 = let top = is.1 in omega (arith, top) in
-    let few : length (decimal (length body)) ≤ 20 = length-decimal-le 20 (length body) (omega arith) (omega (arith, wide)) wide in
+    let twenty : length (decimal (length body)) ≤ 20 = length-decimal-le 20 (length body) (omega arith) (omega (arith, wide)) wide in
+    let few : length (decimal (length body)) ≤ 64 = omega (arith, twenty) in
     let has = has_head (decimal code) (phrase_of code) allow (decimal (length body)) (three_digits code is, decimal_digits code low) (phrase_passes code) (phrase_short code) allowed (decimal_is_value (length body) wide) few in
     by_length (nat_le (length body) max_body) refl has (decimal_is_IsNumeral code low).1
   where

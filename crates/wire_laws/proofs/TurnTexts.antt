@@ -53,7 +53,7 @@ changes_told types (c ∷ cs) are = ((tt, left_told types c.key c.revision c.bod
 pub coming_told : (types : List ServedShape) (m : History) (w : Cursor) → IsMachine types m → AllSeen (IsTold types) (coming (from_history m) w)
 coming_told types m w is = all_coming (IsTold types) (λ r. Unit {0}) (told_stays types) m w (changes_told types m.changes is.texts)
 
-plain_text : (types : List ServedShape) (o : Object) → IsTold types o → (kind : SeenKind) → HasNoFeed (text_shown kind o)
+pub plain_text : (types : List ServedShape) (o : Object) → IsTold types o → (kind : SeenKind) → HasNoFeed (text_shown kind o)
 plain_text types o (k, r, text) kind =
     let of : Identity = identity_of text.t k in
     let version = version_shown kind r o.revision in

@@ -1,0 +1,17 @@
+-- Whatever happens, what the client keeps and reports is what the machine had.
+use Rattle.std.specs.Prelude.{List}
+use Rattle.schema.specs.TypesFile.{ServedShape}
+use Rattle.verbs.specs.Machine.{AreObjectTypes, AreUnicode}
+use Rattle.world_laws.specs.Tasks.{IsTask, Task}
+use Rattle.world_laws.specs.Reports.{AreRight, IsKeptRight, Report, Runs, last_reported}
+use Rattle.world_laws.specs.World.{World, WorldEvent, start}
+
+-- For every list of events, from the start: each report of a revision has exactly the machine's objects of that revision, and no report
+-- is of a lower revision than one before it; and what the client keeps after the last event is the machine's of its revision, which is
+-- not below that of the last report. A front of a run is a run, so the second holds at each moment. The premise on text is that the
+-- machine's is Unicode: a server reads no other.
+abbrev pub Headline : Type 0
+Headline =
+    (types : List ServedShape) (task : Task) (es : List WorldEvent) (v : World) (reports : List Report)
+    → AreObjectTypes types → IsTask types task → Runs task 1 (start types) es v reports → AreUnicode v.hub.machine.changes
+    → AreRight task 1 reports × IsKeptRight task (last_reported 1 reports) v.hub.machine v.client.cache

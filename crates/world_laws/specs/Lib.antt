@@ -1,0 +1,5 @@
+pub mod Headline
+pub mod ListCalls
+pub mod Reports
+pub mod Tasks
+pub mod World

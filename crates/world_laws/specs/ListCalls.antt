@@ -1,0 +1,24 @@
+-- The calls by which the client of a task asks for its list, page by page (Kubernetes API Concepts, "Retrieving large results sets in chunks").
+use Rattle.std.specs.Prelude.{◌≡◌, ℕ, List, Option, Some, None}
+use Rattle.std.specs.List.{last_or}
+use Rattle.indexer.specs.Objects.{Stored}
+use Rattle.params.specs.Values.{Token, Values, no_values}
+use Rattle.schema.specs.TypesFile.{ServedShape}
+use Rattle.verbs.specs.Calls.{Call}
+use Rattle.wire_laws.specs.Listings.{IsListing}
+use Rattle.world_laws.specs.Tasks.{Task}
+
+-- so many objects as the task's pages have, of those that its selector selects; from the beginning, or behind a token
+abbrev pub page_values : Task → Option Token → Values
+page_values task token = record no_values { limit = task.settings.page; selector = task.requirements; token = token }
+
+-- it lists the objects of the task's type, in its namespace or in all, and asks for such a page of them
+pub record IsListCall (types : List ServedShape) (task : Task) (token : Option Token) (call : Call) : Type 0 where
+  pub lists : IsListing types call task.t (page_values task token)
+  pub kind : call.target.kind ≡ task.settings.kind
+  pub namespace : call.target.namespace ≡ task.settings.namespace
+
+-- it asks for the next page of the list at the revision, after the last of these objects
+abbrev pub IsNextCall : List ServedShape → Task → ℕ → List Stored → Call → Type 0
+IsNextCall types task revision aside call =
+    (o : Stored) × (last_or None aside ≡ Some o) × IsListCall types task (Some (record { revision = revision; namespace = o.namespace; name = o.name })) call

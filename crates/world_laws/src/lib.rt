@@ -1,0 +1,49 @@
+//! A server and a client in one process: what happens at each event, and what the client then reports. A function does
+//! nothing; what it promises is the law.
+//!
+//! `specs/Tasks` says what a run is asked for; `specs/World` what an event makes of the hub, the client and the connection
+//! between them; `specs/Reports` when the client reports, and when a report is right; `specs/Headline` that all are.
+#![tactic(auto)]
+
+mod listing;
+
+ghost use Rattle.std.specs.Prelude.{◌≡◌, ℕ, true, List, None};
+ghost use Rattle.std.specs.List.{All};
+ghost use Rattle.indexer.specs.Names.{are_distinct};
+ghost use Rattle.lists.specs.Tokens.{IsText};
+ghost use Rattle.schema.specs.Named.{has_names};
+ghost use Rattle.schema.specs.TypesFile.{ServedShape, names_differ};
+ghost use Rattle.world_laws.specs.Headline.{Headline};
+ghost use Rattle.world_laws.specs.Tasks.{IsTask, RunSettings, Task, settings_fault};
+ghost use Rattle.world_laws.specs.Reports.{Report, Runs};
+ghost use Rattle.world_laws.specs.World.{World, WorldEvent};
+
+pub use listing::pages_are_answered;
+
+/// Events lead to one world at most, with one list of reports.
+pub fn one_world()
+    ensures { (task : Task) (i : ℕ) (w v u : World) (es : List WorldEvent) (reports others : List Report) → Runs task i w es v reports → Runs task i w es u others → (v ≡ u) × (reports ≡ others) }
+{
+    wireclient::one_reading();
+}
+
+/// Of every run of events from the start each report of the client is right, and so is what it keeps.
+pub fn headline()
+    ensures { Headline }
+{
+    wireclient::one_reading();
+    wireclient::fronts_stand();
+    wire_laws::watches_are_read();
+    wire_laws::refusals_are_read();
+    httpedge::machines_grow();
+    httpedge::machines_last();
+}
+
+/// Settings without a fault make one task, over types with lawful names of which no two are the same; and a task has
+/// no fault in its settings.
+pub fn tasks_are_made()
+    ensures made { (types : List ServedShape) (names : List (List ℕ)) (settings : RunSettings) → All (λ t. has_names t ≡ true) types → names_differ types ≡ true → IsText settings.selector
+        → settings_fault types names settings ≡ None → (task : Task) × IsTask types task × (task.settings ≡ settings) }
+    ensures needed { (types : List ServedShape) (names : List (List ℕ)) (task : Task) → IsTask types task → are_distinct names ≡ true → settings_fault types names task.settings ≡ None }
+    ensures one { (types : List ServedShape) (task other : Task) → IsTask types task → IsTask types other → task.settings ≡ other.settings → task ≡ other }
+{}
