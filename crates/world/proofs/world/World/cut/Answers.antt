@@ -1,0 +1,32 @@
+use Rattle.std.proofs.Common.{◌∙◌, None, ap, not, refl, subst}
+use Rattle.reflector.specs.Run.{closed}
+use Rattle.world_laws.specs.Tasks.{wanted_by}
+use Rattle.world_laws.specs.World as worlds
+use Rattle.world.specs.Seen.{connection_seen}
+use Rattle.world.proofs.Worlds.{closed_asks, cuts, handed_none, leads_closed, no_cut}
+use Rattle.world.proofs.world.World.cut.Goals as goal
+
+pub returns-then-is_none-clause-happens : goal.returns-then-is_none-clause-happens
+returns-then-is_none-clause-happens g c = λ task o w stands.
+    (w, subst (λ own. worlds.Cuts w own w) stands.connection (no_cut w connection_seen c.args.self.now.connection (c.is_none.ensures ∙ ap not c.if-is_none.true)), stands)
+
+pub returns-clause-happens : goal.returns-clause-happens
+returns-clause-happens g c = λ task o w stands.
+    let k = stands.client in
+    let left = c.in_ok-leave.ensures w.hub stands.hub in
+    let v : worlds.World = record w { client = closed w.client; hub = left.0; connection = None } in (
+      v,
+      subst (λ own. worlds.Cuts w own v) stands.connection (cuts w connection_seen c.args.self.now.connection left.0 (c.is_none.ensures ∙ ap not c.if-is_none.false) left.1),
+      record {
+        hub = left.2;
+        requested = stands.requested;
+        connection = refl;
+        client = (k.0, k.1, c.closed.ensures.closed w.client k.0 k.1 k.2, handed_none (closed w.client).is_asking k.0 None left.0 (closed_asks w.client));
+        wanted = c.closed.ensures.settings ∙ stands.wanted;
+        leads = leads_closed (wanted_by task) o w.client stands.leads;
+        few = stands.few;
+        counted = stands.counted;
+        label = stands.label;
+        place = stands.place;
+      },
+    )

@@ -1,0 +1,30 @@
+use Rattle.std.proofs.Common.{subst}
+use Rattle.std.specs.FinMap as fin
+use Rattle.std.proofs.lemmas.Result.{IfOk-weaker}
+use Rattle.reflector.specs.Client.{kept}
+use Rattle.world_laws.specs.World as worlds
+use Rattle.world.proofs.world.World.happen.Goals as goal
+
+pub returns-in-Other-clause-happens : goal.returns-in-Other-clause-happens
+returns-in-Other-clause-happens g c = λ task w stands. rw c.in-Other.is (IfOk-weaker c.other.result _ _ (λ _ did. (did.0, kept w.client.cache, did.1, did.2)) (c.other.ensures.happens task (kept w.client.cache) w stands))
+
+pub returns-in-Request-clause-happens : goal.returns-in-Request-clause-happens
+returns-in-Request-clause-happens g c = λ task w stands. rw c.in-Request.is (IfOk-weaker c.request.result _ _ (λ _ did. (did.0, kept w.client.cache, subst (λ bytes. worlds.Happens task w (worlds.request bytes) did.0) c.deref.ensures.value did.1, did.2)) (c.request.ensures.happens task (kept w.client.cache) w stands))
+
+pub returns-in-ClientSend-clause-happens : goal.returns-in-ClientSend-clause-happens
+returns-in-ClientSend-clause-happens g c = λ task w stands. rw c.in-ClientSend.is (IfOk-weaker c.send.result _ _ (λ _ did. (did.0, kept w.client.cache, did.1, did.2)) (c.send.ensures.happens task (kept w.client.cache) w stands))
+
+pub returns-in-ToServer-clause-happens : goal.returns-in-ToServer-clause-happens
+returns-in-ToServer-clause-happens g c = λ task w stands. rw c.in-ToServer.is (IfOk-weaker c.to_server.result _ _ (λ _ did. (did.0, kept w.client.cache, did.1, did.2)) (c.to_server.ensures.happens task (kept w.client.cache) w stands))
+
+pub returns-in-ToClient-clause-happens : goal.returns-in-ToClient-clause-happens
+returns-in-ToClient-clause-happens g c = λ task w stands. rw c.in-ToClient.is (IfOk-weaker c.to_client.result _ _ (λ _ did. (did.0, kept w.client.cache, did.1, did.2)) (c.to_client.ensures.happens task (kept w.client.cache) w stands))
+
+pub returns-in-Cut-clause-happens : goal.returns-in-Cut-clause-happens
+returns-in-Cut-clause-happens g c = λ task w stands. rw c.in-Cut.is (IfOk-weaker c.cut.result _ _ (λ _ did. (did.0, kept w.client.cache, did.1, did.2)) (c.cut.ensures.happens task (kept w.client.cache) w stands))
+
+pub returns-in-Restart-clause-happens : goal.returns-in-Restart-clause-happens
+returns-in-Restart-clause-happens g c = λ task w stands. rw c.in-Restart.is (IfOk-weaker c.restart.result _ _ (λ _ did. (did.0, fin.empty, did.1, did.2)) (c.restart.ensures.happens task (kept w.client.cache) w stands))
+
+pub returns-in-Reconcile-clause-happens : goal.returns-in-Reconcile-clause-happens
+returns-in-Reconcile-clause-happens g c = λ task w stands. rw c.in-Reconcile.is (IfOk-weaker c.reconcile.result _ _ (λ _ did. (did.0, kept w.client.cache, did.1, did.2)) (c.reconcile.ensures.happens task w stands))

@@ -1,0 +1,40 @@
+use Rattle.std.proofs.Common.{◌∙◌, ℕ, List, ap, not, refl, subst, sym}
+use Rattle.reflector.specs.Client.{kept}
+use Rattle.summary.specs.Apply.{apply_request}
+use Rattle.summary.specs.Counts.{summed_of}
+use Rattle.httpedge.specs.Steps as edge
+use Rattle.world_laws.specs.World as worlds
+use Rattle.world.proofs.Worlds.{grown, grown_twice, handed_stays, in_one_piece, no_counts, no_id, reconciles}
+use Rattle.world.proofs.world.World.reconcile.Goals as goal
+
+pub returns-then-is_none-clause-happens : goal.returns-then-is_none-clause-happens
+returns-then-is_none-clause-happens g c = λ task w stands.
+    let k = stands.client in
+    (w, no_counts task w w.client.cache _ c.revision.result (c.revision.ensures w.client k.0 k.1 k.2) (c.is_none.ensures ∙ ap not c.if-is_none.true), stands)
+
+pub returns-in_default-clause-happens : goal.returns-in_default-clause-happens
+returns-in_default-clause-happens g c = λ task w stands.
+    let none = sym c.in_default.is ∙ c.next_id.ensures w.hub stands.hub in
+    (w, subst (λ id. worlds.Reconciles task w w.client.cache id w) none (no_id task w w.client.cache), stands)
+
+pub returns-clause-happens : goal.returns-clause-happens
+returns-clause-happens g c = λ task w stands.
+    let id = c.in-Some.id in
+    let next = sym c.in-Some.is ∙ c.next_id.ensures w.hub stands.hub in
+    let came = c.in_ok-on_new.ensures w.hub stands.hub in
+    let mid = came.0 in
+    let t = came.1 in
+    let k = stands.client in
+    let law = c.written_stays.ensures.grows in
+    let bytes = c.in_ok-request.request.items in
+    let comes = in_one_piece w id bytes mid t came.2 came.3 in
+    let more = grown_twice w.hub mid t (grown law w.hub mid (edge.opens id) came.2) (grown law mid t (edge.comes id bytes) came.3) in
+    let counts = summed_of task.settings.label (kept w.client.cache) in
+    let v : worlds.World = record w { hub = t } in (
+      v,
+      subst (λ o. worlds.Reconciles task w w.client.cache o v) next (reconciles task w w.client.cache id bytes v _ (c.revision.ensures w.client k.0 k.1 k.2) (c.is_none.ensures ∙ ap not c.if-is_none.false)
+          (c.in_ok-request.ensures ∙ ap (λ s. apply_request s c.as_str.result.now c.as_str-2.result.now) stands.counted
+          ∙ ap (λ n. apply_request counts n c.as_str-2.result.now) (c.as_str.ensures.value ∙ ap (λ (p : List ℕ × List ℕ). p.0) stands.place)
+          ∙ ap (apply_request counts task.settings.summary.0) (c.as_str-2.ensures.value ∙ ap (λ (p : List ℕ × List ℕ). p.1) stands.place)) comes),
+      record { hub = came.4; requested = stands.requested; connection = stands.connection; client = (k.0, k.1, k.2, handed_stays w.client.is_asking k.0 w.connection w.hub t more k.3); wanted = stands.wanted; leads = stands.leads; few = stands.few; counted = stands.counted; label = stands.label; place = stands.place },
+    )

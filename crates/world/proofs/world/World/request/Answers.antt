@@ -1,0 +1,27 @@
+use Rattle.std.proofs.Common.{◌∙◌, ◌++◌, ◌∷◌, [], ap, refl, subst, sym}
+use Rattle.httpedge.specs.Steps as edge
+use Rattle.world_laws.specs.World as worlds
+use Rattle.world.proofs.Worlds.{grown, grown_twice, handed_stays, in_one_piece}
+use Rattle.world.proofs.world.World.request.Goals as goal
+
+pub returns-in_default-clause-happens : goal.returns-in_default-clause-happens
+returns-in_default-clause-happens g c = λ task o w stands.
+    let none = sym c.in_default.is ∙ c.next_id.ensures w.hub stands.hub in
+    (w, subst (λ o. worlds.Requests w o c.args.bytes.now w) none refl, stands)
+
+pub returns-clause-happens : goal.returns-clause-happens
+returns-clause-happens g c = λ task o w stands.
+    let id = c.in-Some.id in
+    let next = sym c.in-Some.is ∙ c.next_id.ensures w.hub stands.hub in
+    let came = c.in_ok-on_new.ensures w.hub stands.hub in
+    let mid = came.0 in
+    let t = came.1 in
+    let law = c.written_stays.ensures.grows in
+    let noted : worlds.World = record w { requested = w.requested ++ id ∷ [] } in
+    let comes = subst (λ bytes. worlds.ComesInOnePiece noted id bytes (record noted { hub = t })) c.in_ok-copy.ensures.items (in_one_piece noted id c.in_ok-copy.copy.items mid t came.2 came.3) in
+    let more = grown_twice w.hub mid t (grown law w.hub mid (edge.opens id) came.2) (grown law mid t (edge.comes id c.in_ok-copy.copy.items) came.3) in
+    let k = stands.client in (
+      record noted { hub = t },
+      subst (λ o. worlds.Requests w o c.args.bytes.now (record noted { hub = t })) next comes,
+      record { hub = came.4; requested = c.in_ok-push.ensures.items ∙ ap (λ ids. ids ++ id ∷ []) stands.requested; connection = stands.connection; client = (k.0, k.1, k.2, handed_stays w.client.is_asking k.0 w.connection w.hub t more k.3); wanted = stands.wanted; leads = stands.leads; few = stands.few; counted = stands.counted; label = stands.label; place = stands.place },
+    )

@@ -1,0 +1,46 @@
+use Rattle.std.proofs.Common.{[], true, None, ◌∙◌, Some, ap, refl, subst, sym, option_map, arith}
+use Rattle.reflector.specs.Informer as informers
+use Rattle.reflector.specs.Requests.{request_of}
+use Rattle.reflector.specs.Run.{asked}
+use Rattle.world_laws.specs.Tasks.{client_settings, wanted_by}
+use Rattle.world_laws.specs.World as worlds
+use Rattle.world.proofs.Worlds.{due_asks, due_waits, handed_if, leads_asked, leaves}
+use Rattle.world.proofs.world.World.send.Goals as goal
+
+pub returns-in_default-clause-happens : goal.returns-in_default-clause-happens
+returns-in_default-clause-happens g c = λ task o w stands.
+    let none = sym c.in_default.is ∙ c.next_id.ensures w.hub stands.hub in
+    (w, subst (λ d. worlds.Sends w d (informers.due (client_settings task) w.client) w) none refl, stands)
+
+pub returns-in_default-2-clause-happens : goal.returns-in_default-2-clause-happens
+returns-in_default-2-clause-happens g c = λ task o w stands.
+    let k = stands.client in
+    let settings = client_settings task in
+    let due = sym (ap (option_map (λ v. v.items)) c.in_default-2.is) ∙ c.in_ok-request.ensures.due w.client k.0 k.1 k.2 ∙ ap (λ s. informers.due s w.client) stands.wanted in
+    let asks = due_asks w.client.is_asking (request_of settings w.client) due in
+    let same = c.next_request.ensures.waits w.client k.0 k.1 k.2 asks in
+    let next = sym c.in-Some.is ∙ c.next_id.ensures w.hub stands.hub in (
+      w,
+      subst (λ d. worlds.Sends w d (informers.due settings w.client) w) next (subst (λ d. worlds.Sends w (Some c.in-Some.id) d w) due refl),
+      record { hub = stands.hub; requested = stands.requested; connection = stands.connection; client = (k.0, k.1, subst (λ i. informers.Runs (λ b s. g.I.IndexBy.keys b s) i w.client k.0 k.1) (sym same) k.2, k.3); wanted = c.next_request.ensures.settings ∙ stands.wanted; leads = stands.leads; few = stands.few; counted = stands.counted; label = stands.label; place = stands.place },
+    )
+
+pub returns-clause-happens : goal.returns-clause-happens
+returns-clause-happens g c = λ task o w stands.
+    let k = stands.client in
+    let settings = client_settings task in
+    let bytes = c.in-Some-2.request.items in
+    let due = sym (ap (option_map (λ v. v.items)) c.in-Some-2.is) ∙ c.in_ok-request.ensures.due w.client k.0 k.1 k.2 ∙ ap (λ s. informers.due s w.client) stands.wanted in
+    let waits = due_waits w.client.is_asking (request_of settings w.client) bytes due in
+    let next = sym c.in-Some.is ∙ c.next_id.ensures w.hub stands.hub in
+    let left = c.in_ok-leave.ensures w.hub stands.hub in
+    let alone : worlds.World = record w { hub = left.0; connection = None } in
+    let went = subst (λ own. worlds.Leaves w own alone) stands.connection (leaves w _ left.0 stands.connection left.1) in
+    let came = c.in_ok-on.ensures left.0 left.2 in
+    let opened : worlds.World = record alone { hub = came.0 } in
+    let own : worlds.ClientConnection = record { id = c.in-Some.id; unsent = bytes; handed = 0 } in
+    let v : worlds.World = record opened { client = asked w.client; connection = Some own } in (
+      v,
+      subst (λ d. worlds.Sends w d (informers.due settings w.client) v) next (subst (λ d. worlds.Sends w (Some c.in-Some.id) d v) due (alone, opened, went, (came.0, came.1, refl), refl)),
+      record { hub = came.2; requested = stands.requested; connection = refl; client = ([], [], c.in_ok-request.ensures.asked w.client k.0 k.1 k.2 waits, handed_if true [] own came.0 (omega arith) refl); wanted = c.next_request.ensures.settings ∙ stands.wanted; leads = leads_asked (wanted_by task) o w.client stands.leads; few = stands.few; counted = stands.counted; label = stands.label; place = stands.place },
+    )

@@ -1,0 +1,28 @@
+//! A server and a client in one process, event by event: requests of others, the client's request and its reply in pieces,
+//! watches, ticks, compactions, cuts, restarts, and counts that are applied. What an event makes of both is defined in
+//! `world_laws`.
+//!
+//! Promises: the trace of a run is that of its definition: what was written on each connection, and a report for each
+//! event after which the client's revision is the first, or has risen, with the client's objects, each index of them and
+//! their counts by a label. Settings that can't be had are refused by their least fault.
+//! Stands on `recorder` for the server, `reflector` for the client, `indexer` and `summary` for what is reported.
+#![tactic(auto)]
+
+mod connection;
+mod event;
+mod fault;
+mod indexes;
+mod link;
+mod reporting;
+mod running;
+mod server;
+mod settings;
+mod trace;
+mod world;
+
+pub use event::WorldEvent;
+pub use fault::WorldFault;
+pub use link::{Link, LinkFault, OverMemory};
+pub use running::{run, run_over};
+pub use settings::Settings;
+pub use trace::{IndexShot, Report, Trace};

@@ -1,0 +1,285 @@
+//! A server, a client and the connection between them, and what each event makes of them.
+
+ghost use Rattle.std.specs.Prelude.{◌≡◌, ◌≢◌, ℕ, List, if◌then◌else◌};
+ghost use Rattle.httpedge.specs.Steps as edge;
+ghost use Rattle.wireclient.specs.Reply.{Told};
+ghost use Rattle.reflector.specs.Client.{Client};
+ghost use Rattle.reflector.specs.Informer as informers;
+ghost use Rattle.reflector.specs.Run.{closed};
+ghost use Rattle.world.specs.Serving.{Serves, is_over_in};
+ghost use Rattle.world.specs.Standing.{setup_in};
+
+use crate::connection::{ClientConnection, is_by_peer_on, next_of_request, next_piece};
+use crate::event::WorldEvent;
+use crate::fault::{RunFault, WorldFault};
+use crate::link::Link;
+use crate::server::Server;
+use crate::settings::{Settings, client_of};
+use httpedge::Event;
+use indexer::IndexBy;
+use reflector::Informer;
+use schema::Types;
+use std::alloc::Global;
+use summary::Summary;
+
+/// A server and a client, the client's connection, and what is counted of its objects.
+#[derive(Drop)]
+pub(crate) struct World<I: Drop> {
+    pub(crate) alloc: Global,
+    pub(crate) server: Server,
+    /// The connections that were opened for a request of another peer, oldest first.
+    pub(crate) requested: Vec<u64>,
+    pub(crate) client: Informer<I>,
+    pub(crate) connection: Option<ClientConnection>,
+    pub(crate) summary: Summary,
+    pub(crate) label: String,
+    /// The namespace and the name of the object to which the counts are applied.
+    pub(crate) place: (String, String),
+}
+
+/// Tells the client that its connection is closed, where the reply is over.
+fn close_if_over<I: IndexBy>(server: &Server, client: &mut Informer<I>, id: u64, handed: usize)
+    ensures closes { (s : edge.State) (c : Client) (bytes : List ℕ) (told : List Told) → Serves server.now s → informers.Runs (λ b s. I.keys b s) client.old c bytes told
+        → informers.Runs (λ b s. I.keys b s) client.new (if is_over_in s id handed then closed c else c) bytes told }
+    ensures setup { setup_in client.new ≡ setup_in client.old }
+{
+    if server.is_over(id, handed) {
+        client.closed();
+    }
+}
+
+impl<I: IndexBy> World<I> {
+    ghost use Rattle.std.specs.Prelude.{◌≡◌, ◌≢◌, false, map, Err, IfOk, OnOk};
+    ghost use Rattle.schema.specs.Served.{types_view};
+    ghost use Rattle.std.specs.FinMap as fin;
+    ghost use Rattle.httpedge.specs.HubSeen.{event_of};
+    ghost use Rattle.reflector.specs.Client.{Objects, kept};
+    ghost use Rattle.reflector.specs.Informer.{indexes_in, names_in};
+    ghost use Rattle.world_laws.specs.Tasks.{IsTask, Task, settings_fault};
+    ghost use Rattle.world_laws.specs.World as worlds;
+    ghost use Rattle.world_laws.specs.World.{Steps};
+    ghost use Rattle.world.specs.Faults.{Answers};
+    ghost use Rattle.world.specs.Seen.{event_seen, settings_seen};
+    ghost use Rattle.world.specs.Standing.{WorldStands, settled, setup_in};
+
+    /// A server without connections and objects, and the client that does what is asked.
+    pub(crate) fn new(
+        alloc: Global,
+        types: Types,
+        settings: Settings,
+        indexes: Vec<I>,
+    ) -> Result<World<I>, WorldFault>
+        ensures stands { IfOk result (λ x. (task : Task) × IsTask (types_view types) task × (task.settings ≡ settings_seen settings) × WorldStands (λ b s. I.keys b s) task fin.empty x (worlds.start (types_view types))) }
+        ensures settings { Answers (settings_fault (types_view types) (map (λ b. I.title b) indexes.items) (settings_seen settings)) result }
+        ensures indexes { IfOk result (λ x. indexes_in x.client ≡ indexes.items) }
+        ensures names { IfOk result (λ x. names_in x.client ≡ map (λ b. I.title b) indexes.items) }
+        ensures link { result ≢ Err WorldFault.Link }
+    {
+        types.types_are_named();
+        world_laws::tasks_are_made();
+        let client = client_of(alloc, &types, &settings, indexes)?;
+        let server = Server::new(alloc, types)?;
+        let Settings {
+            kind: _,
+            namespace: _,
+            selector: _,
+            page: _,
+            label,
+            summary,
+        } = settings;
+        let counted = label.clone()?;
+        let counts = Summary::new(alloc, counted);
+        let requested = Vec::new(alloc);
+        Ok(World {
+            alloc,
+            server,
+            requested,
+            client,
+            connection: None,
+            summary: counts,
+            label,
+            place: summary,
+        })
+    }
+
+    fn other(&mut self, event: &Event) -> Result<(), RunFault>
+        ensures happens { (task : Task) (o : Objects) (w : worlds.World) → WorldStands (λ b s. I.keys b s) task o self.old w
+            → OnOk result ((v : worlds.World) × worlds.Happens task w (worlds.other (event_of event.now)) v × WorldStands (λ b s. I.keys b s) task o self.new v) }
+        ensures setup { setup_in self.new.client ≡ setup_in self.old.client }
+        ensures link { result ≢ Err RunFault.Link }
+    {
+        if is_by_peer_on(&self.connection, event) {
+            return Ok(());
+        }
+        httpedge::written_stays();
+        self.server.on(event)?;
+        Ok(())
+    }
+
+    fn request(&mut self, bytes: &[u8]) -> Result<(), RunFault>
+        ensures happens { (task : Task) (o : Objects) (w : worlds.World) → WorldStands (λ b s. I.keys b s) task o self.old w
+            → OnOk result ((v : worlds.World) × worlds.Happens task w (worlds.request bytes.now) v × WorldStands (λ b s. I.keys b s) task o self.new v) }
+        ensures setup { setup_in self.new.client ≡ setup_in self.old.client }
+        ensures link { result ≢ Err RunFault.Link }
+    {
+        let Some(id) = self.server.next_id() else {
+            return Ok(());
+        };
+        let copy = Vec::from_slice(self.alloc, bytes)?;
+        self.requested.push(id)?;
+        httpedge::written_stays();
+        self.server.on_new(id, copy)?;
+        Ok(())
+    }
+
+    fn send(&mut self) -> Result<(), RunFault>
+        ensures happens { (task : Task) (o : Objects) (w : worlds.World) → WorldStands (λ b s. I.keys b s) task o self.old w
+            → OnOk result ((v : worlds.World) × worlds.Happens task w worlds.send v × WorldStands (λ b s. I.keys b s) task o self.new v) }
+        ensures setup { setup_in self.new.client ≡ setup_in self.old.client }
+        ensures link { result ≢ Err RunFault.Link }
+    {
+        let Some(id) = self.server.next_id() else {
+            return Ok(());
+        };
+        let Some(request) = self.client.next_request()? else {
+            return Ok(());
+        };
+        self.server.leave(&self.connection)?;
+        self.server.on(&Event::Open(id))?;
+        self.connection = Some(ClientConnection {
+            id,
+            request,
+            sent: 0,
+            handed: 0,
+        });
+        Ok(())
+    }
+
+    fn to_server<L: Link>(&mut self, n: usize, link: &mut L) -> Result<(), RunFault>
+        ensures happens { (task : Task) (o : Objects) (w : worlds.World) → WorldStands (λ b s. I.keys b s) task o self.old w
+            → OnOk result ((v : worlds.World) × worlds.Happens task w (worlds.to_server n) v × WorldStands (λ b s. I.keys b s) task o self.new v) }
+        ensures setup { setup_in self.new.client ≡ setup_in self.old.client }
+        ensures link { L.may_fail ≡ false → result ≢ Err RunFault.Link }
+    {
+        let Some(own) = &mut self.connection else {
+            return Ok(());
+        };
+        let piece = next_of_request(self.alloc, link, own, n)?;
+        if piece.is_empty() {
+            return Ok(());
+        }
+        own.sent = own.sent.saturating_add(piece.len());
+        httpedge::written_stays();
+        self.server.on(&Event::In(own.id, piece))?;
+        close_if_over(&self.server, &mut self.client, own.id, own.handed);
+        Ok(())
+    }
+
+    fn to_client<L: Link>(&mut self, n: usize, link: &mut L) -> Result<(), RunFault>
+        ensures happens { (task : Task) (o : Objects) (w : worlds.World) → WorldStands (λ b s. I.keys b s) task o self.old w
+            → OnOk result ((v : worlds.World) × worlds.Happens task w (worlds.to_client n) v × WorldStands (λ b s. I.keys b s) task o self.new v) }
+        ensures setup { setup_in self.new.client ≡ setup_in self.old.client }
+        ensures link { L.may_fail ≡ false → result ≢ Err RunFault.Link }
+    {
+        let Some(own) = &mut self.connection else {
+            return Ok(());
+        };
+        let written = self.server.written(own.id);
+        let piece = next_piece(self.alloc, link, written, own.handed, n)?;
+        if piece.is_empty() {
+            return Ok(());
+        }
+        own.handed = own.handed.saturating_add(piece.len());
+        self.client.feed(&piece)?;
+        close_if_over(&self.server, &mut self.client, own.id, own.handed);
+        Ok(())
+    }
+
+    fn cut(&mut self) -> Result<(), RunFault>
+        ensures happens { (task : Task) (o : Objects) (w : worlds.World) → WorldStands (λ b s. I.keys b s) task o self.old w
+            → OnOk result ((v : worlds.World) × worlds.Happens task w worlds.cut v × WorldStands (λ b s. I.keys b s) task o self.new v) }
+        ensures setup { setup_in self.new.client ≡ setup_in self.old.client }
+        ensures link { result ≢ Err RunFault.Link }
+    {
+        if self.connection.is_none() {
+            return Ok(());
+        }
+        self.client.closed();
+        self.server.leave(&self.connection)?;
+        self.connection = None;
+        Ok(())
+    }
+
+    fn restart(&mut self) -> Result<(), RunFault>
+        ensures happens { (task : Task) (o : Objects) (w : worlds.World) → WorldStands (λ b s. I.keys b s) task o self.old w
+            → OnOk result ((v : worlds.World) × worlds.Happens task w worlds.restart v × WorldStands (λ b s. I.keys b s) task fin.empty self.new v) }
+        ensures setup { setup_in self.new.client ≡ setup_in self.old.client }
+        ensures link { result ≢ Err RunFault.Link }
+    {
+        let label = self.label.clone()?;
+        self.client.restart();
+        self.summary = Summary::new(self.alloc, label);
+        self.server.leave(&self.connection)?;
+        self.connection = None;
+        Ok(())
+    }
+
+    fn reconcile(&mut self) -> Result<(), RunFault>
+        ensures happens { (task : Task) (w : worlds.World) → WorldStands (λ b s. I.keys b s) task (kept w.client.cache) self.old w
+            → OnOk result ((v : worlds.World) × worlds.Happens task w worlds.reconcile v × WorldStands (λ b s. I.keys b s) task (kept w.client.cache) self.new v) }
+        ensures setup { setup_in self.new.client ≡ setup_in self.old.client }
+        ensures link { result ≢ Err RunFault.Link }
+    {
+        if self.client.revision().is_none() {
+            return Ok(());
+        }
+        let Some(id) = self.server.next_id() else {
+            return Ok(());
+        };
+        let request = self
+            .summary
+            .apply_call(self.place.0.as_str(), self.place.1.as_str())?;
+        httpedge::written_stays();
+        self.server.on_new(id, request)?;
+        Ok(())
+    }
+
+    fn happen<L: Link>(&mut self, event: &WorldEvent, link: &mut L) -> Result<(), RunFault>
+        ensures happens { (task : Task) (w : worlds.World) → WorldStands (λ b s. I.keys b s) task (kept w.client.cache) self.old w
+            → OnOk result ((v : worlds.World) × (o : Objects) × worlds.Happens task w (event_seen event.now) v × WorldStands (λ b s. I.keys b s) task o self.new v) }
+        ensures setup { setup_in self.new.client ≡ setup_in self.old.client }
+        ensures link { L.may_fail ≡ false → result ≢ Err RunFault.Link }
+    {
+        match event {
+            WorldEvent::Other(event) => self.other(event),
+            WorldEvent::Request(bytes) => self.request(bytes),
+            WorldEvent::ClientSend => self.send(),
+            WorldEvent::ToServer(n) => self.to_server(*n, link),
+            WorldEvent::ToClient(n) => self.to_client(*n, link),
+            WorldEvent::Cut => self.cut(),
+            WorldEvent::Restart => self.restart(),
+            WorldEvent::Reconcile => self.reconcile(),
+        }
+    }
+
+    /// Counts what the client's notices tell.
+    fn settle(&mut self) -> Result<(), RunFault>
+        ensures settles { (task : Task) (o : Objects) (w : worlds.World) → WorldStands (λ b s. I.keys b s) task o self.old w → OnOk result (WorldStands (λ b s. I.keys b s) task (kept w.client.cache) self.new (settled w)) }
+        ensures setup { setup_in self.new.client ≡ setup_in self.old.client }
+        ensures link { result ≢ Err RunFault.Link }
+    {
+        let notices = self.client.take_notices();
+        self.summary.note_all(&notices)?;
+        Ok(())
+    }
+
+    /// Takes the next event.
+    pub(crate) fn take<L: Link>(&mut self, event: &WorldEvent, link: &mut L) -> Result<(), RunFault>
+        ensures steps { (task : Task) (w : worlds.World) → WorldStands (λ b s. I.keys b s) task (kept w.client.cache) self.old w → OnOk result ((v : worlds.World) × Steps task w (event_seen event.now) v × WorldStands (λ b s. I.keys b s) task (kept v.client.cache) self.new v) }
+        ensures setup { setup_in self.new.client ≡ setup_in self.old.client }
+        ensures link { L.may_fail ≡ false → result ≢ Err RunFault.Link }
+    {
+        self.happen(event, link)?;
+        self.settle()
+    }
+}

@@ -1,0 +1,78 @@
+//! What a run is asked for.
+
+use crate::indexes::{ByLabel, ByNamespace};
+use indexer::IndexBy;
+use schema::Types;
+use serde_json::Value;
+use std::alloc::{AllocError, Global};
+use std::test::Fail;
+use test_rows::first_word;
+use world::Settings;
+
+/// Widgets, with each kind of list, and label summaries.
+const TYPES: &str =
+    r#"{"types":[{"group":"demo.example","version":"v1","kind":"Widget","plural":"widgets","schema":{"type":"object","properties":{"spec":{"type":"object","properties":{"args":{"type":"array","items":{"type":"string"}},"config":{"type":"object","additionalProperties":{"type":"string"}},"image":{"type":"string"},"ports":{"type":"array","x-kubernetes-list-type":"map","x-kubernetes-list-map-keys":["name"],"items":{"type":"object","properties":{"name":{"type":"string"},"note":{"type":"string"},"port":{"type":"integer"}}}},"replicas":{"type":"integer"},"tags":{"type":"array","x-kubernetes-list-type":"set","items":{"type":"string"}}}}}}},{"group":"summary.example","version":"v1","kind":"LabelSummary","plural":"labelsummaries","schema":{"type":"object","properties":{"spec":{"type":"object","properties":{"counts":{"type":"object","additionalProperties":{"type":"integer"}},"label":{"type":"string"},"total":{"type":"integer"}}}}}}]}"#;
+
+fn types_in(alloc: Global, text: &str) -> Result<Types, Fail> {
+    Ok(Types::read(alloc, &Value::from_str(alloc, text)?)?)
+}
+
+pub fn types(alloc: Global) -> Result<Types, Fail> {
+    types_in(alloc, TYPES)
+}
+
+/// What stands behind the name in words `NAME=VALUE ..`, or what stands for it.
+pub fn value_of<'a>(words: &'a str, name: &str, otherwise: &'a str) -> &'a str {
+    match words.split_once(name) {
+        Some((_, rest)) => first_word(rest).0,
+        None => otherwise,
+    }
+}
+
+fn small_number(text: &str) -> Result<u32, Fail> {
+    Ok(text.parse::<u32>().ok().ok_or("no number")?)
+}
+
+fn namespace(alloc: Global, words: &str) -> Result<Option<String>, AllocError> {
+    match value_of(words, "namespace=", "") {
+        "" => Ok(None),
+        name => Ok(Some(String::from_str(alloc, name)?)),
+    }
+}
+
+fn summary(alloc: Global) -> Result<(String, String), AllocError> {
+    let namespace = String::from_str(alloc, "default")?;
+    Ok((namespace, String::from_str(alloc, "summary")?))
+}
+
+/// Of the words `kind=`, `namespace=`, `selector=` and `page=`. Without them: widgets of all namespaces, two in a page.
+pub fn settings(alloc: Global, words: &str) -> Result<Settings, Fail> {
+    Ok(Settings {
+        kind: small_number(value_of(words, "kind=", "0"))?,
+        namespace: namespace(alloc, words)?,
+        selector: String::from_str(alloc, value_of(words, "selector=", ""))?,
+        page: small_number(value_of(words, "page=", "2"))?,
+        label: String::from_str(alloc, "tier")?,
+        summary: summary(alloc)?,
+    })
+}
+
+/// The index `namespace`, or the one by the value of the label of this name.
+fn index(alloc: Global, name: &str) -> Result<Box<dyn IndexBy>, AllocError> {
+    match name {
+        "namespace" => Ok(Box::new(alloc, ByNamespace)?),
+        _ => {
+            let label = String::from_str(alloc, name)?;
+            Ok(Box::new(alloc, ByLabel { label })?)
+        }
+    }
+}
+
+/// Of the word `indexes=NAME,NAME..`; by namespace without it.
+pub fn indexes(alloc: Global, words: &str) -> Result<Vec<Box<dyn IndexBy>>, AllocError> {
+    let mut all = Vec::new(alloc);
+    for name in value_of(words, "indexes=", "namespace").split(',') {
+        all.push(index(alloc, name)?)?;
+    }
+    Ok(all)
+}
