@@ -5,7 +5,6 @@ use Rattle.schema.specs.TypesFile.{ServedShape}
 use Rattle.selector.specs.Grammar.{parse_selector}
 use Rattle.indexer.specs.Names.{are_distinct}
 use Rattle.reflector.specs.Faults.{is_namespace_or_all, is_page}
-use Rattle.reflector.specs.declared.settings.SettingsFault.{SettingsFault}
 use Rattle.reflector.specs.declared.settings.SettingsFault.TheVariants.{Page, Namespace}
 use Rattle.world_laws.specs.Tasks.{RunSettings, or_fault, settings_fault}
 

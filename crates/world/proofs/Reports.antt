@@ -1,6 +1,6 @@
 -- Reports, as the code makes them.
 use Rattle.std.proofs.Common.{◌≡◌, ◌∙◌, ℕ, ap, ap₂, refl, sym, subst, List, [], ◌∷◌, ◌++◌, map, Bool, true, false, Option, Some, None, String, Global, string_bytes}
-use Rattle.std.specs.Prelude.{IfOk, nat_lt, ⊤, option_map}
+use Rattle.std.specs.Prelude.{IfOk, nat_lt, option_map}
 use Rattle.std.specs.BTreeMap.{BTreeMap}
 use Rattle.std.specs.FinMap as fin
 use Rattle.std.specs.List.{AllZip}

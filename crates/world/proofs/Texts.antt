@@ -1,5 +1,5 @@
 -- The bytes of a text.
-use Rattle.std.proofs.Common.{◌≡◌, ◌<◌, ◌≤◌, ◌+◌, ◌/◌, ◌%◌, ◌++◌, ℕ, Bool, true, false, cond, inl, inr, List, [], ◌∷◌, refl, sym, subst, arith}
+use Rattle.std.proofs.Common.{◌≡◌, ◌<◌, ◌≤◌, ◌+◌, ◌/◌, ◌%◌, ℕ, Bool, true, false, cond, inl, inr, List, [], ◌∷◌, refl, subst, arith}
 use Rattle.std.specs.Prelude.{IsUtf8, nat_lt, ◌⊎◌}
 use Rattle.std.specs.List.{All}
 use Rattle.std.specs.Str.{encode_utf8_all, all_scalars}

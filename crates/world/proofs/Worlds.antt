@@ -6,22 +6,21 @@ use Rattle.std.specs.FinMap as fin
 use Rattle.std.proofs.Math.Seq.{drop-drop, take-add, take-append_seam}
 use Rattle.std.proofs.lemmas.List.{length-append, length-drop, length-take, map_more, take-append-drop, take-append-le}
 use Rattle.decoder.specs.Wanted.{Wanted}
-use Rattle.httpedge.specs.Connections.{next_id, written_on}
+use Rattle.httpedge.specs.Connections.{written_on}
 use Rattle.httpedge.specs.Runs as runs
 use Rattle.httpedge.specs.Steps as edge
 use Rattle.reflector.specs.Client.{Cache, Client, Objects, fresh, kept}
-use Rattle.reflector.specs.Informer.{due}
 use Rattle.reflector.specs.Reading.{IsRead}
-use Rattle.reflector.specs.Run.{after_cut, asked, closed, hears_all, restarted, taken}
+use Rattle.reflector.specs.Run.{after_cut, asked, closed, hears_all, taken}
 use Rattle.reflector.proofs.Exactly.{all_tell, closed_read, fresh_read, still_lead}
 use Rattle.wireclient.specs.Reads.{Items}
 use Rattle.wireclient.specs.Reply.{State, Told}
-use Rattle.world_laws.specs.Tasks.{Task, client_settings, wanted_by}
+use Rattle.world_laws.specs.Tasks.{Task}
 use Rattle.world_laws.specs.Reports.{Report, Runs, reports_after}
 use Rattle.summary.specs.Apply.{apply_request}
 use Rattle.summary.specs.Counts.{summed_of}
-use Rattle.world_laws.specs.World.{ClientConnection, ComesInOnePiece, Cuts, Delivers, Hands, HubTakes, Leaves, Receives, Reconciles, Requests, Sends, Steps, TakesUnless, World, WorldEvent, after_move, reply_on}
-use Rattle.world.specs.Serving.{Left, is_over_in}
+use Rattle.world_laws.specs.World.{ClientConnection, ComesInOnePiece, Cuts, Delivers, Hands, Leaves, Receives, Reconciles, Steps, TakesUnless, World, WorldEvent, after_move, reply_on}
+use Rattle.world.specs.Serving.{Left}
 use Rattle.world.specs.Standing.{IsHanded, Leads}
 use Rattle.world.proofs.AtMost.{few_closed, few_fresh, few_heard}
 

@@ -1,4 +1,4 @@
-//! What carries bytes between the two ends.
+//! What carries bytes between the two ends; which bytes these are stands in `connection`.
 
 ghost use Rattle.std.specs.Prelude.{◌≡◌, ◌≢◌, IfOk, OnOk, Bool, true, false, Err};
 
@@ -52,7 +52,7 @@ impl Link for OverMemory {
     }
 }
 
-/// Carries a piece, with the fault of a world.
+/// Carries a piece, with the fault of a run.
 pub(crate) fn carried<L: Link>(
     alloc: Global,
     link: &mut L,
@@ -66,11 +66,4 @@ pub(crate) fn carried<L: Link>(
         Err(LinkFault::Memory) => Err(RunFault::Memory),
         Err(LinkFault::Failed) => Err(RunFault::Link),
     }
-}
-
-/// Over memory nothing but memory fails.
-pub(crate) fn carried_here(alloc: Global, piece: &[u8]) -> Result<Vec<u8>, RunFault>
-    ensures { result ≢ Err RunFault.Link }
-{
-    carried(alloc, &mut OverMemory, piece)
 }

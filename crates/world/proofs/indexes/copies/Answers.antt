@@ -1,5 +1,4 @@
 use Rattle.std.proofs.Common.{◌∙◌, ◌++◌, ap, map, append-nil, sym}
-use Rattle.std.proofs.lemmas.Result.{IfOk-weaker}
 use Rattle.indexer.specs.Objects.{place_of}
 use Rattle.world.proofs.Shots.{moved_on}
 use Rattle.world.proofs.indexes.copies.Goals as goal

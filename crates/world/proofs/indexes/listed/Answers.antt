@@ -1,4 +1,3 @@
-use Rattle.std.proofs.Common.{map}
 use Rattle.indexer.specs.Indexer.{held_of, is_under, names_of}
 use Rattle.indexer.specs.Objects.{place_of}
 use Rattle.world.proofs.Shots.{listed_next}

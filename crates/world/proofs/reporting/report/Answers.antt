@@ -8,7 +8,6 @@ use Rattle.reflector.specs.Informer.{indexes_in, names_in}
 use Rattle.reflector.specs.Mirrors.{keyed}
 use Rattle.reflector.specs.Standing.{keys_in}
 use Rattle.summary.specs.Counts.{counts_of}
-use Rattle.world_laws.specs.Reports.{reports_between}
 use Rattle.world.specs.Shots.{ShowsIndex}
 use Rattle.world.proofs.Reports.{due, keyed_objects, shown_none, shown_one, silent, undue}
 use Rattle.world.proofs.reporting.report.Goals as goal

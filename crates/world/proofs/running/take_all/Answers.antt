@@ -1,7 +1,6 @@
 use Rattle.std.proofs.Common.{◌≡◌, ◌∙◌, ◌+◌, ◌<◌, ◌++◌, [], arith, length, map, refl, subst, sym, take}
 use Rattle.std.specs.Option.{option_to_list}
 use Rattle.std.proofs.lemmas.List.{length-map, length-take-le, take_all}
-use Rattle.reflector.specs.Client.{kept}
 use Rattle.reflector.specs.Informer.{indexes_in, names_in}
 use Rattle.world_laws.specs.Reports.{Runs, reports_after}
 use Rattle.world.specs.Seen.{event_seen}

@@ -1,4 +1,4 @@
-use Rattle.std.proofs.Common.{◌∙◌, ℕ, List, ap, not, refl, subst, sym}
+use Rattle.std.proofs.Common.{◌∙◌, ℕ, List, ap, not, subst, sym}
 use Rattle.reflector.specs.Client.{kept}
 use Rattle.summary.specs.Apply.{apply_request}
 use Rattle.summary.specs.Counts.{summed_of}

@@ -1,10 +1,8 @@
 use Rattle.std.proofs.Common.{◌≡◌, ◌∙◌, ◌+◌, ◌<◌, ◌^◌, ap, arith, length, map, subst, sym}
 use Rattle.std.specs.FinMap as fin
-use Rattle.reflector.specs.Client.{kept}
 use Rattle.reflector.specs.Replays.{AreOld, replayed}
 use Rattle.reflector.specs.Seen.{notice_seen}
 use Rattle.summary.specs.Counts.{summed_of}
-use Rattle.summary.specs.Summary.{summed}
 use Rattle.world_laws.specs.Tasks.{wanted_by}
 use Rattle.world.proofs.Worlds.{leads_taken}
 use Rattle.world.proofs.world.World.settle.Goals as goal
