@@ -12,8 +12,8 @@ world_fault_of stop.Memory = Memory
 world_fault_of stop.Store = Store
 world_fault_of stop.Link = Link
 
--- a call with settings of this fault, or of none: it refuses them by just this number, and does all else only where there is none; out of
--- memory it is before either is known
+-- a call with settings of this fault, or of none: it refuses them by just this number, and does all else only where there is none; that
+-- memory is out says nothing of them
 abbrev pub Answers : {A : Type 0} → Option ℕ → Result A WorldFault → Type 0
 Answers fault (Ok x) = fault ≡ None
 Answers fault (Err Memory) = ⊤

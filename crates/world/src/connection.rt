@@ -37,7 +37,7 @@ pub(crate) fn is_by_peer_on(own: &Option<ClientConnection>, event: &Event) -> bo
     }
 }
 
-/// The next n of these bytes, or all that are left, carried by the link.
+/// The next n bytes from this place on, or all that are left, carried by the link.
 pub(crate) fn next_piece<L: Link>(
     alloc: Global,
     link: &mut L,

@@ -4,7 +4,8 @@
 //!
 //! Promises: the trace of a run is that of its definition: what was written on each connection, and a report for each
 //! event after which the client's revision is the first, or has risen, with the client's objects, each index of them and
-//! their counts by a label. Settings that can't be had are refused by their least fault.
+//! their counts by a label. Each report is right: its objects are exactly the server's at its revision, and no report is
+//! of a lower one than one before it. Settings that can't be had are refused by their least fault.
 //! Stands on `recorder` for the server, `reflector` for the client, `indexer` and `summary` for what is reported.
 #![tactic(auto)]
 
