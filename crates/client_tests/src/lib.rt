@@ -1,11 +1,13 @@
-//! Tests of informers and summaries, against replies written by hand, by public calls alone. Replies cut at every place
-//! are tested in `store_client_tests`.
+//! Tests of informers, summaries and mirrors, against replies written by hand, by public calls alone. Replies cut at
+//! every place are tested in `store_client_tests`.
 //!
-//! One function holds an informer; all else are rows that are played on it.
+//! One function holds an informer, one a mirror; all else are rows that are played on them.
 #![tactic(auto)]
 
 #[cfg(test)]
 mod lists;
+#[cfg(test)]
+mod mirrors;
 #[cfg(test)]
 mod playing;
 #[cfg(test)]

@@ -44,7 +44,7 @@ pub fn indexer(alloc: Global) -> Result<Indexer<Namespace>, Fail> {
 }
 
 /// Of all namespaces, two in a page.
-fn informer(alloc: Global, selector: &str) -> Result<Informer<Namespace>, Fail> {
+pub fn informer(alloc: Global, selector: &str) -> Result<Informer<Namespace>, Fail> {
     let selector = String::from_str(alloc, selector)?;
     let indexer = indexer(alloc)?;
     let made = Informer::new(alloc, widgets(alloc)?, None, selector, 2, indexer);

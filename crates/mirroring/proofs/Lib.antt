@@ -1,0 +1,4 @@
+mod Ahead
+mod FirstList
+mod Texts
+mod Following

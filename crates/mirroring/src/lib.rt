@@ -1,0 +1,16 @@
+//! Mirroring a server over connections that a caller dials: the client's twin of `serving`.
+//!
+//! Promises: each turn sends the request that is due, and all items of the bytes that are read count, however they are
+//! cut. What is written is the text of the first list's revision and of each notice, once and in order; after a fault a
+//! front of it.
+//! Stands on `reflector` for what items lead to, on `streams` for pieces.
+#![tactic(auto)]
+
+mod dial;
+mod fault;
+mod telling;
+mod turning;
+
+pub use dial::Dial;
+pub use fault::MirrorFault;
+pub use turning::{mirror, turn};

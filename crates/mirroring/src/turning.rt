@@ -1,0 +1,136 @@
+//! The turns of a mirror: dialling, reading, the informer, telling. The text stands in `telling`.
+
+ghost use Rattle.std.specs.Prelude.{◌≡◌, [], List, ℕ, IfErr, MatchResult, OnErr, OnOk, false, true};
+ghost use Rattle.std.specs.Io.KnownBytes.{Consumes};
+ghost use Rattle.wireclient.specs.Reads.{Items};
+ghost use Rattle.wireclient.specs.Reply.{Told};
+ghost use Rattle.reflector.specs.Client.{Client};
+ghost use Rattle.reflector.specs.Informer.{Runs, settings_in};
+ghost use Rattle.reflector.specs.Run.{asked, closed};
+ghost use Rattle.mirroring.specs.Pieces.{HeardFront, HeardSoFar, Tells, TellsFront};
+ghost use Rattle.mirroring.specs.Turns.{Answers, Is, IsIdle, MirrorsAll, MirrorsFront, MirrorsOnce, MirrorsSome, is_undialled};
+
+use crate::dial::Dial;
+use crate::fault::MirrorFault;
+use crate::telling::{first_revision, mirror_text, tell};
+use indexer::IndexBy;
+use reflector::Informer;
+use std::alloc::{AllocError, Global};
+use std::io::{ErrorKind, Read, Write};
+use streams::read_piece;
+
+/// The informer takes a piece of its reply, and what it then has to tell is written.
+fn take_piece<I: IndexBy, W: Write>(
+    alloc: Global,
+    informer: &mut Informer<I>,
+    piece: &[u8],
+    out: &mut W,
+) -> Result<(), MirrorFault>
+    ensures settings { settings_in informer.new ≡ settings_in informer.old }
+    ensures told { (c : Client) (bytes : List ℕ) (items : List Told) → Runs (λ b s. I.keys b s) informer.old c bytes items → Items bytes items → c.is_asking ≡ true → c.notices ≡ []
+        → OnOk result (Tells (λ b s. I.keys b s) (settings_in informer.old).wanted c bytes items piece.now informer.new (W.contents out.old) (W.contents out.new)) }
+    ensures fault { (c : Client) (bytes : List ℕ) (items : List Told) → Runs (λ b s. I.keys b s) informer.old c bytes items → Items bytes items → c.is_asking ≡ true → c.notices ≡ []
+        → OnErr result (TellsFront (settings_in informer.old).wanted c bytes items (W.contents out.old) (W.contents out.new)) }
+    ensures dialled { IfErr result (λ f. is_undialled f ≡ false) }
+{
+    let was = informer.revision();
+    informer.feed(piece)?;
+    let first = first_revision(was, informer.revision());
+    let notices = informer.take_notices();
+    let text = mirror_text(alloc, first, &notices)?;
+    tell(out, text.as_str()).map_err(MirrorFault::Output)
+}
+
+/// Some of the bytes that a reader has next; none at its end, nor where a read fails, which is a cut.
+fn next_piece<R: Read>(alloc: Global, reader: &mut R) -> Result<Vec<u8>, AllocError>
+    ensures { MatchResult result (λ piece. Consumes (R.remaining reader.old) (R.remaining reader.new) piece.items) (λ _. Consumes (R.remaining reader.old) (R.remaining reader.new) []) }
+{
+    'reads: for _ in 0..u64::MAX {
+        match read_piece(alloc, reader) {
+            Ok(piece) => return Ok(piece),
+            Err(error) if error.kind() == ErrorKind::Interrupted => {}
+            Err(error) if error.kind() == ErrorKind::OutOfMemory => return Err(AllocError),
+            Err(_) => break,
+        }
+    }
+    Ok(Vec::new(alloc))
+}
+
+/// Hands the reply to the informer as long as that awaits it, and tells what comes of it.
+fn hear<R: Read, I: IndexBy, W: Write>(
+    alloc: Global,
+    reader: &mut R,
+    informer: &mut Informer<I>,
+    out: &mut W,
+) -> Result<(), MirrorFault>
+    ensures settings { settings_in informer.new ≡ settings_in informer.old }
+    ensures heard { (c : Client) → Runs (λ b s. I.keys b s) informer.old (asked c) [] [] → c.notices ≡ []
+        → OnOk result (HeardSoFar (λ b s. I.keys b s) (settings_in informer.old).wanted c informer.new (R.remaining reader.old) (R.remaining reader.new) (W.contents out.old) (W.contents out.new)) }
+    ensures fault { (c : Client) → Runs (λ b s. I.keys b s) informer.old (asked c) [] [] → c.notices ≡ []
+        → OnErr result (HeardFront (settings_in informer.old).wanted c (W.contents out.old) (W.contents out.new)) }
+    ensures dialled { IfErr result (λ f. is_undialled f ≡ false) }
+{
+    'pieces: for _ in 0..u64::MAX {
+        if !informer.is_asking() {
+            break;
+        }
+        let piece = next_piece(alloc, reader)?;
+        if piece.is_empty() {
+            break;
+        }
+        take_piece(alloc, informer, &piece, out)?;
+    }
+    Ok(())
+}
+
+/// One connection: it is dialled, the request that is due is sent, and the reply is heard and told as far as it comes.
+/// With a request under way already, nothing is done.
+pub fn turn<D: Dial, I: IndexBy, W: Write>(
+    alloc: Global,
+    dialer: &mut D,
+    informer: &mut Informer<I>,
+    out: &mut W,
+) -> Result<(), MirrorFault>
+    ensures settings { settings_in informer.new ≡ settings_in informer.old }
+    ensures told { (c : Client) → Is (λ b s. I.keys b s) informer.old c → IsIdle c
+        → OnOk result (MirrorsOnce (λ b s. I.keys b s) (Answers (λ a q r b. D.dials a q r b) (λ r. D.Reader.remaining r)) (settings_in informer.old) dialer.old c dialer.new informer.new (W.contents out.old) (W.contents out.new)) }
+    ensures fault { (c : Client) → Is (λ b s. I.keys b s) informer.old c → IsIdle c
+        → OnErr result (HeardFront (settings_in informer.old).wanted c (W.contents out.old) (W.contents out.new)) }
+    ensures undialled { (c : Client) → Is (λ b s. I.keys b s) informer.old c → IsIdle c → IfErr result (λ f. is_undialled f ≡ true → Is (λ b s. I.keys b s) informer.new (closed (asked c)) × (out.new ≡ out.old)) }
+{
+    let Some(request) = informer.next_request()? else {
+        return Ok(());
+    };
+    let mut reader = match dialer.dial(&request) {
+        Ok(reader) => reader,
+        Err(error) => {
+            informer.closed();
+            return Err(MirrorFault::Dial(error));
+        }
+    };
+    let done = hear(alloc, &mut reader, informer, out);
+    informer.closed();
+    done
+}
+
+/// So many turns, one after another.
+pub fn mirror<D: Dial, I: IndexBy, W: Write>(
+    alloc: Global,
+    dialer: &mut D,
+    informer: &mut Informer<I>,
+    out: &mut W,
+    turns: u64,
+) -> Result<(), MirrorFault>
+    ensures settings { settings_in informer.new ≡ settings_in informer.old }
+    ensures told { (c : Client) → Is (λ b s. I.keys b s) informer.old c → IsIdle c
+        → OnOk result (MirrorsAll (λ b s. I.keys b s) (Answers (λ a q r b. D.dials a q r b) (λ r. D.Reader.remaining r)) (settings_in informer.old) turns dialer.old c dialer.new informer.new (W.contents out.old) (W.contents out.new)) }
+    ensures fault { (c : Client) → Is (λ b s. I.keys b s) informer.old c → IsIdle c
+        → OnErr result (MirrorsFront (Answers (λ a q r b. D.dials a q r b) (λ r. D.Reader.remaining r)) (settings_in informer.old) turns dialer.old c (W.contents out.old) (W.contents out.new)) }
+    ensures undialled { (c : Client) → Is (λ b s. I.keys b s) informer.old c → IsIdle c
+        → IfErr result (λ f. is_undialled f ≡ true → MirrorsSome (λ b s. I.keys b s) (Answers (λ a q r b. D.dials a q r b) (λ r. D.Reader.remaining r)) (settings_in informer.old) turns dialer.old c informer.new (W.contents out.old) (W.contents out.new)) }
+{
+    'turns: for _ in 0..turns {
+        turn(alloc, dialer, informer, out)?;
+    }
+    Ok(())
+}
