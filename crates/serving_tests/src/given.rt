@@ -1,5 +1,5 @@
 //! What several tests are given: an API of widgets, requests, and the replies that they get. Streams over memory stand
-//! in `streams`.
+//! in `over_memory`.
 
 use schema::Types;
 use serde_json::Value;

@@ -11,8 +11,8 @@ mod given;
 #[cfg(test)]
 mod loopback;
 #[cfg(test)]
-mod polled_loopback;
+mod over_memory;
 #[cfg(test)]
-mod streams;
+mod polled_loopback;
 #[cfg(test)]
 mod turns;

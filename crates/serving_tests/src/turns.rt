@@ -2,7 +2,7 @@
 //! changes no byte of another connection. Sockets are tested in `loopback` and `polled_loopback`.
 
 use crate::given::{ADDED, APPLY, CREATED, HALF, LIST, NO_ITEMS, WATCH, expect, fresh_api};
-use crate::streams::{MOST, Memory, PLENTY};
+use crate::over_memory::{MOST, Memory, PLENTY};
 use httpedge::{Event, Hub, HubFault};
 use polling::{Next, Peer};
 use serving::{pump, turn};
