@@ -1,6 +1,7 @@
 pub mod Items
 pub mod KeyNames
 pub mod Depths
+pub mod FaultPlaces
 pub mod Lists
 pub mod Members
 pub mod ObjectShapes

@@ -17,3 +17,4 @@ pub mod TypesFile
 pub mod ServedView
 pub mod Served
 pub mod Seen
+pub mod FaultPlaces

@@ -34,7 +34,7 @@ const MAX_TYPES: usize = 4_294_967_295;
 const TYPE_MEMBERS: [&str; 5] = ["group", "kind", "plural", "schema", "version"];
 
 /// Whether a property is one that every object has beside those of its type.
-fn is_envelope(name: &str) -> bool
+pub(crate) fn is_envelope(name: &str) -> bool
     ensures { result ≡ is_envelope name.now }
 {
     matches!(name, "apiVersion" | "kind" | "metadata")
@@ -111,7 +111,7 @@ fn read_root(alloc: Global, schema: &Map<String, Value>) -> Result<Schema, Types
     Ok(Schema::Struct(fields, false))
 }
 
-fn group_of<'a>(members: &'a Map<String, Value>) -> Result<&'a str, TypesFault>
+pub(crate) fn group_of<'a>(members: &'a Map<String, Value>) -> Result<&'a str, TypesFault>
     ensures { Gives (λ s. s.now) result (text_where is_dns_subdomain (text_at (codes "group") (members_view members.now.entries))) }
 {
     match text_at(members, "group") {
@@ -120,7 +120,7 @@ fn group_of<'a>(members: &'a Map<String, Value>) -> Result<&'a str, TypesFault>
     }
 }
 
-fn version_of<'a>(members: &'a Map<String, Value>) -> Result<&'a str, TypesFault>
+pub(crate) fn version_of<'a>(members: &'a Map<String, Value>) -> Result<&'a str, TypesFault>
     ensures { Gives (λ s. s.now) result (text_where is_dns_label (text_at (codes "version") (members_view members.now.entries))) }
 {
     match text_at(members, "version") {
@@ -138,7 +138,7 @@ fn kind_of<'a>(members: &'a Map<String, Value>) -> Result<&'a str, TypesFault>
     }
 }
 
-fn plural_of<'a>(members: &'a Map<String, Value>) -> Result<&'a str, TypesFault>
+pub(crate) fn plural_of<'a>(members: &'a Map<String, Value>) -> Result<&'a str, TypesFault>
     ensures { Gives (λ s. s.now) result (text_where is_plural (text_at (codes "plural") (members_view members.now.entries))) }
 {
     match text_at(members, "plural") {

@@ -1,15 +1,17 @@
 //! Types and their schemas, as a types file declares them. Values under a schema are `typed`'s.
 //!
-//! Promises: a types file reads as exactly the types that it declares, or as its first fault;
-//! a schema gives each path at most one place.
+//! Promises: a types file reads as exactly the types that it declares, or as its first fault,
+//! of which the type and the part of its schema can be told; a schema gives each path at most one place.
 //! Stands on `fieldpath` for elements, on `names` for names, on `serde_json` and `json_values` for the file.
 #![tactic(auto)]
 
 mod fault;
+mod fault_place;
 mod file;
 mod forms;
 mod keywords;
 mod lawful;
+mod locate;
 mod place;
 mod read;
 mod schema;
@@ -19,7 +21,9 @@ mod type_names;
 mod types;
 
 pub use fault::TypesFault;
+pub use fault_place::{FaultPlace, Part, Step};
 pub use keywords::is_in;
+pub use locate::first_place;
 pub use place::Place;
 pub use schema::{ListKind, Schema};
 pub use served::Served;
