@@ -5,7 +5,7 @@ use Rattle.std.specs.declared.result.Result.{Result}
 use Rattle.std.specs.declared.result.Result.TheVariants.{Ok, Err}
 use Rattle.serde_json.specs.Data.{Data, Members, Items}
 use Rattle.serde_json.specs.Find.{as_array}
-use Rattle.indexer.specs.Objects.{stored_of}
+use Rattle.indexer.specs.Objects.{shared_of, stored_of}
 use Rattle.decoder.specs.declared.malformed.Malformed.{Malformed}
 use Rattle.decoder.specs.declared.malformed.Malformed.TheVariants as malformed
 use Rattle.decoder.specs.declared.fault.DecodeFault.{DecodeFault}
@@ -28,10 +28,10 @@ abbrev pub wanted_of : asked.Wanted → Wanted
 wanted_of w = wanted_from w.source w.namespace
 
 abbrev pub page_seen : pages.Page → Page
-page_seen p = record { revision = p.revision; token = option_map string_bytes p.token; objects = map stored_of p.objects.items }
+page_seen p = record { revision = p.revision; token = option_map string_bytes p.token; objects = map shared_of p.objects.items }
 
 abbrev pub line_seen : lines.Line → Line
-line_seen (line.Put o) = put (stored_of o)
+line_seen (line.Put o) = put (shared_of o)
 line_seen (line.Deleted o) = deleted (stored_of o)
 line_seen (line.Bookmark r) = bookmark r
 line_seen line.Error = error

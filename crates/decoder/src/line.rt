@@ -10,17 +10,18 @@ use crate::fault::DecodeFault;
 use crate::kinds::check_kind;
 use crate::malformed::Malformed;
 use crate::members::{at, members_of, metadata_in, text_at, value_in, version_in};
-use crate::object::object_of;
+use crate::object::{object_of, shared_object_of};
 use crate::wanted::Wanted;
 use indexer::Object;
 use serde_json::{Map, Value};
 use std::alloc::Global;
+use std::rc::Rc;
 
 /// What a line of a watch says.
 #[derive(Debug, Drop)]
 pub enum Line {
     /// The object was added or modified.
-    Put(Object),
+    Put(Rc<Object>),
     /// The object was deleted: as it stood before, with the deletion's revision.
     Deleted(Object),
     /// All changes up to this revision have been told.
@@ -46,7 +47,7 @@ fn line_by_type(
     ensures { Gives line_seen result (line_by_type (wanted_of wanted.now) name.now (view value.now)) }
 {
     match name {
-        "ADDED" | "MODIFIED" => Ok(Line::Put(object_of(alloc, wanted, value)?)),
+        "ADDED" | "MODIFIED" => Ok(Line::Put(shared_object_of(alloc, wanted, value)?)),
         "DELETED" => Ok(Line::Deleted(object_of(alloc, wanted, value)?)),
         "BOOKMARK" => Ok(Line::Bookmark(bookmark_of(wanted, value)?)),
         "ERROR" => Ok(Line::Error),

@@ -3,7 +3,7 @@
 ghost use Rattle.std.specs.Prelude.{◌≡◌, option_map, string_bytes};
 ghost use Rattle.serde_json.specs.View.{members_view, view};
 ghost use Rattle.json_values.specs.Texts.{named_texts, texts_of};
-ghost use Rattle.indexer.specs.Objects.{stored_of};
+ghost use Rattle.indexer.specs.Objects.{shared_of, stored_of};
 ghost use Rattle.decoder.specs.declared.malformed.Malformed.TheVariants as malformed;
 ghost use Rattle.decoder.specs.Members.{or_malformed};
 ghost use Rattle.decoder.specs.Objects.{labels_of, namespace_in, object_of, text_of};
@@ -19,6 +19,7 @@ use json_values::{has_float, texts_of};
 use serde_json::{Map, Value};
 use std::alloc::Global;
 use std::collections::BTreeMap;
+use std::rc::{Rc, RcStr};
 
 fn name_in(metadata: &Map<String, Value>) -> Result<&str, Malformed>
     ensures { Says (λ s. s.now) result (name_in (members_view metadata.now.entries)) }
@@ -86,10 +87,22 @@ pub(crate) fn object_of(
     let labels = labels_of(alloc, at(metadata, "labels"))?;
     let text = text_of(alloc, value)?;
     Ok(Object {
-        namespace: String::from_str(alloc, namespace)?,
-        name: String::from_str(alloc, name)?,
+        namespace: RcStr::from_str(alloc, namespace)?,
+        name: RcStr::from_str(alloc, name)?,
         revision,
         labels,
         text,
     })
+}
+
+/// The same, to be shared.
+pub(crate) fn shared_object_of(
+    alloc: Global,
+    wanted: &Wanted,
+    value: &Value,
+) -> Result<Rc<Object>, DecodeFault>
+    ensures { Gives shared_of result (object_of (wanted_of wanted.now) (view value.now)) }
+{
+    let object = object_of(alloc, wanted, value)?;
+    Ok(object.shared(alloc)?)
 }

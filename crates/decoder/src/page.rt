@@ -3,7 +3,7 @@
 
 ghost use Rattle.std.specs.Prelude.{◌≡◌, map, option_map};
 ghost use Rattle.serde_json.specs.View.{items_view, members_view, view};
-ghost use Rattle.indexer.specs.Objects.{stored_of};
+ghost use Rattle.indexer.specs.Objects.{shared_of};
 ghost use Rattle.decoder.specs.Pages.{objects_of, page_in, page_of, token_of};
 ghost use Rattle.decoder.specs.Seen.{Gives, Says, items_in, page_seen, wanted_of};
 
@@ -11,12 +11,13 @@ use crate::fault::DecodeFault;
 use crate::kinds::check_list_kind;
 use crate::malformed::Malformed;
 use crate::members::{at, members_of, metadata_in, value_in, version_in};
-use crate::object::object_of;
+use crate::object::shared_object_of;
 use crate::wanted::Wanted;
 use indexer::Object;
 use json_values::{copied, unless_empty};
 use serde_json::{Map, Value};
 use std::alloc::Global;
+use std::rc::Rc;
 
 /// A list, or the part of it that one answer has.
 #[derive(Debug, Drop)]
@@ -25,7 +26,7 @@ pub struct Page {
     pub revision: u64,
     /// Where it goes on, if some objects are left.
     pub token: Option<String>,
-    pub objects: Vec<Object>,
+    pub objects: Vec<Rc<Object>>,
 }
 
 /// The text of `continue`; an empty one is none.
@@ -50,12 +51,16 @@ fn items_in(top: &Map<String, Value>) -> Result<&[Value], Malformed>
     }
 }
 
-fn objects_of(alloc: Global, wanted: &Wanted, items: &[Value]) -> Result<Vec<Object>, DecodeFault>
-    ensures { Gives (λ v. map stored_of v.items) result (objects_of (wanted_of wanted.now) (items_view items.now)) }
+fn objects_of(
+    alloc: Global,
+    wanted: &Wanted,
+    items: &[Value],
+) -> Result<Vec<Rc<Object>>, DecodeFault>
+    ensures { Gives (λ v. map shared_of v.items) result (objects_of (wanted_of wanted.now) (items_view items.now)) }
 {
     let mut objects = Vec::with_capacity(alloc, items.len())?;
     for item in items {
-        objects.push(object_of(alloc, wanted, item)?)?;
+        objects.push(shared_object_of(alloc, wanted, item)?)?;
     }
     Ok(objects)
 }

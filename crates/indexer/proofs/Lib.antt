@@ -9,5 +9,4 @@ pub mod Same
 pub mod Shown
 pub mod Under
 pub mod Written
-pub mod Copies
 pub mod HandedOut

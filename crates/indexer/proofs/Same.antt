@@ -1,10 +1,10 @@
 -- Keys that are the same.
 use Rattle.std.proofs.Common.{◌≡◌, ℕ, Bool, true, false, ◌&&◌, List, Ordering, Less, Equal, Greater, nat_cmp, is_eq, refl, sym, ap₂, ◌∙◌}
-use Rattle.std.specs.Prelude.{string_bytes}
 use Rattle.std.specs.BTreeMap.{BTreeMap, is_at, get}
 use Rattle.std.specs.Cmp.Lexicographic.{slice_cmp}
 use Rattle.std.specs.Map.{lookup}
 use Rattle.std.specs.Ordering.{ordering_then}
+use Rattle.std.specs.Rc.{rc_str_bytes}
 use Rattle.std.proofs.lemmas.Map.Text.{is_eq-slice_cmp}
 use Rattle.std.proofs.lemmas.Slice.Eq.{bytes_eq-Decides}
 use Rattle.indexer.specs.declared.object.ObjectKey.{ObjectKey}
@@ -31,8 +31,8 @@ equal_texts xs ys h = is_eq-slice_cmp xs ys ∙ (bytes_eq-Decides xs ys).1 h
 
 pub same_bytes : (a b : ObjectKey) → is_same a b ≡ true → IsCopyOf a b
 same_bytes a b h =
-    let first = slice_cmp nat_cmp (string_bytes a.namespace) (string_bytes b.namespace) in
-    let second = slice_cmp nat_cmp (string_bytes a.name) (string_bytes b.name) in
+    let first = slice_cmp nat_cmp (rc_str_bytes a.namespace) (rc_str_bytes b.namespace) in
+    let second = slice_cmp nat_cmp (rc_str_bytes a.name) (rc_str_bytes b.name) in
     let e = sym (then_equal first second) ∙ h in
     record {
       namespace = sym (texts_equal _ _ (both_first (is_eq first) (is_eq second) e));
@@ -42,4 +42,4 @@ same_bytes a b h =
 -- a copy finds what the key finds
 pub get_copy : {X : Type 0} (objects : BTreeMap ObjectKey X) (key copy : ObjectKey) → IsCopyOf key copy → get key_cmp objects copy ≡ get key_cmp objects key
 get_copy {X} objects key copy h =
-    ap₂ (λ (a b : List ℕ). lookup (is_at (λ (x : ObjectKey). ordering_then (slice_cmp nat_cmp a (string_bytes x.namespace)) (slice_cmp nat_cmp b (string_bytes x.name)))) objects.entries) h.namespace h.name
+    ap₂ (λ (a b : List ℕ). lookup (is_at (λ (x : ObjectKey). ordering_then (slice_cmp nat_cmp a (rc_str_bytes x.namespace)) (slice_cmp nat_cmp b (rc_str_bytes x.name)))) objects.entries) h.namespace h.name

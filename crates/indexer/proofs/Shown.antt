@@ -1,6 +1,5 @@
 -- The keys of one index that have objects.
 use Rattle.std.proofs.Common.{◌≡◌, ◌↔◌, ℕ, suc, ◌<◌, Bool, true, false, cond, ◌&&◌, ◌||◌, eqb, List, [], ◌∷◌, length, get_or, Option, Some, Global, BTreeSet, nat_cmp, Less, is_eq, refl, sym, subst, ap, ◌∙◌, arith, true≢false, ne_eqb}
-use Rattle.std.specs.Prelude.{string_bytes}
 use Rattle.std.specs.BTreeMap.{is_at, get}
 use Rattle.std.specs.BTreeSet.{contains}
 use Rattle.std.specs.Bool.{IsTrue}
@@ -34,9 +33,9 @@ empty_is false n h = sym (ne_eqb n 0 (λ e. true≢false (sym (h.1 e))))
 
 same_itself : (q : ObjectKey) → is_same q q ≡ true
 same_itself q =
-    then_equal (slice_cmp nat_cmp (string_bytes q.namespace) (string_bytes q.namespace)) (slice_cmp nat_cmp (string_bytes q.name) (string_bytes q.name))
-    ∙ ap (λ b. b && is_eq (slice_cmp nat_cmp (string_bytes q.name) (string_bytes q.name))) (equal_texts (string_bytes q.namespace) (string_bytes q.namespace) refl)
-    ∙ equal_texts (string_bytes q.name) (string_bytes q.name) refl
+    then_equal (slice_cmp nat_cmp (rc_str_bytes q.namespace) (rc_str_bytes q.namespace)) (slice_cmp nat_cmp (rc_str_bytes q.name) (rc_str_bytes q.name))
+    ∙ ap (λ b. b && is_eq (slice_cmp nat_cmp (rc_str_bytes q.name) (rc_str_bytes q.name))) (equal_texts (rc_str_bytes q.namespace) (rc_str_bytes q.namespace) refl)
+    ∙ equal_texts (rc_str_bytes q.name) (rc_str_bytes q.name) refl
 
 -- a set with keys has one
 pub some_key : (keys : BTreeSet ObjectKey) → eqb (length keys.keys) 0 ≡ false → (q : ObjectKey) × (contains key_cmp keys q ≡ true)

@@ -1,8 +1,8 @@
 -- What stands under a key of an index after one change.
 use Rattle.std.proofs.Common.{◌≡◌, ℕ, Bool, true, false, cond, not, ◌&&◌, ◌||◌, List, [], ◌∷◌, length, arith, Option, None, refl, sym, ap, ap₂, ◌∙◌}
-use Rattle.std.specs.Prelude.{string_bytes}
 use Rattle.std.specs.BTreeSet.{BTreeSet}
 use Rattle.std.specs.Ordering.{is_eq, ordering_then, nat_cmp}
+use Rattle.std.specs.Rc.{rc_str_bytes}
 use Rattle.std.specs.Cmp.Lexicographic.{slice_cmp}
 use Rattle.std.specs.List.{list_any}
 use Rattle.std.specs.Str.{bytes_eq}
@@ -40,7 +40,7 @@ cond_and false false = refl
 -- a copy is the same key
 pub same_copy : (key copy q : ObjectKey) → IsCopyOf key copy → is_same copy q ≡ is_same key q
 same_copy key copy q h =
-    ap₂ (λ (a b : List ℕ). is_eq (ordering_then (slice_cmp nat_cmp a (string_bytes q.namespace)) (slice_cmp nat_cmp b (string_bytes q.name)))) h.namespace h.name
+    ap₂ (λ (a b : List ℕ). is_eq (ordering_then (slice_cmp nat_cmp a (rc_str_bytes q.namespace)) (slice_cmp nat_cmp b (rc_str_bytes q.name)))) h.namespace h.name
 
 pub nothing_in : {X : Type 0} (p : X → Bool) (xs : List X) → length xs ≡ 0 → list_any p xs ≡ false
 nothing_in p [] e = refl

@@ -7,13 +7,16 @@ use Rattle.indexer.specs.declared.object.Object.{Object}
 use Rattle.indexer.specs.declared.object.ObjectKey.{ObjectKey}
 use Rattle.indexer.specs.Keys.{key_cmp, is_same, IsKeyOf, IsCopyOf}
 use Rattle.indexer.specs.Kept.{has_key, HoldsPostings}
-use Rattle.indexer.specs.Objects.{place_of, place_of_object, texts_at, is_among, under_at}
+use Rattle.indexer.specs.Objects.{Shared, place_of, place_of_object, texts_at, is_among, under_at}
 use Rattle.indexer.specs.Postings.{Postings}
 use Rattle.indexer.proofs.Same.{same_bytes, get_copy}
 use Rattle.indexer.proofs.Under.{same_copy}
 
 pub place_key : (object : Object) (key : ObjectKey) → IsKeyOf object key → place_of key ≡ place_of_object object
 place_key object key of = ap₂ (λ (a b : List ℕ). (a, b)) of.namespace of.name
+
+pub shared_key : (shared : Shared) (object : Object) (key : ObjectKey) → object ≡ shared.value → IsKeyOf object key → place_of key ≡ place_of_object shared.value
+shared_key shared object key is of = place_key object key of ∙ ap place_of_object is
 
 -- the key that stands there has the same bytes
 pub found_copy : (key found : ObjectKey) → key_cmp key found ≡ Equal → IsCopyOf key found

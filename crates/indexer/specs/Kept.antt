@@ -5,7 +5,7 @@ use Rattle.std.specs.FinMap.{FinMap, entries, from_entries}
 use Rattle.indexer.specs.declared.entry.Entry.{Entry}
 use Rattle.indexer.specs.declared.object.ObjectKey.{ObjectKey}
 use Rattle.indexer.specs.Keys.{key_cmp}
-use Rattle.indexer.specs.Objects.{Place, place_cmp, place_of, Stored, stored_of, kept_of, texts_at, is_among, under_at}
+use Rattle.indexer.specs.Objects.{Place, place_cmp, place_of, Stored, shared_of, kept_of, texts_at, is_among, under_at}
 use Rattle.indexer.specs.Postings.{Postings}
 
 -- objects by place, each with its keys in each index
@@ -13,7 +13,7 @@ abbrev pub Held : Type 0
 Held = FinMap place_cmp (Stored × List (List (List ℕ)))
 
 abbrev pub seen_of : Entry → Stored × List (List (List ℕ))
-seen_of e = (stored_of e.object, kept_of e.keys.items)
+seen_of e = (shared_of e.object, kept_of e.keys.items)
 
 abbrev pub held_in : BTreeMap ObjectKey Entry → Held
 held_in objects = from_entries (map (λ e. (place_of e.0, seen_of e.1)) objects.entries)

@@ -4,6 +4,8 @@ use Rattle.std.specs.declared.alloc.Global.{Global}
 use Rattle.std.specs.BTreeMap.{BTreeMap}
 use Rattle.std.specs.List.{list_any, slice_index_or}
 use Rattle.std.specs.Ordering.{ordering_then, nat_cmp}
+use Rattle.std.specs.Rc.{rc_str_bytes}
+use Rattle.std.specs.declared.rc.Rc.{Rc}
 use Rattle.std.specs.Cmp.Lexicographic.{slice_cmp}
 use Rattle.std.specs.Str.{bytes_eq}
 use Rattle.std.specs.declared.cmp.Ordering.{Ordering}
@@ -25,7 +27,14 @@ abbrev pub labels_of : BTreeMap (String Global) (String Global) → List (List �
 labels_of labels = map (λ e. (string_bytes e.0, string_bytes e.1)) labels.entries
 
 abbrev pub stored_of : Object → Stored
-stored_of o = record { namespace = string_bytes o.namespace; name = string_bytes o.name; revision = o.revision; labels = labels_of o.labels; text = string_bytes o.text }
+stored_of o = record { namespace = rc_str_bytes o.namespace; name = rc_str_bytes o.name; revision = o.revision; labels = labels_of o.labels; text = string_bytes o.text }
+
+-- an object with several owners
+abbrev pub Shared : Type 0
+Shared = Rc Object Global
+
+abbrev pub shared_of : Shared → Stored
+shared_of o = stored_of o.value
 
 -- a namespace and a name
 abbrev pub Place : Type 0
@@ -36,10 +45,10 @@ abbrev pub place_cmp : Place → Place → Ordering
 place_cmp a b = ordering_then (slice_cmp nat_cmp a.0 b.0) (slice_cmp nat_cmp a.1 b.1)
 
 abbrev pub place_of : ObjectKey → Place
-place_of key = (string_bytes key.namespace, string_bytes key.name)
+place_of key = (rc_str_bytes key.namespace, rc_str_bytes key.name)
 
 abbrev pub place_of_object : Object → Place
-place_of_object o = (string_bytes o.namespace, string_bytes o.name)
+place_of_object o = (rc_str_bytes o.namespace, rc_str_bytes o.name)
 
 -- whether a key is one of these
 abbrev pub is_among : List (List ℕ) → List ℕ → Bool

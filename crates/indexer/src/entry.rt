@@ -2,10 +2,11 @@
 
 use crate::object::Object;
 use crate::texts::Texts;
+use std::rc::Rc;
 
 /// An object, and its keys in each index.
 #[derive(Debug, Drop)]
 pub(crate) struct Entry {
-    pub(crate) object: Object,
+    pub(crate) object: Rc<Object>,
     pub(crate) keys: Vec<Texts>,
 }

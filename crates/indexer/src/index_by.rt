@@ -2,10 +2,11 @@
 
 ghost use Rattle.std.specs.Prelude.{◌≡◌, List, ℕ, map, IfOk, string_bytes};
 ghost use Rattle.indexer.specs.Names.{are_distinct};
-ghost use Rattle.indexer.specs.Objects.{Stored, stored_of};
+ghost use Rattle.indexer.specs.Objects.{Stored, shared_of};
 
 use crate::object::Object;
 use std::alloc::{AllocError, Global};
+use std::rc::Rc;
 
 /// An index: its name, and the keys of an object, which are a function of the object; a key given twice
 /// counts once.
@@ -44,9 +45,9 @@ impl IndexBy for Box<dyn IndexBy> {
 pub(crate) fn keys_by_each<I: IndexBy>(
     alloc: Global,
     indexes: &[I],
-    object: &Object,
+    object: &Rc<Object>,
 ) -> Result<Vec<Vec<String>>, AllocError>
-    ensures { IfOk result (λ v. map (λ w. map string_bytes w.items) v.items ≡ map (λ b. I.keys b (stored_of object.now)) indexes.now) }
+    ensures { IfOk result (λ v. map (λ w. map string_bytes w.items) v.items ≡ map (λ b. I.keys b (shared_of object.now)) indexes.now) }
 {
     let mut all = Vec::with_capacity(alloc, indexes.len())?;
     for index in indexes {

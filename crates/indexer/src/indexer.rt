@@ -7,7 +7,7 @@ ghost use Rattle.indexer.specs.PutAll.{put_all};
 ghost use Rattle.indexer.specs.Kept.{HoldsPostings, held_in};
 ghost use Rattle.indexer.specs.Names.{are_distinct};
 ghost use Rattle.indexer.specs.declared.indexer.NewError.TheVariants.{Memory};
-ghost use Rattle.indexer.specs.Objects.{stored_of};
+ghost use Rattle.indexer.specs.Objects.{shared_of};
 
 use crate::entry::Entry;
 use crate::index_by::{IndexBy, are_distinct, keys_by_each, names_of_each};
@@ -17,6 +17,7 @@ use crate::postings::{Postings, objects_under, texts_in};
 use std::alloc::{AllocError, Global};
 use std::collections::{BTreeMap, BTreeSet};
 use std::error::Error;
+use std::rc::Rc;
 use std::{fmt, mem};
 
 /// Objects by namespace and name, and indexes that follow them.
@@ -73,10 +74,10 @@ struct Gathered {
 fn gather<I: IndexBy>(
     alloc: Global,
     indexes: &[I],
-    from: Vec<Object>,
+    from: Vec<Rc<Object>>,
 ) -> Result<Gathered, AllocError>
     ensures holds { IfOk result (λ r. HoldsPostings r.objects r.postings.items) }
-    ensures held { IfOk result (λ r. held_in r.objects ≡ put_all (λ o. map (λ b. I.keys b o) indexes.now) (map stored_of from.items) fin.empty) }
+    ensures held { IfOk result (λ r. held_in r.objects ≡ put_all (λ o. map (λ b. I.keys b o) indexes.now) (map shared_of from.items) fin.empty) }
 {
     let mut objects = BTreeMap::new(alloc);
     let mut postings = Vec::new(alloc);
@@ -99,7 +100,7 @@ impl<I: IndexBy> Indexer<I> {
     ghost use Rattle.indexer.specs.Kept.{objects_in};
     ghost use Rattle.indexer.specs.Names.{are_distinct};
     ghost use Rattle.indexer.specs.PutAll.{put_all};
-    ghost use Rattle.indexer.specs.Objects.{place_of, place_of_object, stored_of, is_among};
+    ghost use Rattle.indexer.specs.Objects.{place_of, place_of_object, shared_of, is_among};
     ghost use Rattle.indexer.specs.Postings.{has_in};
 
     /// No objects, and these indexes; refused where two have one name.
@@ -123,11 +124,14 @@ impl<I: IndexBy> Indexer<I> {
         })
     }
 
-    /// Keeps just these objects, put one after the other; those that were kept are returned, in order of keys.
-    /// Out of memory, it changes nothing.
-    pub fn replace(&mut self, objects: Vec<Object>) -> Result<Vec<Object>, AllocError>
-        ensures ok { OnOk result (held_of self.new ≡ put_all (λ o. map (λ b. I.keys b o) (indexes_of self.old)) (map stored_of objects.items) fin.empty) }
-        ensures was { IfOk result (λ v. map stored_of v.items ≡ map (λ e. e.1) (objects_in (held_of self.old))) }
+    /// Keeps just these objects, put one after the other; those that were kept are returned, each beside its key, in
+    /// order of keys. Out of memory, it changes nothing.
+    pub fn replace(
+        &mut self,
+        objects: Vec<Rc<Object>>,
+    ) -> Result<Vec<(ObjectKey, Rc<Object>)>, AllocError>
+        ensures ok { OnOk result (held_of self.new ≡ put_all (λ o. map (λ b. I.keys b o) (indexes_of self.old)) (map shared_of objects.items) fin.empty) }
+        ensures was { IfOk result (λ v. map (λ e. (place_of e.0, shared_of e.1)) v.items ≡ objects_in (held_of self.old)) }
         ensures err { OnErr result (held_of self.new ≡ held_of self.old) }
         ensures indexes { indexes_of self.new ≡ indexes_of self.old }
         ensures names { names_of self.new ≡ names_of self.old }
@@ -142,9 +146,9 @@ impl<I: IndexBy> Indexer<I> {
 
     /// Keeps the object where it stands, in place of the one that was there, which is returned, and in every
     /// index under its keys alone. Out of memory, it changes nothing.
-    pub fn put(&mut self, object: Object) -> Result<Option<Object>, AllocError>
-        ensures ok { OnOk result (held_of self.new ≡ fin.insert (held_of self.old) (place_of_object object) (stored_of object, map (λ b. I.keys b (stored_of object)) (indexes_of self.old))) }
-        ensures was { IfOk result (λ o. option_map stored_of o ≡ option_map (λ h. h.0) (fin.get (held_of self.old) (place_of_object object))) }
+    pub fn put(&mut self, object: Rc<Object>) -> Result<Option<Rc<Object>>, AllocError>
+        ensures ok { OnOk result (held_of self.new ≡ fin.insert (held_of self.old) (place_of_object object.value) (shared_of object, map (λ b. I.keys b (shared_of object)) (indexes_of self.old))) }
+        ensures was { IfOk result (λ o. option_map shared_of o ≡ option_map (λ h. h.0) (fin.get (held_of self.old) (place_of_object object.value))) }
         ensures err { OnErr result (held_of self.new ≡ held_of self.old) }
         ensures indexes { indexes_of self.new ≡ indexes_of self.old }
         ensures names { names_of self.new ≡ names_of self.old }
@@ -163,9 +167,9 @@ impl<I: IndexBy> Indexer<I> {
     }
 
     /// Keeps no object at the key, nor in any index; the one that was there is returned.
-    pub fn remove(&mut self, key: &ObjectKey) -> Option<Object>
+    pub fn remove(&mut self, key: &ObjectKey) -> Option<Rc<Object>>
         ensures removed { held_of self.new ≡ fin.remove (held_of self.old) (place_of key.now) }
-        ensures was { option_map stored_of result ≡ option_map (λ h. h.0) (fin.get (held_of self.old) (place_of key.now)) }
+        ensures was { option_map shared_of result ≡ option_map (λ h. h.0) (fin.get (held_of self.old) (place_of key.now)) }
         ensures indexes { indexes_of self.new ≡ indexes_of self.old }
         ensures names { names_of self.new ≡ names_of self.old }
     {
@@ -186,15 +190,15 @@ impl<I: IndexBy> Indexer<I> {
     }
 
     /// The object at the key. Takes no memory.
-    pub fn get(&self, key: &ObjectKey) -> Option<&Object>
-        ensures { option_map (λ o. stored_of o.now) result ≡ option_map (λ h. h.0) (fin.get (held_of self.now) (place_of key.now)) }
+    pub fn get(&self, key: &ObjectKey) -> Option<&Rc<Object>>
+        ensures { option_map (λ o. shared_of o.now) result ≡ option_map (λ h. h.0) (fin.get (held_of self.now) (place_of key.now)) }
     {
         kept::object_at(&self.objects, key)
     }
 
     /// The objects, each beside its key, in order of keys.
-    pub fn objects(&self) -> Result<Vec<(&ObjectKey, &Object)>, AllocError>
-        ensures { IfOk result (λ v. map (λ e. (place_of e.0.now, stored_of e.1.now)) v.items ≡ objects_in (held_of self.now)) }
+    pub fn objects(&self) -> Result<Vec<(&ObjectKey, &Rc<Object>)>, AllocError>
+        ensures { IfOk result (λ v. map (λ e. (place_of e.0.now, shared_of e.1.now)) v.items ≡ objects_in (held_of self.now)) }
     {
         kept::all_of(self.alloc, &self.objects)
     }

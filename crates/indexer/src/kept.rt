@@ -5,7 +5,7 @@ ghost use Rattle.std.specs.BTreeMap.{get};
 ghost use Rattle.std.specs.FinMap as fin;
 ghost use Rattle.indexer.specs.Keys.{key_cmp, is_same};
 ghost use Rattle.indexer.specs.Kept.{held_in, seen_of, has_key, objects_in, HoldsPostings};
-ghost use Rattle.indexer.specs.Objects.{place_of, place_of_object, stored_of, texts_of, texts_at, is_among, under_at};
+ghost use Rattle.indexer.specs.Objects.{place_of, place_of_object, shared_of, texts_of, texts_at, is_among, under_at};
 ghost use Rattle.indexer.specs.declared.object.ObjectKey.{ObjectKey};
 
 use crate::entry::Entry;
@@ -14,6 +14,7 @@ use crate::postings::{Postings, add_all, remove_all};
 use crate::texts::{Texts, shared_by_each};
 use std::alloc::{AllocError, Global};
 use std::collections::{BTreeMap, btree_map};
+use std::rc::Rc;
 
 /// Moves the object from the keys that it had to these.
 fn move_to(
@@ -40,17 +41,17 @@ pub(crate) fn put(
     alloc: Global,
     objects: &mut BTreeMap<ObjectKey, Entry>,
     postings: &mut Vec<Postings>,
-    object: Object,
+    object: Rc<Object>,
     keys: Vec<Vec<String>>,
 ) -> Result<Option<Entry>, AllocError>
     requires { HoldsPostings objects.old postings.old.items }
     ensures holds { HoldsPostings objects.new postings.new.items }
-    ensures ok { OnOk result (held_in objects.new ≡ fin.insert (held_in objects.old) (place_of_object object) (stored_of object, texts_of keys.items)) }
-    ensures was { IfOk result (λ o. option_map seen_of o ≡ fin.get (held_in objects.old) (place_of_object object)) }
+    ensures ok { OnOk result (held_in objects.new ≡ fin.insert (held_in objects.old) (place_of_object object.value) (shared_of object, texts_of keys.items)) }
+    ensures was { IfOk result (λ o. option_map seen_of o ≡ fin.get (held_in objects.old) (place_of_object object.value)) }
     ensures err { OnErr result (held_in objects.new ≡ held_in objects.old) }
 {
     let kept = shared_by_each(alloc, postings.as_slice(), keys)?;
-    match objects.entry(ObjectKey::of(&object)?)? {
+    match objects.entry(ObjectKey::of(object.as_ref())?)? {
         btree_map::Entry::Occupied(mut held) => {
             move_to(alloc, postings, &held.get().keys, &kept, held.key())?;
             Ok(Some(held.insert(Entry { object, keys: kept })))
@@ -88,8 +89,8 @@ pub(crate) fn remove(
 pub(crate) fn object_at<'a>(
     objects: &'a BTreeMap<ObjectKey, Entry>,
     key: &ObjectKey,
-) -> Option<&'a Object>
-    ensures { option_map (λ o. stored_of o.now) result ≡ option_map (λ h. h.0) (fin.get (held_in objects.now) (place_of key.now)) }
+) -> Option<&'a Rc<Object>>
+    ensures { option_map (λ o. shared_of o.now) result ≡ option_map (λ h. h.0) (fin.get (held_in objects.now) (place_of key.now)) }
 {
     match objects.get(key) {
         Some(entry) => Some(&entry.object),
@@ -101,8 +102,8 @@ pub(crate) fn object_at<'a>(
 pub(crate) fn all_of(
     alloc: Global,
     objects: &BTreeMap<ObjectKey, Entry>,
-) -> Result<Vec<(&ObjectKey, &Object)>, AllocError>
-    ensures { IfOk result (λ v. map (λ e. (place_of e.0.now, stored_of e.1.now)) v.items ≡ objects_in (held_in objects.now)) }
+) -> Result<Vec<(&ObjectKey, &Rc<Object>)>, AllocError>
+    ensures { IfOk result (λ v. map (λ e. (place_of e.0.now, shared_of e.1.now)) v.items ≡ objects_in (held_in objects.now)) }
 {
     let mut all = Vec::with_capacity(alloc, objects.len())?;
     for (key, entry) in objects.iter() {
@@ -111,26 +112,29 @@ pub(crate) fn all_of(
     Ok(all)
 }
 
-/// Room for as many objects as there are.
+/// Room for as many objects as there are, each beside its key.
 pub(crate) fn room_for(
     alloc: Global,
     objects: &BTreeMap<ObjectKey, Entry>,
-) -> Result<Vec<Object>, AllocError>
+) -> Result<Vec<(ObjectKey, Rc<Object>)>, AllocError>
     ensures none { IfOk result (λ v. v.items ≡ []) }
     ensures room { IfOk result (λ v. vec_len v + length objects.now.entries ≤ vec_capacity v) }
 {
     Vec::with_capacity(alloc, objects.len())
 }
 
-/// The objects alone, in order of keys, in the room that was made for them.
-pub(crate) fn handed_out(objects: BTreeMap<ObjectKey, Entry>, room: Vec<Object>) -> Vec<Object>
+/// The objects, each beside its key, in order of keys, in the room that was made for them.
+pub(crate) fn handed_out(
+    objects: BTreeMap<ObjectKey, Entry>,
+    room: Vec<(ObjectKey, Rc<Object>)>,
+) -> Vec<(ObjectKey, Rc<Object>)>
     requires none { room.items ≡ [] }
     requires room { vec_len room + length objects.entries ≤ vec_capacity room }
-    ensures { map stored_of result.items ≡ map (λ e. e.1) (objects_in (held_in objects)) }
+    ensures { map (λ e. (place_of e.0, shared_of e.1)) result.items ≡ objects_in (held_in objects) }
 {
     let mut all = room;
-    for (_, entry) in objects {
-        all.push_reserved(entry.object);
+    for (key, entry) in objects {
+        all.push_reserved((key, entry.object));
     }
     all
 }

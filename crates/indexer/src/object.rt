@@ -1,23 +1,24 @@
 //! Objects, and the keys under which they are kept (namespace and name); their keys in an index stand in `texts`.
 
-ghost use Rattle.std.specs.Prelude.{◌≡◌, IfOk, string_bytes};
-ghost use Rattle.indexer.specs.Objects.{labels_of};
+ghost use Rattle.std.specs.Prelude.{◌≡◌, IfOk};
 
-use std::alloc::AllocError;
+use std::alloc::{AllocError, Global};
 use std::collections::BTreeMap;
+use std::rc::{Rc, RcStr};
 
-/// Where an object stands: its namespace and its name. Keys are in order of namespace, then name.
+/// Where an object stands: its namespace and its name, whose texts it shares with the object. Keys are in order of
+/// namespace, then name.
 #[derive(Debug, Drop, PartialEq, Eq, PartialOrd, Ord)]
 pub struct ObjectKey {
-    pub namespace: String,
-    pub name: String,
+    pub namespace: RcStr,
+    pub name: RcStr,
 }
 
 /// An object as the client keeps it.
 #[derive(Debug, Drop)]
 pub struct Object {
-    pub namespace: String,
-    pub name: String,
+    pub namespace: RcStr,
+    pub name: RcStr,
     /// The revision of its last change (its `metadata.resourceVersion`).
     pub revision: u64,
     /// Its `metadata.labels`.
@@ -26,34 +27,21 @@ pub struct Object {
     pub text: String,
 }
 
-/// A copy of the labels. `clone` says of each entry that it is the same, and this says it of all labels together.
-fn copy_labels(labels: &BTreeMap<String, String>) -> Result<BTreeMap<String, String>, AllocError>
-    ensures { IfOk result (λ m. labels_of m ≡ labels_of labels.now) }
-{
-    labels.clone()
-}
-
 impl Object {
-    ghost use Rattle.indexer.specs.Objects.{stored_of};
+    ghost use Rattle.indexer.specs.Objects.{shared_of, stored_of};
 
-    /// The same object once more.
-    pub fn try_copy(&self) -> Result<Object, AllocError>
-        ensures { IfOk result (λ o. stored_of o ≡ stored_of self.now) }
+    /// The object, to be shared: each clone is one more owner of it, and copies no text.
+    pub fn shared(self, alloc: Global) -> Result<Rc<Object>, AllocError>
+        ensures { IfOk result (λ o. shared_of o ≡ stored_of self) }
     {
-        Ok(Object {
-            namespace: self.namespace.clone()?,
-            name: self.name.clone()?,
-            revision: self.revision,
-            labels: copy_labels(&self.labels)?,
-            text: self.text.clone()?,
-        })
+        Ok(Rc::new(alloc, self)?)
     }
 }
 
 impl ObjectKey {
     ghost use Rattle.indexer.specs.Keys.{IsKeyOf, IsCopyOf};
 
-    /// The key of an object.
+    /// The key of an object. No text is copied.
     pub fn of(object: &Object) -> Result<ObjectKey, AllocError>
         ensures { IfOk result (IsKeyOf object.now) }
     {
@@ -62,6 +50,7 @@ impl ObjectKey {
         Ok(ObjectKey { namespace, name })
     }
 
+    /// The same key once more. No text is copied.
     pub(crate) fn try_copy(&self) -> Result<ObjectKey, AllocError>
         ensures { IfOk result (IsCopyOf self.now) }
     {

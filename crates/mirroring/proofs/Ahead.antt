@@ -1,5 +1,5 @@
 -- Notices that wait already stay ahead of those that an item brings, and change nothing else.
-use Rattle.std.proofs.Common.{◌≡◌, ℕ, Bool, true, false, cond, ◌&&◌, List, [], ◌∷◌, ◌++◌, Option, Some, None, refl, ap, ◌∙◌, append_assoc, append-nil}
+use Rattle.std.proofs.Common.{◌≡◌, ℕ, Bool, true, false, cond, ◌&&◌, List, [], ◌∷◌, ◌++◌, Option, Some, None, refl, sym, ap, ◌∙◌, append_assoc, append-nil}
 use Rattle.std.specs.Prelude.{nat_eq, nat_lt, nat_le}
 use Rattle.std.specs.FinMap as fin
 use Rattle.indexer.specs.Objects.{place_cmp, Stored}
@@ -10,6 +10,8 @@ use Rattle.decoder.specs.Lines.{Line, put, deleted, bookmark, error}
 use Rattle.reflector.specs.Client.{by_place, place_in, max_objects, Notice, Cache, Asks, first, next, follow, Client, kept, notice_of, differences}
 use Rattle.reflector.specs.Items.{News, begun, page, line, over, unfit, said_of_list, said_of_watch}
 use Rattle.reflector.specs.Run.{again, closed, after_cut, is_list, moved, set_aside, with_line, with_list, with_next, with_page, with_watch, with_item, hears, hears_all, taken}
+use Rattle.reflector.specs.Troubles.{trouble_after, trouble_with}
+use Rattle.reflector.specs.declared.trouble.Trouble.{Trouble}
 
 abbrev pub ahead : List Notice → Client → Client
 ahead ns c = record { cache = c.cache; asks = c.asks; is_asking = c.is_asking; notices = ns ++ c.notices }
@@ -97,12 +99,21 @@ module _ (ns : List Notice) where
   all_ahead wanted c [] = refl
   all_ahead wanted c (x ∷ xs) = ap (λ (d : Client). hears_all wanted d xs) (hears_ahead wanted c x) ∙ all_ahead wanted (hears wanted c x) xs
 
+  pub trouble_ahead : (wanted : Wanted) (c : Client) (t : Option Trouble) (xs : List Told) → trouble_after wanted (ahead ns c) t xs ≡ trouble_after wanted c t xs
+  trouble_ahead wanted c t [] = refl
+  trouble_ahead wanted c t (x ∷ xs) =
+      ap (λ (d : Client). trouble_after wanted d (trouble_with wanted c t x) xs) (hears_ahead wanted c x) ∙ trouble_ahead wanted (hears wanted c x) (trouble_with wanted c t x) xs
+
   pub closed_ahead : (c : Client) → closed (ahead ns c) ≡ ahead ns (closed c)
   closed_ahead c = go c.is_asking
     where
       go : (b : Bool) → if_asking b (ahead ns c) ≡ ahead ns (if_asking b c)
       go true = refl
       go false = refl
+
+-- waiting notices change no trouble
+pub trouble_taken : (wanted : Wanted) (c : Client) (t : Option Trouble) (xs : List Told) → trouble_after wanted (taken c) t xs ≡ trouble_after wanted c t xs
+trouble_taken wanted c t xs = sym (trouble_ahead c.notices wanted (taken c) t xs) ∙ ap (λ (d : Client). trouble_after wanted d t xs) (all_taken c)
 
 -- ---- the end of a connection
 

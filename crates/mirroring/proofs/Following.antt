@@ -6,14 +6,15 @@ use Rattle.indexer.specs.Objects.{Stored}
 use Rattle.wireclient.specs.Reply.{Told}
 use Rattle.decoder.specs.Wanted.{Wanted}
 use Rattle.reflector.specs.Client.{Cache, Client, Notice}
-use Rattle.reflector.specs.Informer.{Runs, due}
+use Rattle.reflector.specs.Informer.{Runs, due, trouble_in}
 use Rattle.reflector.specs.Requests.{Settings, request_of}
 use Rattle.reflector.specs.Run.{asked, closed, hears_all, taken}
 use Rattle.reflector.specs.declared.informer.Informer.{Informer}
+use Rattle.reflector.specs.declared.trouble.Trouble.{Trouble}
 use Rattle.mirroring.specs.Telling.{mirror_text}
-use Rattle.mirroring.specs.Turns.{Answers, Is, MirrorsFront, MirrorsOnce, Turns, first_with, synced_by, text_between}
+use Rattle.mirroring.specs.Turns.{Answers, Is, IsTold, MirrorsFront, MirrorsOnce, Turns, first_with, synced_by, text_between}
 use Rattle.mirroring.specs.Pieces.{HeardFront, HeardSoFar}
-use Rattle.mirroring.proofs.Ahead.{ahead, all_ahead, all_taken, closed_ahead, closed_keeps, closed_taken}
+use Rattle.mirroring.proofs.Ahead.{ahead, all_ahead, all_taken, closed_ahead, closed_keeps, closed_taken, trouble_taken}
 use Rattle.mirroring.proofs.FirstList.{all_kept}
 use Rattle.mirroring.proofs.Texts.{front_after, kept_not_none, none_before, text_after, written_after}
 
@@ -28,25 +29,25 @@ front_same r other wanted c a b same heard = subst (λ (w : Wanted). OnErr r (He
 
 mirrors_once : {I D R : Type 0} (keys : I → Stored → List (List ℕ)) (dials : D → List ℕ → R → D → Type 0) (remaining : R → Option (List ℕ)) (s : Settings) (p q : D) (c : Client) (reader left : R)
     (i j : Informer I) (a b : Option (List ℕ)) → dials p (request_of s c) reader q
-    → ((e : Client) (bytes : List ℕ) (told : List Told) → Runs keys i e bytes told → Runs keys j (closed e) bytes told)
+    → ((e : Client) (bytes : List ℕ) (told : List Told) → Runs keys i e bytes told → Runs keys j (closed e) bytes told) → trouble_in j ≡ trouble_in i
     → HeardSoFar keys s.wanted c i (remaining reader) (remaining left) a b → MirrorsOnce keys (Answers dials remaining) s p c q j a b
-mirrors_once keys dials remaining s p q c reader left i j a b dialled closes (bytes, items, is, read, runs, written) =
+mirrors_once keys dials remaining s p q c reader left i j a b dialled closes still (bytes, items, is, read, runs, written, why) =
     let now : Client = hears_all s.wanted (asked c) items in
     let keeps = closed_keeps now in (
       closed now,
-      (bytes, items, (reader, left, dialled, read), is, refl),
+      (bytes, items, (reader, left, dialled, read), is, refl, still ∙ why),
       (bytes, items, subst (λ (e : Client). Runs keys j e bytes items) (closed_taken now) (closes (taken now) bytes items runs)),
       subst (Appends a b) (ap₂ (λ (z : Option Cache) (ns : List Notice). mirror_text (synced_by c.cache z) ns) (sym keeps.1) (sym keeps.2)) written,
     )
 
 pub turns_once : {I D R T E : Type 0} (r : Result T E) (keys : I → Stored → List (List ℕ)) (dials : D → List ℕ → R → D → Type 0) (remaining : R → Option (List ℕ)) (other s : Settings) (p q : D) (c : Client)
     (reader left : R) (i j : Informer I) (a b : Option (List ℕ)) → other ≡ s → dials p (request_of s c) reader q
-    → ((e : Client) (bytes : List ℕ) (told : List Told) → Runs keys i e bytes told → Runs keys j (closed e) bytes told)
+    → ((e : Client) (bytes : List ℕ) (told : List Told) → Runs keys i e bytes told → Runs keys j (closed e) bytes told) → trouble_in j ≡ trouble_in i
     → OnOk r (HeardSoFar keys other.wanted c i (remaining reader) (remaining left) a b) → OnOk r (MirrorsOnce keys (Answers dials remaining) s p c q j a b)
-turns_once (Ok x) keys dials remaining other s p q c reader left i j a b same dialled closes heard =
-    mirrors_once keys dials remaining s p q c reader left i j a b dialled closes
+turns_once (Ok x) keys dials remaining other s p q c reader left i j a b same dialled closes still heard =
+    mirrors_once keys dials remaining s p q c reader left i j a b dialled closes still
     (subst (λ (w : Settings). HeardSoFar keys w.wanted c i (remaining reader) (remaining left) a b) same heard)
-turns_once (Err e) keys dials remaining other s p q c reader left i j a b same dialled closes heard = tt
+turns_once (Err e) keys dials remaining other s p q c reader left i j a b same dialled closes still heard = tt
 
 pub once_same : {I D : Type 0} (keys : I → Stored → List (List ℕ)) (answers : D → List ℕ → List ℕ → D → Type 0) (other s : Settings) (p : D) (c : Client) (q : D) (i : Informer I) (a b : Option (List ℕ))
     → other ≡ s → MirrorsOnce keys answers other p c q i a b → MirrorsOnce keys answers s p c q i a b
@@ -57,7 +58,7 @@ part_same other wanted c a b same heard = subst (λ (w : Wanted). HeardFront w c
 
 -- ---- a turn after others
 
-module _ {D : Type 0} (answers : D → List ℕ → List ℕ → D → Type 0) (s : Settings) (m : Client) where
+module _ {D : Type 0} (answers : D → List ℕ → List ℕ → D → Type 0) (learns : D → Trouble → D → Type 0) (s : Settings) (m : Client) where
   -- no notice came before the first list
   abbrev pub IsFirst : Option ℕ → Client → Type 0
   IsFirst first c = c.cache ≡ None → (first ≡ None) × (c.notices ≡ [])
@@ -84,8 +85,8 @@ module _ {D : Type 0} (answers : D → List ℕ → List ℕ → D → Type 0) (
   text_then first before d e is =
       text_after first m.cache e.cache m.notices e.notices before ∙ sym (ap (λ (x : Client). mirror_text (first_with first m.cache x.cache) x.notices) is)
 
-  pub front_then : (n turns : ℕ) (p mid : D) (c : Client) (first : Option ℕ) (a b d : Option (List ℕ)) → n < turns → Turns answers s n p c mid m first → IsFirst first m
-      → Appends a b (mirror_text first m.notices) → HeardFront s.wanted (taken m) b d → MirrorsFront answers s turns p c a d
+  pub front_then : (n turns : ℕ) (p mid : D) (c : Client) (first : Option ℕ) (a b d : Option (List ℕ)) → n < turns → Turns answers learns s n p c mid m first → IsFirst first m
+      → Appends a b (mirror_text first m.notices) → HeardFront s.wanted (taken m) b d → MirrorsFront answers learns s turns p c a d
   front_then n turns p mid c first a b d fewer did before told (bytes, items, is, front) =
       let e : Client = hears_all s.wanted (asked m) items in (
         n,
@@ -99,10 +100,10 @@ module _ {D : Type 0} (answers : D → List ℕ → List ℕ → D → Type 0) (
         front_after a b d _ _ _ (text_then first before e (hears_all s.wanted (asked (taken m)) items) (part_ahead items)) told front,
       )
 
-  pub mirrors_then : {I : Type 0} (keys : I → Stored → List (List ℕ)) (n k : ℕ) (p mid q : D) (c : Client) (first : Option ℕ) (i : Informer I) (a b d : Option (List ℕ)) → k ≡ suc n
-      → Turns answers s n p c mid m first → IsFirst first m → Appends a b (mirror_text first m.notices) → MirrorsOnce keys answers s mid (taken m) q i b d
-      → (e : Client) × (f : Option ℕ) × Turns answers s k p c q e f × Is keys i (taken e) × (e.is_asking ≡ false) × IsFirst f e × Appends a d (mirror_text f e.notices)
-  mirrors_then keys n k p mid q c first i a b d more did before told (e, (bytes, items, answered, is, same), runs, written) =
+  pub mirrors_then : {I : Type 0} (keys : I → Stored → List (List ℕ)) (n k : ℕ) (p mid next q : D) (c : Client) (first : Option ℕ) (i : Informer I) (a b d : Option (List ℕ)) → k ≡ suc n
+      → Turns answers learns s n p c mid m first → IsFirst first m → Appends a b (mirror_text first m.notices) → MirrorsOnce keys answers s mid (taken m) next i b d → IsTold learns (trouble_in i) next q
+      → (e : Client) × (f : Option ℕ) × Turns answers learns s k p c q e f × Is keys i (taken e) × (e.is_asking ≡ false) × IsFirst f e × Appends a d (mirror_text f e.notices)
+  mirrors_then keys n k p mid next q c first i a b d more did before told (e, (bytes, items, answered, is, same, why), runs, written) learnt =
       let now : Client = hears_all s.wanted (asked (taken m)) items in
       let keeps = closed_keeps now in
       let x : Client = ahead m.notices e in
@@ -110,7 +111,8 @@ module _ {D : Type 0} (answers : D → List ℕ → List ℕ → D → Type 0) (
       ap (ahead m.notices) same ∙ sym (closed_ahead m.notices now) ∙ ap closed (sym (part_ahead items)) in (
         x,
         first_with first m.cache x.cache,
-        subst (λ (j : ℕ). Turns answers s j p c q x (first_with first m.cache x.cache)) (sym more) (mid, m, first, did, (bytes, items, answered, is, whole), refl),
+        subst (λ (j : ℕ). Turns answers learns s j p c q x (first_with first m.cache x.cache)) (sym more)
+            (mid, m, first, did, next, trouble_in i, (bytes, items, answered, is, whole, why ∙ trouble_taken s.wanted (asked m) None items), learnt, refl),
         runs,
         ap (λ (y : Client). y.is_asking) same ∙ keeps.0,
         λ none.

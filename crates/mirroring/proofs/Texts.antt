@@ -9,13 +9,15 @@ use Rattle.wireclient.specs.Reads.{Items, start}
 use Rattle.wireclient.specs.Reply.{Told}
 use Rattle.decoder.specs.Wanted.{Wanted}
 use Rattle.reflector.specs.Client.{Cache, Client, Notice}
-use Rattle.reflector.specs.Informer.{Runs}
+use Rattle.reflector.specs.Informer.{Runs, trouble_in}
 use Rattle.reflector.specs.Run.{asked, hears_all, taken}
+use Rattle.reflector.specs.Troubles.{trouble_after}
 use Rattle.reflector.specs.declared.informer.Informer.{Informer}
+use Rattle.reflector.proofs.Troubles.{none_while_asking, trouble_then}
 use Rattle.mirroring.specs.Telling.{mirror_text, notice_line, synced_line}
 use Rattle.mirroring.specs.Turns.{WritesFront, first_with, synced_by, text_between}
 use Rattle.mirroring.specs.Pieces.{HeardFront, HeardSoFar, Tells, TellsFront}
-use Rattle.mirroring.proofs.Ahead.{ahead, all_ahead, all_taken, heard_then}
+use Rattle.mirroring.proofs.Ahead.{ahead, all_ahead, all_taken, heard_then, trouble_taken}
 use Rattle.mirroring.proofs.FirstList.{IsBefore, all_before, all_kept}
 
 -- ---- results
@@ -125,6 +127,12 @@ module _ (wanted : Wanted) (c : Client) (items news : List Told) (none : c.notic
       ∙ ap (λ (f : Option ℕ). mirror_text f (now.notices ++ later.notices)) (first_still c.cache now.cache later.cache stays_now (λ is. (before_now is).1 asks))
       ∙ sym (ap (text_between c) is_ahead)
 
+  -- the trouble of all is that of what came last
+  pub troubles_join : now.is_asking ≡ true → trouble_after wanted (taken now) None news ≡ trouble_after wanted (asked c) None (items ++ news)
+  troubles_join asks =
+      trouble_taken wanted now None news ∙ ap (λ t. trouble_after wanted now t news) (sym (none_while_asking wanted (asked c) items asks))
+      ∙ sym (trouble_then wanted (asked c) None items news)
+
 -- ---- a piece
 
 pub gives_up : {T E : Type 0} (r : Result T E) (wanted : Wanted) (c : Client) (bytes : List ℕ) (items : List Told) (a : Option (List ℕ)) → Items bytes items
@@ -139,21 +147,22 @@ tells_front r wanted c bytes items piece news a b text is same front = on_err r 
 
 pub tells_all : {I T U E F : Type 0} (r : Result T E) (s : Result U F) (keys : I → Stored → List (List ℕ)) (wanted : Wanted) (c : Client) (bytes : List ℕ) (items : List Told) (piece : List ℕ) (i : Informer I)
     (news : List Told) (a b : Option (List ℕ)) (text : List ℕ) → is_ok s ≡ is_ok r → Items (bytes ++ piece) (items ++ news) → Runs keys i (taken (hears_all wanted c news)) (bytes ++ piece) (items ++ news)
-    → text ≡ text_between c (hears_all wanted c news) → OnOk r (Appends a b text) → OnOk s (Tells keys wanted c bytes items piece i a b)
-tells_all r s keys wanted c bytes items piece i news a b text same is runs told written =
-    ok_then r s (Appends a b text) _ same (λ all. (news, is, runs, subst (Appends a b) told all)) written
+    → text ≡ text_between c (hears_all wanted c news) → trouble_in i ≡ trouble_after wanted c None news → OnOk r (Appends a b text) → OnOk s (Tells keys wanted c bytes items piece i a b)
+tells_all r s keys wanted c bytes items piece i news a b text same is runs told why written =
+    ok_then r s (Appends a b text) _ same (λ all. (news, is, runs, subst (Appends a b) told all, why)) written
 
 -- ---- all that came so far, and more
 
 pub heard_none : {I : Type 0} (keys : I → Stored → List (List ℕ)) (wanted : Wanted) (c : Client) (i : Informer I) (x a : Option (List ℕ)) → c.notices ≡ [] → Runs keys i (asked c) [] []
-    → HeardSoFar keys wanted c i x x a a
-heard_none keys wanted c i x a none runs = (
+    → trouble_in i ≡ None → HeardSoFar keys wanted c i x x a a
+heard_none keys wanted c i x a none runs calm = (
   [],
   [],
   (start, (refl, refl)),
   Consumes-nil x,
   subst (λ (ns : List Notice). Runs keys i (record { cache = c.cache; asks = c.asks; is_asking = true; notices = ns }) [] []) none runs,
   subst (Appends a a) (sym (nothing_told c none)) (Appends-nil a),
+  calm,
 )
 
 pub heard_more : {I : Type 0} (keys : I → Stored → List (List ℕ)) (wanted other : Wanted) (c : Client) (i : Informer I) (x y z a b d : Option (List ℕ)) (bytes : List ℕ) (items : List Told) (piece : List ℕ)
@@ -163,13 +172,14 @@ heard_more keys wanted other c i x y z a b d bytes items piece same none asks re
     go (subst (λ (w : Wanted). Tells keys w (taken (hears_all wanted (asked c) items)) bytes items piece i b d) same tells)
   where
     go : Tells keys wanted (taken (hears_all wanted (asked c) items)) bytes items piece i b d → HeardSoFar keys wanted c i x z a d
-    go (news, is, runs, written) = (
+    go (news, is, runs, written, why) = (
       bytes ++ piece,
       items ++ news,
       is,
       Consumes-trans x y z bytes piece read more,
       subst (λ (e : Client). Runs keys i (taken e) (bytes ++ piece) (items ++ news)) (sym (is_ahead wanted c items news none)) runs,
       written_after a b d _ _ _ (texts_join wanted c items news none asks) told written,
+      why ∙ troubles_join wanted c items news none asks,
     )
 
 pub front_more : (wanted other : Wanted) (c : Client) (a b d : Option (List ℕ)) (bytes : List ℕ) (items : List Told) → other ≡ wanted → c.notices ≡ [] → (hears_all wanted (asked c) items).is_asking ≡ true
@@ -179,6 +189,6 @@ front_more wanted other c a b d bytes items same none asks told tells =
     (bytes ++ more, items ++ news, is, front_after a b d _ _ _ (texts_join wanted c items news none asks) told front)
 
 pub front_all : {I : Type 0} (keys : I → Stored → List (List ℕ)) (wanted : Wanted) (c : Client) (i : Informer I) (x y a b : Option (List ℕ)) → HeardSoFar keys wanted c i x y a b → HeardFront wanted c a b
-front_all keys wanted c i x y a b (bytes, items, is, read, runs, written) =
+front_all keys wanted c i x y a b (bytes, items, is, read, runs, written, why) =
     let text = text_between c (hears_all wanted (asked c) items) in
     (bytes, items, is, (text, [], sym (append-nil text), written))

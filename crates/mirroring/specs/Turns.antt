@@ -5,10 +5,12 @@ use Rattle.indexer.specs.Objects.{Stored}
 use Rattle.wireclient.specs.Reads.{Items}
 use Rattle.wireclient.specs.Reply.{Told}
 use Rattle.reflector.specs.Client.{Cache, Client}
-use Rattle.reflector.specs.Informer.{Runs}
+use Rattle.reflector.specs.Informer.{Runs, trouble_in}
 use Rattle.reflector.specs.Requests.{Settings, request_of}
 use Rattle.reflector.specs.Run.{asked, closed, hears_all, taken}
+use Rattle.reflector.specs.Troubles.{trouble_after}
 use Rattle.reflector.specs.declared.informer.Informer.{Informer}
+use Rattle.reflector.specs.declared.trouble.Trouble.{Trouble}
 use Rattle.mirroring.specs.Telling.{mirror_text}
 use Rattle.mirroring.specs.declared.fault.MirrorFault as faults
 use Rattle.mirroring.specs.declared.fault.MirrorFault.TheVariants as fault
@@ -35,16 +37,24 @@ first_with (Some r) before after = Some r
 abbrev pub Answers : {D R : Type 0} → (D → List ℕ → R → D → Type 0) → (R → Option (List ℕ)) → D → List ℕ → List ℕ → D → Type 0
 Answers {D} {R} dials remaining a request bytes b = (reader : R) × (left : R) × dials a request reader b × Consumes (remaining reader) (remaining left) bytes
 
--- the request that is due is answered, all items of the bytes are heard, and the connection ends; the notices wait
-abbrev pub Turned : {D : Type 0} → (D → List ℕ → List ℕ → D → Type 0) → Settings → D → Client → D → Client → Type 0
-Turned answers s a c b d =
-    (bytes : List ℕ) × (items : List Told) × answers a (request_of s c) bytes b × Items bytes items × (d ≡ closed (hears_all s.wanted (asked c) items))
+-- the request that is due is answered, all items of the bytes are heard, and the connection ends; the notices wait. Last
+-- comes why the reply was given up, if it was
+abbrev pub Turned : {D : Type 0} → (D → List ℕ → List ℕ → D → Type 0) → Settings → D → Client → D → Client → Option Trouble → Type 0
+Turned answers s a c b d t =
+    (bytes : List ℕ) × (items : List Told) × answers a (request_of s c) bytes b × Items bytes items
+    × (d ≡ closed (hears_all s.wanted (asked c) items)) × (t ≡ trouble_after s.wanted (asked c) None items)
 
--- so many of them, and the revision of the first list, where one of them kept it
-abbrev pub Turns : {D : Type 0} → (D → List ℕ → List ℕ → D → Type 0) → Settings → ℕ → D → Client → D → Client → Option ℕ → Type 0
-Turns {D} answers s zero a c b d first = (b ≡ a) × (d ≡ c) × (first ≡ None)
-Turns {D} answers s (suc n) a c b d first =
-    (mid : D) × (m : Client) × (before : Option ℕ) × Turns answers s n a c mid m before × Turned answers s mid m b d × (first ≡ first_with before m.cache d.cache)
+-- a dialer is told of the trouble, if there is one
+abbrev pub IsTold : {D : Type 0} → (D → Trouble → D → Type 0) → Option Trouble → D → D → Type 0
+IsTold learns None a b = b ≡ a
+IsTold learns (Some t) a b = learns a t b
+
+-- so many of them, each with the dialer told, and the revision of the first list, where one of them kept it
+abbrev pub Turns : {D : Type 0} → (D → List ℕ → List ℕ → D → Type 0) → (D → Trouble → D → Type 0) → Settings → ℕ → D → Client → D → Client → Option ℕ → Type 0
+Turns {D} answers learns s zero a c b d first = (b ≡ a) × (d ≡ c) × (first ≡ None)
+Turns {D} answers learns s (suc n) a c b d first =
+    (mid : D) × (m : Client) × (before : Option ℕ) × Turns answers learns s n a c mid m before
+    × (next : D) × (t : Option Trouble) × Turned answers s mid m next d t × IsTold learns t next b × (first ≡ first_with before m.cache d.cache)
 
 -- a part of a turn: some items are heard, of bytes that came
 abbrev pub HearsSome : Settings → Client → Client → Type 0
@@ -67,20 +77,20 @@ text_between c d = mirror_text (synced_by c.cache d.cache) d.notices
 -- the informer and its dialer after a turn, and what was told of it
 abbrev pub MirrorsOnce : {I D : Type 0} → (I → Stored → List (List ℕ)) → (D → List ℕ → List ℕ → D → Type 0) → Settings → D → Client → D → Informer I → Option (List ℕ) → Option (List ℕ) → Type 0
 MirrorsOnce keys answers s a c b i old new =
-    (d : Client) × Turned answers s a c b d × Is keys i (taken d) × Appends old new (text_between c d)
+    (d : Client) × Turned answers s a c b d (trouble_in i) × Is keys i (taken d) × Appends old new (text_between c d)
 
 -- the same of so many turns
-abbrev pub MirrorsAll : {I D : Type 0} → (I → Stored → List (List ℕ)) → (D → List ℕ → List ℕ → D → Type 0) → Settings → ℕ → D → Client → D → Informer I → Option (List ℕ) → Option (List ℕ) → Type 0
-MirrorsAll keys answers s turns a c b i old new =
-    (d : Client) × (first : Option ℕ) × Turns answers s turns a c b d first × Is keys i (taken d) × Appends old new (mirror_text first d.notices)
+abbrev pub MirrorsAll : {I D : Type 0} → (I → Stored → List (List ℕ)) → (D → List ℕ → List ℕ → D → Type 0) → (D → Trouble → D → Type 0) → Settings → ℕ → D → Client → D → Informer I → Option (List ℕ) → Option (List ℕ) → Type 0
+MirrorsAll keys answers learns s turns a c b i old new =
+    (d : Client) × (first : Option ℕ) × Turns answers learns s turns a c b d first × Is keys i (taken d) × Appends old new (mirror_text first d.notices)
 
 -- after some turns, which are fewer, a front of what was to be told of them and of a part of the next
-abbrev pub MirrorsFront : {D : Type 0} → (D → List ℕ → List ℕ → D → Type 0) → Settings → ℕ → D → Client → Option (List ℕ) → Option (List ℕ) → Type 0
-MirrorsFront {D} answers s turns a c old new =
-    (n : ℕ) × (n < turns) × (mid : D) × (m : Client) × (first : Option ℕ) × Turns answers s n a c mid m first
+abbrev pub MirrorsFront : {D : Type 0} → (D → List ℕ → List ℕ → D → Type 0) → (D → Trouble → D → Type 0) → Settings → ℕ → D → Client → Option (List ℕ) → Option (List ℕ) → Type 0
+MirrorsFront {D} answers learns s turns a c old new =
+    (n : ℕ) × (n < turns) × (mid : D) × (m : Client) × (first : Option ℕ) × Turns answers learns s n a c mid m first
     × (d : Client) × HearsSome s m d × WritesFront old new (mirror_text (first_with first m.cache d.cache) d.notices)
 
 -- after some turns, which are fewer, all of them was told, and the next one found no connection
-abbrev pub MirrorsSome : {I D : Type 0} → (I → Stored → List (List ℕ)) → (D → List ℕ → List ℕ → D → Type 0) → Settings → ℕ → D → Client → Informer I → Option (List ℕ) → Option (List ℕ) → Type 0
-MirrorsSome {I} {D} keys answers s turns a c i old new =
-    (n : ℕ) × (n < turns) × (mid : D) × (m : Client) × (first : Option ℕ) × Turns answers s n a c mid m first × Is keys i (closed (asked (taken m))) × Appends old new (mirror_text first m.notices)
+abbrev pub MirrorsSome : {I D : Type 0} → (I → Stored → List (List ℕ)) → (D → List ℕ → List ℕ → D → Type 0) → (D → Trouble → D → Type 0) → Settings → ℕ → D → Client → Informer I → Option (List ℕ) → Option (List ℕ) → Type 0
+MirrorsSome {I} {D} keys answers learns s turns a c i old new =
+    (n : ℕ) × (n < turns) × (mid : D) × (m : Client) × (first : Option ℕ) × Turns answers learns s n a c mid m first × Is keys i (closed (asked (taken m))) × Appends old new (mirror_text first m.notices)

@@ -1,11 +1,13 @@
 //! Connections to a server, as a client sees them.
 
+use reflector::Trouble;
 use std::io;
 use std::io::Read;
 
 /// Opens connections to a server.
 pub trait Dial {
     ghost use Rattle.std.specs.Prelude.{List, ℕ, IfOk, ⊤};
+    ghost use Rattle.reflector.specs.declared.trouble.Trouble.{Trouble};
 
     /// Reads the reply. The connection ends when it is dropped.
     type Reader: Read + Drop;
@@ -13,7 +15,15 @@ pub trait Dial {
     // Asked this, the first dialer answers with the reader, and is the second one then.
     ghost dials: { Self → List ℕ → Self.Reader → Self → Type 0 } = { λ _ _ _ _. ⊤ };
 
+    // Told of this trouble, the first dialer is the second one then.
+    ghost learns: { Self → Trouble → Self → Type 0 } = { λ _ _ _. ⊤ };
+
     /// Opens a connection and sends the request whole.
     fn dial(&mut self, request: &[u8]) -> io::Result<Self::Reader>
         ensures { IfOk result (λ reader. dials self.old request.now reader self.new) };
+
+    /// The last reply was given up for this reason, and the next request is dialled once this returns. A program tells its
+    /// user here, and waits a moment, as a server that refuses would else be asked again at once.
+    fn given_up(&mut self, trouble: Trouble)
+        ensures { learns self.old trouble self.new };
 }

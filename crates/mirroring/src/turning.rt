@@ -1,20 +1,20 @@
 //! The turns of a mirror: dialling, reading, the informer, telling. The text stands in `telling`.
 
-ghost use Rattle.std.specs.Prelude.{◌≡◌, [], List, ℕ, IfErr, MatchResult, OnErr, OnOk, false, true};
+ghost use Rattle.std.specs.Prelude.{◌≡◌, [], List, None, ℕ, IfErr, MatchResult, OnErr, OnOk, false, true};
 ghost use Rattle.std.specs.Io.KnownBytes.{Consumes};
 ghost use Rattle.wireclient.specs.Reads.{Items};
 ghost use Rattle.wireclient.specs.Reply.{Told};
 ghost use Rattle.reflector.specs.Client.{Client};
-ghost use Rattle.reflector.specs.Informer.{Runs, settings_in};
+ghost use Rattle.reflector.specs.Informer.{Runs, settings_in, trouble_in};
 ghost use Rattle.reflector.specs.Run.{asked, closed};
 ghost use Rattle.mirroring.specs.Pieces.{HeardFront, HeardSoFar, Tells, TellsFront};
-ghost use Rattle.mirroring.specs.Turns.{Answers, Is, IsIdle, MirrorsAll, MirrorsFront, MirrorsOnce, MirrorsSome, is_undialled};
+ghost use Rattle.mirroring.specs.Turns.{Answers, Is, IsIdle, IsTold, MirrorsAll, MirrorsFront, MirrorsOnce, MirrorsSome, is_undialled};
 
 use crate::dial::Dial;
 use crate::fault::MirrorFault;
 use crate::telling::{first_revision, mirror_text, tell};
 use indexer::IndexBy;
-use reflector::Informer;
+use reflector::{Informer, Trouble};
 use std::alloc::{AllocError, Global};
 use std::io::{ErrorKind, Read, Write};
 use streams::read_piece;
@@ -64,9 +64,9 @@ fn hear<R: Read, I: IndexBy, W: Write>(
     out: &mut W,
 ) -> Result<(), MirrorFault>
     ensures settings { settings_in informer.new ≡ settings_in informer.old }
-    ensures heard { (c : Client) → Runs (λ b s. I.keys b s) informer.old (asked c) [] [] → c.notices ≡ []
+    ensures heard { (c : Client) → Runs (λ b s. I.keys b s) informer.old (asked c) [] [] → c.notices ≡ [] → trouble_in informer.old ≡ None
         → OnOk result (HeardSoFar (λ b s. I.keys b s) (settings_in informer.old).wanted c informer.new (R.remaining reader.old) (R.remaining reader.new) (W.contents out.old) (W.contents out.new)) }
-    ensures fault { (c : Client) → Runs (λ b s. I.keys b s) informer.old (asked c) [] [] → c.notices ≡ []
+    ensures fault { (c : Client) → Runs (λ b s. I.keys b s) informer.old (asked c) [] [] → c.notices ≡ [] → trouble_in informer.old ≡ None
         → OnErr result (HeardFront (settings_in informer.old).wanted c (W.contents out.old) (W.contents out.new)) }
     ensures dialled { IfErr result (λ f. is_undialled f ≡ false) }
 {
@@ -84,7 +84,8 @@ fn hear<R: Read, I: IndexBy, W: Write>(
 }
 
 /// One connection: it is dialled, the request that is due is sent, and the reply is heard and told as far as it comes.
-/// With a request under way already, nothing is done.
+/// With a request under way already, nothing is done. Where the reply was given up, the informer then says why
+/// (`Informer::trouble`): who takes turn after turn waits a moment there.
 pub fn turn<D: Dial, I: IndexBy, W: Write>(
     alloc: Global,
     dialer: &mut D,
@@ -113,7 +114,16 @@ pub fn turn<D: Dial, I: IndexBy, W: Write>(
     done
 }
 
-/// So many turns, one after another.
+/// Tells the dialer why the last reply was given up, if it was.
+fn tell_trouble<D: Dial>(dialer: &mut D, trouble: Option<Trouble>)
+    ensures { IsTold (λ a t b. D.learns a t b) trouble dialer.old dialer.new }
+{
+    if let Some(trouble) = trouble {
+        dialer.given_up(trouble);
+    }
+}
+
+/// So many turns, one after another. After a reply that was given up, the dialer is told why.
 pub fn mirror<D: Dial, I: IndexBy, W: Write>(
     alloc: Global,
     dialer: &mut D,
@@ -123,14 +133,15 @@ pub fn mirror<D: Dial, I: IndexBy, W: Write>(
 ) -> Result<(), MirrorFault>
     ensures settings { settings_in informer.new ≡ settings_in informer.old }
     ensures told { (c : Client) → Is (λ b s. I.keys b s) informer.old c → IsIdle c
-        → OnOk result (MirrorsAll (λ b s. I.keys b s) (Answers (λ a q r b. D.dials a q r b) (λ r. D.Reader.remaining r)) (settings_in informer.old) turns dialer.old c dialer.new informer.new (W.contents out.old) (W.contents out.new)) }
+        → OnOk result (MirrorsAll (λ b s. I.keys b s) (Answers (λ a q r b. D.dials a q r b) (λ r. D.Reader.remaining r)) (λ a t b. D.learns a t b) (settings_in informer.old) turns dialer.old c dialer.new informer.new (W.contents out.old) (W.contents out.new)) }
     ensures fault { (c : Client) → Is (λ b s. I.keys b s) informer.old c → IsIdle c
-        → OnErr result (MirrorsFront (Answers (λ a q r b. D.dials a q r b) (λ r. D.Reader.remaining r)) (settings_in informer.old) turns dialer.old c (W.contents out.old) (W.contents out.new)) }
+        → OnErr result (MirrorsFront (Answers (λ a q r b. D.dials a q r b) (λ r. D.Reader.remaining r)) (λ a t b. D.learns a t b) (settings_in informer.old) turns dialer.old c (W.contents out.old) (W.contents out.new)) }
     ensures undialled { (c : Client) → Is (λ b s. I.keys b s) informer.old c → IsIdle c
-        → IfErr result (λ f. is_undialled f ≡ true → MirrorsSome (λ b s. I.keys b s) (Answers (λ a q r b. D.dials a q r b) (λ r. D.Reader.remaining r)) (settings_in informer.old) turns dialer.old c informer.new (W.contents out.old) (W.contents out.new)) }
+        → IfErr result (λ f. is_undialled f ≡ true → MirrorsSome (λ b s. I.keys b s) (Answers (λ a q r b. D.dials a q r b) (λ r. D.Reader.remaining r)) (λ a t b. D.learns a t b) (settings_in informer.old) turns dialer.old c informer.new (W.contents out.old) (W.contents out.new)) }
 {
     'turns: for _ in 0..turns {
         turn(alloc, dialer, informer, out)?;
+        tell_trouble(dialer, informer.trouble());
     }
     Ok(())
 }

@@ -5,17 +5,16 @@ use Rattle.std.specs.List.{slice_get}
 use Rattle.std.specs.Cmp.{both_ways}
 use Rattle.std.specs.Ordering.{is_lt}
 use Rattle.std.specs.FinMap.Entries.{below_all, is_sorted}
-use Rattle.indexer.specs.declared.object.Object.{Object}
-use Rattle.indexer.specs.Objects.{Place, place_cmp, Stored, stored_of}
+use Rattle.indexer.specs.Objects.{Place, place_cmp, Shared, Stored, shared_of}
 use Rattle.reflector.specs.Client.{place_in, by_place}
 use Rattle.reflector.proofs.Between.{both, fst, snd, is_less, below_lower}
 use Rattle.reflector.proofs.Keyed.{Entries}
 
-abbrev pub placed : Object → Place × Stored
-placed o = (place_in (stored_of o), stored_of o)
+abbrev pub placed : Shared → Place × Stored
+placed o = (place_in (shared_of o), shared_of o)
 
-abbrev pub rows : List Object → Entries
-rows os = by_place (map stored_of os)
+abbrev pub rows : List Shared → Entries
+rows os = by_place (map shared_of os)
 
 truth : (b : Bool) → T b → b ≡ true
 truth true h = refl
@@ -38,7 +37,7 @@ minus_one k = omega arith
 plus_minus : (k : ℕ) → (suc k + 1) - 1 ≡ suc k
 plus_minus k = omega arith
 
-pub next_pair : (whole : Bool) (os : List Object) (i : ℕ) (a b : Object) (t : Bool) → i < length os → a ≡ get_or os (i - 1) a → b ≡ get_or os i b → t ≡ is_lt (place_cmp (placed a).0 (placed b).0) → t ≡ true
+pub next_pair : (whole : Bool) (os : List Shared) (i : ℕ) (a b : Shared) (t : Bool) → i < length os → a ≡ get_or os (i - 1) a → b ≡ get_or os i b → t ≡ is_lt (place_cmp (placed a).0 (placed b).0) → t ≡ true
     → whole ≡ is_sorted place_cmp (rows (drop (i - 1) os)) → whole ≡ is_sorted place_cmp (rows (drop ((i + 1) - 1) os))
 next_pair whole os zero a b t lt is_a is_b is holds h = h
 next_pair whole os (suc k) a b t lt is_a is_b is holds h =
@@ -52,12 +51,12 @@ next_pair whole os (suc k) a b t lt is_a is_b is holds h =
     ∙ ap (λ xs. is_sorted place_cmp (rows xs)) (sym second)
     ∙ ap (λ n. is_sorted place_cmp (rows (drop n os))) (sym (plus_minus k))
 
-one_is : (os : List Object) → length os ≤ 1 → is_sorted place_cmp (rows os) ≡ true
+one_is : (os : List Shared) → length os ≤ 1 → is_sorted place_cmp (rows os) ≡ true
 one_is [] h = refl
 one_is (a ∷ []) h = refl
 one_is (a ∷ b ∷ os) h = absurd (omega (arith, h))
 
-pub all_pairs : (whole : Bool) (os : List Object) (i : ℕ) → length os ≤ i → whole ≡ is_sorted place_cmp (rows (drop (i - 1) os)) → true ≡ whole
+pub all_pairs : (whole : Bool) (os : List Shared) (i : ℕ) → length os ≤ i → whole ≡ is_sorted place_cmp (rows (drop (i - 1) os)) → true ≡ whole
 all_pairs whole os i le h =
     let n : length (drop (i - 1) os) ≡ length os - (i - 1) = length-drop (i - 1) os in
     sym (h ∙ one_is (drop (i - 1) os) (omega (arith, n, le)))
@@ -77,15 +76,15 @@ joined x (z ∷ zs) y ys t is h =
 some_is : {A : Type 0} (x y : A) → Some x ≡ Some y → x ≡ y
 some_is x y e = cc
 
-last_is : (a : Object) (os : List Object) (l : Object) → Some l ≡ slice_get (a ∷ os) (length os) → last_of (placed a) (rows os) ≡ placed l
+last_is : (a : Shared) (os : List Shared) (l : Shared) → Some l ≡ slice_get (a ∷ os) (length os) → last_of (placed a) (rows os) ≡ placed l
 last_is a [] l h = ap placed (sym (some_is l a h))
 last_is a (b ∷ os) l h = last_is b os l h
 
-pub joined_rows : (os fs : List Object) (l f : Object) (t : Bool) → Some l ≡ slice_get os (length os - 1) → Some f ≡ slice_get fs 0 → t ≡ is_lt (place_cmp (placed l).0 (placed f).0) → is_sorted place_cmp (rows os) ≡ true
-    → (t && is_sorted place_cmp (rows fs)) ≡ is_sorted place_cmp (by_place (map stored_of os ++ map stored_of fs))
+pub joined_rows : (os fs : List Shared) (l f : Shared) (t : Bool) → Some l ≡ slice_get os (length os - 1) → Some f ≡ slice_get fs 0 → t ≡ is_lt (place_cmp (placed l).0 (placed f).0) → is_sorted place_cmp (rows os) ≡ true
+    → (t && is_sorted place_cmp (rows fs)) ≡ is_sorted place_cmp (by_place (map shared_of os ++ map shared_of fs))
 joined_rows [] fs l f t is_l is_f is h = absurd cc
 joined_rows (a ∷ os) [] l f t is_l is_f is h = absurd cc
 joined_rows (a ∷ os) (b ∷ fs) l f t is_l is_f is h =
     let last : last_of (placed a) (rows os) ≡ placed l = last_is a os l (is_l ∙ ap (slice_get (a ∷ os)) (minus_one (length os))) in
     joined (placed a) (rows os) (placed b) (rows fs) t (is ∙ ap₂ (λ x y. is_lt (place_cmp x.0 y.0)) (sym last) (ap placed (some_is f b is_f))) (subst T (sym h) tt)
-    ∙ ap (is_sorted place_cmp) (sym (map-append (λ o. (place_in o, o)) (map stored_of (a ∷ os)) (map stored_of (b ∷ fs))))
+    ∙ ap (is_sorted place_cmp) (sym (map-append (λ o. (place_in o, o)) (map shared_of (a ∷ os)) (map shared_of (b ∷ fs))))

@@ -7,7 +7,7 @@ use Rattle.std.specs.FinMap as fin
 use Rattle.std.specs.FinMap.Entries.{by_order, find, below_all, is_sorted, put, same_entries}
 use Rattle.indexer.specs.Objects.{Place, place_cmp, Stored}
 use Rattle.reflector.specs.Client.{Objects, Notice, added, deleted, notice_of, differences}
-use Rattle.reflector.specs.Between.{between, first_notice}
+use Rattle.reflector.specs.Between.{between, first_told, new_left, old_left}
 use Rattle.reflector.proofs.Places.{place_total, same_place}
 use Rattle.reflector.proofs.Keyed.{Entries, place_antisymmetric}
 
@@ -188,15 +188,9 @@ both_first x y xs ys same low_x low_y =
     first_place x.0 (Some x.1) (Some y.1) (x ∷ xs) xs (y ∷ ys) ys low_x (subst (λ p. T (below_all place_cmp p ys)) (sym same) low_y) (λ q. refl)
     (λ q. ap (λ p. cond (eq_by_cmp place_cmp q p) (Some y.1) (find place_cmp q ys)) (sym same)) refl
 
-pub all_deleted : (xs : Entries) → T (is_sorted place_cmp xs) → between xs [] ≡ map (λ e. deleted e.1) xs
-all_deleted [] h = ap (λ (es : Entries). flat_map (λ (p : Place). notice_of None None) (map (λ e. e.0) es)) nothing
-all_deleted (x ∷ xs) h = old_first x xs [] (fst _ _ h) tt ∙ ap (λ ns. deleted x.1 ∷ ns) (all_deleted xs (snd _ _ h))
+pub nothing_told : between [] [] ≡ []
+nothing_told = ap (λ (es : Entries). flat_map (λ (p : Place). notice_of None None) (map (λ e. e.0) es)) nothing
 
-pub all_added : (ys : Entries) → T (is_sorted place_cmp ys) → between [] ys ≡ map (λ e. added e.1) ys
-all_added [] h = all_deleted [] tt
-all_added (y ∷ ys) h = new_first y [] ys tt (fst _ _ h) ∙ ap (λ ns. added y.1 ∷ ns) (all_added ys (snd _ _ h))
-
--- the cache's notices
 pub of_entries : (before after : Objects) → between (fin.entries before) (fin.entries after) ≡ differences before after
 of_entries before after = go (fin.keys (fin.from_entries {R = place_cmp} (fin.entries before ++ fin.entries after)))
   where
@@ -207,7 +201,7 @@ of_entries before after = go (fin.keys (fin.from_entries {R = place_cmp} (fin.en
 
 -- what is told of the first places, and what is left then
 pub step : (o : Ordering) (x y : Place × Stored) (xs ys : Entries) → o ≡ place_cmp x.0 y.0 → T (is_sorted place_cmp (x ∷ xs)) → T (is_sorted place_cmp (y ∷ ys))
-    → first_notice o x.1 y.1 ++ between (by_order o xs xs (x ∷ xs)) (by_order o (y ∷ ys) ys ys) ≡ between (x ∷ xs) (y ∷ ys)
+    → first_told o (x ∷ xs) (y ∷ ys) ++ between (old_left o (x ∷ xs)) (new_left o (y ∷ ys)) ≡ between (x ∷ xs) (y ∷ ys)
 step Less x y xs ys is h k =
     sym (old_first x xs (y ∷ ys) (fst _ _ h) (both _ _ (subst (λ o. T (is_lt o)) is tt) (below_lower x.0 y.0 ys (sym is) (fst _ _ k))))
 step Equal x y xs ys is h k = sym (both_first x y xs ys (place_antisymmetric x.0 y.0 (sym is)) (fst _ _ h) (fst _ _ k))

@@ -1,5 +1,5 @@
 -- What is kept and asked after an item, beside the client that hears it.
-use Rattle.std.proofs.Common.{◌≡◌, ℕ, ◌+◌, ◌<◌, Bool, true, false, cond, ◌&&◌, List, [], ◌∷◌, ◌++◌, map, take, length, get_or, Option, Some, None, refl, sym, ap, subst, ◌∙◌}
+use Rattle.std.proofs.Common.{◌≡◌, ℕ, ◌+◌, ◌<◌, Bool, true, false, true≢false, not, cond, ◌&&◌, List, [], ◌∷◌, ◌++◌, map, take, length, get_or, Option, Some, None, refl, sym, ap, subst, ◌∙◌}
 use Rattle.std.proofs.lemmas.List.{map-append, take_more}
 use Rattle.std.specs.Prelude.{nat_eq, nat_lt, nat_le, OnErr}
 use Rattle.std.specs.FinMap as fin
@@ -44,6 +44,10 @@ asks_line c now error = refl
 pub asks_watch : (c : Client) (cache : Option Cache) (l : Line) → AsksOn (with_watch c cache (line l))
 asks_watch c None l = refl
 asks_watch c (Some now) l = asks_line c now l
+
+pub was_not : (b : Bool) → not b ≡ false → b ≡ true
+was_not true h = refl
+was_not false h = absurd (true≢false h)
 
 -- ---- by what is asked, whatever is to be shown of the client after it
 

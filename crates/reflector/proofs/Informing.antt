@@ -1,6 +1,6 @@
 -- An informer's calls, beside the client.
 use Rattle.std.proofs.Common.{◌≡◌, ℕ, Bool, true, false, List, [], ◌++◌, Option, Some, None, is_some, refl, sym, subst, ◌∙◌, append-nil, length, take_all, arith}
-use Rattle.std.specs.Prelude.{OnErr}
+use Rattle.std.specs.Prelude.{IfOk, OnErr}
 use Rattle.std.specs.declared.result.Result.{Result}
 use Rattle.std.specs.declared.result.Result.TheVariants.{Ok, Err}
 use Rattle.std.specs.FinMap as fin
@@ -33,6 +33,10 @@ some_heard bytes told items piece heard rest is same =
 pub weaker : {A B : Type 0} (r : Result A B) (P Q : Type 0) → (P → Q) → OnErr r P → OnErr r Q
 weaker (Ok x) P Q f h = tt
 weaker (Err e) P Q f h = f h
+
+pub both : {A B : Type 0} (r : Result A B) (P Q : A → Type 0) → IfOk r P → IfOk r Q → IfOk r (λ x. P x × Q x)
+both (Ok x) P Q p q = (p, q)
+both (Err e) P Q p q = tt
 
 -- a reader that there is
 pub was_read : (o : Option (Option State)) (r : Option State) (bytes : List ℕ) (told : List Told) → o ≡ Some r → IsRead o bytes told → IsRead (Some r) bytes told

@@ -18,3 +18,4 @@ pub mod Relisted
 pub mod HeardItems
 pub mod Informing
 pub mod Eventful
+pub mod Troubles

@@ -16,7 +16,7 @@ pub stays : (wanted : Wanted) (c : Client) (xs : List Told) → c.is_asking ≡ 
 stays wanted c [] h = refl
 stays wanted c (x ∷ xs) h = ap (λ b. hears_all wanted (cond b (with_item wanted c c.asks x) c) xs) h ∙ stays wanted c xs h
 
-was_asking : (wanted : Wanted) (c : Client) (xs : List Told) → (hears_all wanted c xs).is_asking ≡ true → c.is_asking ≡ true
+pub was_asking : (wanted : Wanted) (c : Client) (xs : List Told) → (hears_all wanted c xs).is_asking ≡ true → c.is_asking ≡ true
 was_asking wanted c xs e = go c.is_asking refl
   where
     go : (b : Bool) → c.is_asking ≡ b → b ≡ true

@@ -1,5 +1,6 @@
 -- The cache as a whole list has it, beside the client that takes the list.
-use Rattle.std.proofs.Common.{◌≡◌, ℕ, Bool, true, false, cond, ◌&&◌, T, List, [], ◌∷◌, ◌++◌, map, Option, Some, None, refl, sym, ap, ap₂, subst, ◌∙◌}
+use Rattle.std.proofs.Common.{◌≡◌, ℕ, Bool, true, false, cond, ◌&&◌, T, List, [], ◌∷◌, ◌++◌, length, map, Option, Some, None, refl, sym, ap, ap₂, subst, ◌∙◌}
+use Rattle.std.proofs.lemmas.List.{length-map}
 use Rattle.std.specs.Prelude.{option_map}
 use Rattle.std.specs.Ordering.{eq_by_cmp, is_lt}
 use Rattle.std.specs.FinMap as fin
@@ -72,6 +73,13 @@ truth false h = absurd h
 
 pub held_ascends : (held : Held) (es : Entries) → es ≡ objects_in held → is_sorted place_cmp es ≡ true
 held_ascends held es is = ap (is_sorted place_cmp) is ∙ sorted_bare (fin.entries held) ∙ truth _ (fin.entries_sorted held)
+
+pub held_length : {A : Type 0} (held : Held) (olds : List A) (f : A → Place × Stored) → map f olds ≡ objects_in held → length olds ≡ fin.len held
+held_length held olds f is =
+    sym (length-map olds f) ∙ ap length is ∙ length-map (fin.entries held) (λ e. (e.0, e.1.0)) ∙ sym (fin.len-entries held)
+
+pub list_ascends : (all : List Stored) → is_list all ≡ true → is_sorted place_cmp (by_place all) ≡ true
+list_ascends all is = truth _ (fst _ _ (subst T (sym is) tt))
 
 pub list_kept : {I : Type 0} (keys : I → Stored → List (List ℕ)) (before after : List I) (held held_now : Held) (r : Option ℕ) (notes notes_now : List Notice) (revision : ℕ) (all : List Stored)
     → after ≡ before → is_list all ≡ true → held_now ≡ put_all (keys_in keys before) all fin.empty → notes_now ≡ notes ++ between (objects_in held) (by_place all)

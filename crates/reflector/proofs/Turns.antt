@@ -1,58 +1,89 @@
 -- One turn of the merge of two lists, and its end.
-use Rattle.std.proofs.Common.{◌≡◌, ℕ, ◌+◌, ◌≤◌, ◌<◌, zero, suc, T, List, [], ◌∷◌, ◌++◌, map, drop, length, get_or, Ordering, refl, sym, ap, ap₂, subst, ◌∙◌, add-one, append-nil, append_assoc, ◌⊎◌, inl, inr, drop-cons, drop_of_length-le, take, ◌-◌, take_all, arith}
-use Rattle.std.proofs.lemmas.List.{length-drop}
-use Rattle.std.specs.FinMap.Entries.{by_order, is_sorted}
-use Rattle.indexer.specs.Objects.{Place, place_cmp, Stored}
-use Rattle.reflector.specs.Client.{Notice, added, deleted}
-use Rattle.reflector.specs.Between.{between, first_notice}
-use Rattle.reflector.proofs.Between.{snd, step, all_deleted, all_added}
+use Rattle.std.proofs.Common.{◌≡◌, ℕ, ◌+◌, ◌≤◌, suc, T, Bool, true, false, List, [], ◌∷◌, ◌++◌, map, length, Ordering, Less, Equal, Greater, Some, None, refl, sym, ap, ap₂, subst, ◌∙◌, append_assoc, append-nil, arith}
+use Rattle.std.proofs.lemmas.List.{length-map}
+use Rattle.std.specs.FinMap.Entries.{is_sorted}
+use Rattle.indexer.specs.Objects.{Place, place_cmp, Shared, Stored, shared_of}
+use Rattle.indexer.specs.declared.object.ObjectKey.{ObjectKey}
+use Rattle.reflector.specs.Between.{between, first_order, first_told, new_left, old_left}
+use Rattle.reflector.specs.Client.{Notice, by_place, place_in}
+use Rattle.reflector.specs.Seen.{held_seen}
+use Rattle.reflector.proofs.Between.{snd, fst, step, old_first, new_first, nothing_told}
 use Rattle.reflector.proofs.Keyed.{Entries}
 
--- a slice from i on
-pub all_from : {A : Type 0} (i : ℕ) (xs : List A) → take (length xs - i) (drop i xs) ≡ drop i xs
-all_from i xs = let n : length (drop i xs) ≡ length xs - i = length-drop i xs in take_all (length xs - i) (drop i xs) (omega (arith, n))
+some_is : (o p : Ordering) → Some o ≡ Some p → o ≡ p
+some_is o p e = cc
 
-pub mapped : {A B C : Type 0} (p : A → B) (q : B → C) (zs : List A) → map (λ a. q (p a)) zs ≡ map q (map p zs)
-mapped p q [] = refl
-mapped p q (a ∷ zs) = ap (λ cs. q (p a) ∷ cs) (mapped p q zs)
+-- what is told of the first place, and of what is left then, is told of all
+turn : (o : Ordering) (xs ys : Entries) → first_order xs ys ≡ Some o → T (is_sorted place_cmp xs) → T (is_sorted place_cmp ys) → first_told o xs ys ++ between (old_left o xs) (new_left o ys) ≡ between xs ys
+turn o [] [] is h k = absurd cc
+turn o [] (y ∷ ys) is h k =
+    subst (λ (p : Ordering). first_told p [] (y ∷ ys) ++ between (old_left p []) (new_left p (y ∷ ys)) ≡ between [] (y ∷ ys)) (some_is Greater o is) (sym (new_first y [] ys tt (fst _ _ k)))
+turn o (x ∷ xs) [] is h k =
+    subst (λ (p : Ordering). first_told p (x ∷ xs) [] ++ between (old_left p (x ∷ xs)) (new_left p []) ≡ between (x ∷ xs) []) (some_is Less o is) (sym (old_first x xs [] (fst _ _ h) tt))
+turn o (x ∷ xs) (y ∷ ys) is h k = step o x y xs ys (sym (some_is (place_cmp x.0 y.0) o is)) h k
 
-module _ {A : Type 0} (F : List A → Entries) (f : A → Place × Stored) (cons : (a : A) (zs : List A) → F (a ∷ zs) ≡ f a ∷ F zs) where
-  pub sorted_from : (i : ℕ) (zs : List A) → T (is_sorted place_cmp (F zs)) → T (is_sorted place_cmp (F (drop i zs)))
-  sorted_from zero zs h = h
-  sorted_from (suc i) [] h = h
-  sorted_from (suc i) (a ∷ zs) h = sorted_from i zs (snd _ _ (subst (λ es. T (is_sorted place_cmp es)) (cons a zs) h))
+over : (xs ys : Entries) → first_order xs ys ≡ None → between xs ys ≡ []
+over [] [] is = nothing_told
+over [] (y ∷ ys) is = absurd cc
+over (x ∷ xs) [] is = absurd cc
+over (x ∷ xs) (y ∷ ys) is = absurd cc
 
-  pub from_front : (zs : List A) (i : ℕ) (a : A) → i < length zs → a ≡ get_or zs i a → F (drop i zs) ≡ f a ∷ F (drop (i + 1) zs)
-  from_front zs i a lt is = ap F (drop-cons zs i a lt) ∙ cons (get_or zs i a) (drop (suc i) zs) ∙ ap₂ (λ b n. f b ∷ F (drop n zs)) (sym is) (sym (add-one i))
+-- where nothing is left, all is told
+pub is_over : (xs ys : Entries) (told all : List Notice) → first_order xs ys ≡ None → told ++ between xs ys ≡ all → told ≡ all
+is_over xs ys told all is so_far = sym (append-nil told) ∙ ap (λ r. told ++ r) (sym (over xs ys is)) ∙ so_far
 
-module _ {A B : Type 0} (F : List A → Entries) (f : A → Place × Stored) (F_cons : (a : A) (zs : List A) → F (a ∷ zs) ≡ f a ∷ F zs)
-    (G : List B → Entries) (g : B → Place × Stored) (G_cons : (b : B) (bs : List B) → G (b ∷ bs) ≡ g b ∷ G bs)
-    (zs : List A) (bs : List B) (i j : ℕ) (sorted_as : T (is_sorted place_cmp (F zs))) (sorted_bs : T (is_sorted place_cmp (G bs))) where
-  pub turn : (a : A) (b : B) → i < length zs → a ≡ get_or zs i a → j < length bs → b ≡ get_or bs j b → (before after all : List Notice) (o : Ordering) → o ≡ place_cmp (f a).0 (g b).0
-      → after ≡ before ++ first_notice o (f a).1 (g b).1 → before ++ between (F (drop i zs)) (G (drop j bs)) ≡ all
-      → after ++ between (by_order o (F (drop (i + 1) zs)) (F (drop (i + 1) zs)) (F (drop i zs))) (by_order o (G (drop j bs)) (G (drop (j + 1) bs)) (G (drop (j + 1) bs))) ≡ all
-  turn a b lt_i is_a lt_j is_b before after all o is tells told =
-      let xs : Entries = F (drop (i + 1) zs) in
-      let ys : Entries = G (drop (j + 1) bs) in
-      let front_as : F (drop i zs) ≡ f a ∷ xs = from_front F f F_cons zs i a lt_i is_a in
-      let front_bs : G (drop j bs) ≡ g b ∷ ys = from_front G g G_cons bs j b lt_j is_b in
-      let h : T (is_sorted place_cmp (f a ∷ xs)) = subst (λ es. T (is_sorted place_cmp es)) front_as (sorted_from F f F_cons i zs sorted_as) in
-      let k : T (is_sorted place_cmp (g b ∷ ys)) = subst (λ es. T (is_sorted place_cmp es)) front_bs (sorted_from G g G_cons j bs sorted_bs) in
-      ap₂ (λ us vs. after ++ between (by_order o xs xs us) (by_order o vs ys ys)) front_as front_bs
-      ∙ ap (λ t. t ++ between (by_order o xs xs (f a ∷ xs)) (by_order o (g b ∷ ys) ys ys)) tells
-      ∙ append_assoc before (first_notice o (f a).1 (g b).1) (between (by_order o xs xs (f a ∷ xs)) (by_order o (g b ∷ ys) ys ys))
-      ∙ ap (λ r. before ++ r) (step o (f a) (g b) xs ys is h k ∙ sym (ap₂ between front_as front_bs))
-      ∙ told
+truth : (b : Bool) → T b → b ≡ true
+truth true h = refl
+truth false h = absurd h
 
-  pub finish : F [] ≡ [] → G [] ≡ [] → (t0 t1 t2 all : List Notice) → t0 ++ between (F (drop i zs)) (G (drop j bs)) ≡ all → t1 ≡ t0 ++ map (λ e. deleted e.1) (F (drop i zs))
-      → t2 ≡ t1 ++ map (λ e. added e.1) (G (drop j bs)) → (length zs ≤ i) ⊎ (length bs ≤ j) → t2 ≡ all
-  finish F_nil G_nil t0 t1 t2 all told one other (inl le) =
-      let none : F (drop i zs) ≡ [] = ap F (drop_of_length-le zs le) ∙ F_nil in
-      other ∙ ap (λ t. t ++ map (λ e. added e.1) (G (drop j bs))) (one ∙ ap (λ es. t0 ++ map (λ e. deleted e.1) es) none ∙ append-nil t0)
-      ∙ ap (λ r. t0 ++ r) (sym (ap (λ es. between es (G (drop j bs))) none ∙ all_added (G (drop j bs)) (sorted_from G g G_cons j bs sorted_bs)))
-      ∙ told
-  finish F_nil G_nil t0 t1 t2 all told one other (inr le) =
-      let none : G (drop j bs) ≡ [] = ap G (drop_of_length-le bs le) ∙ G_nil in
-      other ∙ ap (λ es. t1 ++ map (λ e. added e.1) es) none ∙ append-nil t1 ∙ one
-      ∙ ap (λ r. t0 ++ r) (sym (ap (between (F (drop i zs))) none ∙ all_deleted (F (drop i zs)) (sorted_from F f F_cons i zs sorted_as)))
-      ∙ told
+behind : (xs : Entries) → is_sorted place_cmp xs ≡ true → is_sorted place_cmp (old_left Less xs) ≡ true
+behind [] h = h
+behind (x ∷ xs) h = truth _ (snd _ _ (subst T (sym h) tt))
+
+pub old_sorted : (o : Ordering) (xs : Entries) → is_sorted place_cmp xs ≡ true → is_sorted place_cmp (old_left o xs) ≡ true
+old_sorted Less xs h = behind xs h
+old_sorted Equal xs h = behind xs h
+old_sorted Greater xs h = h
+
+pub new_sorted : (o : Ordering) (ys : Entries) → is_sorted place_cmp ys ≡ true → is_sorted place_cmp (new_left o ys) ≡ true
+new_sorted Less ys h = h
+new_sorted Equal ys h = behind ys h
+new_sorted Greater ys h = behind ys h
+
+-- fewer are left
+fewer : (o : Ordering) (xs ys : Entries) → first_order xs ys ≡ Some o → suc (length (old_left o xs) + length (new_left o ys)) ≤ length xs + length ys
+fewer o [] [] is = absurd cc
+fewer Less [] (y ∷ ys) is = absurd cc
+fewer Equal [] (y ∷ ys) is = absurd cc
+fewer Greater [] (y ∷ ys) is = omega arith
+fewer Less (x ∷ xs) [] is = omega arith
+fewer Equal (x ∷ xs) [] is = absurd cc
+fewer Greater (x ∷ xs) [] is = absurd cc
+fewer Less (x ∷ xs) (y ∷ ys) is = omega arith
+fewer Equal (x ∷ xs) (y ∷ ys) is = omega arith
+fewer Greater (x ∷ xs) (y ∷ ys) is = omega arith
+
+listed_length : (ys : List Shared) → length (by_place (map shared_of ys)) ≡ length ys
+listed_length ys = length-map (map shared_of ys) (λ o. (place_in o, o)) ∙ length-map ys shared_of
+
+pub fewer_left : (o : Ordering) (old old_now : List (ObjectKey × Shared)) (new new_now : List Shared) → first_order (map held_seen old) (by_place (map shared_of new)) ≡ Some o
+    → map held_seen old_now ≡ old_left o (map held_seen old) → by_place (map shared_of new_now) ≡ new_left o (by_place (map shared_of new)) → suc (length old_now + length new_now) ≤ length old + length new
+fewer_left o old old_now new new_now is old_is new_is =
+    let left = fewer o (map held_seen old) (by_place (map shared_of new)) is in
+    let olds : length (old_left o (map held_seen old)) ≡ length old_now = ap length (sym old_is) ∙ length-map old_now held_seen in
+    let news : length (new_left o (by_place (map shared_of new))) ≡ length new_now = ap length (sym new_is) ∙ listed_length new_now in
+    let was : length (map held_seen old) ≡ length old = length-map old held_seen in
+    let is_new : length (by_place (map shared_of new)) ≡ length new = listed_length new in
+    omega (arith, left, olds, news, was, is_new)
+
+pub goes_on : (o : Ordering) (old old_now : List (ObjectKey × Shared)) (new new_now : List Shared) (told told_now some all : List Notice) → first_order (map held_seen old) (by_place (map shared_of new)) ≡ Some o
+    → some ≡ first_told o (map held_seen old) (by_place (map shared_of new)) → map held_seen old_now ≡ old_left o (map held_seen old) → by_place (map shared_of new_now) ≡ new_left o (by_place (map shared_of new))
+    → is_sorted place_cmp (map held_seen old) ≡ true → is_sorted place_cmp (by_place (map shared_of new)) ≡ true → told_now ≡ told ++ some
+    → told ++ between (map held_seen old) (by_place (map shared_of new)) ≡ all → told_now ++ between (map held_seen old_now) (by_place (map shared_of new_now)) ≡ all
+goes_on o old old_now new new_now told told_now some all is some_is_first old_is new_is old_sorted_is new_sorted_is tells so_far =
+    let xs : Entries = map held_seen old in
+    let ys : Entries = by_place (map shared_of new) in
+    ap (λ t. t ++ between (map held_seen old_now) (by_place (map shared_of new_now))) (tells ∙ ap (λ ns. told ++ ns) some_is_first)
+    ∙ append_assoc told (first_told o xs ys) (between (map held_seen old_now) (by_place (map shared_of new_now)))
+    ∙ ap (λ r. told ++ r) (ap₂ (λ us vs. first_told o xs ys ++ between us vs) old_is new_is ∙ turn o xs ys is (subst T (sym old_sorted_is) tt) (subst T (sym new_sorted_is) tt))
+    ∙ so_far

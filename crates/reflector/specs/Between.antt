@@ -1,6 +1,7 @@
 -- Two lists of objects in the order of places, as the cache is replaced.
-use Rattle.std.specs.Prelude.{List, ◌++◌, Some, None}
+use Rattle.std.specs.Prelude.{List, [], ◌∷◌, ◌++◌, drop, Option, Some, None}
 use Rattle.std.specs.declared.cmp.Ordering.{Ordering}
+use Rattle.std.specs.declared.cmp.Ordering.TheVariants.{Less, Greater}
 use Rattle.std.specs.List.{flat_map}
 use Rattle.std.specs.FinMap as fin
 use Rattle.std.specs.FinMap.Entries.{by_order, find}
@@ -11,6 +12,25 @@ use Rattle.reflector.specs.Client.{Notice, notice_of}
 abbrev pub between : List (Place × Stored) → List (Place × Stored) → List Notice
 between before after = flat_map (λ p. notice_of (find place_cmp p before) (find place_cmp p after)) (fin.keys (fin.from_entries {R = place_cmp} (before ++ after)))
 
--- of two objects, by the order of their places: what there is to tell of the first place
-abbrev pub first_notice : Ordering → Stored → Stored → List Notice
-first_notice order was now = by_order order (notice_of (Some was) None) (notice_of (Some was) (Some now)) (notice_of None (Some now))
+-- how the first places of both are ordered; where one has no more, the other's is the first
+abbrev pub first_order : List (Place × Stored) → List (Place × Stored) → Option Ordering
+first_order [] [] = None
+first_order [] (y ∷ ys) = Some Greater
+first_order (x ∷ xs) [] = Some Less
+first_order (x ∷ xs) (y ∷ ys) = Some (place_cmp x.0 y.0)
+
+abbrev pub first_object : List (Place × Stored) → Option Stored
+first_object [] = None
+first_object (x ∷ xs) = Some x.1
+
+-- what there is to tell of the first place of both, by that order
+abbrev pub first_told : Ordering → List (Place × Stored) → List (Place × Stored) → List Notice
+first_told order before after =
+    by_order order (notice_of (first_object before) None) (notice_of (first_object before) (first_object after)) (notice_of None (first_object after))
+
+-- what is left of each behind that place
+abbrev pub old_left : Ordering → List (Place × Stored) → List (Place × Stored)
+old_left order before = by_order order (drop 1 before) (drop 1 before) before
+
+abbrev pub new_left : Ordering → List (Place × Stored) → List (Place × Stored)
+new_left order after = by_order order after (drop 1 after) (drop 1 after)

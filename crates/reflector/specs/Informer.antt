@@ -4,6 +4,7 @@ use Rattle.indexer.specs.Indexer.{indexes_of, names_of}
 use Rattle.indexer.specs.Objects.{Stored}
 use Rattle.wireclient.specs.Reply.{Told}
 use Rattle.reflector.specs.declared.informer.Informer.{Informer}
+use Rattle.reflector.specs.declared.trouble.Trouble.{Trouble}
 use Rattle.reflector.specs.Client.{Client}
 use Rattle.reflector.specs.Reading.{IsRead}
 use Rattle.reflector.specs.Requests.{Settings, request_of}
@@ -19,6 +20,10 @@ indexes_in i = indexes_of i.mirror.indexer
 -- the names of its indexes
 abbrev pub names_in : {I : Type 0} → Informer I → List (List ℕ)
 names_in i = names_of i.mirror.indexer
+
+-- why the last reply was given up, if it was
+abbrev pub trouble_in : {I : Type 0} → Informer I → Option Trouble
+trouble_in i = i.trouble
 
 -- it is this client; of the reply to what it asks, if it asks, these bytes came, and they hold these items
 pub record Runs {I : Type 0} (keys : I → Stored → List (List ℕ)) (i : Informer I) (c : Client) (bytes : List ℕ) (told : List Told) : Type 0 where

@@ -1,6 +1,7 @@
 pub mod Client
 pub mod Items
 pub mod Run
+pub mod Troubles
 pub mod Requests
 pub mod Follows
 pub mod Lists

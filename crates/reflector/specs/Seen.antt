@@ -3,7 +3,8 @@ use Rattle.std.specs.Prelude.{ℕ, List, [], ◌∷◌, Option, Some, None, Stri
 use Rattle.std.specs.declared.alloc.Global.{Global}
 use Rattle.std.specs.FinMap as fin
 use Rattle.indexer.specs.Kept.{Held}
-use Rattle.indexer.specs.Objects.{Place, Stored, stored_of}
+use Rattle.indexer.specs.Objects.{Place, Shared, Stored, place_of, shared_of}
+use Rattle.indexer.specs.declared.object.ObjectKey.{ObjectKey}
 use Rattle.decoder.specs.declared.wanted.Source as sources
 use Rattle.decoder.specs.Seen.{wanted_from, wanted_of}
 use Rattle.reflector.specs.Aside.{aside_of}
@@ -28,9 +29,13 @@ asks_of (ask.Next revision token aside) = next revision (string_bytes token) (as
 asks_of ask.Follow = follow
 
 abbrev pub notice_seen : notices.Notice → Notice
-notice_seen (notice.Added new) = added (stored_of new)
-notice_seen (notice.Updated old new) = updated (stored_of old) (stored_of new)
-notice_seen (notice.Deleted old) = deleted (stored_of old)
+notice_seen (notice.Added new) = added (shared_of new)
+notice_seen (notice.Updated old new) = updated (shared_of old) (shared_of new)
+notice_seen (notice.Deleted old) = deleted (shared_of old)
+
+-- an object beside its key
+abbrev pub held_seen : ObjectKey × Shared → Place × Stored
+held_seen e = (place_of e.0, shared_of e.1)
 
 -- none or one
 abbrev pub told_of : Option notices.Notice → List Notice

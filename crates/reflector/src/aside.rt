@@ -1,14 +1,15 @@
 //! What is set aside of a list until its last page. A page is taken in `pages`.
 
-ghost use Rattle.std.specs.Prelude.{◌≡◌, ◌++◌, ◌&&◌, true, map, OnOk, vec_len};
+ghost use Rattle.std.specs.Prelude.{◌≡◌, ◌++◌, ◌&&◌, true, map, IfOk, OnOk, vec_len};
 ghost use Rattle.std.specs.FinMap as fin;
 ghost use Rattle.std.specs.Ordering.{is_lt};
-ghost use Rattle.indexer.specs.Objects.{place_cmp, place_of_object, stored_of};
+ghost use Rattle.indexer.specs.Objects.{place_cmp, place_of_object, shared_of};
 ghost use Rattle.reflector.specs.Client.{by_place};
 ghost use Rattle.reflector.specs.Run.{is_list};
 
 use indexer::Object;
 use std::alloc::{AllocError, Global};
+use std::rc::Rc;
 
 /// How many objects are kept at most.
 pub(crate) const MAX_OBJECTS: usize = 4_294_967_295;
@@ -16,12 +17,12 @@ pub(crate) const MAX_OBJECTS: usize = 4_294_967_295;
 /// The objects of a list as far as it was told: their places strictly ascend, and they are not too many.
 #[derive(Drop)]
 pub(crate) struct Aside {
-    pub(crate) objects: Vec<Object>,
-    ghost listed: { is_list (map stored_of objects.items) ≡ true },
+    pub(crate) objects: Vec<Rc<Object>>,
+    ghost listed: { is_list (map shared_of objects.items) ≡ true },
 }
 
-fn is_before(one: &Object, other: &Object) -> bool
-    ensures { result ≡ is_lt (place_cmp (place_of_object one.now) (place_of_object other.now)) }
+fn is_before(one: &Rc<Object>, other: &Rc<Object>) -> bool
+    ensures { result ≡ is_lt (place_cmp (place_of_object one.now.value) (place_of_object other.now.value)) }
 {
     one.namespace
         .cmp(&other.namespace)
@@ -30,8 +31,8 @@ fn is_before(one: &Object, other: &Object) -> bool
 }
 
 /// Whether the places strictly ascend.
-fn ascends(objects: &[Object]) -> bool
-    ensures { result ≡ fin.is_sorted place_cmp (by_place (map stored_of objects.now)) }
+fn ascends(objects: &[Rc<Object>]) -> bool
+    ensures { result ≡ fin.is_sorted place_cmp (by_place (map shared_of objects.now)) }
 {
     for i in 1..objects.len() {
         if !is_before(&objects[i - 1], &objects[i]) {
@@ -42,8 +43,8 @@ fn ascends(objects: &[Object]) -> bool
 }
 
 /// Whether the first that was found comes behind the last that is set aside.
-fn joins(aside: &[Object], found: &[Object]) -> bool
-    ensures { fin.is_sorted place_cmp (by_place (map stored_of aside.now)) ≡ true → (result && fin.is_sorted place_cmp (by_place (map stored_of found.now))) ≡ fin.is_sorted place_cmp (by_place (map stored_of aside.now ++ map stored_of found.now)) }
+fn joins(aside: &[Rc<Object>], found: &[Rc<Object>]) -> bool
+    ensures { fin.is_sorted place_cmp (by_place (map shared_of aside.now)) ≡ true → (result && fin.is_sorted place_cmp (by_place (map shared_of found.now))) ≡ fin.is_sorted place_cmp (by_place (map shared_of aside.now ++ map shared_of found.now)) }
 {
     let Some(last) = aside.last() else {
         return true;
@@ -55,15 +56,26 @@ fn joins(aside: &[Object], found: &[Object]) -> bool
 }
 
 /// Whether the objects that were found go on behind those that are set aside.
-fn go_on(aside: &[Object], found: &[Object]) -> bool
-    ensures { is_list (map stored_of aside.now) ≡ true → result ≡ is_list (map stored_of aside.now ++ map stored_of found.now) }
+fn go_on(aside: &[Rc<Object>], found: &[Rc<Object>]) -> bool
+    ensures { is_list (map shared_of aside.now) ≡ true → result ≡ is_list (map shared_of aside.now ++ map shared_of found.now) }
 {
     joins(aside, found) && ascends(found) && found.len() <= MAX_OBJECTS.saturating_sub(aside.len())
 }
 
+/// The objects once more, shared.
+fn shares(alloc: Global, objects: &[Rc<Object>]) -> Result<Vec<Rc<Object>>, AllocError>
+    ensures { IfOk result (λ v. map shared_of v.items ≡ map shared_of objects.now) }
+{
+    let mut all = Vec::with_capacity(alloc, objects.len())?;
+    for object in objects {
+        all.push(object.clone()?)?;
+    }
+    Ok(all)
+}
+
 impl Aside {
     ghost use Rattle.std.specs.Prelude.{◌≡◌, ◌++◌, [], map, is_some, IfOk, IfSome};
-    ghost use Rattle.indexer.specs.Objects.{stored_of};
+    ghost use Rattle.indexer.specs.Objects.{shared_of};
     ghost use Rattle.reflector.specs.Aside.{aside_of};
     ghost use Rattle.reflector.specs.Run.{is_list};
 
@@ -75,10 +87,17 @@ impl Aside {
         }
     }
 
+    /// The objects once more, shared.
+    pub(crate) fn shares(&self, alloc: Global) -> Result<Vec<Rc<Object>>, AllocError>
+        ensures { IfOk result (λ v. map shared_of v.items ≡ aside_of self.now) }
+    {
+        shares(alloc, &self.objects)
+    }
+
     /// These, and behind them those that were found, if they go on.
-    pub(crate) fn with(self, found: Vec<Object>) -> Result<Option<Aside>, AllocError>
-        ensures fits { IfOk result (λ all. is_some all ≡ is_list (aside_of self ++ map stored_of found.items)) }
-        ensures all { IfOk result (λ o. IfSome o (λ all. aside_of all ≡ aside_of self ++ map stored_of found.items)) }
+    pub(crate) fn with(self, found: Vec<Rc<Object>>) -> Result<Option<Aside>, AllocError>
+        ensures fits { IfOk result (λ all. is_some all ≡ is_list (aside_of self ++ map shared_of found.items)) }
+        ensures all { IfOk result (λ o. IfSome o (λ all. aside_of all ≡ aside_of self ++ map shared_of found.items)) }
     {
         if !go_on(&self.objects, &found) {
             return Ok(None);

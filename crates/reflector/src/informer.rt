@@ -12,20 +12,23 @@ use crate::notice::Notice;
 use crate::replying::{Open, hear_open};
 use crate::requests::request_of;
 use crate::settings::{Settings, SettingsFault, fault_in};
+use crate::trouble::Trouble;
 use decoder::{Source, Wanted};
 use indexer::{IndexBy, Indexer};
 use std::alloc::{AllocError, Global};
 use std::mem;
 use wireclient::ReplyReader;
 
-/// A client that mirrors a server's objects: it lists them in pages, then follows a watch. It opens no connection:
-/// the caller sends its requests, hands it what comes, and says when the connection has ended.
+/// A client that mirrors a server's objects: it lists them in pages, then follows a watch. It opens no connection: the
+/// caller sends each request on a new connection, hands in what comes on it, and says when it has ended. A piece or an
+/// end of an older connection would count for the request under way, so that one is dropped first.
 #[derive(Drop)]
 pub struct Informer<I: Drop> {
     settings: Settings,
     mirror: Mirror<I>,
     asks: Asks,
     reader: Option<ReplyReader>,
+    trouble: Option<Trouble>,
     alloc: Global,
 }
 
@@ -56,22 +59,25 @@ fn empty<I: IndexBy>(alloc: Global, indexer: Indexer<I>) -> Mirror<I>
 }
 
 impl<I: IndexBy> Informer<I> {
+    ghost use Rattle.reflector.specs.declared.trouble.Trouble.TheVariants.{OutOfMemory};
     ghost use Rattle.std.specs.Prelude.{◌≡◌, ◌++◌, ℕ, List, [], Ok, true, false, map, option_map, string_bytes, IfErr, IfOk, OnErr, OnOk, None, Some};
     ghost use Rattle.indexer.specs.Indexer.{held_of, indexes_of, names_of};
     ghost use Rattle.wireclient.specs.Reads.{Items};
     ghost use Rattle.wireclient.specs.Reply.{Told};
     ghost use Rattle.reflector.specs.Client.{Client, fresh, kept};
     ghost use Rattle.reflector.specs.Faults.{fault_in};
-    ghost use Rattle.reflector.specs.Informer.{Runs, due, indexes_in, names_in, settings_in};
+    ghost use Rattle.reflector.specs.Informer.{Runs, due, indexes_in, names_in, settings_in, trouble_in};
     ghost use Rattle.reflector.specs.Mirrors.{keyed};
     ghost use Rattle.reflector.specs.Reading.{AreHeard};
     ghost use Rattle.reflector.specs.Run.{again, asked, closed, hears_all, taken};
     ghost use Rattle.reflector.specs.Seen.{notice_seen, settings_from};
     ghost use Rattle.reflector.specs.Standing.{keys_in};
+    ghost use Rattle.reflector.specs.Troubles.{trouble_after};
 
     /// An informer of the source's objects, in a namespace or in all, that the label selector selects: the empty text
-    /// selects all. A page has at most `page` objects, 1 to 500. It keeps nothing yet: the indexer's functions stay, its
-    /// objects don't.
+    /// selects all. A page has at most `page` objects, 1 to 500. It keeps nothing yet: objects that the indexer holds are
+    /// dropped without notices, its functions stay. Group, version and plural stand in each request as they are, and
+    /// aren't checked: a blank, CR or LF in one makes it another request.
     pub fn new(
         alloc: Global,
         source: Source,
@@ -86,6 +92,7 @@ impl<I: IndexBy> Informer<I> {
         ensures names { IfOk result (λ i. names_in i ≡ names_of indexer) }
         ensures lawful { OnOk result (fault_in (settings_from source namespace selector page) ≡ None) }
         ensures fault { IfErr result (λ f. fault_in (settings_from source namespace selector page) ≡ Some f) }
+        ensures trouble { IfOk result (λ i. trouble_in i ≡ None) }
     {
         let settings = Settings {
             wanted: Wanted { source, namespace },
@@ -100,16 +107,19 @@ impl<I: IndexBy> Informer<I> {
             mirror: empty(alloc, indexer),
             asks: Asks::First,
             reader: None,
+            trouble: None,
             alloc,
         })
     }
 
-    /// The request that is due, which is under way then; None while one is. Out of memory, it changes nothing.
+    /// The bytes to send next, on a new connection: the request is under way then, and the old connection is dropped. None
+    /// while a request is under way. Out of memory, it changes nothing.
     pub fn next_request(&mut self) -> Result<Option<Vec<u8>>, AllocError>
         ensures due { (c : Client) (bytes : List ℕ) (told : List Told) → Runs (λ b s. I.keys b s) self.old c bytes told → IfOk result (λ r. option_map (λ v. v.items) r ≡ due (settings_in self.old) c) }
         ensures asked { (c : Client) (bytes : List ℕ) (told : List Told) → Runs (λ b s. I.keys b s) self.old c bytes told → c.is_asking ≡ false → OnOk result (Runs (λ b s. I.keys b s) self.new (asked c) [] []) }
         ensures waits { (c : Client) (bytes : List ℕ) (told : List Told) → Runs (λ b s. I.keys b s) self.old c bytes told → c.is_asking ≡ true → self.new ≡ self.old }
         ensures refused { OnErr result (self.new ≡ self.old) }
+        ensures trouble { (c : Client) (bytes : List ℕ) (told : List Told) → Runs (λ b s. I.keys b s) self.old c bytes told → c.is_asking ≡ false → OnOk result (trouble_in self.new ≡ None) }
         ensures settings { settings_in self.new ≡ settings_in self.old }
         ensures indexes { indexes_in self.new ≡ indexes_in self.old }
         ensures names { names_in self.new ≡ names_in self.old }
@@ -119,16 +129,21 @@ impl<I: IndexBy> Informer<I> {
         }
         let request = request_of(self.alloc, &self.settings, &self.asks, self.mirror.revision)?;
         self.reader = Some(ReplyReader::new(self.alloc));
+        self.trouble = None;
         Ok(Some(request))
     }
 
-    /// Takes the next piece of the reply, cut anywhere: each item that it completes whole or not at all. With no
-    /// request under way it changes nothing. Out of memory, the reply is given up and the next request is a first
-    /// page; what was taken of this piece before, with its notices, counts.
+    /// Takes the next piece of the reply to the last request, cut anywhere: each item that it completes whole or not at
+    /// all. What doesn't fit ends the request (`is_asking`), is told by `trouble`, and makes the next request a first page;
+    /// objects and revision stay. With no request under way it changes nothing. Out of memory, the reply is given up; what
+    /// was taken of this piece before, with its notices, counts.
     pub fn feed(&mut self, piece: &[u8]) -> Result<(), AllocError>
         ensures heard { (c : Client) (bytes : List ℕ) (told : List Told) → Runs (λ b s. I.keys b s) self.old c bytes told → c.is_asking ≡ true
             → OnOk result ((news : List Told) × Items (bytes ++ piece.now) (told ++ news) × Runs (λ b s. I.keys b s) self.new (hears_all (settings_in self.old).wanted c news) (bytes ++ piece.now) (told ++ news)) }
         ensures idle { (c : Client) (bytes : List ℕ) (told : List Told) → Runs (λ b s. I.keys b s) self.old c bytes told → c.is_asking ≡ false → (result ≡ Ok tt) × (self.new ≡ self.old) }
+        ensures trouble { (c : Client) (bytes : List ℕ) (told news : List Told) → Runs (λ b s. I.keys b s) self.old c bytes told → c.is_asking ≡ true → Items (bytes ++ piece.now) (told ++ news)
+            → OnOk result (trouble_in self.new ≡ trouble_after (settings_in self.old).wanted c None news) }
+        ensures memory { OnErr result (trouble_in self.new ≡ Some OutOfMemory) }
         ensures given_up { (c : Client) (bytes : List ℕ) (told : List Told) → Runs (λ b s. I.keys b s) self.old c bytes told
             → OnErr result ((heard : List Told) × AreHeard bytes told piece.now heard × Runs (λ b s. I.keys b s) self.new (again (hears_all (settings_in self.old).wanted c heard)) [] []) }
         ensures settings { settings_in self.new ≡ settings_in self.old }
@@ -139,6 +154,7 @@ impl<I: IndexBy> Informer<I> {
             return Ok(());
         };
         let asks = mem::replace(&mut self.asks, Asks::First);
+        self.trouble = Some(Trouble::OutOfMemory);
         let open = hear_open(
             self.alloc,
             &self.settings.wanted,
@@ -147,16 +163,22 @@ impl<I: IndexBy> Informer<I> {
             reader,
             piece,
         )?;
-        let Open { asks, reader } = open;
+        let Open {
+            asks,
+            reader,
+            trouble,
+        } = open;
         self.asks = asks;
         self.reader = reader;
+        self.trouble = trouble;
         Ok(())
     }
 
-    /// The connection has ended or was cut. A list begins again at its first page, a watch goes on from the revision
-    /// that it reached. With no request under way it changes nothing.
+    /// The connection of the last request has ended or was cut. A list begins again at its first page, a watch goes on
+    /// from the revision that it reached. With no request under way it changes nothing.
     pub fn closed(&mut self)
         ensures closed { (c : Client) (bytes : List ℕ) (told : List Told) → Runs (λ b s. I.keys b s) self.old c bytes told → Runs (λ b s. I.keys b s) self.new (closed c) bytes told }
+        ensures trouble { trouble_in self.new ≡ trouble_in self.old }
         ensures settings { settings_in self.new ≡ settings_in self.old }
         ensures indexes { indexes_in self.new ≡ indexes_in self.old }
         ensures names { names_in self.new ≡ names_in self.old }
@@ -169,9 +191,13 @@ impl<I: IndexBy> Informer<I> {
         }
     }
 
-    /// Forgets objects, revision and notices, and what is under way; the index functions stay.
+    /// Forgets objects, revision and notices, and what is under way, whose connection is dropped; the index functions
+    /// stay. No notice tells that objects are gone, so what was built from notices, as a `Summary`, begins anew too. A
+    /// server that was started anew asks for this: where its revisions are lower than the kept one, nothing that it
+    /// sends tells so, and a watch would wait.
     pub fn restart(&mut self)
         ensures restarted { Runs (λ b s. I.keys b s) self.new fresh [] [] }
+        ensures trouble { trouble_in self.new ≡ None }
         ensures settings { settings_in self.new ≡ settings_in self.old }
         ensures indexes { indexes_in self.new ≡ indexes_in self.old }
         ensures names { names_in self.new ≡ names_in self.old }
@@ -179,6 +205,7 @@ impl<I: IndexBy> Informer<I> {
         forget(self.alloc, &mut self.mirror);
         self.asks = Asks::First;
         self.reader = None;
+        self.trouble = None;
     }
 
     /// Whether a request is under way: pieces of its reply are still awaited.
@@ -188,18 +215,27 @@ impl<I: IndexBy> Informer<I> {
         self.reader.is_some()
     }
 
+    /// Why the reply to the last request was given up. None while a request is under way, before the first one, and where
+    /// the reply fitted or was cut. How long to wait before the next request is the caller's to say.
+    pub fn trouble(&self) -> Option<Trouble>
+        ensures { result ≡ trouble_in self.now }
+    {
+        self.trouble
+    }
+
     /// The revision of the server whose objects these are; None before the first whole list, and after a restart until
-    /// the next.
+    /// the next. That there is one is what client-go calls `HasSynced`.
     pub fn revision(&self) -> Option<u64>
         ensures { (c : Client) (bytes : List ℕ) (told : List Told) → Runs (λ b s. I.keys b s) self.now c bytes told → result ≡ option_map (λ now. now.revision) c.cache }
     {
         self.mirror.revision
     }
 
-    /// Returns the notices that wait, each of them once.
+    /// What was added, updated and deleted since the last call, the start or the last restart, in order and each once.
     pub fn take_notices(&mut self) -> Vec<Notice>
         ensures notices { (c : Client) (bytes : List ℕ) (told : List Told) → Runs (λ b s. I.keys b s) self.old c bytes told → map notice_seen result.items ≡ c.notices }
         ensures taken { (c : Client) (bytes : List ℕ) (told : List Told) → Runs (λ b s. I.keys b s) self.old c bytes told → Runs (λ b s. I.keys b s) self.new (taken c) bytes told }
+        ensures trouble { trouble_in self.new ≡ trouble_in self.old }
         ensures settings { settings_in self.new ≡ settings_in self.old }
         ensures indexes { indexes_in self.new ≡ indexes_in self.old }
         ensures names { names_in self.new ≡ names_in self.old }

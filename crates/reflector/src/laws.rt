@@ -1,12 +1,13 @@
 //! Laws of the client run, which crates above build on. Each function does nothing; what it promises is the law. The
 //! calls on a client stand in `informer`.
 
-ghost use Rattle.std.specs.Prelude.{◌≡◌, ◌≤◌, ℕ, true, List, [], ◌++◌, Some};
+ghost use Rattle.std.specs.Prelude.{◌≡◌, ◌≤◌, ℕ, true, List, [], ◌++◌, None, Some, is_some};
 ghost use Rattle.std.specs.FinMap as fin;
 ghost use Rattle.wireclient.specs.Reply.{Told};
 ghost use Rattle.decoder.specs.Wanted.{Wanted};
 ghost use Rattle.reflector.specs.Client.{Client, Objects, first, follow, fresh, kept, max_objects};
-ghost use Rattle.reflector.specs.Run.{again, asked, closed, hears_all, restarted, taken};
+ghost use Rattle.reflector.specs.Run.{again, asked, closed, hears, hears_all, restarted, taken};
+ghost use Rattle.reflector.specs.Troubles.{of_item, trouble_after};
 ghost use Rattle.reflector.specs.Follows.{Server, Comes, Follows, GoesOn, IsLater, Watches};
 ghost use Rattle.reflector.specs.Lists.{ArePages, answered};
 ghost use Rattle.reflector.specs.Fitting.{AreFitting, revision_after_all};
@@ -79,4 +80,12 @@ pub fn notices_tell_exactly()
 /// client keeps, and each one's old side is what stood at its place.
 pub fn notices_lead_on()
     ensures { (wanted : Wanted) (server : Server) (events : List Event) → AllLead wanted (start server) fin.empty events }
+{}
+
+/// A client gives a reply up at an item with which something is wrong (`gives_up`), and at no other (`gave_up`); so there
+/// is no trouble while more of the reply is awaited (`none_yet`).
+pub fn troubles_are_told()
+    ensures gives_up { (wanted : Wanted) (c : Client) (x : Told) → c.is_asking ≡ true → is_some (of_item wanted c.cache c.asks x) ≡ true → hears wanted c x ≡ again c }
+    ensures gave_up { (wanted : Wanted) (c : Client) (x : Told) → c.is_asking ≡ true → hears wanted c x ≡ again c → is_some (of_item wanted c.cache c.asks x) ≡ true }
+    ensures none_yet { (wanted : Wanted) (c : Client) (xs : List Told) → (hears_all wanted c xs).is_asking ≡ true → trouble_after wanted c None xs ≡ None }
 {}

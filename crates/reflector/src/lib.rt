@@ -1,9 +1,15 @@
-//! A client that mirrors a server's objects, and the laws by which it follows the server (Kubernetes API Concepts,
-//! "Efficient detection of changes"). Sockets are its caller's.
+//! An informer (client-go's word): a client that mirrors a server's objects of one type in an indexer, and tells what
+//! happened to each (Kubernetes API Concepts, "Efficient detection of changes"). Its caller has the connections: as long
+//! as it wishes, it
 //!
-//! It lists in pages, then watches from the list's revision. All that doesn't fit the question, or breaks a rule,
-//! ends the request and makes the next one a first page; what is kept stays meanwhile. For bytes in any pieces an
-//! informer is the client run of the definitions, and that run has the server's objects at each revision it reports.
+//! 1. sends the bytes of `next_request` on a new connection, and drops the old one;
+//! 2. hands each piece that comes to `feed`, while the informer `is_asking`, and says `closed` at the connection's end;
+//! 3. takes notices, and reads objects and indexes from `indexer`;
+//! 4. waits a moment where `trouble` tells why the reply was given up. What is kept stays meanwhile.
+//!
+//! `mirroring` has this loop. An informer lists in pages, then watches from the list's revision. However replies are cut,
+//! the objects are the server's at the revision that `revision` answers, if the server answers what it is asked: the laws
+//! of the crate say so.
 //!
 //! Stands on `decoder` for what a reply says, `wireclient` for its items and a request's bytes, `indexer` for
 //! objects, `names` for namespaces.
@@ -24,12 +30,15 @@ mod replying;
 mod requests;
 mod settings;
 mod taking;
+mod trouble;
+mod turn;
 
-pub use decoder::Source;
+pub use decoder::{Malformed, Source};
 pub use informer::Informer;
 pub use laws::{
     follows_the_server, mirrors_the_server, notices_lead_on, notices_tell, notices_tell_exactly,
-    takes_fitting_items, takes_whole_lists,
+    takes_fitting_items, takes_whole_lists, troubles_are_told,
 };
 pub use notice::Notice;
 pub use settings::SettingsFault;
+pub use trouble::Trouble;

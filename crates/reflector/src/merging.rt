@@ -1,111 +1,88 @@
 //! What differs between two lists of objects, both in the order of places. The notices are kept in `noting`.
 
-ghost use Rattle.std.specs.Prelude.{◌≡◌, ◌++◌, true, IfOk, OnOk, Some, None, map};
+ghost use Rattle.std.specs.Prelude.{◌≡◌, ◌+◌, ◌++◌, ◌≤◌, true, drop, map, option_map, vec_capacity, vec_len};
 ghost use Rattle.std.specs.FinMap as fin;
-ghost use Rattle.indexer.specs.Objects.{place_cmp, place_of, place_of_object, stored_of};
-ghost use Rattle.reflector.specs.Between.{between, first_notice};
-ghost use Rattle.reflector.specs.Client.{by_place, added, deleted, notice_of};
-ghost use Rattle.reflector.specs.Seen.{notice_seen, told_of};
+ghost use Rattle.indexer.specs.Objects.{place_cmp, place_of, place_of_object, shared_of};
+ghost use Rattle.reflector.specs.Between.{between, first_object, first_order, first_told, new_left, old_left};
+ghost use Rattle.reflector.specs.Client.{by_place};
+ghost use Rattle.reflector.specs.Seen.{held_seen, notice_seen, told_of};
 
-use crate::notice::Notice;
+use crate::notice::{Notice, notice_at, tell};
 use indexer::{Object, ObjectKey};
-use std::alloc::{AllocError, Global};
 use std::cmp::Ordering;
+use std::collections::VecDeque;
+use std::rc::Rc;
 
-fn order_of(key: &ObjectKey, object: &Object) -> Ordering
-    ensures { result ≡ place_cmp (place_of key.now) (place_of_object object.now) }
+/// Objects that were kept, each beside its key.
+type Held = VecDeque<(ObjectKey, Rc<Object>)>;
+
+/// Objects of a list.
+type Listed = VecDeque<Rc<Object>>;
+
+fn order_of(key: &ObjectKey, object: &Rc<Object>) -> Ordering
+    ensures { result ≡ place_cmp (place_of key.now) (place_of_object object.now.value) }
 {
     key.namespace
         .cmp(&object.namespace)
         .then(key.name.cmp(&object.name))
 }
 
-/// The notice where both stand at one place.
-fn update(was: &Object, now: &Object) -> Result<Option<Notice>, AllocError>
-    ensures { IfOk result (λ n. told_of n ≡ notice_of (Some (stored_of was.now)) (Some (stored_of now.now))) }
+/// How the first places of both are ordered; where one has no more objects, the other's is the first.
+fn first_order(old: &Held, new: &Listed) -> Option<Ordering>
+    ensures { result ≡ first_order (map held_seen old.now.items) (by_place (map shared_of new.now.items)) }
 {
-    if was.text == now.text {
-        return Ok(None);
+    match (old.front(), new.front()) {
+        (Some(was), Some(now)) => Some(order_of(&was.0, now)),
+        (Some(_), None) => Some(Ordering::Less),
+        (None, Some(_)) => Some(Ordering::Greater),
+        (None, None) => None,
     }
-    Ok(Some(Notice::Updated(was.try_copy()?, now.try_copy()?)))
 }
 
-/// The notice of the first place of both.
-fn first_notice(order: Ordering, was: &Object, now: &Object) -> Result<Option<Notice>, AllocError>
-    ensures { IfOk result (λ n. told_of n ≡ first_notice order (stored_of was.now) (stored_of now.now)) }
+fn pop_held(old: &mut Held) -> Option<Rc<Object>>
+    ensures first { option_map shared_of result ≡ first_object (map held_seen old.old.items) }
+    ensures left { map held_seen old.new.items ≡ drop 1 (map held_seen old.old.items) }
+{
+    match old.pop_front() {
+        Some((_, was)) => Some(was),
+        None => None,
+    }
+}
+
+fn pop_listed(new: &mut Listed) -> Option<Rc<Object>>
+    ensures first { option_map shared_of result ≡ first_object (by_place (map shared_of new.old.items)) }
+    ensures left { by_place (map shared_of new.new.items) ≡ drop 1 (by_place (map shared_of new.old.items)) }
+{
+    new.pop_front()
+}
+
+/// Takes the first place off both; answers its notice.
+fn take_first(order: Ordering, old: &mut Held, new: &mut Listed) -> Option<Notice>
+    ensures told { told_of result ≡ first_told order (map held_seen old.old.items) (by_place (map shared_of new.old.items)) }
+    ensures old { map held_seen old.new.items ≡ old_left order (map held_seen old.old.items) }
+    ensures new { by_place (map shared_of new.new.items) ≡ new_left order (by_place (map shared_of new.old.items)) }
 {
     match order {
-        Ordering::Less => Ok(Some(Notice::Deleted(was.try_copy()?))),
-        Ordering::Equal => update(was, now),
-        Ordering::Greater => Ok(Some(Notice::Added(now.try_copy()?))),
+        Ordering::Less => notice_at(pop_held(old), None),
+        Ordering::Equal => notice_at(pop_held(old), pop_listed(new)),
+        Ordering::Greater => notice_at(None, pop_listed(new)),
     }
 }
 
-fn push(told: &mut Vec<Notice>, notice: Option<Notice>) -> Result<(), AllocError>
-    ensures { OnOk result (map notice_seen told.new.items ≡ map notice_seen told.old.items ++ told_of notice) }
-{
-    if let Some(notice) = notice {
-        told.push(notice)?;
-    }
-    Ok(())
-}
-
-/// Adds the notice of the first place of both; answers how the two places are ordered.
-fn tell_first(
-    held: &(&ObjectKey, &Object),
-    now: &Object,
+/// Adds the notices where the objects of the second list replace those of the first, for which there is room.
+pub(crate) fn tell_differences(
+    old: Vec<(ObjectKey, Rc<Object>)>,
+    new: Vec<Rc<Object>>,
     told: &mut Vec<Notice>,
-) -> Result<Ordering, AllocError>
-    ensures order { IfOk result (λ o. o ≡ place_cmp (place_of held.now.0.now) (place_of_object now.now)) }
-    ensures told { IfOk result (λ o. map notice_seen told.new.items ≡ map notice_seen told.old.items ++ first_notice o (stored_of held.now.1.now) (stored_of now.now)) }
+)
+    requires old { fin.is_sorted place_cmp (map held_seen old.items) ≡ true }
+    requires new { fin.is_sorted place_cmp (by_place (map shared_of new.items)) ≡ true }
+    requires room { vec_len told.old + (vec_len old + vec_len new) ≤ vec_capacity told.old }
+    ensures { map notice_seen told.new.items ≡ map notice_seen told.old.items ++ between (map held_seen old.items) (by_place (map shared_of new.items)) }
 {
-    let order = order_of(held.0, now);
-    push(told, first_notice(order, held.1, now)?)?;
-    Ok(order)
-}
-
-fn tell_deleted(old: &[(&ObjectKey, &Object)], told: &mut Vec<Notice>) -> Result<(), AllocError>
-    ensures { OnOk result (map notice_seen told.new.items ≡ map notice_seen told.old.items ++ map (λ e. deleted (stored_of e.1.now)) old.now) }
-{
-    for (_, was) in old {
-        told.push(Notice::Deleted(was.try_copy()?))?;
+    let mut held = VecDeque::from_vec(old);
+    let mut listed = VecDeque::from_vec(new);
+    while let Some(order) = first_order(&held, &listed) {
+        tell(told, take_first(order, &mut held, &mut listed));
     }
-    Ok(())
-}
-
-fn tell_added(new: &[Object], told: &mut Vec<Notice>) -> Result<(), AllocError>
-    ensures { OnOk result (map notice_seen told.new.items ≡ map notice_seen told.old.items ++ map (λ o. added (stored_of o)) new.now) }
-{
-    for now in new {
-        told.push(Notice::Added(now.try_copy()?))?;
-    }
-    Ok(())
-}
-
-/// The notices where the objects of the second list replace those of the first.
-pub(crate) fn differences(
-    alloc: Global,
-    old: &[(&ObjectKey, &Object)],
-    new: &[Object],
-) -> Result<Vec<Notice>, AllocError>
-    requires old { fin.is_sorted place_cmp (map (λ e. (place_of e.0.now, stored_of e.1.now)) old.now) ≡ true }
-    requires new { fin.is_sorted place_cmp (by_place (map stored_of new.now)) ≡ true }
-    ensures { IfOk result (λ v. map notice_seen v.items ≡ between (map (λ e. (place_of e.0.now, stored_of e.1.now)) old.now) (by_place (map stored_of new.now))) }
-{
-    let mut told = Vec::new(alloc);
-    let mut i = 0;
-    let mut j = 0;
-    while i < old.len() && j < new.len() {
-        match tell_first(&old[i], &new[j], &mut told)? {
-            Ordering::Less => i += 1,
-            Ordering::Equal => {
-                i += 1;
-                j += 1;
-            }
-            Ordering::Greater => j += 1,
-        }
-    }
-    tell_deleted(&old[i..], &mut told)?;
-    tell_added(&new[j..], &mut told)?;
-    Ok(told)
 }

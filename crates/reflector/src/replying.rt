@@ -1,6 +1,6 @@
 //! Takes a piece of an open reply, whose items change what is kept and what is asked. One item is taken in `hearing`.
 
-ghost use Rattle.std.specs.Prelude.{◌≡◌, ℕ, List, ◌++◌, Some, true, is_some, map, IfOk, OnErr};
+ghost use Rattle.std.specs.Prelude.{◌≡◌, ℕ, List, ◌++◌, Some, None, true, is_some, map, IfOk, OnErr};
 ghost use Rattle.indexer.specs.Indexer.{indexes_of, names_of};
 ghost use Rattle.wireclient.specs.Reads.{Items};
 ghost use Rattle.wireclient.specs.Reply.{Told};
@@ -10,10 +10,13 @@ ghost use Rattle.reflector.specs.Client.{Client};
 ghost use Rattle.reflector.specs.Reading.{AreHeard, IsRead};
 ghost use Rattle.reflector.specs.Run.{hears_all};
 ghost use Rattle.reflector.specs.Standing.{Keeps, Stands};
+ghost use Rattle.reflector.specs.Troubles.{trouble_after};
 
 use crate::asks::Asks;
-use crate::hearing::{Turn, hear_all};
+use crate::hearing::hear_all;
 use crate::mirror::Mirror;
+use crate::trouble::Trouble;
+use crate::turn::Turn;
 use decoder::Wanted;
 use indexer::IndexBy;
 use std::alloc::{AllocError, Global};
@@ -40,7 +43,7 @@ fn hear_piece<I: IndexBy>(
     piece: &[u8],
 ) -> Result<Turn, AllocError>
     ensures heard { (c : Client) (bytes : List ℕ) (told : List Told) → Keeps (λ b s. I.keys b s) mirror.old asks true c → IsRead (Some reader.old) bytes told
-        → IfOk result (λ t. (news : List Told) × IsRead (Some reader.new) (bytes ++ piece.now) (told ++ news) × Keeps (λ b s. I.keys b s) mirror.new t.asks t.is_asking (hears_all (wanted_of wanted.now) c news)) }
+        → IfOk result (λ t. (news : List Told) × IsRead (Some reader.new) (bytes ++ piece.now) (told ++ news) × Keeps (λ b s. I.keys b s) mirror.new t.asks t.is_asking (hears_all (wanted_of wanted.now) c news) × (t.trouble ≡ trouble_after (wanted_of wanted.now) c None news)) }
     ensures given_up { (c : Client) (bytes : List ℕ) (told : List Told) → Keeps (λ b s. I.keys b s) mirror.old asks true c → IsRead (Some reader.old) bytes told
         → OnErr result ((heard : List Told) × AreHeard bytes told piece.now heard × Stands (λ b s. I.keys b s) mirror.new (hears_all (wanted_of wanted.now) c heard)) }
     ensures indexes { indexes_of mirror.new.indexer ≡ indexes_of mirror.old.indexer }
@@ -50,26 +53,37 @@ fn hear_piece<I: IndexBy>(
     hear_all(alloc, wanted, mirror, asks, &items)
 }
 
-/// What is asked after a piece, and the reader, if its reply goes on.
+/// What is asked after a piece, and the reader, if its reply goes on, or why it was given up.
 #[derive(Drop)]
 pub(crate) struct Open {
     pub(crate) asks: Asks,
     pub(crate) reader: Option<ReplyReader>,
+    pub(crate) trouble: Option<Trouble>,
 }
 
 fn left_open(turn: Turn, reader: ReplyReader) -> Open
     ensures asks { result.asks ≡ turn.asks }
     ensures goes_on { is_some result.reader ≡ turn.is_asking }
     ensures read { (bytes : List ℕ) (told : List Told) → IsRead (Some reader) bytes told → IsRead result.reader bytes told }
+    ensures trouble { result.trouble ≡ turn.trouble }
 {
-    let Turn { asks, is_asking } = turn;
+    let Turn {
+        asks,
+        is_asking,
+        trouble,
+    } = turn;
     if is_asking {
         Open {
             asks,
             reader: Some(reader),
+            trouble,
         }
     } else {
-        Open { asks, reader: None }
+        Open {
+            asks,
+            reader: None,
+            trouble,
+        }
     }
 }
 
@@ -83,7 +97,8 @@ pub(crate) fn hear_open<I: IndexBy>(
     piece: &[u8],
 ) -> Result<Open, AllocError>
     ensures heard { (c : Client) (bytes : List ℕ) (told : List Told) → Keeps (λ b s. I.keys b s) mirror.old asks true c → IsRead (Some reader) bytes told
-        → IfOk result (λ o. (news : List Told) × Items (bytes ++ piece.now) (told ++ news) × Keeps (λ b s. I.keys b s) mirror.new o.asks (is_some o.reader) (hears_all (wanted_of wanted.now) c news) × IsRead o.reader (bytes ++ piece.now) (told ++ news)) }
+        → IfOk result (λ o. (news : List Told) × Items (bytes ++ piece.now) (told ++ news) × Keeps (λ b s. I.keys b s) mirror.new o.asks (is_some o.reader) (hears_all (wanted_of wanted.now) c news) × IsRead o.reader (bytes ++ piece.now) (told ++ news)
+        × (o.trouble ≡ trouble_after (wanted_of wanted.now) c None news)) }
     ensures given_up { (c : Client) (bytes : List ℕ) (told : List Told) → Keeps (λ b s. I.keys b s) mirror.old asks true c → IsRead (Some reader) bytes told
         → OnErr result ((heard : List Told) × AreHeard bytes told piece.now heard × Stands (λ b s. I.keys b s) mirror.new (hears_all (wanted_of wanted.now) c heard)) }
     ensures indexes { indexes_of mirror.new.indexer ≡ indexes_of mirror.old.indexer }

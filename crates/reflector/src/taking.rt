@@ -2,7 +2,7 @@
 
 ghost use Rattle.std.specs.Prelude.{◌≡◌, ◌+◌, ◌&&◌, None, Some, IfOk, OnErr, cond, nat_le, nat_lt};
 ghost use Rattle.indexer.specs.Indexer.{held_of, indexes_of, names_of};
-ghost use Rattle.indexer.specs.Objects.{place_of_object, stored_of};
+ghost use Rattle.indexer.specs.Objects.{place_of_object, shared_of, stored_of};
 ghost use Rattle.decoder.specs.Seen.{line_seen};
 ghost use Rattle.reflector.specs.Client.{Cache, Client, max_objects};
 ghost use Rattle.reflector.specs.Items as items;
@@ -16,6 +16,7 @@ use crate::noting::{put_noted, remove_noted};
 use decoder::Line;
 use indexer::{IndexBy, Indexer, Object, ObjectKey};
 use std::alloc::AllocError;
+use std::rc::Rc;
 
 fn is_above(revision: u64, now: u64) -> bool
     ensures { result ≡ nat_lt now revision }
@@ -34,16 +35,24 @@ fn has_room(len: usize, is_there: bool) -> bool
     }
 }
 
-fn has_room_for<I: IndexBy>(indexer: &Indexer<I>, object: &Object) -> Result<bool, AllocError>
-    ensures { IfOk result (λ b. b ≡ nat_le (len_with (held_of indexer.now) (place_of_object object.now)) max_objects) }
+/// Whether there is room for this object.
+fn has_room_for<I: IndexBy>(indexer: &Indexer<I>, object: &Rc<Object>) -> Result<bool, AllocError>
+    ensures { IfOk result (λ b. b ≡ nat_le (len_with (held_of indexer.now) (place_of_object object.now.value)) max_objects) }
 {
+    if indexer.len() < MAX_OBJECTS {
+        return Ok(true);
+    }
     let key = ObjectKey::of(object)?;
     Ok(has_room(indexer.len(), indexer.get(&key).is_some()))
 }
 
 /// Whether the object may be put: it is of a revision above this one, and there is room.
-fn may_put<I: IndexBy>(indexer: &Indexer<I>, now: u64, object: &Object) -> Result<bool, AllocError>
-    ensures { IfOk result (λ b. b ≡ (nat_lt now object.now.revision && nat_le (len_with (held_of indexer.now) (place_of_object object.now)) max_objects)) }
+fn may_put<I: IndexBy>(
+    indexer: &Indexer<I>,
+    now: u64,
+    object: &Rc<Object>,
+) -> Result<bool, AllocError>
+    ensures { IfOk result (λ b. b ≡ (nat_lt now object.now.value.revision && nat_le (len_with (held_of indexer.now) (place_of_object object.now.value)) max_objects)) }
 {
     Ok(is_above(object.revision, now) && has_room_for(indexer, object)?)
 }
@@ -52,10 +61,10 @@ fn may_put<I: IndexBy>(indexer: &Indexer<I>, now: u64, object: &Object) -> Resul
 fn take_put<I: IndexBy>(
     mirror: &mut Mirror<I>,
     now: u64,
-    object: Object,
+    object: Rc<Object>,
 ) -> Result<bool, AllocError>
     ensures taken { (c : Client) (cache : Cache) → Stands (λ b s. I.keys b s) mirror.old c → c.cache ≡ Some cache → now ≡ cache.revision
-        → IfOk result (λ fits. Stands (λ b s. I.keys b s) mirror.new (with_put c cache (stored_of object)) × (fits ≡ (with_put c cache (stored_of object)).is_asking)) }
+        → IfOk result (λ fits. Stands (λ b s. I.keys b s) mirror.new (with_put c cache (shared_of object)) × (fits ≡ (with_put c cache (shared_of object)).is_asking)) }
     ensures refused { (c : Client) → Stands (λ b s. I.keys b s) mirror.old c → OnErr result (Stands (λ b s. I.keys b s) mirror.new c) }
     ensures indexes { indexes_of mirror.new.indexer ≡ indexes_of mirror.old.indexer }
     ensures names { names_of mirror.new.indexer ≡ names_of mirror.old.indexer }
@@ -84,9 +93,13 @@ fn take_deleted<I: IndexBy>(
     if !is_above(object.revision, now) {
         return Ok(false);
     }
-    let key = ObjectKey::of(&object)?;
+    let revision = object.revision;
+    let key = ObjectKey {
+        namespace: object.namespace,
+        name: object.name,
+    };
     remove_noted(&mut mirror.indexer, &mut mirror.notices, &key)?;
-    mirror.revision = Some(object.revision);
+    mirror.revision = Some(revision);
     Ok(true)
 }
 

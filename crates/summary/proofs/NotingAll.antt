@@ -1,14 +1,14 @@
 -- What is summed up, after notices one by one.
-use Rattle.std.proofs.Common.{◌≡◌, ℕ, ◌+◌, ◌-◌, ◌<◌, ◌≤◌, ◌^◌, Bool, true, false, cond, List, [], ◌∷◌, ◌++◌, length, map, take, get_or, refl, sym, ap, subst, ◌∙◌, arith}
+use Rattle.std.proofs.Common.{◌≡◌, ℕ, ◌+◌, ◌-◌, ◌<◌, ◌≤◌, ◌^◌, Bool, true, false, cond, List, [], ◌∷◌, ◌++◌, length, map, take, drop, take-append-drop, get_or, refl, sym, ap, subst, ◌∙◌, arith}
 use Rattle.std.specs.FinMap as fin
-use Rattle.std.specs.Prelude.{OnErr}
+use Rattle.std.specs.Prelude.{IfErr}
 use Rattle.std.specs.declared.result.Result.{Result}
 use Rattle.std.specs.declared.result.Result.TheVariants.{Ok, Err}
-use Rattle.std.proofs.lemmas.List.{length-append, map-append, take_more}
+use Rattle.std.proofs.lemmas.List.{length-append, length-map, map-append, take_more}
 use Rattle.reflector.specs.Client.{Objects, place_in, Notice, added, updated, deleted}
 use Rattle.reflector.specs.Replays.{with_notice, replayed, AreOld}
-use Rattle.summary.specs.Counts.{Summed, summed_of, SumsSome}
-use Rattle.summary.specs.Steps.{noted, noted_all, NotesSome}
+use Rattle.summary.specs.Counts.{Summed, summed_of}
+use Rattle.summary.specs.Steps.{noted, noted_all}
 use Rattle.summary.proofs.HowMany.{place_total}
 use Rattle.summary.proofs.Noting.{summed_noted}
 
@@ -50,18 +50,16 @@ old_some : (o : Objects) (xs ys : List Notice) → AreOld o (xs ++ ys) → AreOl
 old_some o [] ys old = tt
 old_some o (x ∷ xs) ys old = (old.0, old_some (with_notice o x) xs ys old.1)
 
-pub some_summed : (label : List ℕ) (o : Objects) (ns : List Notice) (s t : Summed) → s ≡ summed_of label o → AreOld o ns → fin.len o + length ns < 2 ^ 63 → NotesSome s ns t → SumsSome label o ns t
-some_summed label o ns s t is old lt some =
-    let first : List Notice = some.0 in
-    let rest : List Notice = some.1 in
-    let long : length ns ≡ length first + length rest = ap length some.2 ∙ length-append first rest in
+pub some_summed : {A : Type 0} (f : A → Notice) (label : List ℕ) (o : Objects) (all : List A) (k : ℕ) (s t : Summed) → s ≡ summed_of label o → AreOld o (map f all) → fin.len o + length all < 2 ^ 63
+    → t ≡ noted_all s (map f (take k all)) → t ≡ summed_of label (replayed o (map f (take k all)))
+some_summed f label o all k s t is old lt told =
+    let first : List Notice = map f (take k all) in
+    let rest : List Notice = map f (drop k all) in
+    let parts : map f all ≡ first ++ rest = ap (map f) (sym (take-append-drop k all)) ∙ map-append f (take k all) (drop k all) in
+    let long : length all ≡ length first + length rest = sym (length-map all f) ∙ ap length parts ∙ length-append first rest in
     let few : fin.len o + length first < 2 ^ 63 = omega (arith, lt, long) in
-    (first, rest, some.2, some.3 ∙ ap (λ u. noted_all u first) is ∙ summed_noted_all label first o (old_some o first rest (subst (AreOld o) some.2 old)) few)
+    told ∙ ap (λ u. noted_all u first) is ∙ summed_noted_all label first o (old_some o first rest (subst (AreOld o) parts old)) few
 
-pub on_err : {A B : Type 0} (r : Result A B) (P : Type 0) → P → OnErr r P
-on_err (Ok x) P h = tt
-on_err (Err e) P h = h
-
-pub err_weaker : {A B : Type 0} (r : Result A B) (P Q : Type 0) → (P → Q) → OnErr r P → OnErr r Q
+pub err_weaker : {A B : Type 0} (r : Result A B) (P Q : B → Type 0) → ((e : B) → P e → Q e) → IfErr r P → IfErr r Q
 err_weaker (Ok x) P Q f h = tt
-err_weaker (Err e) P Q f h = f h
+err_weaker (Err e) P Q f h = f e h

@@ -1,5 +1,5 @@
 -- How many objects have each value of a label (Kubernetes documentation, "Labels and Selectors").
-use Rattle.std.specs.Prelude.{◌≡◌, ℕ, zero, suc, ◌+◌, ◌-◌, Bool, false, cond, List, [], ◌∷◌, ◌++◌, length, Option, Some, None, is_some}
+use Rattle.std.specs.Prelude.{ℕ, zero, suc, ◌+◌, ◌-◌, Bool, false, cond, List, [], ◌∷◌, length, Option, Some, None, is_some}
 use Rattle.std.specs.Cmp.Lexicographic.{slice_cmp}
 use Rattle.std.specs.FinMap as fin
 use Rattle.std.specs.FinMap.Entries.{find}
@@ -8,7 +8,6 @@ use Rattle.std.specs.Ordering.{nat_cmp}
 use Rattle.std.specs.Str.{bytes_eq}
 use Rattle.indexer.specs.Objects.{Stored}
 use Rattle.reflector.specs.Client.{Objects, Notice, added, updated, deleted}
-use Rattle.reflector.specs.Replays.{replayed}
 
 -- the value that an object has of the label
 abbrev pub value_of : List ℕ → Stored → Option (List ℕ)
@@ -76,7 +75,3 @@ counted test n (deleted old) = n - one_if (test old)
 abbrev pub counted_all : (Stored → Bool) → ℕ → List Notice → ℕ
 counted_all test n [] = n
 counted_all test n (x ∷ xs) = counted_all test (counted test n x) xs
-
--- what is summed up of the objects after some of these notices, the first ones
-abbrev pub SumsSome : List ℕ → Objects → List Notice → Summed → Type 0
-SumsSome label o ns s = (some : List Notice) × (rest : List Notice) × (ns ≡ some ++ rest) × (s ≡ summed_of label (replayed o some))

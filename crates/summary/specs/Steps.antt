@@ -1,5 +1,5 @@
 -- What is summed up, with one object more or less. For private clauses.
-use Rattle.std.specs.Prelude.{ℕ, zero, suc, ◌+◌, ◌-◌, ◌^◌, ◌≡◌, min, List, [], ◌∷◌, ◌++◌, Option, Some, None}
+use Rattle.std.specs.Prelude.{ℕ, zero, suc, ◌+◌, ◌-◌, ◌^◌, min, List, [], ◌∷◌, Option, Some, None}
 use Rattle.std.specs.FinMap as fin
 use Rattle.indexer.specs.Objects.{Stored}
 use Rattle.reflector.specs.Client.{Notice, added, updated, deleted}
@@ -50,7 +50,3 @@ noted s (deleted old) = without_object s old
 abbrev pub noted_all : Summed → List Notice → Summed
 noted_all s [] = s
 noted_all s (n ∷ ns) = noted_all (noted s n) ns
-
--- some of these notices were noted, the first ones
-abbrev pub NotesSome : Summed → List Notice → Summed → Type 0
-NotesSome s ns t = (some : List Notice) × (rest : List Notice) × (ns ≡ some ++ rest) × (t ≡ noted_all s some)

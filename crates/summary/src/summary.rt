@@ -3,6 +3,7 @@
 ghost use Rattle.std.specs.Prelude.{◌≡◌};
 
 use crate::counting::{add_one, take_one, value_of};
+use crate::fault::CountFault;
 use indexer::Object;
 use reflector::Notice;
 use std::alloc::{AllocError, Global};
@@ -18,14 +19,14 @@ pub struct Summary {
 }
 
 impl Summary {
-    ghost use Rattle.std.specs.Prelude.{◌≡◌, ◌+◌, ◌<◌, ◌^◌, ℕ, List, IfOk, OnErr, OnOk, length, map, string_bytes};
+    ghost use Rattle.std.specs.Prelude.{◌≡◌, ◌+◌, ◌<◌, ◌^◌, ℕ, List, IfErr, OnErr, OnOk, length, map, string_bytes, take};
     ghost use Rattle.std.specs.FinMap as fin;
     ghost use Rattle.indexer.specs.Objects.{stored_of};
     ghost use Rattle.reflector.specs.Client.{Objects};
     ghost use Rattle.reflector.specs.Replays.{AreOld, IsOld, replayed, with_notice};
     ghost use Rattle.reflector.specs.Seen.{notice_seen};
-    ghost use Rattle.summary.specs.Counts.{SumsSome, summed_of};
-    ghost use Rattle.summary.specs.Steps.{NotesSome, noted, noted_all, with_object, without_object};
+    ghost use Rattle.summary.specs.Counts.{summed_of};
+    ghost use Rattle.summary.specs.Steps.{noted, noted_all, with_object, without_object};
     ghost use Rattle.summary.specs.Summary.{counts_in, summed};
 
     /// The summary of no objects, by this label.
@@ -84,12 +85,16 @@ impl Summary {
 
     /// What notices do to the counts alone, one after the other. `note_all` says what that is where they are those of
     /// some objects.
-    fn tell_all(&mut self, notices: &[Notice]) -> Result<(), AllocError>
+    fn tell_all(&mut self, notices: &[Notice]) -> Result<(), CountFault>
         ensures ok { OnOk result (summed self.new ≡ noted_all (summed self.old) (map notice_seen notices.now)) }
-        ensures err { OnErr result (NotesSome (summed self.old) (map notice_seen notices.now) (summed self.new)) }
+        ensures err { IfErr result (λ f. summed self.new ≡ noted_all (summed self.old) (map notice_seen (take f.counted notices.now))) }
+        ensures fewer { IfErr result (λ f. f.counted < length notices.now) }
     {
-        for notice in notices {
-            self.tell(notice)?;
+        for counted in 0..notices.len() {
+            match self.tell(&notices[counted]) {
+                Ok(()) => {}
+                Err(_) => return Err(CountFault { counted }),
+            }
         }
         Ok(())
     }
@@ -105,13 +110,14 @@ impl Summary {
     }
 
     /// Counts what notices tell, one after the other: the summary of the objects before them becomes that of the
-    /// objects after them. Refused, it has counted some of them, the first ones. It stands apart from `tell_all` as
-    /// `note` does from `tell`.
-    pub fn note_all(&mut self, notices: &[Notice]) -> Result<(), AllocError>
+    /// objects after them. Out of memory, it answers how many it has counted, the first ones. It stands apart from
+    /// `tell_all` as `note` does from `tell`.
+    pub fn note_all(&mut self, notices: &[Notice]) -> Result<(), CountFault>
         ensures noted { (label : List ℕ) (o : Objects) → summed self.old ≡ summed_of label o → fin.len o + length notices.now < 2 ^ 63 → AreOld o (map notice_seen notices.now)
             → OnOk result (summed self.new ≡ summed_of label (replayed o (map notice_seen notices.now))) }
         ensures some { (label : List ℕ) (o : Objects) → summed self.old ≡ summed_of label o → fin.len o + length notices.now < 2 ^ 63 → AreOld o (map notice_seen notices.now)
-            → OnErr result (SumsSome label o (map notice_seen notices.now) (summed self.new)) }
+            → IfErr result (λ f. summed self.new ≡ summed_of label (replayed o (map notice_seen (take f.counted notices.now)))) }
+        ensures fewer { IfErr result (λ f. f.counted < length notices.now) }
     {
         self.tell_all(notices)
     }

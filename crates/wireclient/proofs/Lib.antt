@@ -1,6 +1,6 @@
 pub mod Chunked
 mod Closing
-mod Determined
+pub mod Determined
 pub mod Fronts
 pub mod Heads
 mod Checking

@@ -32,7 +32,8 @@ fn with_body(
 
 /// The bytes of a request over HTTP/1.1 (RFC 9112, sections 3 and 5): the request line, `Host: localhost`,
 /// of a body its `Content-Type` (`media`) and `Content-Length`, an empty line and the body. A request without a body
-/// says neither, whatever `media` is.
+/// says neither, whatever `media` is. The texts go on the wire as they are: a blank, CR or LF in the method or the target,
+/// or a CR or LF in `media`, makes it another request, so check what a user wrote.
 pub fn request_bytes(
     alloc: Global,
     method: &str,

@@ -2,7 +2,7 @@
 use Rattle.std.specs.Prelude.{◌≡◌, ℕ, List, [], ◌∷◌, map, string_bytes, ⊤}
 use Rattle.std.specs.FinMap as fin
 use Rattle.std.specs.List.{All}
-use Rattle.indexer.specs.Objects.{Stored, stored_of}
+use Rattle.indexer.specs.Objects.{Stored, shared_of}
 use Rattle.reflector.specs.Mirrors.{keyed}
 use Rattle.reflector.specs.Standing.{keys_in}
 use Rattle.summary.specs.Counts.{counts_of}
@@ -20,7 +20,7 @@ use Rattle.world.specs.declared.trace.Trace.{Trace}
 pub record Shows {I : Type 0} (keys : I → Stored → List (List ℕ)) (indexes : List I) (names : List (List ℕ)) (label : List ℕ) (x : shown.Report) (r : Report) : Type 0 where
   pub event : x.event ≡ r.event
   pub revision : x.revision ≡ r.now.revision
-  pub objects : map stored_of x.objects.items ≡ map (λ e. e.1) (fin.entries r.now.objects)
+  pub objects : map shared_of x.objects.items ≡ map (λ e. e.1) (fin.entries r.now.objects)
   pub named : map (λ s. string_bytes s.name) x.indexes.items ≡ names
   pub shots : All (ShowsIndex (keyed (keys_in keys indexes) r.now.objects) names) x.indexes.items
   pub counts : counts_in x.counts ≡ counts_of label r.now.objects

@@ -2,6 +2,7 @@
 
 use recorder::RecorderFault;
 use std::alloc::{AllocError, AllocFailed};
+use summary::CountFault;
 use thiserror::Error;
 use verbs::{Fault, STORE_FAILED};
 
@@ -64,6 +65,17 @@ impl From<AllocError> for RunFault {
     ghost from_gives = { λ _ e. e ≡ Memory };
 
     fn from(_: AllocError) -> RunFault {
+        RunFault::Memory
+    }
+}
+
+impl From<CountFault> for RunFault {
+    ghost use Rattle.std.specs.Prelude.{◌≡◌};
+    ghost use Rattle.world.specs.declared.fault.RunFault.TheVariants.{Memory};
+
+    ghost from_gives = { λ _ e. e ≡ Memory };
+
+    fn from(_: CountFault) -> RunFault {
         RunFault::Memory
     }
 }

@@ -1,4 +1,4 @@
-//! Copies of indexes, for reports. The objects are copied in `reporting`.
+//! Copies of indexes, for reports: their keys of objects share the texts. The objects are shared in `reporting`.
 
 ghost use Rattle.std.specs.Prelude.{◌≡◌, ◌&&◌, ℕ, List, IfOk, map, string_bytes};
 ghost use Rattle.std.specs.List.{All, list_any};
@@ -13,7 +13,7 @@ use indexer::{IndexBy, Indexer, ObjectKey};
 use std::alloc::{AllocError, Global};
 use std::collections::BTreeSet;
 
-/// The same key once more.
+/// The same key once more. No text is copied.
 fn copied(key: &ObjectKey) -> Result<ObjectKey, AllocError>
     ensures { IfOk result (λ k. place_of k ≡ place_of key.now) }
 {

@@ -4,7 +4,7 @@ ghost use Rattle.std.specs.Prelude.{◌≡◌, ◌≢◌, Err, IfOk, Option, map
 ghost use Rattle.std.specs.Option.{option_to_list};
 ghost use Rattle.indexer.specs.Indexer.{held_of};
 ghost use Rattle.indexer.specs.Kept.{objects_in};
-ghost use Rattle.indexer.specs.Objects.{stored_of};
+ghost use Rattle.indexer.specs.Objects.{shared_of};
 ghost use Rattle.reflector.specs.Client.{Cache, kept};
 ghost use Rattle.reflector.specs.Informer.{indexes_in, names_in};
 ghost use Rattle.summary.specs.Summary.{counts_in, summed};
@@ -22,25 +22,29 @@ use crate::world::World;
 use indexer::{IndexBy, Indexer, Object, ObjectKey};
 use std::alloc::{AllocError, Global};
 use std::collections::BTreeMap;
+use std::rc::Rc;
 use summary::Summary;
 
-/// Copies of objects.
-fn copies(alloc: Global, pairs: &[(&ObjectKey, &Object)]) -> Result<Vec<Object>, AllocError>
-    ensures { IfOk result (λ v. map stored_of v.items ≡ map (λ e. stored_of e.1.now) pairs.now) }
+/// The objects, shared with those that have them.
+fn shares(alloc: Global, pairs: &[(&ObjectKey, &Rc<Object>)]) -> Result<Vec<Rc<Object>>, AllocError>
+    ensures { IfOk result (λ v. map shared_of v.items ≡ map (λ e. shared_of e.1.now) pairs.now) }
 {
     let mut all = Vec::with_capacity(alloc, pairs.len())?;
     for pair in pairs {
-        all.push(pair.1.try_copy()?)?;
+        all.push(pair.1.clone()?)?;
     }
     Ok(all)
 }
 
-/// The objects of an indexer.
-fn objects_of<I: IndexBy>(alloc: Global, indexer: &Indexer<I>) -> Result<Vec<Object>, AllocError>
-    ensures { IfOk result (λ v. map stored_of v.items ≡ map (λ e. e.1) (objects_in (held_of indexer.now))) }
+/// The objects of an indexer, shared with it.
+fn objects_of<I: IndexBy>(
+    alloc: Global,
+    indexer: &Indexer<I>,
+) -> Result<Vec<Rc<Object>>, AllocError>
+    ensures { IfOk result (λ v. map shared_of v.items ≡ map (λ e. e.1) (objects_in (held_of indexer.now))) }
 {
     let pairs = indexer.objects()?;
-    copies(alloc, &pairs)
+    shares(alloc, &pairs)
 }
 
 /// A copy of the counts. `clone` says of each entry that it is the same, and this says it of all of them together.

@@ -2,6 +2,7 @@
 
 use indexer::{Object, ObjectKey};
 use std::collections::BTreeMap;
+use std::rc::Rc;
 
 /// A copy of an index: its keys in order of their bytes, and under each the keys of the objects that have it, in order.
 #[derive(Debug, Drop)]
@@ -16,8 +17,8 @@ pub struct Report {
     /// The event's place in the list, from 1.
     pub event: usize,
     pub revision: u64,
-    /// In order of namespace, then name.
-    pub objects: Vec<Object>,
+    /// In order of namespace, then name; shared with the client that had them.
+    pub objects: Vec<Rc<Object>>,
     /// In the order in which the indexes were given.
     pub indexes: Vec<IndexShot>,
     /// How many of the objects have each value of the label.

@@ -1,5 +1,5 @@
 use Rattle.std.proofs.Common.{◌≡◌, ◌∙◌, ◌++◌, List, [], map, ap, sym, append-nil}
-use Rattle.indexer.specs.Objects.{Place, Stored, place_of, stored_of}
+use Rattle.indexer.specs.Objects.{Place, Stored, place_of, shared_of}
 use Rattle.indexer.specs.declared.entry.Entry.{Entry}
 use Rattle.indexer.specs.declared.object.ObjectKey.{ObjectKey}
 use Rattle.indexer.proofs.Held.{without_keys, held_objects}
@@ -10,5 +10,5 @@ whole told left es none is = sym (append-nil told) ∙ ap (λ (rest : List (Obje
 
 pub returns : goal.returns
 returns c =
-    whole (map (λ e. (place_of e.0.now, stored_of e.1.now)) c.loop-key.all.items) _ c.args.objects.now.entries (sym c.in-None.ensures.steps.0) c.loop-key.invariant
+    whole (map (λ e. (place_of e.0.now, shared_of e.1.now)) c.loop-key.all.items) _ c.args.objects.now.entries (sym c.in-None.ensures.steps.0) c.loop-key.invariant
     ∙ held_objects c.args.objects.now c.iter-key-items.ensures.ordered

@@ -7,11 +7,11 @@ use Rattle.mirroring.proofs.Texts.{front_all, front_more, heard_more, on_err}
 use Rattle.mirroring.proofs.turning.hear.Goals as goal
 
 pub returns-in_err-piece-clause-fault : goal.returns-in_err-piece-clause-fault
-returns-in_err-piece-clause-fault g c = λ d runs none. on_err _ _ (front_all _ (settings_in c.args.informer.now).wanted d _ _ _ _ _ (c.pieces.invariant.1 d runs none))
+returns-in_err-piece-clause-fault g c = λ d runs none calm. on_err _ _ (front_all _ (settings_in c.args.informer.now).wanted d _ _ _ _ _ (c.pieces.invariant.1 d runs none calm))
 
 pub returns-in_err-take_piece-clause-fault : goal.returns-in_err-take_piece-clause-fault
-returns-in_err-take_piece-clause-fault g c = λ d runs none.
-    let (bytes, items, is, read, run, told) = c.pieces.invariant.1 d runs none in
+returns-in_err-take_piece-clause-fault g c = λ d runs none calm.
+    let (bytes, items, is, read, run, told, why) = c.pieces.invariant.1 d runs none calm in
     let wanted = (settings_in c.args.informer.now).wanted in
     let now : Client = hears_all wanted (asked d) items in
     let asks : now.is_asking ≡ true = sym (c.is_asking.ensures (taken now) bytes items run) ∙ c.if-not-is_asking.false in
@@ -21,8 +21,8 @@ returns-in_err-take_piece-clause-fault g c = λ d runs none.
 pub pieces-preserved : goal.pieces-preserved
 pieces-preserved g c = (
   c.take_piece.ensures.settings ∙ c.pieces.invariant.0,
-  λ d runs none.
-      let (bytes, items, is, read, run, told) = c.pieces.invariant.1 d runs none in
+  λ d runs none calm.
+      let (bytes, items, is, read, run, told, why) = c.pieces.invariant.1 d runs none calm in
       let wanted = (settings_in c.args.informer.now).wanted in
       let now : Client = hears_all wanted (asked d) items in
       let asks : now.is_asking ≡ true = sym (c.is_asking.ensures (taken now) bytes items run) ∙ c.if-not-is_asking.false in

@@ -23,7 +23,8 @@ returns-clause-told g c = λ d bytes items runs is asks none.
     let first = c.first_revision-first.ensures d.cache e.cache (c.revision-was.ensures d bytes items runs) (c.revision.ensures e _ _ heard.2) in
     let notices = ap (map notice_seen) c.deref.ensures.value ∙ c.take_notices-notices.ensures.notices e _ _ heard.2 in
     let text = c.as_str.ensures.value ∙ c.in_ok-text.ensures ∙ ap₂ mirror_text first notices in
-    tells_all _ _ _ wanted d bytes items c.args.piece.now _ heard.0 _ _ _ c.map_err.ensures.variant heard.1 (c.take_notices-notices.ensures.taken e _ _ heard.2) text c.tell.ensures.all
+    tells_all _ _ _ wanted d bytes items c.args.piece.now _ heard.0 _ _ _ c.map_err.ensures.variant heard.1 (c.take_notices-notices.ensures.taken e _ _ heard.2) text
+    (c.take_notices-notices.ensures.trouble ∙ c.in_ok-feed.ensures.trouble d bytes items heard.0 runs asks heard.1) c.tell.ensures.all
 
 pub returns-clause-fault : goal.returns-clause-fault
 returns-clause-fault g c = λ d bytes items runs is asks none.

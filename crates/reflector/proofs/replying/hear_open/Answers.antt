@@ -1,4 +1,4 @@
-use Rattle.std.proofs.Common.{◌++◌, List, is_some}
+use Rattle.std.proofs.Common.{◌++◌, ◌∙◌, List, is_some}
 use Rattle.wireclient.specs.Reply.{Told}
 use Rattle.decoder.specs.Seen.{wanted_of}
 use Rattle.reflector.specs.Reading.{AreHeard}
@@ -22,4 +22,5 @@ returns-clause-heard g c = λ cl bytes told k is.
       as_left (λ b s. g.I.IndexBy.keys b s) c.hear_piece.new.mirror c.in_ok-turn.turn.asks c.left_open.result.asks c.in_ok-turn.turn.is_asking (is_some c.left_open.result.reader)
           (hears_all (wanted_of c.args.wanted.now) cl h.0) left.asks left.goes_on h.2,
       left.read (bytes ++ c.args.piece.now) (told ++ h.0) h.1,
+      left.trouble ∙ h.3,
     )

@@ -18,7 +18,6 @@ returns-clause-taken g c =
     let old = c.args.mirror.now in
     let is = c.in_ok-remove_noted.ensures in
     let o = stored_of c.args.object in
-    let of : place_of c.in_ok-key.key ≡ place_in o = ap₂ (λ (a b : List ℕ). (a, b)) c.in_ok-key.ensures.namespace c.in_ok-key.ensures.name in
     after_deleted (λ b s. g.I.IndexBy.keys b s) (indexes_of old.indexer) (indexes_of c.remove_noted.new.indexer) (held_of old.indexer) old.revision (map notice_seen old.notices.items) c.args.now
     (held_of c.remove_noted.new.indexer) _ (map notice_seen c.remove_noted.new.notices.items) o c.is_above.result c.is_above.ensures c.if-not-is_above.false is.indexes
-    (is.held ∙ ap (fin.remove (held_of old.indexer)) of) refl (is.told ∙ ap (λ p. map notice_seen old.notices.items ++ notice_of (option_map (λ h. h.0) (fin.get (held_of old.indexer) p)) None) of)
+    is.held refl is.told

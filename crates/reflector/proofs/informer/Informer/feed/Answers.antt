@@ -1,10 +1,13 @@
-use Rattle.std.proofs.Common.{◌∙◌, List, [], sym, ap, subst, is_some}
+use Rattle.std.proofs.Common.{◌++◌, None, ◌∙◌, List, [], sym, ap, subst, is_some}
+use Rattle.std.proofs.lemmas.List.{append_cancel_left}
 use Rattle.wireclient.specs.Reply.{Told}
+use Rattle.wireclient.proofs.Determined.{items_once}
 use Rattle.decoder.specs.Seen.{wanted_of}
 use Rattle.reflector.specs.Reading.{AreHeard, IsRead}
 use Rattle.reflector.specs.Run.{hears_all}
 use Rattle.reflector.specs.Seen.{asks_of}
 use Rattle.reflector.specs.Standing.{Stands}
+use Rattle.reflector.specs.Troubles.{trouble_after}
 use Rattle.reflector.proofs.HeardItems.{on_err}
 use Rattle.reflector.proofs.Informing.{kept_no_more, open_kept, was_read, weaker}
 use Rattle.reflector.proofs.informer.Informer.feed.Goals as goal
@@ -34,3 +37,11 @@ returns-clause-heard g c = λ cl bytes told run asking.
     let k = open_kept (λ b s. g.I.IndexBy.keys b s) old.mirror old.asks c.replace-asks.result old.reader c.in-Some.reader cl c.replace-asks.ensures.value there run.kept in
     let h = c.in_ok-open.ensures.heard cl bytes told k (was_read old.reader c.in-Some.reader bytes told there run.read) in
     (h.0, h.1, record { kept = h.2; read = h.3 })
+
+pub returns-clause-trouble : goal.returns-clause-trouble
+returns-clause-trouble g c = λ cl bytes told news run asking is.
+    let old = c.args.self.now in
+    let there = sym c.take.ensures.value ∙ c.in-Some.is in
+    let k = open_kept (λ b s. g.I.IndexBy.keys b s) old.mirror old.asks c.replace-asks.result old.reader c.in-Some.reader cl c.replace-asks.ensures.value there run.kept in
+    let h = c.in_ok-open.ensures.heard cl bytes told k (was_read old.reader c.in-Some.reader bytes told there run.read) in
+    h.4 ∙ ap (trouble_after (wanted_of old.settings.wanted) cl None) (append_cancel_left told h.0 news (items_once (bytes ++ c.args.piece.now) (told ++ h.0) (told ++ news) h.1 is))

@@ -1,11 +1,11 @@
-use Rattle.std.proofs.Common.{◌≡◌, ◌+◌, ◌<◌, ◌^◌, ◌∙◌, ap, map, subst, sym}
+use Rattle.std.proofs.Common.{◌≡◌, ◌+◌, ◌<◌, ◌^◌, ◌∙◌, ap, map, subst, sym, take}
 use Rattle.std.proofs.lemmas.List.{length-map}
 use Rattle.std.proofs.lemmas.Result.{IfOk-weaker}
 use Rattle.std.specs.FinMap as fin
 use Rattle.reflector.specs.Replays.{replayed}
 use Rattle.reflector.specs.Seen.{notice_seen}
-use Rattle.summary.specs.Counts.{SumsSome, summed_of}
-use Rattle.summary.specs.Steps.{NotesSome, noted_all}
+use Rattle.summary.specs.Counts.{summed_of}
+use Rattle.summary.specs.Steps.{noted_all}
 use Rattle.summary.specs.Summary.{summed}
 use Rattle.summary.proofs.NotingAll.{summed_noted_all, some_summed, err_weaker}
 use Rattle.summary.proofs.summary.Summary.note_all.Goals as goal
@@ -18,7 +18,7 @@ returns-clause-noted c = λ label o is lt old.
 
 pub returns-clause-some : goal.returns-clause-some
 returns-clause-some c = λ label o is lt old.
-    let ns = map notice_seen c.args.notices.now in
-    let few = subst (λ n. fin.len o + n < 2 ^ 63) (sym (length-map c.args.notices.now notice_seen)) lt in
-    err_weaker c.tell_all.result (NotesSome (summed c.args.self.now) ns (summed c.tell_all.new.self)) (SumsSome label o ns (summed c.tell_all.new.self))
-    (some_summed label o ns (summed c.args.self.now) (summed c.tell_all.new.self) is old few) c.tell_all.ensures.err
+    let ns = c.args.notices.now in
+    err_weaker c.tell_all.result (λ f. summed c.tell_all.new.self ≡ noted_all (summed c.args.self.now) (map notice_seen (take f.counted ns)))
+    (λ f. summed c.tell_all.new.self ≡ summed_of label (replayed o (map notice_seen (take f.counted ns))))
+    (λ f told. some_summed notice_seen label o ns f.counted (summed c.args.self.now) (summed c.tell_all.new.self) is old lt told) c.tell_all.ensures.err

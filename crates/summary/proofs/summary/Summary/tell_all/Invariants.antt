@@ -4,5 +4,5 @@ use Rattle.summary.specs.Steps.{noted_all}
 use Rattle.summary.specs.Summary.{summed}
 use Rattle.summary.proofs.summary.Summary.tell_all.Given as goal
 
-abbrev pub invariant-loop-notice : goal.invariant-loop-notice
-invariant-loop-notice l = summed l.self ≡ noted_all (summed l.fn.self) (map notice_seen (take l.notice-index l.notices))
+abbrev pub invariant-loop-counted : goal.invariant-loop-counted
+invariant-loop-counted l = summed l.self ≡ noted_all (summed l.fn.self) (map notice_seen (take l.counted l.notices))
