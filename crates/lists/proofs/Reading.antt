@@ -1,10 +1,10 @@
 -- Rows, a few at a time, and the page that they make.
-use Rattle.std.proofs.Common.{◌≡◌, ℕ, zero, suc, ◌+◌, ◌-◌, ◌<◌, ◌≤◌, Bool, true, false, cond, List, [], ◌∷◌, ◌++◌, length, take, map, refl, sym, ap, subst, ◌∙◌, Option, Some, None, option_map, arith, append_assoc, append-nil, length-append}
-use Rattle.std.proofs.Common.{ltb-true, lt-ltb, true≢false}
+use Rattle.std.proofs.Common.{◌≡◌, ℕ, zero, suc, ◌+◌, ◌-◌, ◌<◌, ◌≤◌, Bool, true, false, cond, List, [], ◌∷◌, ◌++◌, length, take, map, min, ◌==◌, refl, sym, ap, subst, ◌∙◌, Option, Some, None, option_map, arith, append_assoc, append-nil, length-append}
+use Rattle.std.proofs.Common.{le-ltb, ltb-false, ltb-true, lt-ltb, true≢false}
 use Rattle.std.specs.Prelude.{nat_lt, slice_get}
-use Rattle.std.proofs.lemmas.List.{length-map, map-append, take-map}
+use Rattle.std.proofs.lemmas.List.{length-map, length-take, map-append, take-map}
 use Rattle.std.proofs.lemmas.List.Elements.{filter-append}
-use Rattle.history.specs.History.{Key, Object, Objects}
+use Rattle.history.specs.History.{Key, Object, Objects, last_revision}
 use Rattle.history.specs.Read.{key_of}
 use Rattle.history.specs.Page.{listed, page}
 use Rattle.history.specs.Seen.{SeenPage, limited, seen_page, last_key}
@@ -15,8 +15,8 @@ use Rattle.revtable.specs.Read.{entry_of}
 use Rattle.selector.specs.Requirement.{Requirement, selects}
 use Rattle.params.specs.Values.{Token}
 use Rattle.lists.specs.Labels.{labels_of, selection_of}
-use Rattle.lists.specs.Lists.{key_after}
-use Rattle.lists.specs.Rows.{Start, is_over, matching, place_of, rows_left, to_read}
+use Rattle.lists.specs.Lists.{key_after, max_page, page_limit}
+use Rattle.lists.specs.Rows.{Start, asked_for, is_over, matching, place_of, rows_left, to_read}
 
 abbrev pub Entries : Type 0
 Entries = List (Key × Object)
@@ -108,6 +108,9 @@ found_more requirements all found left rows rest new so_far reads is =
 pub found_all : (limit : Option ℕ) (requirements : List Requirement) (all found left : Entries) → IsFoundSoFar requirements all found left → left ≡ [] → limited limit found ≡ limited limit (matching requirements all)
 found_all limit requirements all found left so_far none = ap (limited limit) (sym (so_far ∙ ap (λ xs. found ++ matching requirements xs) none ∙ append-nil found))
 
+record_of : (a b : Entries) (t u : Bool) → a ≡ b → t ≡ u → (let p : SeenPage = record { found = a; next = cond t (last_key a) None } in p) ≡ record { found = b; next = cond u (last_key b) None }
+record_of a b t u same alike = rw (same, alike) refl
+
 -- more than a page holds is enough
 longer : (n : ℕ) (found rest : Entries) → n < length found → take n (found ++ rest) ≡ take n found
 longer zero found rest lt = refl
@@ -121,10 +124,6 @@ enough_found (Some limit) found rest n len over =
     let long : limit < length (found ++ rest) = subst (λ m. limit < m) (sym (length-append found rest)) (omega arith) in
     record_of (take limit found) (take limit (found ++ rest)) (nat_lt limit (length found)) (nat_lt limit (length (found ++ rest))) (sym (longer limit found rest short))
     (lt-ltb limit (length found) short ∙ sym (lt-ltb limit (length (found ++ rest)) long))
-  where
-    record_of : (a b : Entries) (t u : Bool) → a ≡ b → t ≡ u
-        → (let p : SeenPage = record { found = a; next = cond t (last_key a) None } in p) ≡ record { found = b; next = cond u (last_key b) None }
-    record_of a b t u same alike = rw (same, alike) refl
 
 -- ---- the page
 
@@ -134,6 +133,32 @@ cut_at limit xs left n is len = rw (is, len) (same (map entry_of (take limit xs)
   where
     same : (a b : Entries) (m n : ℕ) → a ≡ b → m ≡ n → (let p : SeenPage = record { found = a; next = cond (nat_lt limit m) (last_key a) None } in p) ≡ record { found = b; next = cond (nat_lt limit n) (last_key b) None }
     same a b m n alike len = rw (alike, len) refl
+
+-- one more than a page has room for is enough
+one_more : (n : ℕ) (all : Entries) → limited (Some n) (take (suc n) all) ≡ limited (Some n) all
+one_more n all = record_of (take n (take (suc n) all)) (take n all) (nat_lt n (length (take (suc n) all))) (nat_lt n (length all)) (shorter n all) (over_same n (length all) (length (take (suc n) all)) (length-take (suc n) all))
+  where
+    shorter : (n : ℕ) (all : Entries) → take n (take (suc n) all) ≡ take n all
+    shorter zero all = refl
+    shorter (suc n) [] = refl
+    shorter (suc n) (x ∷ all) = ap (λ xs. x ∷ xs) (shorter n all)
+
+    over_same : (n m k : ℕ) → k ≡ min (suc n) m → nat_lt n k ≡ nat_lt n m
+    over_same n m k is = go (nat_lt n m) refl
+      where
+        go : (b : Bool) → nat_lt n m ≡ b → nat_lt n k ≡ b
+        go true e = let more : n < m = ltb-true n m e in lt-ltb n k (omega (arith, is, more))
+        go false e = let few : m ≤ n = ltb-false n m e in le-ltb n k (omega (arith, is, few))
+
+pub enough_asked : (limit : ℕ) (found all : Entries) → found ≡ take (asked_for limit) all → (last_revision ≤ asked_for limit → found ≡ all) → limited (page_limit limit) found ≡ limited (page_limit limit) all
+enough_asked limit found all first whole = go (limit == 0) first whole
+  where
+    go : (b : Bool) → found ≡ take (cond b last_revision (min limit max_page + 1)) all → (last_revision ≤ cond b last_revision (min limit max_page + 1) → found ≡ all)
+        → limited (cond b None (Some (min limit max_page))) found ≡ limited (cond b None (Some (min limit max_page))) all
+    go true first whole = ap (limited None) (whole (omega arith))
+    go false first whole =
+        let next : min limit max_page + 1 ≡ suc (min limit max_page) = omega arith in
+        ap (limited (Some (min limit max_page))) (first ∙ ap (λ n. take n all) next) ∙ one_more (min limit max_page) all
 
 abbrev pub place_after : Token → List ℕ × List ℕ
 place_after t = (t.namespace, t.name)

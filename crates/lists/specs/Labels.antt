@@ -17,6 +17,13 @@ label_members d = option_and_then as_object (option_and_then (get (codes "labels
 abbrev pub labels_of : List ℕ → Labels
 labels_of text = unwrap_or (option_and_then texts_of (option_and_then label_members (read text))) []
 
+-- the same in two steps: what stands at `metadata.labels` of a value, and the labels that this gives
+abbrev pub labels_value : Data → Option Data
+labels_value d = option_and_then (get (codes "labels")) (get (codes "metadata") d)
+
+abbrev pub labels_by : Option Data → Labels
+labels_by value = unwrap_or (option_and_then texts_of (option_and_then as_object value)) []
+
 -- of the type, in the namespace if one is named, and with labels that meet the requirements
 abbrev pub selection_of : ℕ → Option (List ℕ) → List Requirement → Selection
 selection_of kind namespace requirements = λ k body. is_within kind namespace k && selects requirements (labels_of body)

@@ -1,9 +1,10 @@
--- How the rows of a list are read: a few at a time, until there are enough or none are left.
-use Rattle.std.specs.Prelude.{ℕ, suc, List, [], length, filter, Option, Some, None, nat_lt, Bool, false}
+-- How the rows of a list are read: for a page at once, for a watch a few at a time, until there are enough or none are left.
+use Rattle.std.specs.Prelude.{ℕ, suc, ◌+◌, ◌==◌, if◌then◌else◌, min, List, [], length, filter, Option, Some, None, nat_lt, Bool, false}
 use Rattle.selector.specs.Requirement.{Requirement, selects}
-use Rattle.history.specs.History.{Key, Object, Objects}
+use Rattle.history.specs.History.{Key, Object, Objects, last_revision}
 use Rattle.history.specs.Page.{listed}
 use Rattle.lists.specs.Labels.{labels_of}
+use Rattle.lists.specs.Lists.{max_page}
 
 -- those whose labels meet the requirements
 abbrev pub matching : List Requirement → List (Key × Object) → List (Key × Object)
@@ -30,3 +31,7 @@ to_read kind namespace s (Some start) = suc (length (listed kind namespace start
 abbrev pub is_over : Option ℕ → ℕ → Bool
 is_over None n = false
 is_over (Some limit) n = nat_lt limit n
+
+-- how many a page asks for, so that it can be told whether one is left; or all
+abbrev pub asked_for : ℕ → ℕ
+asked_for limit = if limit == 0 then last_revision else min limit max_page + 1

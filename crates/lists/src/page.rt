@@ -1,21 +1,24 @@
-//! The page that is asked for: rows of the store are read in batches, each twice as large as the one before up to 501,
-//! until more selected objects are found than the page holds, or no row is left. The rows are read in `rows`.
+//! The page that is asked for: the store is asked once, for one object more than the page holds. What a watch begins with
+//! is read in batches of rows, each twice as large as the one before up to 501. The rows are read in `rows`.
 
-ghost use Rattle.std.specs.Prelude.{◌≡◌, ◌<◌, ◌≤◌, ◌++◌, IfOk, Some, map, option_map};
+ghost use Rattle.std.specs.Prelude.{◌≡◌, ◌<◌, ◌≤◌, ◌++◌, IfOk, Some, map, option_map, take};
+ghost use Rattle.history.specs.History.{last_revision};
 ghost use Rattle.history.specs.Page.{listed};
 ghost use Rattle.history.specs.Seen.{IsLimit, limited};
 ghost use Rattle.history.specs.View.{state_in};
 ghost use Rattle.params.specs.Views.{token_view, values_of};
 ghost use Rattle.revtable.specs.Read.{entry_of};
 ghost use Rattle.lists.specs.Lists.{page_limit, page_of};
-ghost use Rattle.lists.specs.Rows.{is_over, matching, place_of};
+ghost use Rattle.lists.specs.Rows.{asked_for, is_over, matching, place_of};
 ghost use Rattle.lists.specs.Views.{collection_of, page_seen, start_of};
 
 use crate::collection::{Collection, Selected};
+use crate::labels::Labelled;
 use crate::rows::{Start, after, matching, next_rows};
 use crate::text::next_of;
+use history::LAST_REVISION;
 use params::{Params, Token};
-use revstore::Store;
+use revstore::{ListFault, Store};
 use revtable::{Entry, Fault};
 use std::alloc::{AllocError, Global};
 
@@ -150,6 +153,53 @@ fn start_at(token: &Option<Token>) -> Result<Start, AllocError>
     }
 }
 
+/// How many objects are asked for: one more than the page has room for, which tells whether one is left; or all.
+fn asked_for(limit: u64) -> u64
+    ensures { result ≡ asked_for limit }
+{
+    if limit == 0 {
+        LAST_REVISION
+    } else {
+        limit.min(MAX_PAGE) + 1
+    }
+}
+
+/// The first that are selected from a start on, at most so many.
+fn first_selected(
+    alloc: Global,
+    store: &mut Store,
+    selected: Selected<'_>,
+    start: &Start,
+    max: u64,
+) -> Result<Vec<Entry>, Fault>
+    requires low { store.old.compacted ≤ selected.revision }
+    requires high { selected.revision ≤ store.old.current }
+    ensures first { IfOk result (λ v. map entry_of v.items
+        ≡ take max (matching selected.entry.selector.now (listed (collection_of selected.entry.collection).kind (collection_of selected.entry.collection).namespace (start_of start.now) (state_in store.old selected.entry.revision)))) }
+    ensures whole { last_revision ≤ max → IfOk result (λ v. map entry_of v.items
+        ≡ matching selected.entry.selector.now (listed (collection_of selected.entry.collection).kind (collection_of selected.entry.collection).namespace (start_of start.now) (state_in store.old selected.entry.revision))) }
+    ensures same { store.new ≡ store.old }
+{
+    let of = selected.collection;
+    let keep = Labelled {
+        alloc,
+        selector: selected.selector,
+    };
+    match store.first_kept(
+        of.kind,
+        of.namespace,
+        selected.revision,
+        start.place(),
+        max,
+        &keep,
+    ) {
+        Ok(found) => Ok(found),
+        Err(ListFault::Failed(fault)) => Err(fault),
+        Err(ListFault::Expired) => unreachable!(),
+        Err(ListFault::TooLarge) => unreachable!(),
+    }
+}
+
 /// The page that is asked for, at a revision.
 pub(crate) fn page_of(
     alloc: Global,
@@ -163,13 +213,12 @@ pub(crate) fn page_of(
     ensures page { IfOk result (λ p. page_seen p ≡ page_of (collection_of of.entry) (values_of params.now) (state_in store.old revision)) }
     ensures same { store.new ≡ store.old }
 {
-    let limit = page_limit(params.limit);
     let start = start_at(&params.token)?;
     let selected = Selected {
         collection: of,
         revision,
         selector: &params.selector,
     };
-    let found = found_from(alloc, store, selected, start, limit)?;
-    Ok(cut(limit, found))
+    let found = first_selected(alloc, store, selected, &start, asked_for(params.limit))?;
+    Ok(cut(page_limit(params.limit), found))
 }

@@ -26,7 +26,7 @@ pub enum Start {
 }
 
 impl Start {
-    fn place(&self) -> Option<(&str, &str)>
+    pub(crate) fn place(&self) -> Option<(&str, &str)>
         ensures { option_map {U = prelude.List prelude.ℕ × prelude.List prelude.ℕ} (λ p. (p.0.now, p.1.now)) result ≡ start_of self.now }
     {
         match self {

@@ -4,12 +4,13 @@ ghost use Rattle.std.specs.FinMap as fin;
 ghost use Rattle.history.specs.History.{last_revision, later};
 ghost use Rattle.history.specs.Page.{changes_within, listed, page, picked};
 ghost use Rattle.history.specs.Read.{key_of};
+ghost use Rattle.revtable.specs.Kept.{first_kept, kept_among};
 ghost use Rattle.revtable.specs.Read.{change_of, entry_of, object_of};
 ghost use Rattle.history.specs.View.{IsView, compacted_in, state_in, view, written_in};
 
 use crate::fault::{ChangesFault, CompactFault, ListFault, WriteFault};
 use history::{Key, LAST_REVISION};
-use revtable::{Change, Entry, Fault, Object, Table};
+use revtable::{Change, Entry, Fault, Keep, Object, Table};
 use std::marker::Model;
 
 /// The objects of all types, by key, and their changes.
@@ -113,6 +114,37 @@ impl Store {
             return Err(ListFault::TooLarge);
         }
         Ok(self.table.at(kind, namespace, revision, after, max)?)
+    }
+
+    /// The first `max` of the objects that `list_at` lists whose texts are kept. With the last of them reading stops.
+    pub fn first_kept<K: Keep>(
+        &mut self,
+        kind: u32,
+        namespace: Option<&str>,
+        revision: u64,
+        after: Option<(&str, &str)>,
+        max: u64,
+        keep: &K,
+    ) -> Result<Vec<Entry>, ListFault>
+        ensures ok { IfOk result (λ v. map entry_of v.items
+            ≡ first_kept (K.Keep.kept keep.now) max (listed kind (option_map (λ b. b.now) namespace.entry) (option_map (λ p. (p.0.now, p.1.now)) after.entry) (state_in self.old revision))) }
+        ensures whole { last_revision ≤ max → IfOk result (λ v. map entry_of v.items
+            ≡ kept_among (K.Keep.kept keep.now) (listed kind (option_map (λ b. b.now) namespace.entry) (option_map (λ p. (p.0.now, p.1.now)) after.entry) (state_in self.old revision))) }
+        ensures expired { (result ≡ Err ListFault.Expired) ↔ (revision < self.old.compacted) }
+        ensures too_large { (result ≡ Err ListFault.TooLarge) ↔ (self.old.current < revision) }
+        ensures same { self.new ≡ self.old }
+    {
+        let marks = self.table.marks();
+        if marks.compacted > revision {
+            return Err(ListFault::Expired);
+        }
+        if marks.current < revision {
+            return Err(ListFault::TooLarge);
+        }
+        Ok(
+            self.table
+                .first_kept(kind, namespace, revision, after, max, keep)?,
+        )
     }
 
     /// The first `max` changes of a type after a revision, oldest first: of one namespace or of all.

@@ -4,6 +4,7 @@ pub mod Deleting
 pub mod Entries
 pub mod Fields
 pub mod Files
+pub mod FirstKept
 pub mod Halves
 pub mod Inserts
 pub mod Last

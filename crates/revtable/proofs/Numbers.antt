@@ -89,7 +89,7 @@ latest_is h k r m rows p is found = first_left h.changes k m rows found ∙ ap (
 
 -- ---- how many there can be
 
-take_whole : {X : Type 0} (n : ℕ) (xs : List X) → length xs ≤ n → take n xs ≡ xs
+pub take_whole : {X : Type 0} (n : ℕ) (xs : List X) → length xs ≤ n → take n xs ≡ xs
 take_whole zero [] h = refl
 take_whole (suc n) [] h = refl
 take_whole zero (x ∷ xs) h = absurd (omega arith)

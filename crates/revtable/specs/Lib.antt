@@ -1,5 +1,6 @@
 pub mod Asked
 pub mod Decoded
 pub mod Faults
+pub mod Kept
 pub mod Read
 pub mod Rows

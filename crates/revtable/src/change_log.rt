@@ -1,22 +1,27 @@
 //! The changes in the rows of a database. Its store is any that never lost a page (`IsAlwaysClean`): the proofs say what
 //! they need of it, and the prover is faster than where the store is named. `memory` has the one that a table stands on.
 
-ghost use Rattle.std.specs.Prelude.{◌≡◌, [], ◌∷◌, ◌++◌, ℕ, ◌^◌, ◌<◌, ◌≤◌, IfOk, OnOk, OnErr, option_map, false};
+ghost use Rattle.std.specs.Prelude.{◌≡◌, [], ◌∷◌, ◌++◌, ℕ, ◌^◌, ◌<◌, ◌≤◌, IfOk, OnOk, OnErr, map, option_map, false};
 ghost use Rattle.history.specs.History.{IsRising};
 ghost use Rattle.history.specs.Kept.{kept};
 ghost use Rattle.history.specs.Read.{key_of};
-ghost use Rattle.revtable.specs.Rows.{change_schema, AreBelow, IsAlwaysClean, IsAnswer};
+ghost use Rattle.revtable.specs.Kept.{AreFirstKept, IsBare};
+ghost use Rattle.revtable.specs.Read.{entry_of};
+ghost use Rattle.revtable.specs.Rows.{change_schema, command_in, AreBelow, IsAlwaysClean, IsAnswer};
 ghost use Rattle.sqlite.specs.Given.{IsPlain};
 ghost use Rattle.sqlite.specs.Held.{state};
 ghost use Rattle.sqlite.specs.Listing.{reads_listing, understood};
 ghost use Rattle.sqlite.specs.Steps.{IsEmpty};
 ghost use Rattle.sqlite.specs.Values.{bound};
 
-use crate::compaction;
 use crate::fault::Fault;
+use crate::keep::Keep;
+use crate::row::Entry;
+use crate::{compaction, first_kept};
 use history::Key;
 use sqlite::types::ValueRef;
 use sqlite::{Alter, Connection, Error, Row, params};
+use std::alloc::Global;
 use std::marker::Model;
 use std::snapshot::Snapshot;
 
@@ -109,5 +114,23 @@ impl<S: Alter> ChangeLog<S> {
         ensures same { self.new ≡ self.old }
     {
         self.base.query_all(sql, params)
+    }
+
+    /// The first objects that a SELECT over the table shows and that are kept. With the last of them reading stops.
+    pub(crate) fn ask_kept<K: Keep>(
+        &mut self,
+        alloc: Global,
+        sql: &str,
+        params: &[ValueRef<'_>],
+        max: u64,
+        keep: &K,
+    ) -> Result<Vec<Entry>, Fault>
+        requires plain { IsPlain (understood change_schema sql.now) }
+        requires unlisted { reads_listing change_schema sql.now ≡ false }
+        requires bare { IsBare (command_in (understood change_schema sql.now)) }
+        ensures ok { IfOk result (λ v. AreFirstKept sql.now (bound params.now) self.old (K.Keep.kept keep.now) max (map entry_of v.items)) }
+        ensures same { self.new ≡ self.old }
+    {
+        first_kept::read(alloc, &mut self.base, sql, params, max, keep)
     }
 }

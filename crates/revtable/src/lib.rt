@@ -11,6 +11,8 @@ mod change_log;
 mod compaction;
 mod fault;
 mod file;
+mod first_kept;
+mod keep;
 mod memory;
 mod paging;
 mod reading;
@@ -19,5 +21,6 @@ mod statements;
 mod table;
 
 pub use fault::Fault;
+pub use keep::Keep;
 pub use row::{Change, Entry, Marks, Object};
 pub use table::Table;

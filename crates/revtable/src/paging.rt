@@ -23,7 +23,7 @@ pub(crate) struct Wanted {
 
 /// The namespace that a page begins in, and the name there after which it does: nowhere, if the place is past the
 /// namespace that is asked for.
-fn begins<'a>(
+pub(crate) fn begins<'a>(
     namespace: Option<&'a str>,
     after: Option<(&'a str, &'a str)>,
 ) -> Option<(&'a str, Option<&'a str>)>
@@ -43,7 +43,7 @@ fn begins<'a>(
 
 /// The text that comes next after this one: `namespace >= next` lets the index begin there, where `namespace > text`
 /// would begin at the first object of the namespace itself.
-fn next_after(alloc: Global, text: &str) -> Result<String, AllocError>
+pub(crate) fn next_after(alloc: Global, text: &str) -> Result<String, AllocError>
     ensures { IfOk result (λ s. string_bytes s ≡ text.now ++ 0 ∷ []) }
 {
     let mut next = String::from_str(alloc, text)?;
@@ -52,7 +52,7 @@ fn next_after(alloc: Global, text: &str) -> Result<String, AllocError>
 }
 
 /// The text that the names after this one begin from, or all of them.
-fn lowest(alloc: Global, after: Option<&str>) -> Result<String, AllocError>
+pub(crate) fn lowest(alloc: Global, after: Option<&str>) -> Result<String, AllocError>
     ensures { IfOk result (λ s. string_bytes s ≡ low_of (option_map (λ b. b.now) after.entry)) }
 {
     match after {

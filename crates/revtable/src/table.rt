@@ -5,13 +5,16 @@ ghost use Rattle.history.specs.History.{fresh, last_revision, later, standing, s
 ghost use Rattle.history.specs.Kept.{IsPruned, between_marks, pruned, with_body};
 ghost use Rattle.history.specs.Page.{changes_within, listed, page, picked};
 ghost use Rattle.history.specs.Read.{key_of};
+ghost use Rattle.revtable.specs.Kept.{first_kept, kept_among, AreFirstKept, IsBare};
 ghost use Rattle.revtable.specs.Read.{change_of, entry_of, object_of};
-ghost use Rattle.revtable.specs.Rows.{change_schema, IsAnswer};
+ghost use Rattle.revtable.specs.Rows.{change_schema, command_in, IsAnswer};
 ghost use Rattle.sqlite.specs.Given.{IsPlain};
 ghost use Rattle.sqlite.specs.Listing.{reads_listing, understood};
 ghost use Rattle.sqlite.specs.Values.{bound};
 
 use crate::fault::Fault;
+use crate::first_kept;
+use crate::keep::Keep;
 use crate::memory::{self, MemoryLog};
 use crate::paging::{self, Wanted};
 use crate::reading::{read_changes, read_entries, read_left};
@@ -152,6 +155,30 @@ impl Table {
         read_entries(alloc, &rows)
     }
 
+    /// The first `max` of the objects that `at` lists whose texts are kept. With the last of them reading stops.
+    pub fn first_kept<K: Keep>(
+        &mut self,
+        kind: u32,
+        namespace: Option<&str>,
+        revision: u64,
+        after: Option<(&str, &str)>,
+        max: u64,
+        keep: &K,
+    ) -> Result<Vec<Entry>, Fault>
+        ensures ok { IfOk result (λ v. map entry_of v.items
+            ≡ first_kept (K.Keep.kept keep.now) max (listed kind (option_map (λ b. b.now) namespace.entry) (option_map (λ p. (p.0.now, p.1.now)) after.entry) (state_at self.old.changes revision))) }
+        ensures whole { last_revision ≤ max → IfOk result (λ v. map entry_of v.items
+            ≡ kept_among (K.Keep.kept keep.now) (listed kind (option_map (λ b. b.now) namespace.entry) (option_map (λ p. (p.0.now, p.1.now)) after.entry) (state_at self.old.changes revision))) }
+        ensures same { self.new ≡ self.old }
+    {
+        let wanted = Wanted {
+            kind,
+            revision: revision.min(self.current),
+            max,
+        };
+        first_kept::listed(self.alloc, self, wanted, namespace, after, keep)
+    }
+
     /// The first `max` changes of a type after one revision up to another, oldest first: of one namespace or of all.
     pub fn span(
         &mut self,
@@ -206,5 +233,24 @@ impl Table {
         ensures sound { IsPruned self.old }
     {
         Ok(self.log.ask(sql, params)?)
+    }
+
+    /// The first objects that a SELECT over the kept changes shows and that are kept; `first_kept` asks here, as
+    /// `statements` ask above.
+    pub(crate) fn ask_kept<K: Keep>(
+        &mut self,
+        sql: &str,
+        params: &[ValueRef<'_>],
+        max: u64,
+        keep: &K,
+    ) -> Result<Vec<Entry>, Fault>
+        requires plain { IsPlain (understood change_schema sql.now) }
+        requires unlisted { reads_listing change_schema sql.now ≡ false }
+        requires bare { IsBare (command_in (understood change_schema sql.now)) }
+        ensures ok { IfOk result (λ v. AreFirstKept sql.now (bound params.now) self.old.changes (K.Keep.kept keep.now) max (map entry_of v.items)) }
+        ensures same { self.new ≡ self.old }
+        ensures sound { IsPruned self.old }
+    {
+        self.log.ask_kept(self.alloc, sql, params, max, keep)
     }
 }
