@@ -1,13 +1,20 @@
 //! Tests of informers, summaries and mirrors, against replies written by hand, by public calls alone. Replies cut at
 //! every place are tested in `store_client_tests`.
 //!
-//! One function holds an informer, one a mirror; all else are rows that are played on them.
+//! One function holds an informer, one a mirror; all else are rows that are played on them, but for the test of boxed
+//! indexes.
 #![tactic(auto)]
 
 #[cfg(test)]
-mod lists;
+mod boxed;
+#[cfg(test)]
+mod looping;
+#[cfg(test)]
+mod mirror_programs;
 #[cfg(test)]
 mod mirrors;
+#[cfg(test)]
+mod pages;
 #[cfg(test)]
 mod playing;
 #[cfg(test)]
@@ -18,5 +25,7 @@ mod rows;
 mod starting;
 #[cfg(test)]
 mod summing;
+#[cfg(test)]
+mod troubles;
 #[cfg(test)]
 mod watches;

@@ -25,7 +25,7 @@ impl IndexBy for Namespace {
     }
 
     fn keys_of(&self, alloc: Global, object: &Object) -> Result<Vec<String>, AllocError> {
-        Ok(vec![in alloc; object.namespace.clone()?]?)
+        Ok(vec![in alloc; String::from_str(alloc, object.namespace.as_str())?]?)
     }
 }
 
@@ -51,7 +51,7 @@ pub fn informer(alloc: Global, selector: &str) -> Result<Informer<Namespace>, Fa
     Ok(made.map_err(|_| "refused settings")?)
 }
 
-fn tiers(alloc: Global) -> Result<Summary, AllocError> {
+pub fn tiers(alloc: Global) -> Result<Summary, AllocError> {
     Ok(Summary::new(alloc, String::from_str(alloc, "tier")?))
 }
 
@@ -71,7 +71,7 @@ impl Play {
     }
 
     /// `ask`: the request that is due. `counts`, `apply`: what the summary says. `after A;B <- C;D`: what stands after
-    /// these replies, and what is asked then. `fronts A;B <- C;D`: the same after each front of the bytes of C and D
+    /// these replies, and what is asked then. `why A;B <- C;D`: why the reply was given up, after these. `fronts A;B <- C;D`: the same after each front of the bytes of C and D
     /// and a cut. `marked A;B <- C`: what stands after A and B in one piece, for which memory may be refused; the list C
     /// tells the same. Else an event, and what stands after it.
     pub fn answer(&mut self, alloc: Global, question: &str) -> Result<String, Fail> {
@@ -81,6 +81,7 @@ impl Play {
             "counts" => counts(alloc, &self.summary),
             "apply" => apply(alloc, &self.summary),
             "after" => self.after(alloc, rest),
+            "why" => self.why(alloc, rest),
             "fronts" => self.fronts(alloc, rest),
             "marked" => self.marked(alloc, rest),
             _ => {
@@ -118,8 +119,8 @@ impl Play {
     fn stands(&mut self, alloc: Global) -> Result<String, Fail> {
         let mut text = standing(alloc, &self.informer)?;
         let notices = self.informer.take_notices();
-        self.summary.note_all(&notices)?;
         for notice in notices.iter() {
+            self.summary.note(notice)?;
             push_notice(&mut text, notice)?;
         }
         Ok(text)
@@ -142,6 +143,15 @@ impl Play {
             self.event(alloc, event)?;
         }
         self.stands_and_asks(alloc)
+    }
+
+    fn why(&mut self, alloc: Global, words: &str) -> Result<String, Fail> {
+        let (events, words) = words.split_once(" <- ").ok_or("no replies")?;
+        self.begin(alloc, events)?;
+        for event in words.split(';') {
+            self.event(alloc, event)?;
+        }
+        trouble(alloc, &self.informer)
     }
 
     fn stands_and_asks(&mut self, alloc: Global) -> Result<String, Fail> {
@@ -169,6 +179,7 @@ impl Play {
         let fed = self.informer.feed(text.as_bytes());
         mark(alloc)?;
         if fed.is_err() {
+            expect_text(trouble(alloc, &self.informer)?, "OutOfMemory")?;
             expect_text(ask(alloc, &mut self.informer)?, "/widgets?limit=2")?;
             self.event(alloc, page)?;
         }
@@ -228,6 +239,14 @@ fn standing(alloc: Global, informer: &Informer<Namespace>) -> Result<String, Fai
     text.push_str("=")?;
     text.push_str(in_default(informer).to_string(alloc)?.as_str())?;
     Ok(text)
+}
+
+/// Why the last reply was given up, or `none`.
+fn trouble(alloc: Global, informer: &Informer<Namespace>) -> Result<String, Fail> {
+    match informer.trouble() {
+        Some(trouble) => Ok(format!(in alloc; "{trouble:?}")?),
+        None => Ok(String::from_str(alloc, "none")?),
+    }
 }
 
 fn in_default(informer: &Informer<Namespace>) -> usize {

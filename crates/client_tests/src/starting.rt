@@ -1,4 +1,4 @@
-//! The settings that an informer is made with: its first request, or why it is refused. Replies are played in `lists` and
+//! The settings that an informer is made with: its first request, or why it is refused. Replies are played in `pages` and
 //! `watches`.
 
 use crate::playing::{Namespace, ask, indexer, widgets};

@@ -1,4 +1,4 @@
-//! Summaries that count an informer's notices; the informer alone is tested in `lists` and `watches`.
+//! Summaries that count an informer's notices; the informer alone is tested in `pages` and `watches`.
 
 use crate::rows::expect_rows;
 use std::test::Fail;

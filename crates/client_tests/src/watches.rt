@@ -1,4 +1,4 @@
-//! Watches, and replies that don't fit them. Lists stand in `lists`.
+//! Watches, and replies that don't fit them. Lists stand in `pages`.
 
 use crate::rows::expect_rows;
 use std::test::Fail;

@@ -1,7 +1,4 @@
+pub mod OptionValues
 mod CommandParts
-mod FrontLemmas
-mod PlayRuns
-mod ReplayArguments
-mod RunLemmas
-mod ScriptLemmas
+mod Cuts
 mod TypesText

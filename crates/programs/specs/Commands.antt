@@ -12,6 +12,14 @@ versioned = on_top (λ s. record s { has_version = true })
 abbrev pub program : Text → App
 program name = versioned (new_app name)
 
+-- `--<name> <text>`
+abbrev pub text_option : Text → Rule
+text_option name = record (new_rule name) { long = Some name; action = Some Set; value_names = 1 }
+
+-- the same, which is required
+abbrev pub required_option : Text → Rule
+required_option name = record (text_option name) { required = true }
+
 -- `--<name> FILE`, which is required
 abbrev pub file_option : Text → Rule
-file_option name = record (new_rule name) { long = Some name; action = Some Set; value_names = 1; required = true }
+file_option = required_option

@@ -1,10 +1,5 @@
-pub mod ApplyLine
 pub mod Commands
-pub mod ReplayCommand
-pub mod ReplayFaults
+pub mod Numbers
 pub mod ReplayProgram
-pub mod Replays
-pub mod Requests
-pub mod Running
-pub mod Script
-pub mod ScriptSteps
+pub mod Resources
+pub mod Seen

@@ -1,9 +1,11 @@
 -- How a program tells what it found.
-use Rattle.std.specs.Prelude.{◌≡◌, ℕ, List, Option, Some, None, Result, Ok, Err, ⊤, string_bytes}
+use Rattle.std.specs.Prelude.{◌≡◌, ℕ, List, Option, Some, None, Result, Ok, Err, IfSome, ⊤, string_bytes}
 use Rattle.clap.specs.Values.{kind_of}
 use Rattle.clap.specs.declared.error.kind.ErrorKind.{ErrorKind}
 use Rattle.clap.specs.declared.error.kind.ErrorKind.TheVariants as kind
+use Rattle.schema.specs.FaultPlaces.{IsPlaceOf}
 use Rattle.schema.specs.Refusals.{Refusal, unknown_keyword, unknown_type, misfit, too_deep, same_names, not_the_form}
+use Rattle.schema.specs.Seen.{Fails}
 use Rattle.schema.specs.Served.{types_view}
 use Rattle.schema.specs.TypesFile.{ServedShape, declared_types}
 use Rattle.schema.specs.declared.types.Types.{Types}
@@ -11,6 +13,7 @@ use Rattle.serde_json.specs.Data.{Data}
 use Rattle.serde_json.specs.Read.{read as read_json}
 use Rattle.programs.specs.declared.run_fault.RunFault.{RunFault}
 use Rattle.programs.specs.declared.run_fault.RunFault.TheVariants as fault
+use Rattle.programs.specs.declared.types_refusal.TypesRefusal.{TypesRefusal}
 
 -- the exit status of wrong usage
 abbrev pub wrong_usage : ℕ
@@ -22,16 +25,18 @@ status_of_kind kind.DisplayVersion = 0
 status_of_kind _ = wrong_usage
 
 -- the exit status: 2 for the arguments, 3 for a file or the types, 4 for a line of the script, 5 for memory or the store;
--- 1 where the replies cannot be written, 0 where help or the version was asked for
+-- 6 for a port; 1 where the output cannot be written, 0 where help or the version was asked for
 abbrev pub status_of : RunFault → ℕ
 status_of (fault.Arguments e) = status_of_kind (kind_of e)
 status_of fault.NotText = wrong_usage
+status_of (fault.Number o) = wrong_usage
 status_of (fault.TypesFile path e) = 3
 status_of (fault.TypesText path e) = 3
-status_of (fault.Types path n e) = 3
+status_of (fault.Types path refusal) = 3
 status_of (fault.ScriptFile path e) = 3
 status_of (fault.Script n) = 4
 status_of (fault.Output e) = 1
+status_of (fault.Port p e) = 6
 status_of fault.Memory = 5
 status_of fault.Store = 5
 
@@ -48,17 +53,21 @@ abbrev pub IsNumberOf : Result (List ServedShape) Refusal → Option ℕ → Typ
 IsNumberOf answer (Some n) = (r : Refusal) × (answer ≡ Err r) × (n ≡ types_refusal_number r)
 IsNumberOf answer None = ⊤
 
--- the fault tells the file's path and the number of the refusal
-abbrev pub IsRefusal : List ℕ → Result (List ServedShape) Refusal → RunFault → Type 0
-IsRefusal path answer (fault.Types named n e) = (string_bytes named ≡ path) × IsNumberOf answer (Some n)
-IsRefusal path answer fault.Memory = ⊤
-IsRefusal path answer _ = ⊥
+-- the first refusal of a types file, by its number, and a place in it where its rule is broken, if one is named
+abbrev pub IsRefusal : Data → TypesRefusal → Type 0
+IsRefusal file refusal = IsNumberOf (declared_types file) (Some refusal.number) × Fails refusal.fault (declared_types file) × IfSome refusal.place (λ place. IsPlaceOf refusal.fault place file)
+
+-- the fault tells the file's path and its refusal
+abbrev pub IsRefused : List ℕ → Data → RunFault → Type 0
+IsRefused path file (fault.Types named refusal) = (string_bytes named ≡ path) × IsRefusal file refusal
+IsRefused path file fault.Memory = ⊤
+IsRefused path file _ = ⊥
 
 -- what is told of the text of a types file: the types that it declares; or, with the file's path, that it is no JSON, or
--- the number of its refusal
+-- its refusal
 abbrev pub Tells : List ℕ → List ℕ → Result Types RunFault → Type 0
 Tells path text (Ok types) = (d : Data) × (read_json text ≡ Some d) × (declared_types d ≡ Ok (types_view types))
 Tells path text (Err (fault.TypesText named e)) = (string_bytes named ≡ path) × (read_json text ≡ None)
-Tells path text (Err (fault.Types named n e)) = (d : Data) × (read_json text ≡ Some d) × IsRefusal path (declared_types d) (fault.Types named n e)
+Tells path text (Err (fault.Types named refusal)) = (d : Data) × (read_json text ≡ Some d) × IsRefused path d (fault.Types named refusal)
 Tells path text (Err fault.Memory) = ⊤
 Tells path text (Err _) = ⊥

@@ -1,10 +1,10 @@
-//! What the command lines of all programs share: the version, the help, and options that name a file. The options of
-//! `ssa-replay` stand in `replay_options`.
-ghost use Rattle.std.specs.Prelude.{◌≡◌, [], false};
+//! What the command lines of all programs share: the version, the help, and options that take texts. Options that take
+//! numbers stand in `numbers`.
+ghost use Rattle.std.specs.Prelude.{◌≡◌, [], false, true};
 ghost use Rattle.clap.specs.Built.{FitsChain, IsAuto, TakesValue};
 ghost use Rattle.clap.specs.Words.{app_of, args_of, groups_of, rule_of};
 ghost use Rattle.clap.specs.declared.builder.command.Command.TheViews.{out-Command as fields_of};
-ghost use Rattle.programs.specs.Commands.{file_option, program};
+ghost use Rattle.programs.specs.Commands.{file_option, program, required_option, text_option};
 
 use clap::{Arg, ArgAction, Command};
 use std::alloc::Global;
@@ -31,6 +31,39 @@ pub fn program<'a>(alloc: Global, name: &'a str, about: &'a str, notes: &'a str)
         .after_help(notes)
 }
 
+/// An option that takes a text.
+#[derive(Clone, Copy, Debug)]
+pub struct TextOption<'a> {
+    pub name: &'a str,
+    /// What the help calls the text.
+    pub value: &'a str,
+    pub help: &'a str,
+}
+
+/// `--<name> <value>`
+pub fn text_option<'a>(alloc: Global, option: TextOption<'a>) -> Arg<'a>
+    ensures id { result.id ≡ option.entry.name }
+    ensures rule { rule_of result ≡ text_option option.entry.name.now }
+    ensures fits { (option.entry.name.now ≡ [] → ⊥) → (IsAuto result → ⊥) → FitsChain result }
+    ensures takes { TakesValue (record result { required = true }) }
+{
+    Arg::new(alloc, option.name)
+        .long(option.name)
+        .value_name(option.value)
+        .help(option.help)
+        .action(ArgAction::Set)
+}
+
+/// `--<name> <value>`, which is required.
+pub fn required_option<'a>(alloc: Global, option: TextOption<'a>) -> Arg<'a>
+    ensures id { result.id ≡ option.entry.name }
+    ensures rule { rule_of result ≡ required_option option.entry.name.now }
+    ensures fits { (option.entry.name.now ≡ [] → ⊥) → (IsAuto result → ⊥) → FitsChain result }
+    ensures takes { TakesValue result }
+{
+    text_option(alloc, option).required(true)
+}
+
 /// `--<name> FILE`, which is required.
 pub fn file_option<'a>(alloc: Global, name: &'a str, help: &'a str) -> Arg<'a>
     ensures id { result.id ≡ name.entry }
@@ -38,10 +71,10 @@ pub fn file_option<'a>(alloc: Global, name: &'a str, help: &'a str) -> Arg<'a>
     ensures fits { (name.entry.now ≡ [] → ⊥) → (IsAuto result → ⊥) → FitsChain result }
     ensures takes { TakesValue result }
 {
-    Arg::new(alloc, name)
-        .long(name)
-        .value_name("FILE")
-        .help(help)
-        .action(ArgAction::Set)
-        .required(true)
+    let option = TextOption {
+        name,
+        value: "FILE",
+        help,
+    };
+    required_option(alloc, option)
 }

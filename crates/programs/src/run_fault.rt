@@ -1,13 +1,12 @@
-//! Why a program's run ends before it is done, the exit status that tells it, and where it is printed. Faults of a play
-//! stand in `replay_fault`.
-ghost use Rattle.std.specs.Prelude.{◌≡◌};
+//! Why a program's run ends before it is done, the exit status that tells it, and where it is printed.
+ghost use Rattle.std.specs.Prelude.{◌≡◌, ◌⊎◌};
 ghost use Rattle.std.specs.Process.{exit_status};
 ghost use Rattle.programs.specs.ReplayProgram.{status_of};
+ghost use Rattle.programs.specs.declared.run_fault.RunFault.TheVariants.{Memory, Port};
 
-use crate::replay_fault::ReplayFault;
-use crate::script::ScriptFault;
+use crate::numbers::NumberOption;
+use crate::types_refusal::TypesRefusal;
 use clap::error::ErrorKind;
-use schema::TypesFault;
 use std::alloc::{AllocError, Global};
 use std::io;
 use std::process::ExitCode;
@@ -26,24 +25,30 @@ pub enum RunFault {
     /// One of the arguments is no UTF-8 text.
     #[error("an argument is not UTF-8")]
     NotText,
+    /// The value of an option is no number that it may have.
+    #[error("--{}: a whole number from {} to {}", .0.name, .0.least, .0.most)]
+    Number(NumberOption),
     /// The types file cannot be read.
     #[error("types file {0}: {1}")]
     TypesFile(String, io::Error),
     /// The types file is no JSON text.
     #[error("types file {0}: not JSON: {1}")]
     TypesText(String, serde_json::Error),
-    /// The types file declares no types: the number of its refusal, 1 to 6, and the refusal.
-    #[error("types file {0}: refusal {1}: {2}")]
-    Types(String, u8, TypesFault),
+    /// The types file declares no types.
+    #[error("types file {0}: {1}")]
+    Types(String, TypesRefusal),
     /// The script cannot be read.
     #[error("script {0}: {1}")]
     ScriptFile(String, io::Error),
     /// The first bad line of the script, counted from 1.
-    #[error("{}", ScriptFault::BadEvent(*.0))]
+    #[error("line {0}: bad event")]
     Script(usize),
     /// The replies cannot be written.
     #[error("standard output: {0}")]
     Output(io::Error),
+    /// A port of loopback cannot be listened on, or be connected to.
+    #[error("port {0}: {1}")]
+    Port(u16, io::Error),
     /// Out of memory.
     #[error("out of memory")]
     Memory,
@@ -54,7 +59,7 @@ pub enum RunFault {
 
 impl RunFault {
     /// The exit status that tells the fault: 0 where help or the version was asked for, 1 for the output, 2 for other
-    /// arguments, 3 for a file or the types, 4 for a line of the script, 5 for memory or the store.
+    /// arguments, 3 for a file or the types, 4 for a line of the script, 5 for memory or the store, 6 for a port.
     pub fn status(&self) -> u8
         ensures { result ≡ status_of self.now }
     {
@@ -62,13 +67,26 @@ impl RunFault {
             RunFault::Arguments(error) if !error.use_stderr() => 0,
             RunFault::Output(_) => 1,
             RunFault::Arguments(_) => WRONG_USAGE,
-            RunFault::NotText => WRONG_USAGE,
+            RunFault::NotText | RunFault::Number(_) => WRONG_USAGE,
             RunFault::TypesFile(..)
             | RunFault::TypesText(..)
             | RunFault::Types(..)
             | RunFault::ScriptFile(..) => 3,
             RunFault::Script(_) => 4,
             RunFault::Memory | RunFault::Store => 5,
+            RunFault::Port(..) => 6,
+        }
+    }
+}
+
+impl RunFault {
+    /// The fault of a port, where its socket fails so; or of memory.
+    pub fn of_port(port: u16, error: io::Error) -> RunFault
+        ensures { (result ≡ Memory) ⊎ (result ≡ Port port error) }
+    {
+        match error.kind() {
+            io::ErrorKind::OutOfMemory => RunFault::Memory,
+            _ => RunFault::Port(port, error),
         }
     }
 }
@@ -88,37 +106,17 @@ impl From<clap::Error> for RunFault {
     }
 }
 
-impl From<ScriptFault> for RunFault {
-    fn from(fault: ScriptFault) -> RunFault {
-        match fault {
-            ScriptFault::BadEvent(line) => RunFault::Script(line),
-            ScriptFault::Memory => RunFault::Memory,
-        }
-    }
-}
-
-impl From<ReplayFault> for RunFault {
-    fn from(fault: ReplayFault) -> RunFault {
-        match fault {
-            ReplayFault::Memory => RunFault::Memory,
-            ReplayFault::Store => RunFault::Store,
-            ReplayFault::Write(error) => RunFault::Output(error),
-        }
-    }
-}
-
 impl From<Fault> for RunFault {
     fn from(fault: Fault) -> RunFault {
-        RunFault::from(ReplayFault::from(fault))
+        match fault {
+            Fault::Memory => RunFault::Memory,
+            Fault::Store | Fault::Unreadable => RunFault::Store,
+        }
     }
 }
 
 /// The path of a file that could not be read, for the fault that names it.
-pub(crate) fn unread_path(
-    alloc: Global,
-    path: &str,
-    error: &io::Error,
-) -> Result<String, RunFault> {
+pub fn unread_path(alloc: Global, path: &str, error: &io::Error) -> Result<String, RunFault> {
     if error.kind() == io::ErrorKind::OutOfMemory {
         return Err(RunFault::Memory);
     }

@@ -1,15 +1,17 @@
 //! Types files: the types that a file declares, or the fault that names the file. Its text is read in the crate `schema`.
-ghost use Rattle.std.specs.Prelude.{◌≡◌, ℕ, List, Result, None, Err, string_bytes};
+ghost use Rattle.std.specs.Prelude.{◌≡◌, ℕ, List, Result, IfOk, IfSome, None, Err};
 ghost use Rattle.schema.specs.Refusals.{Refusal};
 ghost use Rattle.schema.specs.Seen.{Fails};
-ghost use Rattle.schema.specs.TypesFile.{ServedShape};
+ghost use Rattle.schema.specs.TypesFile.{ServedShape, declared_types};
 ghost use Rattle.serde_json.specs.Read.{read as read_json};
-ghost use Rattle.programs.specs.ReplayProgram.{IsNumberOf, IsRefusal, Tells};
+ghost use Rattle.serde_json.specs.View.{view};
+ghost use Rattle.programs.specs.ReplayProgram.{IsNumberOf, IsRefusal, IsRefused, Tells};
 
 use crate::run_fault::{RunFault, unread_path};
-use schema::{Types, TypesFault};
+use crate::types_refusal::TypesRefusal;
+use schema::{Types, TypesFault, first_place};
 use serde_json::Value;
-use std::alloc::Global;
+use std::alloc::{AllocError, Global};
 use std::fs;
 use std::rt::Files;
 
@@ -28,14 +30,33 @@ fn refusal_number(fault: &TypesFault) -> Option<u8>
     }
 }
 
-fn refused(alloc: Global, path: &str, fault: TypesFault) -> RunFault
-    ensures { (answer : Result (List ServedShape) Refusal) → Fails fault answer → IsRefusal path.now answer result }
+/// The refusal of a file by its first fault, and where it breaks that rule.
+fn refusal_of(
+    alloc: Global,
+    file: &Value,
+    fault: TypesFault,
+) -> Result<Option<TypesRefusal>, AllocError>
+    ensures { Fails fault (declared_types (view file.now)) → IfOk result (λ o. IfSome o (IsRefusal (view file.now))) }
 {
     let Some(number) = refusal_number(&fault) else {
+        return Ok(None);
+    };
+    let place = first_place(alloc, file, fault)?;
+    Ok(Some(TypesRefusal {
+        number,
+        fault,
+        place,
+    }))
+}
+
+fn refused(alloc: Global, path: &str, file: &Value, fault: TypesFault) -> RunFault
+    ensures { Fails fault (declared_types (view file.now)) → IsRefused path.now (view file.now) result }
+{
+    let Ok(Some(refusal)) = refusal_of(alloc, file, fault) else {
         return RunFault::Memory;
     };
     match String::from_str(alloc, path) {
-        Ok(path) => RunFault::Types(path, number, fault),
+        Ok(path) => RunFault::Types(path, refusal),
         Err(_) => RunFault::Memory,
     }
 }
@@ -60,7 +81,7 @@ pub fn types_in(alloc: Global, path: &str, text: &str) -> Result<Types, RunFault
     };
     match Types::read(alloc, &value) {
         Ok(types) => Ok(types),
-        Err(fault) => Err(refused(alloc, path, fault)),
+        Err(fault) => Err(refused(alloc, path, &value, fault)),
     }
 }
 

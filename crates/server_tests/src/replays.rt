@@ -14,7 +14,8 @@
 
 use crate::hub_rows::{bytes_of, first_word};
 use crate::recording::Recording;
-use programs::{RunFault, ssa_replay};
+use programs::RunFault;
+use scripts::ssa_replay;
 use std::alloc::{AllocError, Global};
 use std::fs;
 use std::process::ExitCode;
@@ -96,15 +97,19 @@ play => 3 !types file replayed-types.json: No such file or directory (os error 2
 types [
 play => 3 !types file replayed-types.json: not JSON: ..
 types {"types":[{"group":"g","version":"v","kind":"K","plural":"p","schema":{"type":"object","nope":1}}]}
-play => 3 !types file replayed-types.json: refusal 1: unknown keyword$
+play => 3 !types file replayed-types.json: refusal 1: unknown keyword "nope" at g/v/p$
+types {"types":[{"group":"g","version":"v","kind":"K","plural":"p","schema":{"type":"object","properties":{"spec":{"type":"object","properties":{"ports":{"type":"array","items":{"type":"string","nullable":true}}}}}}}]}
+play => 3 !types file replayed-types.json: refusal 1: unknown keyword "nullable" at g/v/p .spec.ports[]$
 types {"types":[{"group":"g","version":"v","kind":"K","plural":"p","schema":{"type":"number"}}]}
-play => 3 !types file replayed-types.json: refusal 2: unknown type$
+play => 3 !types file replayed-types.json: refusal 2: unknown type "number" at g/v/p$
 types {"types":[{"group":"g","version":"v","kind":"K","plural":"p","schema":[]}]}
-play => 3 !types file replayed-types.json: refusal 3: list or map kind that does not fit$
+play => 3 !types file replayed-types.json: refusal 3: list or map kind that does not fit at g/v/p$
 types {"types":[{"group":"g","version":"v","kind":"K","plural":"p","schema":{"type":"object","properties":{}}},{"group":"g","version":"v","kind":"L","plural":"p","schema":{"type":"object","properties":{}}}]}
 play => 3 !types file replayed-types.json: refusal 5: two types with one name$
 types {}
 play => 3 !types file replayed-types.json: refusal 6: not the form of a types file$
+types {"types":[{"group":"g","version":"v","kind":"K","plural":"p","schema":{"type":"object","properties":{}}},{"group":"g","version":"v","kind":"L","plural":"namespaces","schema":{"type":"object","properties":{}}}]}
+play => 3 !types file replayed-types.json: refusal 6: not the form of a types file at types[1]$
 types {"types":[{"group":"demo.example","version":"v1","kind":"Widget","plural":"widgets","schema":{"type":"object","properties":{"spec":{"type":"object","properties":{"config":{"type":"object","additionalProperties":{"type":"string"}},"image":{"type":"string"},"replicas":{"type":"integer"}}}}}}]}
 play => 3 !script replayed-script.jsonl: No such file or directory (os error 2)$
 script $$ $
@@ -117,7 +122,7 @@ play => 0 connection 1 0$$
 types {"types":[{"group":"g","version":"v","kind":"K","plural":"p","schema":{"type":"object","properties":{"a":{"type":"object","additionalProperties":{"type":"object","additionalProperties":{"type":"object","additionalProperties":{"type":"object","additionalProperties":{"type":"object","additionalProperties":{"type":"object","additionalProperties":{"type":"object","additionalProperties":{"type":"object","additionalProperties":{"type":"object","additionalProperties":{"type":"object","additionalProperties":{"type":"object","additionalProperties":{"type":"object","additionalProperties":{"type":"object","additionalProperties":{"type":"object","additionalProperties":{"type":"string"}}}}}}}}}}}}}}}}}}]}
 play => 0 connection 1 0$$
 types {"types":[{"group":"g","version":"v","kind":"K","plural":"p","schema":{"type":"object","properties":{"a":{"type":"object","additionalProperties":{"type":"object","additionalProperties":{"type":"object","additionalProperties":{"type":"object","additionalProperties":{"type":"object","additionalProperties":{"type":"object","additionalProperties":{"type":"object","additionalProperties":{"type":"object","additionalProperties":{"type":"object","additionalProperties":{"type":"object","additionalProperties":{"type":"object","additionalProperties":{"type":"object","additionalProperties":{"type":"object","additionalProperties":{"type":"object","additionalProperties":{"type":"object","additionalProperties":{"type":"string"}}}}}}}}}}}}}}}}}}}]}
-play => 3 !types file replayed-types.json: refusal 4: schema deeper than 16$
+play => 3 !types file replayed-types.json: refusal 4: schema deeper than 16 at g/v/p .a.*.*.*.*.*.*.*.*.*.*.*.*.*.*.*$
 types {"types":[{"group":"demo.example","version":"v1","kind":"Widget","plural":"widgets","schema":{"type":"object","properties":{"spec":{"type":"object","properties":{"config":{"type":"object","additionalProperties":{"type":"string"}},"image":{"type":"string"},"replicas":{"type":"integer"}}}}}}]}
 # bad_lines_are_refused
 bad x

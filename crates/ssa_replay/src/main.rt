@@ -1,8 +1,9 @@
 //! `ssa-replay --types FILE --script FILE` plays a script over the API and prints the replies. Its body stands in the
-//! crate `programs`.
+//! crate `scripts`.
 #![tactic(auto)]
 
-use programs::{end_with, read_arguments, ssa_replay};
+use programs::{end_with, read_arguments};
+use scripts::ssa_replay;
 use std::process::ExitCode;
 
 fn main(rt: HostRuntime) -> ExitCode {

@@ -1,46 +1,29 @@
 -- The arguments that `ssa-server` takes (its command, as `clap` reads it): `--types FILE`, which is required, numbers, and a flag.
-use Rattle.std.specs.Prelude.{◌≡◌, ◌∷◌, [], ℕ, ◌==◌, if◌then◌else◌, Bool, Option, Some, None, Result, Ok, true, false, codes, is_some, unwrap_or}
-use Rattle.std.specs.Str.Parse.{ParsesUnsigned}
+use Rattle.std.specs.Prelude.{◌≡◌, Bool, Option, Some, None, true, false, codes, is_some}
 use Rattle.clap.specs.Built.{IsParsedFrom}
 use Rattle.clap.specs.Words.{App, Rule, Text, app_of, first_value, found_of, new_rule, with_rule}
-use Rattle.clap.specs.declared.builder.action.ArgAction.TheVariants.{Set, SetTrue}
+use Rattle.clap.specs.declared.builder.action.ArgAction.TheVariants.{SetTrue}
 use Rattle.clap.specs.declared.builder.command.Command.{Command}
 use Rattle.clap.specs.declared.parser.matches.ArgMatches.{ArgMatches}
 use Rattle.programs.specs.Commands.{file_option, program}
-
-abbrev pub number_option : Text → Text → Rule
-number_option default name = record (new_rule name) { long = Some name; action = Some Set; value_names = 1; defaults = default ∷ [] }
+use Rattle.programs.specs.Numbers.{number_option}
 
 abbrev pub flag_option : Text → Rule
 flag_option name = record (new_rule name) { long = Some name; action = Some SetTrue }
 
 abbrev with_numbers : App → App
 with_numbers app =
-    with_rule (with_rule (with_rule (with_rule app (number_option (codes "0") (codes "port"))) (number_option (codes "1000") (codes "keep"))) (number_option (codes "500") (codes "pump")))
-    (number_option (codes "0") (codes "serve"))
+    with_rule (with_rule (with_rule (with_rule app (number_option (Some (codes "0")) (codes "port"))) (number_option (Some (codes "1000")) (codes "keep"))) (number_option (Some (codes "500")) (codes "pump")))
+    (number_option (Some (codes "0")) (codes "serve"))
 
 abbrev pub ssa_server : App
 ssa_server =
-    with_rule (with_rule (with_numbers (with_rule (program (codes "ssa-server")) (file_option (codes "types")))) (flag_option (codes "concurrent"))) (number_option (codes "30000") (codes "patience"))
+    with_rule (with_rule (with_numbers (with_rule (program (codes "ssa-server")) (file_option (codes "types")))) (flag_option (codes "concurrent"))) (number_option (Some (codes "30000")) (codes "patience"))
 
 -- a command as above, of which each parse has the path of the types file
 pub record IsServerCommand (command : Command) : Type 0 where
   pub app : app_of command ≡ ssa_server
   pub types : (m : ArgMatches) → IsParsedFrom command m → is_some (first_value (found_of m) (codes "types")) ≡ true
-
-abbrev parsed : ℕ → Result ℕ ℕ
-parsed n = Ok n
-
--- the number that the text tells in decimal digits, below 2^64; where there is no text, the default's
-abbrev pub IsNumberOr : Text → Option Text → ℕ → Type 0
-IsNumberOr default text n = ParsesUnsigned 64 10 (unwrap_or text default) (parsed n)
-
--- how many connections are served: 0 stands for the highest number
-abbrev pub count_of : ℕ → ℕ
-count_of n = if n == 0 then 18446744073709551615 else n
-
-abbrev pub IsCount : Option Text → ℕ → Type 0
-IsCount text n = (k : ℕ) × IsNumberOr (codes "0") text k × (n ≡ count_of k)
 
 -- whether a flag is given, as the text of its value tells it
 abbrev pub IsFlag : Option Text → Bool → Type 0

@@ -4,9 +4,8 @@ use Rattle.programs.specs.ReplayProgram as runs
 use Rattle.ssa_server.specs.declared.fault.ServerFault.{ServerFault}
 use Rattle.ssa_server.specs.declared.fault.ServerFault.TheVariants as fault
 
--- the exit status: 2 for a bad number, 6 for the socket or the clock, else that of the run's fault
+-- the exit status: 6 for the sockets or the clock, else that of the run's fault
 abbrev pub status_of : ServerFault → ℕ
 status_of (fault.Run f) = runs.status_of f
-status_of (fault.Number name) = runs.wrong_usage
 status_of (fault.Socket e) = 6
 status_of (fault.Clock e) = 6

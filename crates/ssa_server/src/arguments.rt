@@ -3,13 +3,15 @@
 
 ghost use Rattle.std.specs.Prelude.{◌≡◌, [], IfOk, Some, codes, map};
 ghost use Rattle.clap.specs.Built.{FitsChain, IsAuto};
-ghost use Rattle.clap.specs.Matches.{first_value, found_of};
 ghost use Rattle.clap.specs.Words.{first_of, matches_of, one_of, rule_of};
-ghost use Rattle.ssa_server.specs.ServerCommand.{IsCount, IsFlag, IsNumberOr, IsServerCommand, count_of, flag_option, number_option, ssa_server};
+ghost use Rattle.programs.specs.Numbers.{IsCount, IsNumberOr};
+ghost use Rattle.ssa_server.specs.ServerCommand.{IsFlag, IsServerCommand, flag_option, ssa_server};
 
 use crate::fault::ServerFault;
-use clap::{Arg, ArgAction, ArgMatches, Command};
-use programs::{TYPES, TYPES_HELP, file_option, program};
+use clap::{Arg, ArgAction, Command};
+use programs::{
+    NumberOption, TYPES, TYPES_HELP, count_of, file_option, number, number_option, port_of, program,
+};
 use std::alloc::{AllocError, Global};
 use std::convert::AsStr;
 
@@ -26,42 +28,43 @@ Exit status:
   5  out of memory, or the store failed
   6  the port can't be listened on, the clock can't be read, or the system can't say which sockets are ready";
 
-/// An option that takes a number.
-#[derive(Clone, Copy)]
-struct NumberOption {
-    name: &'static str,
-    /// The number where the option isn't given.
-    default: &'static str,
-    help: &'static str,
-}
-
 const PORT: NumberOption = NumberOption {
     name: "port",
-    default: "0",
+    default: Some("0"),
+    least: 0,
+    most: 65535,
     help: "The port to listen on; 0: a free port",
 };
 
 const KEEP: NumberOption = NumberOption {
     name: "keep",
-    default: "1000",
+    default: Some("1000"),
+    least: 0,
+    most: u64::MAX,
     help: "How many revisions before the current one are kept",
 };
 
 const PUMP: NumberOption = NumberOption {
     name: "pump",
-    default: "500",
+    default: Some("500"),
+    least: 1,
+    most: u64::MAX,
     help: "How many lines a watch gets at a time at most",
 };
 
 const SERVE: NumberOption = NumberOption {
     name: "serve",
-    default: "0",
+    default: Some("0"),
+    least: 0,
+    most: u64::MAX,
     help: "After how many connections to end; 0: no limit",
 };
 
 const PATIENCE: NumberOption = NumberOption {
     name: "patience",
-    default: "30000",
+    default: Some("30000"),
+    least: 1,
+    most: u64::MAX,
     help: "With --concurrent: how many milliseconds to wait for a peer that sends or takes nothing",
 };
 
@@ -86,20 +89,6 @@ pub struct ServerOptions<'a> {
     pub concurrent: bool,
     /// How many milliseconds a peer may keep the server waiting, where connections are served at once.
     pub patience: u64,
-}
-
-/// `--<name> N`
-fn number_option<'a>(alloc: Global, option: NumberOption) -> Arg<'a>
-    ensures id { result.id ≡ option.name }
-    ensures rule { rule_of result ≡ number_option option.default.now option.name.now }
-    ensures fits { (option.name.now ≡ [] → ⊥) → (IsAuto result → ⊥) → FitsChain result }
-{
-    Arg::new(alloc, option.name)
-        .long(option.name)
-        .value_name("N")
-        .help(option.help)
-        .action(ArgAction::Set)
-        .default_value(option.default)
 }
 
 /// `--<name>`
@@ -127,37 +116,6 @@ fn server_command<'a>(alloc: Global) -> Result<Command<'a>, AllocError>
         .arg(number_option(alloc, PATIENCE))
 }
 
-/// The number of an option.
-fn number(matches: &ArgMatches<'_>, option: NumberOption) -> Result<u64, ServerFault>
-    ensures { IfOk result (λ n. IsNumberOr option.default.now (first_value (found_of matches.now) option.name.now) n) }
-{
-    let text = matches.get_str(option.name).unwrap_or(option.default);
-    text.parse().map_err(|_| ServerFault::Number(option.name))
-}
-
-/// The number of an option that isn't to be 0.
-fn positive(matches: &ArgMatches<'_>, option: NumberOption) -> Result<u64, ServerFault>
-    ensures { IfOk result (λ n. IsNumberOr option.default.now (first_value (found_of matches.now) option.name.now) n) }
-{
-    let number = number(matches, option)?;
-    if number == 0 {
-        return Err(ServerFault::Number(option.name));
-    }
-    Ok(number)
-}
-
-fn port_of(number: u64) -> Result<u16, ServerFault>
-    ensures { IfOk result (λ port. port ≡ number) }
-{
-    u16::try_from(number).map_err(|_| ServerFault::Number(PORT.name))
-}
-
-fn count_of(number: u64) -> u64
-    ensures { result ≡ count_of number }
-{
-    if number == 0 { u64::MAX } else { number }
-}
-
 /// Reads the arguments of `ssa-server`, the program's name first.
 pub fn options<'a, S: AsStr>(
     alloc: Global,
@@ -173,12 +131,12 @@ pub fn options<'a, S: AsStr>(
 {
     let matches = server_command(alloc)?.try_get_matches_from(arguments)?;
     let port = number(&matches, PORT)?;
-    let port = port_of(port)?;
+    let port = port_of(port, PORT)?;
     let keep = number(&matches, KEEP)?;
-    let pump = positive(&matches, PUMP)?;
+    let pump = number(&matches, PUMP)?;
     let serve = number(&matches, SERVE)?;
     let concurrent = matches.get_flag(CONCURRENT);
-    let patience = positive(&matches, PATIENCE)?;
+    let patience = number(&matches, PATIENCE)?;
     Ok(ServerOptions {
         types: matches.get_str(TYPES).unwrap(),
         port,

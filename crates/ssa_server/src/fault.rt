@@ -3,7 +3,7 @@
 ghost use Rattle.std.specs.Prelude.{◌≡◌};
 ghost use Rattle.ssa_server.specs.Statuses.{status_of};
 
-use programs::{RunFault, WRONG_USAGE};
+use programs::RunFault;
 use std::alloc::AllocError;
 use std::io::{self, ErrorKind};
 use thiserror::Error;
@@ -15,10 +15,7 @@ pub enum ServerFault {
     /// A fault of the arguments, the types file, the output or the store, or out of memory.
     #[error("{0}")]
     Run(RunFault),
-    /// The value of the option of this name is no number that it may have.
-    #[error("bad number: --{0}")]
-    Number(&'static str),
-    /// The port cannot be listened on, or the system cannot say which sockets are ready.
+    /// The port cannot be told, or the system cannot say which sockets are ready.
     #[error("socket: {0}")]
     Socket(io::Error),
     /// The clock cannot be read.
@@ -27,14 +24,12 @@ pub enum ServerFault {
 }
 
 impl ServerFault {
-    /// The exit status that tells the fault: 2 for a bad number, 6 for the socket or the clock, else that of the run's
-    /// fault.
+    /// The exit status that tells the fault: 6 for the sockets or the clock, else that of the run's fault.
     pub fn status(&self) -> u8
         ensures { result ≡ status_of self.now }
     {
         match self {
             ServerFault::Run(fault) => fault.status(),
-            ServerFault::Number(_) => WRONG_USAGE,
             ServerFault::Socket(_) => 6,
             ServerFault::Clock(_) => 6,
         }

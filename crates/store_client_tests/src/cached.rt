@@ -18,6 +18,7 @@ use crate::rows::{Answers, done, play};
 use indexer::{IndexBy, Indexer, NewError, Object, ObjectKey};
 use std::alloc::{AllocError, Global};
 use std::collections::BTreeMap;
+use std::rc::{Rc, RcStr};
 use std::test::Fail;
 use test_rows::{first_word, mark, number, told};
 
@@ -42,24 +43,25 @@ impl IndexBy for By {
         if self.is_text {
             return Ok(vec![in alloc; object.text.clone()?, object.text.clone()?]?);
         }
-        Ok(vec![in alloc; object.namespace.clone()?]?)
+        Ok(vec![in alloc; String::from_str(alloc, object.namespace.as_str())?]?)
     }
 }
 
-fn object(alloc: Global, name: &str, revision: u64, text: &str) -> Result<Object, AllocError> {
-    Ok(Object {
-        namespace: String::from_str(alloc, "default")?,
-        name: String::from_str(alloc, name)?,
+fn object(alloc: Global, name: &str, revision: u64, text: &str) -> Result<Rc<Object>, AllocError> {
+    let object = Object {
+        namespace: RcStr::from_str(alloc, "default")?,
+        name: RcStr::from_str(alloc, name)?,
         revision,
         labels: BTreeMap::new(alloc),
         text: String::from_str(alloc, text)?,
-    })
+    };
+    object.shared(alloc)
 }
 
 fn key(alloc: Global, name: &str) -> Result<ObjectKey, AllocError> {
     Ok(ObjectKey {
-        namespace: String::from_str(alloc, "default")?,
-        name: String::from_str(alloc, name)?,
+        namespace: RcStr::from_str(alloc, "default")?,
+        name: RcStr::from_str(alloc, name)?,
     })
 }
 
@@ -72,7 +74,7 @@ fn empty(alloc: Global) -> Result<Indexer<By>, Fail> {
 }
 
 /// Puts an object; the revision of the one that it replaced, or 0.
-fn put(indexer: &mut Indexer<By>, object: Object) -> Result<u64, AllocError> {
+fn put(indexer: &mut Indexer<By>, object: Rc<Object>) -> Result<u64, AllocError> {
     Ok(indexer.put(object)?.map_or(0, |was| was.revision))
 }
 
@@ -91,7 +93,7 @@ fn count(indexer: &Indexer<By>, name: &str, key: &str) -> Option<usize> {
     Some(indexer.by_index(name, key)?.len())
 }
 
-fn two_objects(alloc: Global, text: &str, other: &str) -> Result<Vec<Object>, AllocError> {
+fn two_objects(alloc: Global, text: &str, other: &str) -> Result<Vec<Rc<Object>>, AllocError> {
     let mut objects = Vec::new(alloc);
     objects.push(object(alloc, "c", 5, text)?)?;
     objects.push(object(alloc, "d", 5, other)?)?;
@@ -183,7 +185,7 @@ fn seen(
 fn is_put_refused(
     alloc: Global,
     indexer: &mut Indexer<By>,
-    object: Object,
+    object: Rc<Object>,
 ) -> Result<bool, AllocError> {
     mark(alloc)?;
     let is_refused = put(indexer, object).is_err();
@@ -192,9 +194,13 @@ fn is_put_refused(
 }
 
 /// A put; out of memory, the objects and both indexes are as before, and it is done when called again.
-fn put_anew(alloc: Global, indexer: &mut Indexer<By>, object: Object) -> Result<bool, AllocError> {
+fn put_anew(
+    alloc: Global,
+    indexer: &mut Indexer<By>,
+    object: Rc<Object>,
+) -> Result<bool, AllocError> {
     let place = ObjectKey::of(&object)?;
-    let again = object.try_copy()?;
+    let again = object.clone()?;
     let before = seen(indexer, &place);
     if !is_put_refused(alloc, indexer, object)? {
         return Ok(true);

@@ -9,14 +9,16 @@
 //! | `write-anew KEY BODY`, `compact-anew REVISION` | a change between marks: whether it is done, or else leaves all as it was |
 //! | `get KEY`, `before KEY REVISION` | what stands under the key, or stood before the revision |
 //! | `list REVISION`, `changes REVISION` | how many objects stand at it; how many changes came in `default` after it |
+//! | `kept REVISION MAX` | how many of the first objects there have a text of one byte, at most so many; how many texts were looked at |
 //! | `numbers`, `seen` | the current and the compacted revision; all that there is to be seen |
 
 use crate::rows::{Answers, done, play};
 use crate::tables::{first_of, key, push_changes, push_page, table_at};
 use history::Key;
 use revstore::{ChangesFault, CompactFault, ListFault, Store, WriteFault};
-use revtable::{Entry, Fault, Object};
+use revtable::{Entry, Fault, Keep, Object};
 use std::alloc::{AllocError, Global};
+use std::cell::Cell;
 use std::mem;
 use std::test::Fail;
 use test_rows::{first_word, mark, number, told};
@@ -49,6 +51,33 @@ fn list_at(store: &mut Store, revision: u64) -> Result<Vec<Entry>, ListFault> {
     store.list_at(7, None, revision, None, 10)
 }
 
+/// Keeps the texts of a length, and counts how often it was asked.
+#[derive(Drop)]
+struct OfLength {
+    length: usize,
+    asked: Cell<u64>,
+}
+
+impl Keep for OfLength {
+    ghost use Rattle.std.specs.Prelude.{◌==◌, length};
+
+    ghost kept = { λ k text. length text == k.length };
+
+    fn keeps(&self, text: &str) -> Result<bool, AllocError> {
+        self.asked.set(self.asked.get().saturating_add(1));
+        Ok(text.len() == self.length)
+    }
+}
+
+fn kept_at(store: &mut Store, revision: u64, max: u64) -> Result<(usize, u64), ListFault> {
+    let keep = OfLength {
+        length: 1,
+        asked: Cell::new(0),
+    };
+    let found = store.first_kept(7, None, revision, None, max, &keep)?;
+    Ok((found.len(), keep.asked.get()))
+}
+
 fn count_at(store: &mut Store, revision: u64) -> Result<usize, ListFault> {
     Ok(list_at(store, revision)?.len())
 }
@@ -73,6 +102,7 @@ impl Answers for Store {
         match call {
             "numbers" => told(alloc, numbers(self)),
             "seen" => seen_of_store(self, alloc),
+            "kept" => told(alloc, kept_at(self, number(one)?, number(other)?)),
             "list" | "changes" | "compact" | "compact-anew" => {
                 answer_at(alloc, self, call, number(one)?)
             }
@@ -203,6 +233,22 @@ compact 4 => Ok(())
 numbers => (4, 4)
 changes 3 => Err(Expired)
 changes 4 => Ok(0)
+
+the_first_that_are_kept at 1
+write a long => Ok(2)
+write b b => Ok(3)
+write c long => Ok(4)
+write other/a a => Ok(5)
+write other/b long => Ok(6)
+kept 6 0 => Ok((0, 0))
+kept 6 1 => Ok((1, 2))
+kept 6 2 => Ok((2, 4))
+kept 6 3 => Ok((2, 5))
+kept 2 9 => Ok((0, 1))
+kept 7 1 => Err(TooLarge)
+compact 3 => Ok(())
+kept 2 1 => Err(Expired)
+kept 3 9 => Ok((1, 2))
 
 revisions_are_used_up at 9223372036854775807
 write w1 a => Err(Exhausted)

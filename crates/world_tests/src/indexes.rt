@@ -28,7 +28,7 @@ impl IndexBy for ByNamespace {
     }
 
     fn keys_of(&self, alloc: Global, object: &Object) -> Result<Vec<String>, AllocError> {
-        Ok(vec![in alloc; object.namespace.clone()?]?)
+        Ok(vec![in alloc; String::from_str(alloc, object.namespace.as_str())?]?)
     }
 }
 

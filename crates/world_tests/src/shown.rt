@@ -3,6 +3,7 @@
 use indexer::{Object, ObjectKey};
 use std::alloc::{AllocError, Global};
 use std::collections::BTreeMap;
+use std::rc::Rc;
 use std::test::Fail;
 use test_rows::{first_word, number};
 use world::{IndexShot, Report, Trace};
@@ -73,7 +74,7 @@ fn push_object(alloc: Global, text: &mut String, object: &Object) -> Result<(), 
     push_word(text, format!(in alloc; "{place}@{revision}")?.as_str())
 }
 
-fn objects(alloc: Global, objects: &[Object]) -> Result<String, AllocError> {
+fn objects(alloc: Global, objects: &[Rc<Object>]) -> Result<String, AllocError> {
     let mut text = String::new(alloc);
     for object in objects {
         push_object(alloc, &mut text, object)?;

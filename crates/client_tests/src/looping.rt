@@ -1,0 +1,88 @@
+//! The loop that a caller of an informer writes, over connections that are dialled: the page `docs/API.md` has it. The
+//! connections are those of `mirrors`.
+
+use crate::mirrors::server_of;
+use crate::playing::{Namespace, informer, tiers};
+use crate::rows::expect_text;
+use mirroring::Dial;
+use reflector::{Informer, Trouble};
+use std::alloc::Global;
+use std::test::Fail;
+use streams::read_piece;
+use summary::Summary;
+
+/// One connection: a request, its reply, and what the notices tell. Answers why the reply was given up, if it was; then
+/// the caller waits before the next one.
+fn follow<D: Dial>(
+    alloc: Global,
+    server: &mut D,
+    informer: &mut Informer<Namespace>,
+    summary: &mut Summary,
+) -> Result<Option<Trouble>, Fail> {
+    let Some(request) = informer.next_request()? else {
+        return Ok(None);
+    };
+    let mut connection = server.dial(&request).map_err(|_| "no connection")?;
+    'pieces: for _ in 0..u64::MAX {
+        if !informer.is_asking() {
+            break;
+        }
+        match read_piece(alloc, &mut connection) {
+            Ok(piece) if !piece.is_empty() => informer.feed(&piece)?,
+            _ => informer.closed(),
+        }
+        let notices = informer.take_notices();
+        for notice in notices.iter() {
+            summary.note(notice)?;
+        }
+    }
+    Ok(informer.trouble())
+}
+
+/// The revision that is reported after each of these connections, and where the caller waits.
+fn followed(alloc: Global, words: &str, turns: usize) -> Result<String, Fail> {
+    let mut server = server_of(alloc, words)?;
+    let mut informer = informer(alloc, "")?;
+    let mut summary = tiers(alloc)?;
+    let mut text = String::new(alloc);
+    for _ in 0..turns {
+        let trouble = follow(alloc, &mut server, &mut informer, &mut summary)?;
+        push_turn(alloc, &mut text, informer.revision(), trouble)?;
+    }
+    Ok(text)
+}
+
+fn push_turn(
+    alloc: Global,
+    text: &mut String,
+    revision: Option<u64>,
+    trouble: Option<Trouble>,
+) -> Result<(), Fail> {
+    if let Some(revision) = revision {
+        text.push_str(format!(in alloc; "at {revision}\n")?.as_str())?;
+    }
+    if let Some(trouble) = trouble {
+        text.push_str(format!(in alloc; "{trouble}: waits\n")?.as_str())?;
+    }
+    Ok(())
+}
+
+/// A refusal and a line that doesn't fit are told, once each, and end their connections, though these stay open; a cut
+/// and an end are not.
+#[test]
+fn a_caller_waits_where_a_reply_is_given_up(rt: HostRuntime) -> Result<(), Fail> {
+    let alloc = rt.alloc();
+    let words =
+        "status 400 Bad Request|page 4 - w1@2,web w2@3,db|watch;line MODIFIED w1@5,db;line BOOKMARK 4;line ADDED w3@9\
+        |status 503 Service Unavailable|page 6 - w1@5,db w2@3,db|watch;line DELETED w2@7,db;end|watch;half ADDED w4@8";
+    let text = "status 400: waits\n\
+        at 4\n\
+        at 5\n\
+        a bookmark at a version below the reported one: waits\n\
+        at 5\n\
+        status 503: waits\n\
+        at 6\n\
+        at 7\n\
+        at 7\n";
+    expect_text(followed(alloc, words, 7)?, text)
+}

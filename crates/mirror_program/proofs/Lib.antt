@@ -1,0 +1,2 @@
+mod MirrorArguments
+mod Printed

@@ -1,0 +1,4 @@
+pub mod Asked
+pub mod MirrorCommand
+pub mod Printing
+pub mod Statuses

@@ -1,0 +1,5 @@
+mod FrontLemmas
+mod PlayRuns
+mod ReplayArguments
+mod RunLemmas
+mod ScriptLemmas
