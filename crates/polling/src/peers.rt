@@ -85,7 +85,7 @@ pub(crate) struct Peers {
     highest: u64,
     /// How many connections are over.
     closed: u64,
-    /// The current revision at the last pump of all watches.
+    /// The current revision at the last compaction.
     revision: u64,
     started: Instant,
     ticked: Instant,
@@ -123,7 +123,9 @@ impl Peers {
     }
 
     /// How many connections are over.
-    pub(crate) fn closed(&self) -> u64 {
+    pub(crate) fn closed(&self) -> u64
+        ensures { result ≡ self.now.closed }
+    {
         self.closed
     }
 
@@ -198,35 +200,48 @@ impl Peers {
         None
     }
 
-    /// Pumps the watches once something was written, and then forgets what isn't kept: so a watch gets what came in one
-    /// turn, unless more is left for it than one pump tells, or its bytes still wait for its peer.
+    /// What is done after the turns of connections, in this order: each second the hub's tick; once something was written,
+    /// a compaction; and the turns of the watches. So a watch gets what came in one turn, or is told that it is forgotten,
+    /// unless more is left for it than one pump tells, or its bytes still wait for its peer. Each second ends the
+    /// connections whose peers are silent.
     pub(crate) fn settle(&mut self, now: Instant)
         ensures { Leads self.old.hub self.new.hub }
     {
-        let (revision, _) = self.hub.marks().unwrap_or((self.revision, 0));
-        let is_risen = revision != self.revision;
-        self.revision = revision;
-        self.pump_watches(is_risen, now);
-        if is_risen {
-            compact(&mut self.hub, self.options.keep);
+        let is_second = self.tick(now);
+        let is_risen = self.compact();
+        self.pump_watches(is_second || is_risen, now);
+        if is_second {
+            self.drop_silent(now);
+            self.accept_anew();
         }
     }
 
-    /// What is done each second: the hub's tick, and the end of connections whose peers are silent.
-    pub(crate) fn tick(&mut self, now: Instant)
+    /// The hub's tick, each second; whether it is due.
+    fn tick(&mut self, now: Instant) -> bool
         ensures { Leads self.old.hub self.new.hub }
     {
         let is_early = now.duration_since(self.ticked) < Duration::from_millis(TICK);
         if is_early {
-            return;
+            return false;
         }
         self.ticked = now;
         let ms = now.duration_since(self.started).as_millis();
         let ms = u64::try_from(ms).unwrap_or(u64::MAX);
         hand(&mut self.hub, Event::Tick(ms));
-        self.pump_watches(true, now);
-        self.drop_silent(now);
-        self.accept_anew();
+        true
+    }
+
+    /// Forgets what isn't kept, once something was written; whether it was.
+    fn compact(&mut self) -> bool
+        ensures { Leads self.old.hub self.new.hub }
+    {
+        let (revision, _) = self.hub.marks().unwrap_or((self.revision, 0));
+        let is_risen = revision != self.revision;
+        self.revision = revision;
+        if is_risen {
+            compact(&mut self.hub, self.options.keep);
+        }
+        is_risen
     }
 
     fn accept_anew(&mut self)

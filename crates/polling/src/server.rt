@@ -1,13 +1,13 @@
 //! The server: a listener on loopback, and the loop over what the system reports. The connections stand in `peers`.
 
-ghost use Rattle.std.specs.Prelude.{IfOk, List};
+ghost use Rattle.std.specs.Prelude.{◌≤◌, IfOk, List, OnOk};
 ghost use Rattle.schema.specs.TypesFile.{ServedShape};
 ghost use Rattle.history.specs.History.{History};
 ghost use Rattle.verbs.specs.Seen.{Stands};
 ghost use Rattle.httpedge.specs.HubSeen.{IsIn};
 ghost use Rattle.httpedge.specs.Steps.{start};
 ghost use Rattle.polling.specs.Happens.{Leads};
-ghost use Rattle.polling.specs.ServerSeen.{hub_of};
+ghost use Rattle.polling.specs.ServerSeen.{hub_of, over_of};
 
 use crate::options::Options;
 use crate::peers::{LISTENER, Peers};
@@ -15,7 +15,7 @@ use httpedge::Hub;
 use mio::net::TcpListener;
 use mio::{Events, Interest, Poll};
 use std::alloc::AllocGlobal;
-use std::io;
+use std::io::{self, ErrorKind};
 use std::net::{Ipv4Addr, Net, SocketAddr};
 use std::rt::Clock;
 use std::time::Instant;
@@ -67,8 +67,8 @@ impl Server {
     }
 
     /// Waits until the system reports something, a second at most, and does what is to be done: each connection that is
-    /// reported has its turn, those that wait are accepted, the watches get what was written, and what isn't kept is
-    /// forgotten; each second is a tick.
+    /// reported has its turn, and those that wait are accepted; then comes the tick, each second; what isn't kept is
+    /// forgotten; and the watches get what was written.
     pub fn turn<R: Clock>(&mut self, rt: &R) -> io::Result<()>
         ensures { Leads (hub_of self.old) (hub_of self.new) }
     {
@@ -79,20 +79,21 @@ impl Server {
         take_reports(&mut self.peers, &self.events, now);
         self.peers.accept_all(now);
         self.peers.settle(now);
-        self.peers.tick(now);
         Ok(())
     }
 
     /// Serves until so many connections are over.
     pub fn serve<R: Clock>(&mut self, rt: &R, most: u64) -> io::Result<()>
-        ensures { Leads (hub_of self.old) (hub_of self.new) }
+        ensures leads { Leads (hub_of self.old) (hub_of self.new) }
+        ensures served { OnOk result (most ≤ over_of self.new) }
     {
         'turns: for _ in 0..u64::MAX {
             if self.peers.closed() >= most {
-                break;
+                return Ok(());
             }
             self.turn(rt)?;
         }
-        Ok(())
+        // More turns than a count of connections can tell.
+        Err(io::Error::from(ErrorKind::Other))
     }
 }

@@ -179,11 +179,11 @@ pumps_next r lines ws w x y z v told before pumped settled =
 pub pumps_all : {W : Type 0} (lines : ℕ) (ws vs : List (ℕ × W)) (x y : Hub) → ws ≡ vs → MovesBy (PumpsAll lines (map (λ w. w.0) ws)) x y → MovesBy (PumpsAll lines (map (λ w. w.0) vs)) x y
 pumps_all {W} lines ws vs x y same does = subst (λ (us : List (ℕ × W)). MovesBy (PumpsAll lines (map (λ w. w.0) us)) x y) same does
 
-pub tidies : (keep lines : ℕ) (ids : List ℕ) (ms : ℕ) (x y z v : Hub) → MovesBy (Hands (ticks ms)) x y → MovesBy (PumpsAll lines ids) y z → MovesBy (Compacts keep) z v → MovesBy (Tidies keep lines ids ms) x v
-tidies keep lines ids ms x y z v ticked pumped compacted = λ s is.
+pub tidies : (keep lines : ℕ) (ids : List ℕ) (ms : ℕ) (x y z v : Hub) → MovesBy (Hands (ticks ms)) x y → MovesBy (Compacts keep) y z → MovesBy (PumpsAll lines ids) z v → MovesBy (Tidies keep lines ids ms) x v
+tidies keep lines ids ms x y z v ticked compacted pumped = λ s is.
     let one = ticked s is in
-    let two = pumped one.0 one.2 in
-    let three = compacted two.0 two.2 in
+    let two = compacted one.0 one.2 in
+    let three = pumped two.0 two.2 in
     (three.0, (one.0, two.0, one.1, two.1, three.1), three.2)
 
 -- ---- which is a run
@@ -201,8 +201,8 @@ run_pumps lines (id ∷ ids) s t (mid, (first, told, (h, is, follows), turns), r
 pub leads_tidied : (keep lines : ℕ) (ids : List ℕ) (ms : ℕ) (x y : Hub) → MovesBy (Tidies keep lines ids ms) x y → Leads x y
 leads_tidied keep lines ids ms x y does = λ s is.
     let one = does s is in
-    let second = run_pumps lines ids one.1.0 one.1.1 one.1.3 in
-    let third = run_if _ _ one.1.1 one.0 one.1.4 in
+    let second = run_if _ _ one.1.0 one.1.1 one.1.3 in
+    let third = run_pumps lines ids one.1.1 one.0 one.1.4 in
     (one.1.2.0 ∷ (second.0 ++ third.0), one.0, (one.1.0, one.1.2.2, runs_then one.1.0 one.1.1 one.0 second.0 third.0 second.1 third.1), one.2)
 
 -- ---- one connection after another

@@ -1,3 +1,4 @@
+mod Counting
 mod Givens
 mod Hearing
 mod Joining

@@ -1,4 +1,5 @@
--- What is done after each connection: the clock's tick, the turn of each watch, and then a compaction where it raises the compacted number.
+-- What is done after each connection, in this order: the clock's tick, a compaction where it raises the compacted number, and the turn of each watch. So a
+-- watch that the compaction overtook is told.
 use Rattle.std.specs.Prelude.{◌≡◌, ℕ, List, [], ◌∷◌}
 use Rattle.httpedge.specs.Steps.{State, pumps, ticks}
 use Rattle.httpedge.specs.Streams.{Compacts, Hands}
@@ -14,4 +15,4 @@ PumpsAll lines [] s t = t ≡ s
 PumpsAll lines (id ∷ ids) s t = (mid : State) × Pumps lines id s mid × PumpsAll lines ids mid t
 
 abbrev pub Tidies : ℕ → ℕ → List ℕ → ℕ → State → State → Type 0
-Tidies keep lines ids ms s t = (ticked : State) × (pumped : State) × Hands (ticks ms) s ticked × PumpsAll lines ids ticked pumped × Compacts keep pumped t
+Tidies keep lines ids ms s t = (ticked : State) × (compacted : State) × Hands (ticks ms) s ticked × Compacts keep ticked compacted × PumpsAll lines ids compacted t

@@ -1,13 +1,13 @@
 //! Accepts the connections of a listener, one after another, and ends them. What is served on one stands in `server` and
 //! `conversing`.
 
-ghost use Rattle.std.specs.Prelude.{◌≡◌, OnOk};
-ghost use Rattle.serving.specs.ServerSeen.{hub_of, limits_of};
+ghost use Rattle.std.specs.Prelude.{◌≡◌, ◌+◌, ◌≤◌, OnErr, OnOk};
+ghost use Rattle.serving.specs.ServerSeen.{hub_of, limits_of, next_of};
 ghost use Rattle.serving.specs.Serving.{DoesRounds, Leads, ServesOne};
 
 use crate::server::Server;
 use httpedge::LINGER;
-use std::io::{Read, Write};
+use std::io::{ErrorKind, Read, Write};
 use std::net::{OpenListener, OpenStream, Shutdown};
 use std::rt::Clock;
 use std::time::{Duration, Instant};
@@ -54,7 +54,8 @@ fn accept<C: Clock, L: OpenListener>(clock: &C, listener: &L) -> io::Result<L::S
     }
 }
 
-/// Serves the next connection of the listener, whose stream is read and written by two handles.
+/// Serves the next connection of the listener, whose stream is read and written by two handles; an error where none got an
+/// id.
 fn serve_next<C, S, L>(clock: &C, listener: &L, server: &mut Server<S>) -> io::Result<()>
 where
     C: Clock,
@@ -62,17 +63,39 @@ where
     L: OpenListener<Stream = S>,
     ensures limits { limits_of server.new ≡ limits_of server.old }
     ensures served { ServesOne (hub_of server.old) (hub_of server.new) }
+    ensures next { OnOk result (next_of server.new ≡ next_of server.old + 1) }
+    ensures none { OnErr result (next_of server.new ≡ next_of server.old) }
 {
     let stream = accept(clock, listener)?;
     // If this fails, lines of a watch only come later.
     let _ = stream.set_nodelay(true);
     let mut reader = stream.try_clone()?;
+    if !server.has_ids() {
+        return Err(io::Error::from(ErrorKind::Other));
+    }
     let is_kept = server.serve(&mut reader, stream);
     end(clock, &mut reader, is_kept);
     Ok(())
 }
 
-/// Serves so many connections of the listener, one after another, and tidies after each. One that can't be accepted
+/// How many connections are served: the next one, or none where none can be accepted or no id is left.
+fn serve_one<C, S, L>(clock: &C, listener: &L, server: &mut Server<S>) -> u64
+where
+    C: Clock,
+    S: Read + Write + OpenStream + Drop,
+    L: OpenListener<Stream = S>,
+    ensures limits { limits_of server.new ≡ limits_of server.old }
+    ensures served { ServesOne (hub_of server.old) (hub_of server.new) }
+    ensures few { result ≤ 1 }
+    ensures next { next_of server.new ≡ next_of server.old + result }
+{
+    match serve_next(clock, listener, server) {
+        Ok(()) => 1,
+        Err(_) => 0,
+    }
+}
+
+/// Serves just so many connections of the listener, one after another, and tidies after each. One that can't be accepted
 /// doesn't count.
 pub fn serve_all<C, S, L>(
     clock: &C,
@@ -86,18 +109,18 @@ where
     L: OpenListener<Stream = S>,
     ensures leads { Leads (hub_of server.old) (hub_of server.new) }
     ensures rounds { OnOk result (DoesRounds (limits_of server.old) (hub_of server.old) (hub_of server.new)) }
+    ensures served { OnOk result (next_of server.new ≡ next_of server.old + most) }
 {
     let start = Instant::now(clock)?;
     let mut left = most;
     'connections: for _ in 0..u64::MAX {
         if left == 0 {
-            break;
+            return Ok(());
         }
-        if serve_next(clock, listener, server).is_ok() {
-            left -= 1;
-        }
+        left -= serve_one(clock, listener, server);
         let ms = start.elapsed(clock)?.as_millis();
         server.tidy(u64::try_from(ms).unwrap_or(u64::MAX));
     }
-    Ok(())
+    // More turns than there are ids.
+    Err(io::Error::from(ErrorKind::Other))
 }

@@ -1,7 +1,7 @@
 //! The server: one connection after another, and the streams of its watches. The turn of one connection stands in
 //! `conversing`.
 
-ghost use Rattle.std.specs.Prelude.{◌≡◌, ◌+◌, ◌++◌, ◌∷◌, [], List, map, true};
+ghost use Rattle.std.specs.Prelude.{◌≡◌, ◌+◌, ◌^◌, ◌<◌, ◌++◌, ◌∷◌, [], List, map, true};
 ghost use Rattle.schema.specs.TypesFile.{ServedShape};
 ghost use Rattle.history.specs.History.{History};
 ghost use Rattle.verbs.specs.Seen.{Stands};
@@ -60,10 +60,11 @@ impl<W: Write + Drop> Server<W> {
     }
 
     /// Serves a connection: it gets the next id and has its turn. Answers whether its stream is kept, as that of a watch
-    /// is; any other is closed.
+    /// is; any other is closed. Where no id is left, it is closed without a turn.
     pub fn serve<R: Read>(&mut self, reader: &mut R, mut writer: W) -> bool
         ensures limits { limits_of self.new ≡ limits_of self.old }
         ensures served { Served (next_of self.old) (R.remaining reader.old) (R.remaining reader.new) (W.contents writer) (hub_of self.old) (hub_of self.new) }
+        ensures next { next_of self.old < 2 ^ 64 → next_of self.new ≡ next_of self.old + 1 }
         ensures watches { watches_of self.new ≡ with_kept result (next_of self.old) (watches_of self.old) }
     {
         let Some(id) = self.highest.checked_add(1) else {
@@ -74,22 +75,31 @@ impl<W: Write + Drop> Server<W> {
         self.settle(id, writer, done)
     }
 
-    /// What is done after each connection: the clock's tick, in milliseconds after the start; the turn of each watch, in
-    /// the order of their ids; and then a compaction, where that raises the compacted number.
+    /// Whether an id is left for the next connection.
+    pub(crate) fn has_ids(&self) -> bool
+        ensures { result ≡ true → next_of self.now < 2 ^ 64 }
+    {
+        self.highest < u64::MAX
+    }
+
+    /// What is done after each connection: the clock's tick, in milliseconds after the start; a compaction, where that
+    /// raises the compacted number; and then the turn of each watch, in the order of their ids.
     pub fn tidy(&mut self, ms: u64)
         ensures limits { limits_of self.new ≡ limits_of self.old }
         ensures order { are_rising (watches_of self.old) ≡ true }
+        ensures next { next_of self.new ≡ next_of self.old }
         ensures tidies { MovesBy (Tidies (limits_of self.old).keep (limits_of self.old).lines (watches_of self.old) ms) (hub_of self.old) (hub_of self.new) }
     {
         let keep = self.limits.keep;
         hand(&mut self.hub, Event::Tick(ms));
-        self.pump_watches();
         compact(&mut self.hub, keep);
+        self.pump_watches();
     }
 
     fn pump_watches(&mut self)
         ensures limits { limits_of self.new ≡ limits_of self.old }
         ensures order { are_rising (watches_of self.old) ≡ true }
+        ensures next { next_of self.new ≡ next_of self.old }
         ensures pumps { MovesBy (PumpsAll (limits_of self.old).lines (watches_of self.old)) (hub_of self.old) (hub_of self.new) }
     {
         let lines = self.limits.lines;

@@ -39,6 +39,10 @@ pub const WATCH: &str =
 pub const ADDED: &str =
     "HTTP/1.1 200 OK\r\nContent-Type: application/json\r\nTransfer-Encoding: chunked\r\nConnection: close\r\n\r\n158\r\n{\"type\":\"ADDED\",\"object\":{\"apiVersion\":\"demo.example/v1\",\"kind\":\"Widget\",\"metadata\":{\"managedFields\":[{\"apiVersion\":\"demo.example/v1\",\"fieldsType\":\"FieldsV1\",\"fieldsV1\":{\"f:spec\":{\"f:image\":{},\"f:replicas\":{}}},\"manager\":\"alice\",\"operation\":\"Apply\"}],\"name\":\"w1\",\"namespace\":\"default\",\"resourceVersion\":\"2\"},\"spec\":{\"image\":\"a\",\"replicas\":3}}}\n\r\n";
 
+/// What it gets then where nothing before the current revision is kept: the apply overtook it.
+pub const OVERTAKEN: &str =
+    "HTTP/1.1 200 OK\r\nContent-Type: application/json\r\nTransfer-Encoding: chunked\r\nConnection: close\r\n\r\na9\r\n{\"type\":\"ERROR\",\"object\":{\"apiVersion\":\"v1\",\"code\":410,\"kind\":\"Status\",\"message\":\"too old resource version: 1 (2)\",\"metadata\":{},\"reason\":\"Expired\",\"status\":\"Failure\"}}\n\r\n0\r\n\r\n";
+
 /// The list as it was before the first apply.
 pub const BEFORE: &str =
     "GET /apis/demo.example/v1/widgets?resourceVersion=1&resourceVersionMatch=Exact HTTP/1.1\r\nHost: localhost\r\n\r\n";
@@ -47,10 +51,13 @@ pub const BEFORE: &str =
 pub const EXPIRED: &str =
     "HTTP/1.1 410 Gone\r\nContent-Type: application/json\r\nContent-Length: 142\r\nConnection: close\r\n\r\n{\"apiVersion\":\"v1\",\"code\":410,\"kind\":\"Status\",\"message\":\"too old resource version: 1 (2)\",\"metadata\":{},\"reason\":\"Expired\",\"status\":\"Failure\"}";
 
+pub fn widget_types(alloc: Global) -> Result<Types, Fail> {
+    Ok(Types::read(alloc, &Value::from_str(alloc, WIDGET_TYPES)?)?)
+}
+
 /// An API of widgets without objects.
 pub fn fresh_api(alloc: Global) -> Result<Api, Fail> {
-    let types = Types::read(alloc, &Value::from_str(alloc, WIDGET_TYPES)?)?;
-    Ok(Api::new(alloc, types)?)
+    Ok(Api::new(alloc, widget_types(alloc)?)?)
 }
 
 /// A connection over loopback that has sent this.

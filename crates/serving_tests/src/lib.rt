@@ -11,6 +11,8 @@ mod given;
 #[cfg(test)]
 mod loopback;
 #[cfg(test)]
+mod mirrored_loopback;
+#[cfg(test)]
 mod over_memory;
 #[cfg(test)]
 mod polled_loopback;

@@ -2,7 +2,8 @@
 //! Many at once are tested in `polled_loopback`, streams that fail in `turns`.
 
 use crate::given::{
-    ADDED, APPLY, BEFORE, CREATED, EXPIRED, HALF, WATCH, expect_heard, fresh_api, sent,
+    ADDED, APPLY, BEFORE, CREATED, EXPIRED, HALF, NO_ITEMS, OVERTAKEN, WATCH, expect_heard,
+    fresh_api, sent,
 };
 use serving::{Limits, Server, serve_all};
 use std::mem;
@@ -29,36 +30,42 @@ fn served(
     Ok(stream)
 }
 
-/// A peer goes in the middle of its request, and one of a watch goes. Another watch gets the change that is made while it is
-/// open, and what came before is then forgotten.
+/// A peer goes in the middle of its request, and one of a watch goes. Another watch gets the first of these, and its end if
+/// this says so, once a change is made while it is open; a list of what was before it gets the second.
 fn tried(
     rt: &HostRuntime,
     listener: &TcpListener,
     server: &mut Server<TcpStream>,
+    told: (&str, u64),
+    before: &str,
 ) -> Result<(), Fail> {
     let addr = listener.local_addr()?;
+    let (watched, end) = told;
     drop(sent(rt, addr, HALF)?);
     serve_one(rt, listener, server)?;
     drop(served(rt, listener, server, WATCH)?);
     let watching = served(rt, listener, server, WATCH)?;
     let applying = served(rt, listener, server, APPLY)?;
     let late = served(rt, listener, server, BEFORE)?;
-    expect_heard(rt.alloc(), &watching, ADDED, 0)?;
+    expect_heard(rt.alloc(), &watching, watched, end)?;
     expect_heard(rt.alloc(), &applying, CREATED, 1)?;
-    expect_heard(rt.alloc(), &late, EXPIRED, 1)
+    expect_heard(rt.alloc(), &late, before, 1)
 }
 
-/// Peers that have gone hold up nobody, and a server keeps no revision before the current one where it is told so. The server
-/// is not dropped: a function that drops one takes a minute to prove.
-#[test]
-fn watch_beside_others(rt: HostRuntime) -> Result<(), Fail> {
-    let listener = TcpListener::bind(&rt, SocketAddr::from((Ipv4Addr::LOCALHOST, 0)))?;
-    let limits = Limits {
-        keep: 0,
-        lines: 500,
-    };
+/// A server that keeps so many revisions. It is not dropped: a function that drops one takes a minute to prove.
+fn kept(rt: &HostRuntime, keep: u64, told: (&str, u64), before: &str) -> Result<(), Fail> {
+    let listener = TcpListener::bind(rt, SocketAddr::from((Ipv4Addr::LOCALHOST, 0)))?;
+    let limits = Limits { keep, lines: 500 };
     let mut server = Server::new(rt.alloc(), fresh_api(rt.alloc())?, limits);
-    let tried = tried(&rt, &listener, &mut server);
+    let tried = tried(rt, &listener, &mut server, told, before);
     mem::forget(server);
     tried
+}
+
+/// Peers that have gone hold up nobody. A watch gets each change; where no revision before the current one is kept, it is told
+/// that the change overtook it.
+#[test]
+fn watch_beside_others(rt: HostRuntime) -> Result<(), Fail> {
+    kept(&rt, 1000, (ADDED, 0), NO_ITEMS)?;
+    kept(&rt, 0, (OVERTAKEN, 1), EXPIRED)
 }

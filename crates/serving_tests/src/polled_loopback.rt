@@ -8,7 +8,9 @@
 //! | `turn`, `serve N` | the server has a turn; it has turns until so many connections have ended |
 //! | `hear K TEXT` | nothing: K gets this, and its end but where it is a watch |
 
-use crate::given::{ADDED, APPLY, HALF, LIST, NO_ITEMS, WATCH, expect_heard, fresh_api, sent};
+use crate::given::{
+    ADDED, APPLY, HALF, LIST, NO_ITEMS, OVERTAKEN, WATCH, expect_heard, fresh_api, sent,
+};
 use polling::{Options, Server};
 use std::mem;
 use std::net::{Ipv4Addr, Shutdown, SocketAddr, TcpStream};
@@ -23,6 +25,7 @@ fn text_named(name: &str) -> &'static str {
         "apply" => APPLY,
         "no-items" => NO_ITEMS,
         "added" => ADDED,
+        "overtaken" => OVERTAKEN,
         _ => "",
     }
 }
@@ -69,12 +72,12 @@ fn play_rows(rt: &HostRuntime, server: &mut Server, rows: &str) -> Result<(), Fa
     Ok(())
 }
 
-/// Plays rows on a fresh server of this patience, in milliseconds. The server is not dropped: a function that drops one takes
-/// a minute to prove.
-fn play(rt: &HostRuntime, patience: u64, rows: &str) -> Result<(), Fail> {
+/// Plays rows on a fresh server that keeps so many revisions and has this patience, in milliseconds. The server is not dropped:
+/// a function that drops one takes a minute to prove.
+fn play(rt: &HostRuntime, keep: u64, patience: u64, rows: &str) -> Result<(), Fail> {
     let options = Options {
         port: 0,
-        keep: 0,
+        keep,
         lines: 500,
         patience,
     };
@@ -103,6 +106,13 @@ send apply
 turn
 hear 1 added";
 
+/// A watch is told that an apply overtook it, where no revision before the current one is kept.
+const OVERTAKING: &str = "send watch
+turn
+send apply
+turn
+hear 0 overtaken";
+
 /// Peers that send no more after their requests get their replies, and are counted.
 const HALF_CLOSED: &str = "send list
 close 0
@@ -123,8 +133,9 @@ hear 1 added";
 
 #[test]
 fn many_at_once(rt: HostRuntime) -> Result<(), Fail> {
-    play(&rt, 30_000, SILENT)?;
-    play(&rt, 30_000, WATCHING)?;
-    play(&rt, 30_000, HALF_CLOSED)?;
-    play(&rt, 1, PATIENCE)
+    play(&rt, 1000, 30_000, SILENT)?;
+    play(&rt, 1000, 30_000, WATCHING)?;
+    play(&rt, 0, 30_000, OVERTAKING)?;
+    play(&rt, 1000, 30_000, HALF_CLOSED)?;
+    play(&rt, 1000, 1, PATIENCE)
 }

@@ -1,5 +1,9 @@
-use Rattle.polling.proofs.Leading.{any_then, leads_compacts}
+use Rattle.polling.proofs.Leading.{any_same, any_then}
 use Rattle.polling.proofs.peers.Peers.settle.Goals as goal
 
-pub returns-then-is_risen : goal.returns-then-is_risen
-returns-then-is_risen c = any_then _ _ _ c.pump_watches.ensures (leads_compacts _ _ _ c.compact.ensures)
+pub returns-then-is_second-2 : goal.returns-then-is_second-2
+returns-then-is_second-2 c =
+    any_then _ _ _ c.tick-is_second.ensures (any_then _ _ _ c.compact-is_risen.ensures (any_then _ _ _ c.pump_watches.ensures (any_then _ _ _ c.drop_silent.ensures (any_same _ _ c.accept_anew.ensures))))
+
+pub returns-else-is_second-2 : goal.returns-else-is_second-2
+returns-else-is_second-2 c = any_then _ _ _ c.tick-is_second.ensures (any_then _ _ _ c.compact-is_risen.ensures c.pump_watches.ensures)

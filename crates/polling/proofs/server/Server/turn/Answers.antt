@@ -13,4 +13,4 @@ returns-in_err-now g c = any_same _ _ c.wait.ensures
 pub returns : goal.returns
 returns g c =
     any_then _ _ _ (any_same _ _ c.wait.ensures) (any_then _ _ _ c.look_again.ensures (any_then _ _ _ c.take_reports.ensures
-    (any_then _ _ _ c.accept_all.ensures (any_then _ _ _ c.settle.ensures c.tick.ensures))))
+    (any_then _ _ _ c.accept_all.ensures c.settle.ensures)))

@@ -15,6 +15,7 @@ loop-watch-init g c = (
   refl,
   begins_rise c.replace-watches.new.dest.items (into_iter_items c.into_iter-watch-iterator.result) c.args.self.now.watches.items (c.args.self.now.highest + 1)
       (ap vec_items c.replace-watches.ensures.after ∙ c.new.ensures.items) (c.into_iter-watch-iterator.ensures.into_iter_gives.0 ∙ ap vec_items c.replace-watches.ensures.value) c.args.self.now.in_order,
+  refl,
 )
 
 pub invariant_of-self : goal.invariant_of-self
@@ -34,6 +35,7 @@ loop-watch-preserved g c = (
   c.settle.ensures.limits ∙ c.loop-watch.invariant.1,
   settled_rise c.loop-watch.self.watches.items (into_iter_items c.loop-watch.watch-iterator) (into_iter_items c.next.new.self) c.in-Some.watch (c.loop-watch.self.highest + 1) (next_of c.settle.new.self)
       c.settle.result (watches_of c.settle.new.self) (some_of _ _ _ _ c.in-Some.is c.next.ensures.steps).0 c.settle.ensures.watches c.settle.ensures.next c.loop-watch.invariant.2,
+  c.settle.ensures.next ∙ c.loop-watch.invariant.3,
 )
 
 pub returns-clause-pumps : goal.returns-clause-pumps
@@ -47,3 +49,6 @@ returns-clause-pumps g c =
 
 pub returns-clause-limits : goal.returns-clause-limits
 returns-clause-limits g c = c.loop-watch.invariant.1
+
+pub returns-clause-next : goal.returns-clause-next
+returns-clause-next g c = c.loop-watch.invariant.3

@@ -19,3 +19,6 @@ invariant_of-self g c =
 
 pub settle-requires : goal.settle-requires
 settle-requires g c = next_opens (watches_of c.args.self.now) c.args.self.now.highest c.in-Some.id c.in-Some.ensures.1 c.args.self.now.in_order
+
+pub returns-clause-next : goal.returns-clause-next
+returns-clause-next g c = λ left. c.settle.ensures.next ∙ ap (λ id. id + 1) c.in-Some.ensures.1
