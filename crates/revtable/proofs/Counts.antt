@@ -1,5 +1,5 @@
--- The number of rows that hold an object.
-use Rattle.std.proofs.Common.{◌≡◌, ℕ, pos, List, [], ◌∷◌, map, true, Some, refl, sym, ap, subst, ◌∙◌, length, min, IsPermutation, filter, is_some}
+-- The number of rows.
+use Rattle.std.proofs.Common.{◌≡◌, ℕ, pos, List, [], ◌∷◌, map, true, Some, refl, sym, ap, subst, ◌∙◌, length, min, IsPermutation, filter}
 use Rattle.std.specs.List.{flat_map}
 use Rattle.sqlite.specs.declared.types.Value.{Value}
 use Rattle.sqlite.specs.declared.types.Value.TheVariants.{Null, Int}
@@ -18,16 +18,16 @@ use Rattle.sqlite_sql.specs.Group.{IsSummary, Summarizes, value_over}
 use Rattle.history.specs.History.{Change}
 use Rattle.history.specs.Kept.{with_body}
 use Rattle.revtable.specs.Rows.{row_of}
-use Rattle.revtable.proofs.Last.{kept_if}
-use Rattle.revtable.proofs.Where.{count_tests}
+use Rattle.revtable.specs.Spans.{Span, made_by, spans_of}
+use Rattle.revtable.proofs.Nexts.{made_all}
 use Rattle.revtable.proofs.Texts.{count_grouping, count_all, count_query}
 
-matched : (lost : Value) (trees : Trees) (changes : List Change) → trees 0 ≡ map row_of changes → matches_as lost trees count_query.filter count_query.from ([] ∷ []) ≡ map (λ c. [] ∷ row_of c ∷ []) (with_body changes)
-matched lost trees changes is = ap (flat_map (λ row. matches_as lost trees count_query.filter end ([] ∷ row ∷ []))) is ∙ go changes
+matched : (lost : Value) (trees : Trees) (spans : List Span) → trees 0 ≡ map row_of spans → matches_as lost trees count_query.filter count_query.from ([] ∷ []) ≡ map (λ s. [] ∷ row_of s ∷ []) spans
+matched lost trees spans is = ap (flat_map (λ row. matches_as lost trees count_query.filter end ([] ∷ row ∷ []))) is ∙ go spans
   where
-    go : (cs : List Change) → flat_map (λ row. matches_as lost trees count_query.filter end ([] ∷ row ∷ [])) (map row_of cs) ≡ map (λ c. [] ∷ row_of c ∷ []) (with_body cs)
+    go : (ss : List Span) → flat_map (λ row. matches_as lost trees count_query.filter end ([] ∷ row ∷ [])) (map row_of ss) ≡ map (λ s. [] ∷ row_of s ∷ []) ss
     go [] = refl
-    go (c ∷ cs) = rw (count_tests c) (kept_if (is_some c.body) (λ d. [] ∷ row_of d ∷ []) c _ (with_body cs) (go cs))
+    go (s ∷ ss) = ap (λ l. ([] ∷ row_of s ∷ []) ∷ l) (go ss)
 
 abbrev most : ℕ
 most = 9223372036854775807
@@ -51,16 +51,17 @@ counted all staged g =
     let rows : g.rows ≡ (Int (pos (min (length order) most)) ∷ []) ∷ [] = one_row order g.rows (subst (λ l. AllZip (IsSummary count_grouping) l g.rows) g.grouping.2 g.summaries) in
     g.having ∙ ap (λ l. filter (λ env. true) (map (λ r. [] ∷ r ∷ []) l)) rows ∙ ap (λ n. ([] ∷ (Int (pos (min n most)) ∷ []) ∷ []) ∷ []) (length_permutation all order g.grouping.1)
 
-pub finds_count : (db : Database) (changes : List Change) (rows : List Row) → db.trees 0 ≡ map row_of changes → Answers db (record { lets = []; body = count_query }) [] rows
-    → rows ≡ (Int (pos (min (length (with_body changes)) most)) ∷ []) ∷ []
-finds_count db changes rows is h =
+pub finds_count : (db : Database) (cs : List Change) (rows : List Row) → db.trees 0 ≡ map row_of (spans_of cs) → Answers db (record { lets = []; body = count_query }) [] rows
+    → rows ≡ (Int (pos (min (length (with_body cs)) most)) ∷ []) ∷ []
+finds_count db cs rows is h =
     let a : IsAnswerAs Null count_query (overlay db.trees []) [] rows = h.answer Null in
-    let number : Value = Int (pos (min (length (with_body changes)) most)) in
-    let all : List Env = map (λ c. [] ∷ row_of c ∷ []) (with_body changes) in
+    let number : Value = Int (pos (min (length (spans_of cs)) most)) in
+    let all : List Env = map (λ s. [] ∷ row_of s ∷ []) (spans_of cs) in
     let staged : a.staged ≡ ([] ∷ (number ∷ []) ∷ []) ∷ [] =
-    counted _ a.staged a.grouped ∙ ap (λ (l : List Env). ([] ∷ (Int (pos (min (length l) most)) ∷ []) ∷ []) ∷ []) (matched Null db.trees changes is)
-    ∙ ap (λ n. ([] ∷ (Int (pos (min n most)) ∷ []) ∷ []) ∷ []) (length-map (with_body changes) (λ (c : Change). [] ∷ row_of c ∷ [])) in
+    counted _ a.staged a.grouped ∙ ap (λ (l : List Env). ([] ∷ (Int (pos (min (length l) most)) ∷ []) ∷ []) ∷ []) (matched Null db.trees (spans_of cs) is)
+    ∙ ap (λ n. ([] ∷ (Int (pos (min n most)) ∷ []) ∷ []) ∷ []) (length-map (spans_of cs) (λ (s : Span). [] ∷ row_of s ∷ [])) in
     let one : Output = ([], number ∷ []) in
     let kept : a.kept ≡ one ∷ [] = a.distinct ∙ ap (map (output count_query)) staged in
     let ordered = one_permutation one a.ordered (subst (λ l. IsPermutation l a.ordered) kept a.same) in
-    a.shown ∙ ap (λ os. map (λ (o : Output). o.1) os) ordered
+    let as_many : length (spans_of cs) ≡ length (with_body cs) = sym (length-map (spans_of cs) made_by) ∙ ap length (made_all cs) in
+    a.shown ∙ ap (λ os. map (λ (o : Output). o.1) os) ordered ∙ ap (λ n. (Int (pos (min n most)) ∷ []) ∷ []) as_many

@@ -15,7 +15,7 @@ use Rattle.history.specs.Kept.{stands}
 use Rattle.history.proofs.Keys.{key_cmp_total, key_cmp_antisymmetric, same}
 use Rattle.history.proofs.Lists.{filter_both}
 use Rattle.history.proofs.Standing.{standing_by, standing_is, has_later}
-use Rattle.revtable.proofs.Where.{same_key_symm}
+use Rattle.revtable.proofs.Nexts.{same_key_symm}
 
 abbrev pub Entry : Type 0
 Entry = Key × Object

@@ -1,44 +1,133 @@
--- The table's fields: what a call makes of the history that they are.
-use Rattle.std.proofs.Common.{◌≡◌, ℕ, suc, ◌≤◌, ◌<◌, ◌^◌, List, [], ◌∷◌, ◌++◌, min, max, sym, ap, subst, ◌∙◌, Option, arith}
-use Rattle.history.specs.History.{Key, Change, History, IsRising, last_revision, written}
-use Rattle.history.specs.Kept.{IsPruned, kept}
+-- What stands in the tables after a call: the history that it is.
+use Rattle.std.proofs.Common.{◌≡◌, ℕ, suc, ◌≤◌, ◌<◌, List, [], ◌∷◌, ◌++◌, min, max, None, refl, sym, ap, ap₂, subst, ◌∙◌, Option, Bor, option_map, arith, Some, Bool, true, false, cond, not, ◌&&◌, is_some, true≢false}
+use Rattle.std.specs.Prelude.{is_none}
+use Rattle.std.specs.FinMap as fin
+use Rattle.std.specs.List.{AllByRecursion}
+use Rattle.history.specs.History.{Key, Change, History, IsRising, changed, is_same_key, last_revision, standing, written}
+use Rattle.history.specs.Kept.{IsPruned, between_marks, kept, pruned}
+use Rattle.history.specs.Whole.{AreThere}
 use Rattle.history.proofs.Kept.{kept-push, pruned_is}
-use Rattle.history.proofs.Revisions.{rising-push}
+use Rattle.history.proofs.Revisions.{rising-filter, rising-push, up_to-all}
+use Rattle.revtable.specs.Rows.{IsOrdered, AreBelow}
+use Rattle.revtable.specs.Spans.{Span, Stored, changes_in, end_at, ended_by, history_of, next_of, pruned_in, put_in, spans_of, spans_until, stored_of, without_ended, IsWritten}
+use Rattle.revtable.proofs.Forgets.{kept_there, without_is}
+use Rattle.revtable.proofs.Merged.{changes_back}
+use Rattle.revtable.proofs.Nexts.{all_begin}
+use Rattle.revtable.proofs.Puts.{spans_push, there_push}
+use Rattle.history.proofs.Revisions.{all_above, all_within}
+use Rattle.sqlite_keyed.proofs.ListLemmas.{all_weaker}
 
--- ---- once a change is written
+-- ---- the rows stand in order
 
 abbrev pub next_change : ℕ → Key → Option (List ℕ) → Change
 next_change n k body = record { revision = n; key = k; body = body }
 
-pub after_put : (n : ℕ) (h : History) (k : Key) (body : Option (List ℕ)) (cs : List Change) → IsPruned h → n ≡ suc h.current → n ≤ last_revision → cs ≡ h.changes ++ next_change n k body ∷ []
-    → IsPruned (record { changes = cs; current = n; compacted = h.compacted })
-after_put n h k body cs p is fits changes =
-    let low : h.compacted ≤ h.current = p.is.low in
-    subst (λ l. IsPruned (record { changes = l; current = n; compacted = h.compacted })) (sym changes)
-    (record {
-      is = record {
-        rising = subst (IsRising 0 (h.changes ++ next_change n k body ∷ [])) (sym is) (rising-push 0 h.current h.changes (next_change n k body) is p.is.rising);
-        low = omega arith;
-        high = fits;
-      };
-      whole = kept-push h.compacted h.current h.changes (next_change n k body) p.is.rising is low ∙ ap (λ l. l ++ next_change n k body ∷ []) p.whole;
-    })
+spans_up : (lo top : ℕ) (cs : List Change) → IsRising lo cs top → IsOrdered (spans_of cs)
+spans_up lo top [] rise = tt
+spans_up lo top (c ∷ cs) rise = go c.body (next_of c.key cs) (spans_up c.revision top cs rise.1)
+  where
+    later : AllByRecursion (λ s. c.revision < s.first) (spans_of cs)
+    later = all_begin (λ n. c.revision < n) cs (all_above c.revision top cs rise.1)
 
-pub put_view : (n : ℕ) (h : History) (k : Key) (body : Option (List ℕ)) (cs : List Change) → n ≡ suc h.current → cs ≡ h.changes ++ next_change n k body ∷ []
-    → ◌≡◌ {A = History} (record { changes = cs; current = n; compacted = h.compacted }) (written h k body)
-put_view n h k body cs is changes =
-    ap (λ l. record { changes = l; current = n; compacted = h.compacted }) changes
-    ∙ ap (λ (m : ℕ). record { changes = h.changes ++ next_change m k body ∷ []; current = m; compacted = h.compacted }) is
+    go : (b : Option (List ℕ)) (n : Option Change) → IsOrdered (spans_of cs) → IsOrdered (spans_until c.key c.revision b n ++ spans_of cs)
+    go None n more = more
+    go (Some body) None more = (later, more)
+    go (Some body) (Some n) more = (later, more)
+
+pub ordered_rows : (cs : List Change) (top : ℕ) (spans : List Span) → IsRising 0 cs top → spans ≡ spans_of cs → IsOrdered spans
+ordered_rows cs top spans rise is = subst IsOrdered (sym is) (spans_up 0 top cs rise)
+
+pub below_rows : (cs : List Change) (top n : ℕ) (spans : List Span) → IsRising 0 cs top → top < n → spans ≡ spans_of cs → AreBelow n spans
+below_rows cs top n spans rise lt is =
+    subst (AreBelow n) (sym is) (all_begin (λ m. m < n) cs (all_weaker (λ c. c.revision ≤ top) (λ c. c.revision < n) (λ c (le : c.revision ≤ top). omega arith) cs (all_within 0 top cs rise)))
+
+pub below_ended : (cs : List Change) (top n : ℕ) (k : Key) (r : ℕ) (g : Bool) (spans : List Span) → IsRising 0 cs top → top < n → spans ≡ spans_of cs → AreBelow n (ended_by k r g spans)
+below_ended cs top n k r g spans rise lt is = go spans (below_rows cs top n spans rise lt is)
+  where
+    one : (b : Bool) (s : Span) → s.first < n → (cond b (end_at r g s) s).first < n
+    one true s lt = lt
+    one false s lt = lt
+
+    go : (ss : List Span) → AreBelow n ss → AreBelow n (ended_by k r g ss)
+    go [] h = tt
+    go (s ∷ ss) h = (one (is_same_key k s.key && is_none s.ended) s h.0, go ss h.1)
+
+-- ---- once a change is written
+
+pub after_put : (n : ℕ) (st : Stored) (k : Key) (body : Option (List ℕ)) → IsWritten st → n ≡ suc st.current → n ≤ last_revision → (body ≡ None → fin.contains_key (standing (history_of st)) k ≡ true)
+    → IsWritten (put_in n st.compacted k body st) × (history_of (put_in n st.compacted k body st) ≡ written (history_of st) k body)
+after_put n st k body w next fits there =
+    let h = history_of st in
+    let cs = changes_in st.spans in
+    let d = next_change n k body in
+    let new = put_in n st.compacted k body st in
+    let rising : IsRising 0 cs st.current = w.pruned.is.rising in
+    let low : st.compacted ≤ st.current = w.pruned.is.low in
+    let up : IsRising 0 (cs ++ d ∷ []) n = subst (IsRising 0 (cs ++ d ∷ [])) (sym next) (rising-push 0 st.current cs d next rising) in
+    let all : AreThere fin.empty (cs ++ d ∷ []) = there_push fin.empty cs d (λ none. ap (λ s. fin.contains_key (changed fin.empty s) k) (sym (up_to-all 0 st.current st.current cs (omega arith) rising)) ∙ there none) w.there in
+    let rows : new.spans ≡ spans_of (cs ++ d ∷ []) = ap (λ l. ended_by k n (is_none body) l ++ spans_until k n body None) w.rows ∙ sym (spans_push cs d) in
+    let back : changes_in new.spans ≡ cs ++ d ∷ [] = ap changes_in rows ∙ changes_back 0 n (cs ++ d ∷ []) up all in
+    let whole : kept st.compacted (cs ++ d ∷ []) ≡ cs ++ d ∷ [] = kept-push st.compacted st.current cs d rising next low ∙ ap (λ l. l ++ d ∷ []) w.pruned.whole in
+    let sound : IsPruned (record { changes = cs ++ d ∷ []; current = n; compacted = st.compacted }) = record { is = record { rising = up; low = omega arith; high = fits }; whole = whole } in (
+      record {
+        pruned = subst (λ l. IsPruned (record { changes = l; current = n; compacted = st.compacted })) (sym back) sound;
+        there = subst (AreThere fin.empty) (sym back) all;
+        rows = rows ∙ ap spans_of (sym back);
+      },
+      ap (λ l. record { changes = l; current = n; compacted = st.compacted }) back ∙ ap (λ (m : ℕ). record { changes = cs ++ next_change m k body ∷ []; current = m; compacted = st.compacted }) next,
+    )
+
+pub still_none : {X Y : Type 0} (f : X → Y) (o : Option X) → is_none o ≡ is_none (option_map f o)
+still_none f None = refl
+still_none f (Some x) = refl
+
+-- what `is_none` answers
+pub none_if : {X : Type 0} (o : Option X) (b : Bool) → is_some o ≡ not b → b ≡ is_none o
+none_if None true e = refl
+none_if None false e = absurd (true≢false (sym e))
+none_if (Some x) true e = absurd (true≢false e)
+none_if (Some x) false e = refl
+
+none_back : (o : Option (Bor (List ℕ))) → option_map (λ b. b.now) o ≡ None → o ≡ None
+none_back None e = refl
+none_back (Some b) e = absurd cc
+
+-- the table's fields hold the numbers too
+pub put_stands : (n compacted : ℕ) (log new : Stored) (self : History) (k : Key) (body : Option (Bor (List ℕ))) → IsWritten log → compacted ≡ log.compacted → history_of log ≡ self → n ≡ suc self.current → n ≤ last_revision
+    → (body ≡ None → fin.contains_key (standing self) k ≡ true) → new ≡ put_in n compacted k (option_map (λ b. b.now) body) log
+    → (IsWritten new × (n ≡ new.current) × (compacted ≡ new.compacted)) × (history_of new ≡ written self k (option_map (λ b. b.now) body))
+put_stands n compacted log new self k body w low is next fits there made =
+    let b = option_map (λ b. b.now) body in
+    let e : new ≡ put_in n log.compacted k b log = made ∙ ap (λ p. put_in n p k b log) low in
+    let all = after_put n log k b w (next ∙ ap (λ (h : History). suc h.current) (sym is)) fits (λ none. ap (λ h. fin.contains_key (standing h) k) is ∙ there (none_back body none)) in
+    ((subst IsWritten (sym e) all.0, sym (ap (λ (st : Stored). st.current) e), low ∙ sym (ap (λ (st : Stored). st.compacted) e)), ap history_of e ∙ all.1 ∙ ap (λ h. written h k b) is)
 
 -- ---- once it is compacted
 
-raised : (r low to : ℕ) (h : History) → IsPruned h → low ≡ min r h.current → to ≡ max low h.compacted → (to < 2 ^ 63) × (h.compacted ≤ to) × (to ≤ h.current)
-raised r low to h p a b =
-    let fits : h.compacted ≤ h.current = p.is.low in
-    let high : h.current ≤ last_revision = p.is.high in
-    (omega arith, omega arith, omega arith)
+pub after_prune : (to : ℕ) (st : Stored) → IsWritten st → to ≤ st.current → IsWritten (pruned_in st.current to st) × (history_of (pruned_in st.current to st) ≡ pruned to (history_of st))
+after_prune to st w le =
+    let cs = changes_in st.spans in
+    let new = pruned_in st.current to st in
+    let rising : IsRising 0 cs st.current = w.pruned.is.rising in
+    let rows : new.spans ≡ spans_of (kept to cs) = ap (without_ended to) w.rows ∙ without_is to st.current cs rising in
+    let all : AreThere fin.empty (kept to cs) = kept_there to st.current cs rising le w.there in
+    let back : changes_in new.spans ≡ kept to cs = ap changes_in rows ∙ changes_back 0 st.current (kept to cs) (rising-filter _ 0 st.current cs rising) all in (
+      record {
+        pruned = subst (λ l. IsPruned (record { changes = l; current = st.current; compacted = to })) (sym back) (pruned_is (history_of st) to w.pruned.is le);
+        there = subst (AreThere fin.empty) (sym back) all;
+        rows = rows ∙ ap spans_of (sym back);
+      },
+      ap (λ l. record { changes = l; current = st.current; compacted = to }) back,
+    )
 
-pub after_prune : (r low to : ℕ) (h : History) (cs : List Change) → IsPruned h → low ≡ min r h.current → to ≡ max low h.compacted → cs ≡ kept to h.changes
-    → IsPruned (record { changes = cs; current = h.current; compacted = to })
-after_prune r low to h cs p a b is =
-    subst (λ l. IsPruned (record { changes = l; current = h.current; compacted = to })) (sym is) (pruned_is h to p.is (raised r low to h p a b).2)
+pub prune_stands : (r low to current compacted : ℕ) (log new : Stored) (self : History) → IsWritten log → current ≡ log.current → compacted ≡ log.compacted → history_of log ≡ self → low ≡ min r current → to ≡ max low compacted
+    → new ≡ pruned_in current to log → (IsWritten new × (current ≡ new.current) × (to ≡ new.compacted)) × (history_of new ≡ pruned (between_marks self r) self)
+prune_stands r low to current compacted log new self w top bottom is low_is to_is made =
+    let e : new ≡ pruned_in log.current to log = made ∙ ap (λ p. pruned_in p to log) top in
+    let fits : log.compacted ≤ log.current = w.pruned.is.low in
+    let all = after_prune to log w (omega arith) in
+    let between : to ≡ between_marks (history_of log) r = to_is ∙ ap₂ max (low_is ∙ ap (min r) top) bottom in
+    ((subst IsWritten (sym e) all.0, top ∙ sym (ap (λ (st : Stored). st.current) e), sym (ap (λ (st : Stored). st.compacted) e)), ap history_of e ∙ all.1 ∙ ap (λ n. pruned n (history_of log)) between ∙ ap (λ h. pruned (between_marks h r) h) is)
+
+pub stored_back : (st : Stored) → IsWritten st → stored_of (history_of st) ≡ st
+stored_back st w = ap (λ l. record { spans = l; current = st.current; compacted = st.compacted }) (sym w.rows)

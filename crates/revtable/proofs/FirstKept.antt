@@ -1,5 +1,5 @@
 -- Rows of a query that are read one at a time: what stays of the connection, and what the rows so far say of the answer.
-use Rattle.std.proofs.Common.{◌≡◌, ◌⊎◌, ◌&&◌, inl, inr, ℕ, zero, suc, ◌+◌, ◌-◌, ◌^◌, ◌<◌, ◌≤◌, Bool, true, false, cond, List, [], ◌∷◌, ◌++◌, length, map, take, filter, Option, Some, None, Ok, Err, Result, is_some, IsTrue, IsSome, IfOk, true≢false, refl, sym, ap, ap₂, subst, ◌∙◌, append-nil, length-append, arith}
+use Rattle.std.proofs.Common.{◌≡◌, ◌⊎◌, ◌&&◌, inl, inr, ℕ, zero, suc, ◌+◌, ◌-◌, ◌^◌, ◌<◌, ◌≤◌, Bool, true, false, cond, List, [], ◌∷◌, ◌++◌, length, map, take, Option, Some, None, Ok, Err, Result, is_some, IsTrue, IfOk, true≢false, refl, sym, ap, ap₂, subst, ◌∙◌, append-nil, length-append, arith}
 use Rattle.std.proofs.lemmas.List.{length-map, map-append}
 use Rattle.std.proofs.lemmas.List.Elements.{filter-append}
 use Rattle.std.specs.FinMap as fin
@@ -12,8 +12,8 @@ use Rattle.sqlite.specs.Command.{Command}
 use Rattle.sqlite.specs.Command.TheVariants.{Select}
 use Rattle.sqlite.specs.Given.{Returns, HasBegun, HasGiven}
 use Rattle.sqlite.specs.Held.{Held, state}
-use Rattle.sqlite.specs.Listing.{understood, reads_listing, IsSourceOf}
-use Rattle.sqlite.specs.State.{State, IsUnchanged, IsStatement, Shown, Begins, FailsToQuery}
+use Rattle.sqlite.specs.Listing.{understood, reads_listing}
+use Rattle.sqlite.specs.State.{State, IsUnchanged, Shown, Begins, FailsToQuery}
 use Rattle.sqlite.specs.Clock.{timed}
 use Rattle.sqlite.proofs.Callers.{IsPlain, EndsIn, begins_shown, command_of, given_begin, reads_as}
 use Rattle.sqlite_resolve.specs.declared.compiled.Compiled.{Compiled}
@@ -21,7 +21,7 @@ use Rattle.sqlite_resolve.specs.declared.error.CompileError.{CompileError}
 use Rattle.sqlite_sql.specs.Program.{Ends}
 use Rattle.sqlite_trees.specs.declared.store.Store.{Ghosts}
 use Rattle.sqlite_keyed.proofs.ListLemmas.{map_back}
-use Rattle.history.specs.History.{History, IsHistory, Key, Object, Objects, Change, last_revision, state_at}
+use Rattle.history.specs.History.{History, IsHistory, Key, Object, Objects, last_revision, state_at}
 use Rattle.history.specs.Page.{is_past, is_within, listed}
 use Rattle.history.proofs.Lists.{filter_both}
 use Rattle.revtable.specs.declared.row.Entry.{Entry}
@@ -29,10 +29,11 @@ use Rattle.revtable.specs.Asked.{as_change, begins, in_later, in_one}
 use Rattle.revtable.specs.Decoded.{entry_shown}
 use Rattle.revtable.specs.Kept.{first_kept, kept_among, AreFirstKept, IsBare}
 use Rattle.revtable.specs.Read.{entry_of}
-use Rattle.revtable.specs.Rows.{change_schema, command_in, row_of, shown, IsAnswer, IsKept, Keeps}
+use Rattle.revtable.specs.Rows.{the_schema, command_in, shown, HasRows, IsAnswer, Keeps}
+use Rattle.revtable.specs.Spans.{Stored}
 use Rattle.revtable.proofs.Halves.{begins_all, begins_none, begins_one, take_both}
 use Rattle.revtable.proofs.Numbers.{objects_few, take_whole}
-use Rattle.revtable.proofs.Outcomes.{asked_keeps, open_if_shown, same_command, same_kept, when_ok}
+use Rattle.revtable.proofs.Outcomes.{asked_keeps, kept_by, open_if_shown, same_command, same_if_unchanged, same_keeps, when_ok}
 use Rattle.revtable.proofs.Texts.{from_is, from_text, in_is, in_text}
 
 -- ---- what is found among the rows that were read
@@ -100,17 +101,14 @@ found_next kept given row old new was is = is ∙ ap (λ l. l ++ kept_among kept
 
 -- ---- what a connection keeps while rows are read
 
-pub unchanged_keeps : (old new : State) (cs : List Change) → IsUnchanged old new → Keeps cs old → Keeps cs new
-unchanged_keeps old new cs same keeps = record {
+pub unchanged_keeps : (old new : State) (st : Stored) → IsUnchanged old new → Keeps st old → Keeps st new
+unchanged_keeps old new st same keeps = record {
   autocommit = same.0.mode ∙ keeps.autocommit;
-  rows = λ live.
-      let was = keeps.rows same.0.was_open in
-      let all = same_kept old new was.0 live (record { now = same.0.now_is; committed = same.0.committed_is; autocommit = same.0.mode ∙ was.0.autocommit }) in
-      (all.0, all.1 ∙ was.1);
+  rows = λ live. let was = kept_by st old keeps same.0.was_open in same_keeps st old new was (same_if_unchanged st old new was same);
 }
 
-pub failed_keeps : (sql : List ℕ) → IsPlain (understood change_schema sql) → (old new : State) (params : Row) (cs : List Change) (e : Error) → Keeps cs old → FailsToQuery sql params old new e → Keeps cs new
-failed_keeps sql plain old new params cs e keeps failed = asked_keeps sql plain old new params cs (Err e) keeps tt failed
+pub failed_keeps : (sql : List ℕ) → IsPlain (understood the_schema sql) → (old new : State) (params : Row) (st : Stored) (e : Error) → Keeps st old → FailsToQuery sql params old new e → Keeps st new
+failed_keeps sql plain old new params st e keeps failed = asked_keeps sql plain old new params st (Err e) keeps tt failed
 
 never_both : (r : Result Compiled CompileError) → IsPlain r → ¬ Returns r
 never_both (Ok c) plain some = absurd (let none = rw plain.0 at some in cc)
@@ -120,15 +118,15 @@ bare_ends : (command : Command) (db : Database) (params : Row) → IsBare comman
 bare_ends (Select q names) db params bare = subst (Ends db.trees params []) (sym bare) tt
 bare_ends _ db params bare = absurd bare
 
-module _ (sql : List ℕ) (plain : IsPlain (understood change_schema sql)) (unlisted : reads_listing change_schema sql ≡ false) (bare : IsBare (command_in (understood change_schema sql)))
-    (params : Row) (cs : List Change) where
+module _ (sql : List ℕ) (plain : IsPlain (understood the_schema sql)) (unlisted : reads_listing the_schema sql ≡ false) (bare : IsBare (command_in (understood the_schema sql)))
+    (params : Row) (st : Stored) where
   -- the rows of a whole answer
-  pub whole_answer : (old new : State) (rows : List Row) → Keeps cs old → Shown sql params old new rows → IsAnswer sql params cs rows
+  pub whole_answer : (old new : State) (rows : List Row) → Keeps st old → Shown sql params old new rows → IsAnswer sql params st rows
   whole_answer old new rows keeps h =
       let was = keeps.rows (open_if_shown old new sql params rows h).0 in (
         old.now,
-        was.0.rows ∙ ap (map row_of) was.1,
-        subst (λ k. Reads k old.now params rows) (same_command (understood change_schema sql)) (reads_as sql params old new change_schema was.0.schema _ refl plain unlisted rows h),
+        was.0,
+        subst (λ k. Reads k old.now params rows) (same_command (understood the_schema sql)) (reads_as sql params old new the_schema was.0.schema _ refl plain unlisted rows h),
       )
 
   still : (s : State) → IsTrue s.is_open → IsUnchanged s s
@@ -139,7 +137,7 @@ module _ (sql : List ℕ) (plain : IsPlain (understood change_schema sql)) (unli
   )
 
   -- the rows that were read begin an answer
-  pub front_answer : (s : State) (rows : List Row) → IsTrue s.is_open → Keeps cs s → Begins sql params s rows → (tail : List Row) × IsAnswer sql params cs (rows ++ tail)
+  pub front_answer : (s : State) (rows : List Row) → IsTrue s.is_open → Keeps st s → Begins sql params s rows → (tail : List Row) × IsAnswer sql params st (rows ++ tail)
   front_answer s rows live keeps h =
       let is = (keeps.rows live).0 in
       let all = begins_shown sql params s s rows h (still s live) (λ c db it from.
@@ -147,7 +145,7 @@ module _ (sql : List ℕ) (plain : IsPlain (understood change_schema sql)) (unli
       (all.0, whole_answer s s (rows ++ all.0) keeps all.1)
 
   module _ {S : Type 0} (g : Ghosts S) where
-    pub begun : (old new : Held S) → Keeps cs (state g old) → HasBegun g sql params old new → HasGiven g sql params new [] × IsUnchanged (state g old) (state g new)
+    pub begun : (old new : Held S) → Keeps st (state g old) → HasBegun g sql params old new → HasGiven g sql params new [] × IsUnchanged (state g old) (state g new)
     begun old new keeps (inl h) = h
     begun old new keeps (inr h) =
         let live = (open_if_shown (state g old) (state g new) sql params _ h.1).0 in
@@ -158,8 +156,8 @@ module _ (sql : List ℕ) (plain : IsPlain (understood change_schema sql)) (unli
     open_while now given it = it.0.is_open
 
     -- where as many rows were read as there may be, or enough were found
-    pub stopped : (kept : List ℕ → Bool) (max : ℕ) (now : Held S) (given : List Row) (found : List Entry) → Keeps cs (state g now) → HasGiven g sql params now given → map entry_of found ≡ found_in kept given
-        → length given ≤ last_revision → length found ≤ max → (length given ≡ last_revision) ⊎ (max ≤ length found) → AreFirstKept sql params cs kept max (map entry_of found)
+    pub stopped : (kept : List ℕ → Bool) (max : ℕ) (now : Held S) (given : List Row) (found : List Entry) → Keeps st (state g now) → HasGiven g sql params now given → map entry_of found ≡ found_in kept given
+        → length given ≤ last_revision → length found ≤ max → (length given ≡ last_revision) ⊎ (max ≤ length found) → AreFirstKept sql params st kept max (map entry_of found)
     stopped kept max now given found keeps it is few fits done =
         let count : length (found_in kept given) ≡ length found = counted kept given found is in
         let all = front_answer (state g now) given (open_while now given it) keeps (given_begin g sql params now given it) in
@@ -167,8 +165,8 @@ module _ (sql : List ℕ) (plain : IsPlain (understood change_schema sql)) (unli
         (given ++ all.0, all.1, is ∙ found_first kept max given all.0 few (omega (arith, count, fits)) (inr whole))
 
     -- where no row is left
-    pub ended : (kept : List ℕ → Bool) (max : ℕ) (now new : Held S) (given : List Row) (found : List Entry) → Keeps cs (state g now) → Shown sql params (state g now) (state g new) given
-        → map entry_of found ≡ found_in kept given → length given ≤ last_revision → length found ≤ max → AreFirstKept sql params cs kept max (map entry_of found)
+    pub ended : (kept : List ℕ → Bool) (max : ℕ) (now new : Held S) (given : List Row) (found : List Entry) → Keeps st (state g now) → Shown sql params (state g now) (state g new) given
+        → map entry_of found ≡ found_in kept given → length given ≤ last_revision → length found ≤ max → AreFirstKept sql params st kept max (map entry_of found)
     ended kept max now new given found keeps shown is few fits =
         let count : length (found_in kept given) ≡ length found = counted kept given found is in (
           given,
@@ -186,11 +184,11 @@ read_back es few =
     ap (λ l. map entry_shown (take last_revision (map show l))) (take_whole last_revision es few)
     ∙ ap (map entry_shown) (take_whole last_revision (map show es) (subst (λ n. n ≤ last_revision) (sym (length-map es show)) few)) ∙ map_back show entry_shown (λ e. refl) es
 
-pub kept_answered : {E : Type 0} (sql : List ℕ) (command : Command) (params : Row) (cs : List Change) (kept : List ℕ → Bool) (max : ℕ) (r : Result (Vec Entry Global) E) (es : List (Key × Object))
-    → command_of (understood change_schema sql) ≡ command → ((db : Database) (rows : List Row) → db.trees 0 ≡ map row_of cs → Reads command db params rows → rows ≡ map show (take last_revision es))
-    → length es ≤ last_revision → IfOk r (λ v. AreFirstKept sql params cs kept max (map entry_of v.items)) → IfOk r (λ v. map entry_of v.items ≡ first_kept kept max es)
-kept_answered sql command params cs kept max r es is finds few ok = when_ok r _ _ (λ v h.
-    let rows = finds h.1.0 h.0 h.1.1 (subst (λ k. Reads k h.1.0 params h.0) (sym (same_command (understood change_schema sql)) ∙ is) h.1.2) in
+pub kept_answered : {E : Type 0} (sql : List ℕ) (command : Command) (params : Row) (st : Stored) (kept : List ℕ → Bool) (max : ℕ) (r : Result (Vec Entry Global) E) (es : List (Key × Object))
+    → command_of (understood the_schema sql) ≡ command → ((db : Database) (rows : List Row) → HasRows st db → Reads command db params rows → rows ≡ map show (take last_revision es))
+    → length es ≤ last_revision → IfOk r (λ v. AreFirstKept sql params st kept max (map entry_of v.items)) → IfOk r (λ v. map entry_of v.items ≡ first_kept kept max es)
+kept_answered sql command params st kept max r es is finds few ok = when_ok r _ _ (λ v h.
+    let rows = finds h.1.0 h.0 h.1.1 (subst (λ k. Reads k h.1.0 params h.0) (sym (same_command (understood the_schema sql)) ∙ is) h.1.2) in
     h.2 ∙ ap (λ rows. first_kept kept max (map entry_shown (take last_revision rows))) rows ∙ ap (first_kept kept max) (read_back es few)) ok
 
 -- ---- of one namespace, and then of those after it
@@ -207,11 +205,11 @@ kept_full kept max xs ys found is_found full =
 
 -- ---- the texts that are asked
 
-pub in_bare : IsBare (command_in (understood change_schema in_text))
-in_bare = subst IsBare (sym in_is.0 ∙ same_command (understood change_schema in_text)) refl
+pub in_bare : IsBare (command_in (understood the_schema in_text))
+in_bare = subst IsBare (sym in_is.0 ∙ same_command (understood the_schema in_text)) refl
 
-pub from_bare : IsBare (command_in (understood change_schema from_text))
-from_bare = subst IsBare (sym from_is.0 ∙ same_command (understood change_schema from_text)) refl
+pub from_bare : IsBare (command_in (understood the_schema from_text))
+from_bare = subst IsBare (sym from_is.0 ∙ same_command (understood the_schema from_text)) refl
 
 pub last_fits : last_revision < 2 ^ 63
 last_fits = omega arith

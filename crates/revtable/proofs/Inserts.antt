@@ -1,23 +1,22 @@
 -- What CREATE and INSERT leave.
-use Rattle.std.proofs.Common.{◌≡◌, ℕ, pos, List, [], ◌∷◌, ◌++◌, map, cond, Bool, true, false, Some, None, Ok, Err, Result, OnOk, refl, sym, ap, subst, ◌∙◌, arith, ◌<◌, ◌^◌, Option, Bor, to_z, w64, option_map}
-use Rattle.std.proofs.lemmas.Int.{ints, to_z_pos}
+use Rattle.std.proofs.Common.{◌≡◌, ℕ, pos, List, [], ◌∷◌, ◌++◌, map, cond, Bool, true, false, Some, None, Ok, refl, sym, ap, subst, ◌∙◌, arith, Option, Bor, option_map}
+use Rattle.std.proofs.lemmas.Int.{ints}
 use Rattle.std.proofs.lemmas.Bool.Decides.{nat_tests}
-use Rattle.sqlite_keyed.proofs.ListLemmas.{map_back}
 use Rattle.sqlite_value.proofs.OrderLemmas.{value_cmp-Int}
 use Rattle.sqlite_sql.specs.Ops.{unary}
 use Rattle.sqlite.specs.declared.types.Value.{Value}
 use Rattle.sqlite.specs.declared.types.Value.TheVariants.{Null, Int, Text as Words}
 use Rattle.sqlite.specs.Source.TheVariants.{Values}
-use Rattle.sqlite.specs.Command.TheVariants.{Insert, CreateTable}
-use Rattle.sqlite.specs.Kind.TheVariants.{Integer, Text}
-use Rattle.sqlite.specs.Change.{created, next_tree}
+use Rattle.sqlite.specs.Command.TheVariants.{Insert, CreateIndex, CreateTable}
+use Rattle.sqlite.specs.Kind.TheVariants.{Integer}
+use Rattle.sqlite.specs.Change.{created, indexed, next_tree, KeepsRows}
 use Rattle.sqlite.specs.Does.{Tally, Does, lacks_sequence}
-use Rattle.sqlite.specs.declared.error.Error.{Error}
 use Rattle.sqlite.specs.Listing.{understood}
 use Rattle.sqlite.specs.Effect.{Database}
 use Rattle.sqlite.specs.State.{State, mode_of, Writes, Executes}
 use Rattle.sqlite.specs.Steps.{IsEmpty}
 use Rattle.sqlite.specs.Values.{bound_value, or_null}
+use Rattle.sqlite.specs.Table.{Table as SqlTable}
 use Rattle.sqlite.proofs.Callers.{statement_of, runs_as, one_step}
 use Rattle.sqlite.specs.Edit.{edit_of, edited}
 use Rattle.sqlite.specs.Cast.{cast}
@@ -25,39 +24,74 @@ use Rattle.sqlite.specs.Rowids.TheVariants.{Chosen}
 use Rattle.sqlite.specs.Rows.{Written}
 use Rattle.sqlite.specs.Tree.{Trees, put_row}
 use Rattle.sqlite.specs.Order.{Row}
-use Rattle.history.specs.History.{Change}
-use Rattle.revtable.specs.Rows.{change_table, change_schema, no_schema, body_value, row_of, change_in, changes_in, AreBelow, IsKept, Keeps}
-use Rattle.revtable.proofs.Texts.{create_text, create_is, create_plain, insert_text, terms, insert_is, insert_plain}
-use Rattle.revtable.proofs.Outcomes.{went, same_value, open_if_ran, back}
+use Rattle.history.specs.History.{Key}
+use Rattle.revtable.specs.Rows.{ended_index, indexed_schema, object_table, object_schema, marks_table, marks_tree, marks_row, no_schema, the_schema, body_value, row_of, stored_in, AreBelow, HasRows, IsMade, Keeps}
+use Rattle.revtable.specs.Spans.{Span, Stored}
+use Rattle.revtable.proofs.Texts.{create_text, create_is, create_plain, create_marks_text, create_marks_is, create_marks_plain, index_text, index_is, index_plain, begin_text, begin_terms, begin_is, begin_plain, insert_text, terms, insert_is, insert_plain}
+use Rattle.revtable.proofs.Outcomes.{went, same_value, stored_back}
 
-creates : (old new : State) (r : Result ℕ Error) → old.now.schema ≡ no_schema → Executes create_text [] old new r → OnOk r (new.now.schema ≡ change_schema) × OnOk r (new.now.trees 0 ≡ [])
-creates old new (Err e) has h = (tt, tt)
-creates old new (Ok count) has h =
+-- ---- CREATE
+
+pub makes_objects : (old new : State) (count : ℕ) → IsEmpty old → Executes create_text [] old new (Ok count) → IsMade object_schema new
+makes_objects old new count was h =
+    let has = was.2 in
     let w = subst (λ t. Writes old new None CreateTable t [] count) create_is.1 (runs_as create_text [] old new no_schema has CreateTable create_is.0 create_plain count h) in
     let all = went w.changed in
     let first = went all.1 in
     let made = first.1 in
-    let both : Ok made.table ≡ Ok change_table = sym made.defined ∙ create_is.2 in
-    let same : made.table ≡ change_table = cc in
-    let schema : first.0.schema ≡ change_schema = made.is ∙ ap (λ s. created s made.table) has ∙ ap (created no_schema) same in
+    let both : Ok made.table ≡ Ok object_table = sym made.defined ∙ create_is.2 in
+    let same : made.table ≡ object_table = cc in
+    let schema : first.0.schema ≡ object_schema = made.is ∙ ap (λ s. created s made.table) has ∙ ap (created no_schema) same in
     let plain : lacks_sequence first.0.schema ≡ false = ap lacks_sequence schema in
     let now : new.now ≡ first.0 = ap (λ (p : Tally × Database). p.1) (same_value all.2) ∙ same_value (rw plain at first.2) in
-    (ap (λ (d : Database). d.schema) now ∙ schema, ap (λ (d : Database). d.trees 0) now ∙ subst (λ s. first.0.trees (next_tree s) ≡ []) has made.empty)
-
--- what CREATE leaves
-pub create_keeps : (old new : State) (count : ℕ) → IsEmpty old → Executes create_text [] old new (Ok count) → Keeps (changes_in new) new × (changes_in new ≡ [])
-create_keeps old new count was h =
-    let w = subst (λ t. Writes old new None CreateTable t [] count) create_is.1 (runs_as create_text [] old new no_schema was.2 CreateTable create_is.0 create_plain count h) in
-    let did = creates old new (Ok count) was.2 h in
-    let rows : changes_in new ≡ [] = ap (map change_in) did.1 in
-    let kept : IsKept new = record {
-      schema = did.0;
-      rows = did.1 ∙ ap (map row_of) (sym rows);
+    record {
+      schema_is = ap (λ (d : Database). d.schema) now ∙ schema;
       settled = w.shown.committed_is ∙ rw was.0.autocommit refl;
       autocommit = w.shown.mode ∙ was.0.autocommit;
       is_open = w.shown.is_open;
-    } in
-    (record { autocommit = kept.autocommit; rows = λ _. (kept, refl) }, rows)
+      objects = ap (λ (d : Database). d.trees 0) now ∙ subst (λ s. first.0.trees (next_tree s) ≡ []) has made.empty;
+    }
+
+pub makes_index : (old new : State) (count : ℕ) → IsMade object_schema old → Executes index_text [] old new (Ok count) → IsMade indexed_schema new
+makes_index old new count was h =
+    let has = was.schema_is in
+    let w = subst (λ t. Writes old new None (CreateIndex 0) t [] count) index_is.1 (runs_as index_text [] old new object_schema has (CreateIndex 0) index_is.0 index_plain count h) in
+    let all = went (subst (λ s. Does old.step_limit (mode_of old) [] (record old.now { schema = s }) index_text None (CreateIndex 0) (Ok (w.tally, new.now))) has w.changed) in
+    let made = all.1 in
+    let both : Ok made.index ≡ Ok ended_index = sym made.defined ∙ index_is.2 in
+    let same : made.index ≡ ended_index = cc in
+    let schema : all.0.schema ≡ indexed_schema = made.is ∙ ap (indexed object_schema object_table) same in
+    let now : new.now ≡ all.0 = ap (λ (p : Tally × Database). p.1) (same_value all.2) in
+    record {
+      schema_is = ap (λ (d : Database). d.schema) now ∙ schema;
+      settled = w.shown.committed_is ∙ rw was.autocommit refl;
+      autocommit = w.shown.mode ∙ was.autocommit;
+      is_open = w.shown.is_open;
+      objects = ap (λ (d : Database). d.trees 0) now ∙ made.rows.0 ∙ was.objects;
+    }
+
+pub makes_marks : (old new : State) (count : ℕ) → IsMade indexed_schema old → Executes create_marks_text [] old new (Ok count) → IsMade the_schema new × (new.now.trees marks_tree ≡ [])
+makes_marks old new count was h =
+    let has = was.schema_is in
+    let w = subst (λ t. Writes old new None CreateTable t [] count) create_marks_is.1 (runs_as create_marks_text [] old new indexed_schema has CreateTable create_marks_is.0 create_marks_plain count h) in
+    let all = went w.changed in
+    let first = went all.1 in
+    let made = first.1 in
+    let both : Ok made.table ≡ Ok marks_table = sym made.defined ∙ create_marks_is.2 in
+    let same : made.table ≡ marks_table = cc in
+    let schema : first.0.schema ≡ the_schema = made.is ∙ ap (λ s. created s made.table) has ∙ ap (created indexed_schema) same in
+    let plain : lacks_sequence first.0.schema ≡ false = ap lacks_sequence schema in
+    let now : new.now ≡ first.0 = ap (λ (p : Tally × Database). p.1) (same_value all.2) ∙ same_value (rw plain at first.2) in
+    let kept : first.0.trees 0 ≡ old.now.trees 0 = (subst (λ s. KeepsRows s.tables old.now.trees first.0.trees) has made.others).0 in (
+      record {
+        schema_is = ap (λ (d : Database). d.schema) now ∙ schema;
+        settled = w.shown.committed_is ∙ rw was.autocommit refl;
+        autocommit = w.shown.mode ∙ was.autocommit;
+        is_open = w.shown.is_open;
+        objects = ap (λ (d : Database). d.trees 0) now ∙ kept ∙ was.objects;
+      },
+      ap (λ (d : Database). d.trees marks_tree) now ∙ subst (λ s. first.0.trees (next_tree s) ≡ []) has made.empty,
+    )
 
 -- ---- INSERT
 
@@ -65,78 +99,90 @@ either : (b : Bool) (x : Value) → cond b x x ≡ x
 either true x = refl
 either false x = refl
 
-cast_null : cast Integer Null ≡ Null
+pub cast_null : cast Integer Null ≡ Null
 unfolding unary
 cast_null = either _ Null
 
-cast_int : (n : ℕ) → cast Integer (Int (pos n)) ≡ Int (pos n)
+pub cast_int : (n : ℕ) → cast Integer (Int (pos n)) ≡ Int (pos n)
 unfolding unary
 cast_int n = either _ (Int (pos n))
 
-cast_body : (b : Option (List ℕ)) → cast Text (body_value b) ≡ body_value b
-cast_body None = refl
-cast_body (Some b) = refl
-
--- a row whose revision is the greatest goes to the end
-puts_last : (new : Change) (changes : List Change) → AreBelow new.revision changes → put_row (row_of new) (map row_of changes) ≡ map row_of (changes ++ new ∷ [])
+-- a row that began last goes to the end
+puts_last : (new : Span) (spans : List Span) → AreBelow new.first spans → put_row (row_of new) (map row_of spans) ≡ map row_of (spans ++ new ∷ [])
 puts_last new [] below = refl
-puts_last new (c ∷ changes) below =
-    let less = value_cmp-Int (pos c.revision) (pos new.revision) in
+puts_last new (s ∷ spans) below =
+    let less = value_cmp-Int (pos s.first) (pos new.first) in
     let before = below.0 in
-    rw less (rw (puts_last new changes below.1) (grind (arith, ints, nat_tests)))
+    rw less (rw (puts_last new spans below.1) (grind (arith, ints, nat_tests)))
 
--- the parameters that bind a change
-abbrev pub bound_change : Change → Row
-bound_change c = Int (pos c.revision) ∷ Int (pos c.key.kind) ∷ Words c.key.namespace ∷ Words c.key.name ∷ body_value c.body ∷ []
+abbrev pub begun : ℕ → Key → List ℕ → Span
+begun r k body = record { first = r; key = k; ended = None; gone = false; body = body }
 
-adds : (old new : State) (it : Change) (changes : List Change) (r : Result ℕ Error) → old.now.schema ≡ change_schema → old.now.trees 0 ≡ map row_of changes → AreBelow it.revision changes
-    → Executes insert_text (bound_change it) old new r → OnOk r (new.now.schema ≡ change_schema) × OnOk r (new.now.trees 0 ≡ map row_of (changes ++ it ∷ []))
-adds old new it changes (Err e) has was below h = (tt, tt)
-adds old new it changes (Ok count) has was below h =
-    let params = bound_change it in
+-- the parameters that bind a row which begins
+abbrev pub bound_row : ℕ → Key → List ℕ → Row
+bound_row r k body = Int (pos r) ∷ Int (pos k.kind) ∷ Words k.namespace ∷ Words k.name ∷ Words body ∷ []
+
+-- the table of the numbers, where it stands
+abbrev pub placed_marks : SqlTable
+placed_marks = record marks_table { tree = marks_tree }
+
+apart : marks_tree ≡ 0 → ⊥
+apart e = absurd (omega (arith, e))
+
+pub adds : (old new : State) (r : ℕ) (k : Key) (body : List ℕ) (st : Stored) (count : ℕ) → HasRows st old.now → AreBelow r st.spans → Executes insert_text (bound_row r k body) old new (Ok count)
+    → HasRows (record { spans = st.spans ++ begun r k body ∷ []; current = st.current; compacted = st.compacted }) new.now
+adds old new r k body st count was below h =
+    let it = begun r k body in
+    let params = bound_row r k body in
     let db = old.now.trees in
-    let command = Insert 0 (Values terms 6) in
-    let w = runs_as insert_text params old new change_schema has command insert_is insert_plain count h in
-    let text = statement_of insert_text (understood change_schema insert_text) in
-    let done = went (subst (λ s. Does old.step_limit (mode_of old) params (record old.now { schema = s }) text None command (Ok (w.tally, new.now))) has w.changed) in
+    let command = Insert 0 (Values terms 8) in
+    let w = runs_as insert_text params old new the_schema was.schema command insert_is insert_plain count h in
+    let text = statement_of insert_text (understood the_schema insert_text) in
+    let done = went (subst (λ s. Does old.step_limit (mode_of old) params (record old.now { schema = s }) text None command (Ok (w.tally, new.now))) was.schema w.changed) in
     let now = ap (λ (p : Tally × Database). p.1) (same_value (went (went done.2).2).2) in
     let given = went done.1 in
     let written = went (went given.2).2 in
     let counted = went written.2 in
     let trees : done.0.trees ≡ written.0 = ap (λ (it : Written). it.trees) (same_value counted.2) ∙ same_value counted.1 in
-    let rows = (one_step change_schema _ db written.0 (edit_of db change_table [] Chosen 0 given.0) refl written.1).rows in
-    let edit : edited db (edit_of db change_table [] Chosen 0 given.0) ≡ map row_of (changes ++ it ∷ []) = ap (λ all. edited db (edit_of db change_table [] Chosen 0 all)) given.1.1 ∙ rw (was, cast_null, cast_int it.revision, cast_int it.key.kind, cast_body) (puts_last it changes below) in
-    (ap (λ (d : Database). d.schema) now, ap (λ (d : Database). d.trees 0) now ∙ ap (λ (t : Trees). t 0) trees ∙ rows ∙ edit)
+    let step = one_step the_schema _ db written.0 (edit_of db object_table [] Chosen 0 given.0) refl written.1 in
+    let edit : edited db (edit_of db object_table [] Chosen 0 given.0) ≡ map row_of (st.spans ++ it ∷ []) =
+    ap (λ all. edited db (edit_of db object_table [] Chosen 0 all)) given.1.1 ∙ rw (was.rows, cast_null, cast_int r, cast_int k.kind, cast_int 0) (puts_last it st.spans below) in
+    record {
+      schema = ap (λ (d : Database). d.schema) now;
+      rows = ap (λ (d : Database). d.trees 0) now ∙ ap (λ (t : Trees). t 0) trees ∙ step.rows ∙ edit;
+      marks = ap (λ (d : Database). d.trees marks_tree) now ∙ ap (λ (t : Trees). t marks_tree) trees ∙ step.tables.1.0 apart ∙ was.marks;
+    }
 
--- what INSERT leaves
-added : (old new : State) (it : Change) (count : ℕ) → IsKept old → AreBelow it.revision (changes_in old) → Executes insert_text (bound_change it) old new (Ok count)
-    → IsKept new × (changes_in new ≡ changes_in old ++ it ∷ [])
-added old new it count kept below h =
-    let w = runs_as insert_text (bound_change it) old new change_schema kept.schema (Insert 0 (Values terms 6)) insert_is insert_plain count h in
-    let did = adds old new it (changes_in old) (Ok count) kept.schema kept.rows below h in
-    let rows : changes_in new ≡ changes_in old ++ it ∷ [] = ap (map change_in) did.1 ∙ map_back row_of change_in back (changes_in old ++ it ∷ []) in (
-      record {
-        schema = did.0;
-        rows = did.1 ∙ ap (map row_of) (sym rows);
-        settled = w.shown.committed_is ∙ rw kept.autocommit refl;
-        autocommit = w.shown.mode ∙ kept.autocommit;
-        is_open = w.shown.is_open;
-      },
-      rows,
+-- the first row of the two numbers
+pub begins_marks : (old new : State) (r count : ℕ) → IsMade the_schema old → old.now.trees marks_tree ≡ [] → Executes begin_text (Int (pos r) ∷ []) old new (Ok count)
+    → Keeps (record { spans = []; current = r; compacted = r }) new × (stored_in new.now ≡ record { spans = []; current = r; compacted = r })
+begins_marks old new r count was none h =
+    let st : Stored = record { spans = []; current = r; compacted = r } in
+    let params = Int (pos r) ∷ [] in
+    let db = old.now.trees in
+    let command = Insert 1 (Values begin_terms 3) in
+    let w = runs_as begin_text params old new the_schema was.schema_is command begin_is begin_plain count h in
+    let text = statement_of begin_text (understood the_schema begin_text) in
+    let done = went (subst (λ s. Does old.step_limit (mode_of old) params (record old.now { schema = s }) text None command (Ok (w.tally, new.now))) was.schema_is w.changed) in
+    let now = ap (λ (p : Tally × Database). p.1) (same_value (went (went done.2).2).2) in
+    let given = went done.1 in
+    let written = went (went given.2).2 in
+    let counted = went written.2 in
+    let trees : done.0.trees ≡ written.0 = ap (λ (it : Written). it.trees) (same_value counted.2) ∙ same_value counted.1 in
+    let step = one_step the_schema _ db written.0 (edit_of db placed_marks [] Chosen 0 given.0) refl written.1 in
+    let edit : edited db (edit_of db placed_marks [] Chosen 0 given.0) ≡ marks_row r r ∷ [] =
+    ap (λ all. edited db (edit_of db placed_marks [] Chosen 0 all)) given.1.1 ∙ rw (none, cast_null, cast_int r) refl in
+    let has : HasRows st new.now = record {
+      schema = ap (λ (d : Database). d.schema) now;
+      rows = ap (λ (d : Database). d.trees 0) now ∙ ap (λ (t : Trees). t 0) trees ∙ step.tables.0 (λ e. apart (sym e)) ∙ was.objects;
+      marks = ap (λ (d : Database). d.trees marks_tree) now ∙ ap (λ (t : Trees). t marks_tree) trees ∙ step.rows ∙ edit;
+    } in (
+      record { autocommit = w.shown.mode ∙ was.autocommit; rows = λ live. (has, w.shown.committed_is ∙ rw was.autocommit refl) },
+      stored_back st new.now has,
     )
 
-pub put_adds : (old new : State) (it : Change) (count : ℕ) (cs : List Change) → Keeps cs old → AreBelow it.revision cs → Executes insert_text (bound_change it) old new (Ok count)
-    → Keeps (changes_in new) new × (changes_in new ≡ cs ++ it ∷ [])
-put_adds old new it count cs keeps below h =
-    let was = keeps.rows (open_if_ran old new insert_text (bound_change it) count keeps.autocommit h) in
-    let all = added old new it count was.0 (subst (AreBelow it.revision) (sym was.1) below) h in
-    (record { autocommit = all.0.autocommit; rows = λ _. (all.0, refl) }, all.1 ∙ ap (λ l. l ++ it ∷ []) was.1)
+-- ---- parameters
 
 pub bound_body : (b : Option (Bor (List ℕ))) → bound_value (or_null (λ s. Words s.now) b) ≡ body_value (option_map (λ s. s.now) b)
 bound_body None = refl
 bound_body (Some s) = refl
-
-pub raw_change : (n kind : ℕ) (namespace name : List ℕ) (b : Option (Bor (List ℕ))) → n < 2 ^ 63
-    → Int (to_z w64 n) ∷ Int (pos kind) ∷ Words namespace ∷ Words name ∷ bound_value (or_null (λ s. Words s.now) b) ∷ []
-    ≡ Int (pos n) ∷ Int (pos kind) ∷ Words namespace ∷ Words name ∷ body_value (option_map (λ s. s.now) b) ∷ []
-raw_change n kind namespace name b fits = rw (to_z_pos w64 n fits, bound_body b) refl

@@ -12,7 +12,7 @@ pub map-reverse : {X Y : Type 0} (f : X → Y) (xs : List X) → map f (reverse 
 map-reverse f [] = refl
 map-reverse f (x ∷ xs) = ap (map f) (reverse-cons x xs) ∙ map-append f (reverse xs) (x ∷ []) ∙ ap (λ l. l ++ f x ∷ []) (map-reverse f xs) ∙ sym (reverse-cons (f x) (map f xs))
 
-all-reverse : {X : Type 0} (P : X → Type 0) (ys : List X) → AllByRecursion P ys → AllByRecursion P (reverse ys)
+pub all-reverse : {X : Type 0} (P : X → Type 0) (ys : List X) → AllByRecursion P ys → AllByRecursion P (reverse ys)
 all-reverse P [] h = tt
 all-reverse P (y ∷ ys) h = rw reverse-cons (all-append P (reverse ys) (y ∷ []) (all-reverse P ys h.1) (h.0, tt))
 

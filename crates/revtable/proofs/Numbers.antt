@@ -1,37 +1,32 @@
 -- The two numbers beside the rows.
-use Rattle.std.proofs.Common.{◌≡◌, ℕ, zero, suc, ◌<◌, ◌≤◌, Bool, true, false, cond, List, [], ◌∷◌, map, slice_get, refl, sym, ap, ap₂, subst, ◌∙◌, Option, Some, None, arith, option_and_then, min, pos, is_some, unwrap_or}
+use Rattle.std.proofs.Common.{◌≡◌, ℕ, zero, suc, ◌<◌, ◌≤◌, Bool, true, false, cond, List, [], ◌∷◌, map, slice_get, refl, sym, ap, ap₂, subst, ◌∙◌, Option, Some, None, arith, option_map, min, pos, is_some, unwrap_or}
 use Rattle.std.proofs.Common.{leb-true, leb-false, le-leb, ltb-true, ltb-false, lt-ltb, le-ltb, zero-le}
 use Rattle.std.proofs.lemmas.Bool.{lt-leb}
 use Rattle.std.specs.Prelude.{nat_le, nat_lt, take, ◌+◌, ◌-◌, length}
-use Rattle.std.specs.Option.{option_to_list}
 use Rattle.std.specs.List.{filter}
 use Rattle.std.specs.FinMap as fin
+use Rattle.std.specs.FinMap.Entries.{find}
 use Rattle.sqlite.specs.Order.{Row, column}
 use Rattle.sqlite.specs.declared.types.Value.TheVariants.{Int}
-use Rattle.sqlite_keyed.proofs.ListLemmas.{all_weaker, map_back}
-use Rattle.revtable.specs.Asked.{as_change, last_change}
-use Rattle.revtable.specs.Decoded.{change_shown, entry_shown}
-use Rattle.history.specs.History.{Key, Change, Object, Objects, History, IsHistory, IsRising, key_cmp, last_revision, changed, later, left_by, object_by, put_or_remove, state_at, up_to}
+use Rattle.sqlite_keyed.proofs.ListLemmas.{all_weaker, filter-filter, map_back}
+use Rattle.revtable.specs.Asked.{as_change, under}
+use Rattle.revtable.specs.Decoded.{entry_shown, object_shown}
+use Rattle.history.specs.History.{Key, Change, Object, Objects, History, IsHistory, IsRising, key_cmp, last_revision, changed, is_same_key, later, left_by, put_or_remove, state_at, up_to}
 use Rattle.history.specs.Kept.{IsPruned, with_body}
-use Rattle.history.specs.Page.{changes_within, listed, page, picked}
-use Rattle.revtable.specs.Rows.{IsOrdered, AreBelow, shown, body_value, body_in, number_in}
+use Rattle.history.specs.Page.{changes_within, is_within, listed, page, picked}
+use Rattle.sqlite.specs.Tree.{IsAscending}
+use Rattle.revtable.specs.Rows.{shown, number_in}
 use Rattle.history.proofs.Keys.{key_cmp_total}
-use Rattle.revtable.proofs.Last.{get_last}
-use Rattle.history.proofs.Revisions.{all_above, all_within, rising-filter}
+use Rattle.history.proofs.Lists.{filter_turned}
+use Rattle.history.proofs.Revisions.{all_above, all_within, rising-filter, up_to-below}
 use Rattle.history.proofs.Standing.{filter_same_on}
 
-pub ascending : (lo top : ℕ) (cs : List Change) → IsRising lo cs top → IsOrdered cs
+pub ascending : (lo top : ℕ) (cs : List Change) → IsRising lo cs top → IsAscending (λ a b. a.revision < b.revision) cs
 ascending lo top [] rise = tt
 ascending lo top (c ∷ cs) rise = (all_above c.revision top cs rise.1, ascending c.revision top cs rise.1)
 
-pub ordered : (h : History) → IsPruned h → IsOrdered h.changes
+pub ordered : (h : History) → IsPruned h → IsAscending (λ a b. a.revision < b.revision) h.changes
 ordered h p = ascending 0 h.current h.changes p.is.rising
-
-below_next : (h : History) → IsHistory h → AreBelow (suc h.current) h.changes
-below_next h p = all_weaker (λ c. c.revision ≤ h.current) (λ c. c.revision < suc h.current) (λ c (le : c.revision ≤ h.current). omega arith) h.changes (all_within 0 h.current h.changes p.rising)
-
-pub below_at : (h : History) (n : ℕ) → IsHistory h → n ≡ suc h.current → AreBelow n h.changes
-below_at h n p is = subst (λ m. AreBelow m h.changes) (sym is) (below_next h p)
 
 -- a revision past the current one counts as that
 pub up_to_min : (top r : ℕ) (cs : List Change) → IsRising 0 cs top → up_to (min r top) cs ≡ up_to r cs
@@ -64,28 +59,29 @@ span_min h from to is =
 pub state_min : (h : History) (r : ℕ) → IsHistory h → state_at h.changes (min r h.current) ≡ state_at h.changes r
 state_min h r is = ap (changed fin.empty) (up_to_min h.current r h.changes is.rising)
 
--- ---- the row of the last change
+-- ---- the row under a key
 
-abbrev pub left_shown : Row → Option Object
-left_shown row = object_by (change_shown row).revision (change_shown row).body
+abbrev pub object_first : List Row → Option Object
+object_first rows = option_map object_shown (slice_get rows 0)
 
-body_back : (b : Option (List ℕ)) → body_in (body_value b) ≡ b
-body_back None = refl
-body_back (Some t) = refl
-
-pub shown_back : (c : Change) → change_shown (shown c) ≡ c
-shown_back c = rw (body_back c.body) refl
-
-pub first_left : (cs : List Change) (k : Key) (r : ℕ) (rows : List Row) → rows ≡ map shown (option_to_list (last_change k r cs)) → option_and_then left_shown (slice_get rows 0) ≡ fin.get (state_at cs r) k
-first_left cs k r rows is = ap (λ l. option_and_then left_shown (slice_get l 0)) is ∙ go (last_change k r cs) ∙ sym (get_last cs k r)
+found_under : (k : Key) (es : List (Key × Object)) → option_map (λ (e : Key × Object). e.1) (slice_get (filter (λ e. is_same_key k e.0) es) 0) ≡ find key_cmp k es
+found_under k [] = refl
+found_under k (e ∷ es) = go (is_same_key k e.0) (found_under k es)
   where
-    go : (o : Option Change) → option_and_then left_shown (slice_get (map shown (option_to_list o)) 0) ≡ option_and_then left_by o
-    go None = refl
-    go (Some c) = ap left_by (shown_back c)
+    go : (b : Bool) → option_map (λ (f : Key × Object). f.1) (slice_get (filter (λ f. is_same_key k f.0) es) 0) ≡ find key_cmp k es
+        → option_map (λ (f : Key × Object). f.1) (slice_get (cond b (e ∷ filter (λ f. is_same_key k f.0) es) (filter (λ f. is_same_key k f.0) es)) 0) ≡ cond b (Some e.1) (find key_cmp k es)
+    go true more = refl
+    go false more = more
 
-pub latest_is : (h : History) (k : Key) (r m : ℕ) (rows : List Row) → IsPruned h → m ≡ min r h.current → rows ≡ map shown (option_to_list (last_change k m h.changes))
-    → option_and_then left_shown (slice_get rows 0) ≡ fin.get (state_at h.changes r) k
-latest_is h k r m rows p is found = first_left h.changes k m rows found ∙ ap (λ n. fin.get (state_at h.changes n) k) is ∙ ap (λ s. fin.get s k) (state_min h r p.is)
+first_shown : (es : List (Key × Object)) → object_first (map (λ e. shown (as_change e)) es) ≡ option_map (λ (e : Key × Object). e.1) (slice_get es 0)
+first_shown [] = refl
+first_shown (e ∷ es) = refl
+
+pub latest_is : (h : History) (k : Key) (r m : ℕ) (rows : List Row) → IsPruned h → m ≡ min r h.current → rows ≡ map (λ e. shown (as_change e)) (under k (state_at h.changes m))
+    → object_first rows ≡ fin.get (state_at h.changes r) k
+latest_is h k r m rows p is found =
+    ap object_first found ∙ first_shown (under k (state_at h.changes m)) ∙ found_under k (fin.entries (state_at h.changes m)) ∙ sym (fin.get-entries (state_at h.changes m) k)
+    ∙ ap (λ n. fin.get (state_at h.changes n) k) is ∙ ap (λ s. fin.get s k) (state_min h r p.is)
 
 -- ---- how many there can be
 
@@ -179,14 +175,41 @@ pub at_whole : (h : History) (kind : ℕ) (ns : Option (List ℕ)) (after : Opti
     → page kind ns after most (state_at h.changes r) ≡ listed kind ns after (state_at h.changes r)
 at_whole h kind ns after r most p le = take_most most (listed kind ns after (state_at h.changes r)) (objects_few h r _ p.is) le
 
--- the rows of a span
-pub span_is : (h : History) (kind : ℕ) (ns : Option (List ℕ)) (from to most f t mx : ℕ) (rows : List Row) → IsPruned h → f ≡ min from h.current → t ≡ min to h.current → mx ≡ min most last_revision
-    → rows ≡ map shown (changes_within kind ns mx (up_to t (later f h.changes))) → map change_shown rows ≡ changes_within kind ns most (up_to to (later from h.changes))
-span_is h kind ns from to most f t mx rows p from_is to_is max_is found =
-    ap (map change_shown) found ∙ map_back shown change_shown shown_back (changes_within kind ns mx (up_to t (later f h.changes)))
-    ∙ ap₂ (λ a b. changes_within kind ns mx (up_to a (later b h.changes))) to_is from_is ∙ ap (changes_within kind ns mx) (span_min h from to p.is)
+-- the changes of a span, whose ends count as at most the current revision
+pub span_is : (h : History) (kind : ℕ) (ns : Option (List ℕ)) (from to most f t mx : ℕ) → IsPruned h → f ≡ min from h.current → t ≡ min to h.current → mx ≡ min most last_revision
+    → take mx (picked kind ns (up_to t (later f h.changes))) ≡ changes_within kind ns most (up_to to (later from h.changes))
+span_is h kind ns from to most f t mx p from_is to_is max_is =
+    ap₂ (λ a b. changes_within kind ns mx (up_to a (later b h.changes))) to_is from_is ∙ ap (changes_within kind ns mx) (span_min h from to p.is)
     ∙ ap (λ n. changes_within kind ns n (up_to to (later from h.changes))) max_is
     ∙ take_min most (picked kind ns (up_to to (later from h.changes))) (spans_few h from to _ p.is)
+
+pub up_rises : (lo t top : ℕ) (cs : List Change) → lo ≤ t → IsRising lo cs top → IsRising lo (up_to t cs) t
+up_rises lo t top [] le rise = le
+up_rises lo t top (c ∷ cs) le rise = go (nat_le c.revision t) refl (λ h. up_rises c.revision t top cs h rise.1)
+  where
+    go : (b : Bool) → nat_le c.revision t ≡ b → (c.revision ≤ t → IsRising c.revision (up_to t cs) t) → IsRising lo (cond b (c ∷ up_to t cs) (up_to t cs)) t
+    go true e more = (rise.0, more (leb-true _ _ e))
+    go false e more = let a : t < c.revision = leb-false _ _ e in subst (λ l. IsRising lo l t) (sym (up_to-below c.revision t top cs (omega arith) rise.1)) le
+
+-- the changes of a span
+pub span_rises : (h : History) (kind : ℕ) (ns : Option (List ℕ)) (f t : ℕ) → IsPruned h → IsRising 0 (picked kind ns (up_to t (later f h.changes))) t
+span_rises h kind ns f t p = rising-filter (λ c. is_within kind ns c.key) 0 t _ (up_rises 0 t h.current (later f h.changes) zero-le (rising-filter (λ c. nat_lt f c.revision) 0 h.current h.changes p.is.rising))
+
+-- those up to an earlier revision that pass a test
+pub span_parts : (p : Change → Bool) (kind : ℕ) (ns : Option (List ℕ)) (t to : ℕ) (cs : List Change) → t ≤ to → picked kind ns (filter p (up_to t cs)) ≡ filter p (up_to t (picked kind ns (up_to to cs)))
+span_parts p kind ns t to cs le =
+    filter_turned (λ c. is_within kind ns c.key) p (up_to t cs)
+    ∙ ap (λ l. filter p (filter (λ c. is_within kind ns c.key) l)) (sym (filter_filter cs))
+    ∙ ap (filter p) (filter_turned (λ c. is_within kind ns c.key) (λ c. nat_le c.revision t) (up_to to cs))
+  where
+    within : (n : ℕ) → nat_le n t ≡ true → nat_le n to ≡ true
+    within n e = let a : n ≤ t = leb-true _ _ e in le-leb n to (omega arith)
+
+    filter_filter : (ds : List Change) → up_to t (up_to to ds) ≡ up_to t ds
+    filter_filter ds = filter-filter (λ c. nat_le c.revision t) (λ c. nat_le c.revision to) (λ c. within c.revision) ds
+
+pub span_part : (p : Change → Bool) (kind : ℕ) (ns : Option (List ℕ)) (to : ℕ) (cs : List Change) → picked kind ns (filter p (up_to to cs)) ≡ filter p (picked kind ns (up_to to cs))
+span_part p kind ns to cs = filter_turned (λ c. is_within kind ns c.key) p (up_to to cs)
 
 pub span_whole : (h : History) (kind : ℕ) (ns : Option (List ℕ)) (from to most : ℕ) → IsPruned h → last_revision ≤ most
     → changes_within kind ns most (up_to to (later from h.changes)) ≡ picked kind ns (up_to to (later from h.changes))

@@ -1,9 +1,10 @@
 -- What a statement that fails leaves, and what a query leaves.
-use Rattle.std.proofs.Common.{◌≡◌, ◌⊎◌, inl, inr, ℕ, List, map, false, Some, None, Ok, Err, Result, IfOk, refl, sym, ap, subst, ◌∙◌, Option, IsTrue, true≢false}
+use Rattle.std.proofs.Common.{◌≡◌, ◌⊎◌, inl, inr, ℕ, pos, List, [], map, Bool, true, false, Some, None, Ok, Err, Result, IfOk, refl, sym, ap, ap₂, subst, ◌∙◌, Option, IsTrue, true≢false, slice_get, unwrap_or}
 use Rattle.std.proofs.lemmas.Bool.{cases_Bool}
 use Rattle.std.specs.Prelude.{Vec, IfErr}
 use Rattle.std.specs.declared.alloc.Global.{Global}
-use Rattle.sqlite.specs.Order.{Row}
+use Rattle.sqlite.specs.Order.{Row, column}
+use Rattle.sqlite.specs.declared.types.Value.TheVariants.{Int}
 use Rattle.sqlite.specs.declared.error.Error.{Error}
 use Rattle.sqlite.specs.Effect.{Database, Reads}
 use Rattle.sqlite_resolve.specs.declared.compiled.Compiled.{Compiled}
@@ -14,8 +15,9 @@ use Rattle.sqlite.specs.Listing.{understood, reads_listing}
 use Rattle.sqlite.specs.State.{State, Executes, Shown, IsUnchanged, FailsToQuery, FailsToShow, ShowsRows, Fails, IsNotRun, IsRolledBack, ExecutesIn, RunsCommand, Runs, ReleasesAt, shows_rows}
 use Rattle.sqlite.proofs.Callers.{IsPlain, command_of, reads_as}
 use Rattle.sqlite_resolve.specs.declared.error.CompileError.{CompileError}
-use Rattle.history.specs.History.{Change}
-use Rattle.revtable.specs.Rows.{change_schema, row_of, change_in, changes_in, body_value, body_in, command_in, IsAnswer, IsKept, Keeps, IsSame}
+use Rattle.sqlite_keyed.proofs.ListLemmas.{map_back}
+use Rattle.revtable.specs.Rows.{the_schema, row_of, span_in, stored_in, number_in, number_or_none, number_value, flag, flag_in, command_in, HasRows, IsAnswer, Keeps}
+use Rattle.revtable.specs.Spans.{Span, Stored}
 
 -- a part that gave a value did not stop on the way
 pub went : {B E R : Type 0} {b : B} {Stops : E → Type 0} → ((stop : E) × Stops stop × (Ok b ≡ Err stop)) ⊎ R → R
@@ -106,76 +108,92 @@ module _ (old new : State) where
     | inr runs ↦ open_if_run h.0.returning h.0.command _ _ count auto (rw runs at h.2)
   ]
 
-same_if_unchanged : (old new : State) → IsKept old → IsUnchanged old new → IsSame old new
-same_if_unchanged old new kept u = record { now = u.0.now_is; committed = u.0.committed_is; autocommit = u.0.mode ∙ kept.autocommit }
+-- ---- what a call leaves as it was
 
-same_if_failed : (old new : State) (big : Type 0) (e : Error) → IsKept old → IsTrue new.is_open → Fails old new big e → IsSame old new
-same_if_failed old new big e kept live f =
-    let undone = f.3.undone live in
-    record { now = undone.0 ∙ kept.settled; committed = undone.1; autocommit = f.3.autocommit }
+pub record IsSame (old new : State) : Type 0 where
+  pub now : new.now ≡ old.now
+  pub committed : new.committed ≡ old.committed
+  pub autocommit : new.in_transaction ≡ false
 
-not_run : (old new : State) (sql : List ℕ) (params : Row) (e : Error) → IsKept old → IsTrue new.is_open → IsNotRun old new sql params e → IsSame old new
-unfolding IsNotRun
-not_run old new sql params e kept live (inl h) = same_if_unchanged old new kept h.1
-not_run old new sql params e kept live (inr h) = same_if_failed old new ⊥ e kept live h
+pub record IsKept (st : Stored) (s : State) : Type 0 where
+  pub has : HasRows st s.now
+  pub settled : s.committed ≡ s.now
+  pub autocommit : s.in_transaction ≡ false
+  pub is_open : IsTrue s.is_open
 
--- a statement that is refused or fails leaves everything as it was
-refused : (old new : State) (sql : List ℕ) (params : Row) (e : Error) → IsKept old → IsTrue new.is_open → Executes sql params old new (Err e) → IsSame old new
-unfolding ExecutesIn
-refused old new sql params e kept live (inl h) = not_run old new sql params e kept live h
-refused old new sql params e kept live (inr h) = elim (cases_Bool (shows_rows false h.0)) [
-  | inl shows ↦ same_if_unchanged old new kept (rw shows at h.2).1
-  | inr runs ↦ elim (rw runs at h.2) [ inl r ↦ same_if_unchanged old new kept r.1 | inr f ↦ same_if_failed old new _ e kept live f ]
-]
+pub kept_by : (st : Stored) (s : State) → Keeps st s → IsTrue s.is_open → IsKept st s
+kept_by st s keeps live = let was = keeps.rows live in record { has = was.0; settled = was.1; autocommit = keeps.autocommit; is_open = live }
 
-pub same_kept : (old new : State) → IsKept old → IsTrue new.is_open → IsSame old new → IsKept new × (changes_in new ≡ changes_in old)
-same_kept old new kept live same =
-    let rows : changes_in new ≡ changes_in old = ap (λ (d : Database). map change_in (d.trees 0)) same.now in (
-      record {
-        schema = ap (λ (d : Database). d.schema) same.now ∙ kept.schema;
-        rows = ap (λ (d : Database). d.trees 0) same.now ∙ kept.rows ∙ ap (map row_of) (sym rows);
-        settled = same.committed ∙ kept.settled ∙ sym same.now;
-        autocommit = same.autocommit;
-        is_open = live;
-      },
-      rows,
-    )
+module _ (st : Stored) (old new : State) (kept : IsKept st old) where
+  pub same_if_unchanged : IsUnchanged old new → IsSame old new
+  same_if_unchanged u = record { now = u.0.now_is; committed = u.0.committed_is; autocommit = u.0.mode ∙ kept.autocommit }
 
-pub refused_keeps : (old new : State) (sql : List ℕ) (params : Row) (e : Error) → IsKept old → IsTrue new.is_open → Executes sql params old new (Err e) → IsKept new × (changes_in new ≡ changes_in old)
-refused_keeps old new sql params e kept live h = same_kept old new kept live (refused old new sql params e kept live h)
+  same_if_failed : (big : Type 0) (e : Error) → IsTrue new.is_open → Fails old new big e → IsSame old new
+  same_if_failed big e live f =
+      let undone = f.3.undone live in
+      record { now = undone.0 ∙ kept.settled; committed = undone.1; autocommit = f.3.autocommit }
 
-body_back : (b : Option (List ℕ)) → body_in (body_value b) ≡ b
-body_back None = refl
-body_back (Some t) = refl
+  not_run : (sql : List ℕ) (params : Row) (e : Error) → IsTrue new.is_open → IsNotRun old new sql params e → IsSame old new
+  unfolding IsNotRun
+  not_run sql params e live (inl h) = same_if_unchanged h.1
+  not_run sql params e live (inr h) = same_if_failed ⊥ e live h
 
-pub back : (c : Change) → change_in (row_of c) ≡ c
-back c = rw (body_back c.body) refl
+  -- a statement that is refused or fails leaves everything as it was
+  refused : (sql : List ℕ) (params : Row) (e : Error) → IsTrue new.is_open → Executes sql params old new (Err e) → IsSame old new
+  unfolding ExecutesIn
+  refused sql params e live (inl h) = not_run sql params e live h
+  refused sql params e live (inr h) = elim (cases_Bool (shows_rows false h.0)) [
+    | inl shows ↦ same_if_unchanged (rw shows at h.2).1
+    | inr runs ↦ elim (rw runs at h.2) [ inl r ↦ same_if_unchanged r.1 | inr f ↦ same_if_failed _ e live f ]
+  ]
+
+  pub same_keeps : IsSame old new → HasRows st new.now × (new.committed ≡ new.now)
+  same_keeps same = (subst (HasRows st) (sym same.now) kept.has, same.committed ∙ kept.settled ∙ sym same.now)
+
+-- ---- the rows say what stands
+
+number_back : (o : Option ℕ) → number_or_none (number_value o) ≡ o
+number_back None = refl
+number_back (Some n) = refl
+
+flag_back : (b : Bool) → flag_in (Int (pos (flag b))) ≡ b
+flag_back true = refl
+flag_back false = refl
+
+back : (s : Span) → span_in (row_of s) ≡ s
+back s = rw (number_back s.ended, flag_back s.gone) refl
+
+abbrev stored_by : List Row → List Row → Stored
+stored_by rows marks = record { spans = map span_in rows; current = number_in (column (unwrap_or (slice_get marks 0) []) 0); compacted = number_in (column (unwrap_or (slice_get marks 0) []) 2) }
+
+pub stored_back : (st : Stored) (db : Database) → HasRows st db → stored_in db ≡ st
+stored_back st db h = ap₂ stored_by h.rows h.marks ∙ ap (λ l. record { spans = l; current = st.current; compacted = st.compacted }) (map_back row_of span_in back st.spans)
 
 -- ---- queries
 
-module _ (sql : List ℕ) (plain : IsPlain (understood change_schema sql)) (old new : State) (params : Row) (kept : IsKept old) where
+module _ (sql : List ℕ) (plain : IsPlain (understood the_schema sql)) (old new : State) (params : Row) (st : Stored) (kept : IsKept st old) where
   query_failed : (e : Error) → IsTrue new.is_open → FailsToQuery sql params old new e → IsSame old new
   unfolding FailsToQuery
-  query_failed e live (inl h) = not_run old new sql params e kept live h
+  query_failed e live (inl h) = not_run st old new kept sql params e live h
   query_failed e live (inr h) =
-      let known = sym h.1.is ∙ ap (λ s. understood s sql) kept.schema in
+      let known = sym h.1.is ∙ ap (λ s. understood s sql) kept.has.schema in
       let bare = subst IsPlain (sym known) plain in
       let f = subst (FailsToShow old new sql h.0 _ e) bare.0 h.2 in
-      same_if_unchanged old new kept f.3
+      same_if_unchanged st old new kept f.3
 
   query_shown : (rows : List Row) → Shown sql params old new rows → IsSame old new
   unfolding Shown
   query_shown rows h =
-      let known = sym h.1.is ∙ ap (λ s. understood s sql) kept.schema in
+      let known = sym h.1.is ∙ ap (λ s. understood s sql) kept.has.schema in
       let bare = subst IsPlain (sym known) plain in
       let s = subst (ShowsRows old new sql h.0 _ rows) bare.0 h.2 in
-      same_if_unchanged old new kept s.3
+      same_if_unchanged st old new kept s.3
 
   -- a query leaves everything as it was, whatever it answers
-  pub after_query : (r : Result (Vec Row Global) Error) → IsTrue new.is_open → IfOk r (λ rows. Shown sql params old new rows.items) → IfErr r (FailsToQuery sql params old new)
-      → IsKept new × (changes_in new ≡ changes_in old)
-  after_query (Ok rows) live ok err = same_kept old new kept live (query_shown rows.items ok)
-  after_query (Err e) live ok err = same_kept old new kept live (query_failed e live err)
+  after_query : (r : Result (Vec Row Global) Error) → IsTrue new.is_open → IfOk r (λ rows. Shown sql params old new rows.items) → IfErr r (FailsToQuery sql params old new)
+      → HasRows st new.now × (new.committed ≡ new.now)
+  after_query (Ok rows) live ok err = same_keeps st old new kept (query_shown rows.items ok)
+  after_query (Err e) live ok err = same_keeps st old new kept (query_failed e live err)
 
 pub when_ok : {A E : Type 0} (r : Result A E) (P Q : A → Type 0) → ((a : A) → P a → Q a) → IfOk r P → IfOk r Q
 when_ok (Ok a) P Q f h = f a h
@@ -188,47 +206,29 @@ goes_asked sql old new params (Ok rows) ok err = (open_if_shown old new sql para
 goes_asked sql old new params (Err e) ok err = goes_unanswered old new sql params e err
 
 -- a query leaves what the connection keeps
-pub asked_keeps : (sql : List ℕ) → IsPlain (understood change_schema sql) → (old new : State) (params : Row) (cs : List Change) (r : Result (Vec Row Global) Error) → Keeps cs old
-    → IfOk r (λ rows. Shown sql params old new rows.items) → IfErr r (FailsToQuery sql params old new) → Keeps cs new
-asked_keeps sql plain old new params cs r keeps ok err =
+pub asked_keeps : (sql : List ℕ) → IsPlain (understood the_schema sql) → (old new : State) (params : Row) (st : Stored) (r : Result (Vec Row Global) Error) → Keeps st old
+    → IfOk r (λ rows. Shown sql params old new rows.items) → IfErr r (FailsToQuery sql params old new) → Keeps st new
+asked_keeps sql plain old new params st r keeps ok err =
     let goes = goes_asked sql old new params r ok err in
-    record {
-      autocommit = goes.autocommit keeps.autocommit;
-      rows = λ live.
-          let was = keeps.rows (goes.was_open live) in
-          let all = after_query sql plain old new params was.0 r live ok err in
-          (all.0, all.1 ∙ was.1);
-    }
+    record { autocommit = goes.autocommit keeps.autocommit; rows = λ live. after_query sql plain old new params st (kept_by st old keeps (goes.was_open live)) r live ok err }
 
 pub same_command : (r : Result Compiled CompileError) → command_of r ≡ command_in r
 same_command (Ok c) = refl
 same_command (Err e) = refl
 
 -- an answer is one to the rows that the connection keeps
-pub shows : (sql : List ℕ) → IsPlain (understood change_schema sql) → reads_listing change_schema sql ≡ false → (old new : State) (params : Row) (cs : List Change) (r : Result (Vec Row Global) Error) → Keeps cs old
-    → IfOk r (λ rows. Shown sql params old new rows.items) → IfOk r (λ rows. IsAnswer sql params cs rows.items)
-shows sql plain unlisted old new params cs r keeps ok = when_ok r _ _ (λ rows h.
-    let was = keeps.rows (open_if_shown old new sql params rows.items h).0 in (
+pub shows : (sql : List ℕ) → IsPlain (understood the_schema sql) → reads_listing the_schema sql ≡ false → (old new : State) (params : Row) (st : Stored) (r : Result (Vec Row Global) Error) → Keeps st old
+    → IfOk r (λ rows. Shown sql params old new rows.items) → IfOk r (λ rows. IsAnswer sql params st rows.items)
+shows sql plain unlisted old new params st r keeps ok = when_ok r _ _ (λ rows h.
+    let was = (keeps.rows (open_if_shown old new sql params rows.items h).0).0 in (
       old.now,
-      was.0.rows ∙ ap (map row_of) was.1,
-      subst (λ k. Reads k old.now params rows.items) (same_command (understood change_schema sql)) (reads_as sql params old new change_schema was.0.schema _ refl plain unlisted rows.items h),
+      was,
+      subst (λ k. Reads k old.now params rows.items) (same_command (understood the_schema sql)) (reads_as sql params old new the_schema was.schema _ refl plain unlisted rows.items h),
     )) ok
 
--- what a command finds of the rows that keep the changes
-pub answered : {E : Type 0} (sql : List ℕ) (command : Command) (params : Row) (cs : List Change) (r : Result (Vec Row Global) E) (found : List Row) → command_of (understood change_schema sql) ≡ command
-    → ((db : Database) (rows : List Row) → db.trees 0 ≡ map row_of cs → Reads command db params rows → rows ≡ found)
-    → IfOk r (λ rows. IsAnswer sql params cs rows.items) → IfOk r (λ rows. rows.items ≡ found)
-answered sql command params cs r found is finds ok =
-    when_ok r _ _ (λ rows h. finds h.0 rows.items h.1 (subst (λ k. Reads k h.0 params rows.items) (sym (same_command (understood change_schema sql)) ∙ is) h.2)) ok
-
--- a statement that is refused or fails leaves what the connection keeps
-pub refused_still : (old new : State) (sql : List ℕ) (params : Row) (e : Error) (cs : List Change) → Keeps cs old → Executes sql params old new (Err e) → Keeps cs new
-refused_still old new sql params e cs keeps h =
-    let goes = goes_refused old new sql params e h in
-    record {
-      autocommit = goes.autocommit keeps.autocommit;
-      rows = λ live.
-          let was = keeps.rows (goes.was_open live) in
-          let all = refused_keeps old new sql params e was.0 live h in
-          (all.0, all.1 ∙ was.1);
-    }
+-- what a command finds of the rows that stand
+pub answered : {E : Type 0} (sql : List ℕ) (command : Command) (params : Row) (st : Stored) (r : Result (Vec Row Global) E) (found : List Row) → command_of (understood the_schema sql) ≡ command
+    → ((db : Database) (rows : List Row) → HasRows st db → Reads command db params rows → rows ≡ found)
+    → IfOk r (λ rows. IsAnswer sql params st rows.items) → IfOk r (λ rows. rows.items ≡ found)
+answered sql command params st r found is finds ok =
+    when_ok r _ _ (λ rows h. finds h.0 rows.items h.1 (subst (λ k. Reads k h.0 params rows.items) (sym (same_command (understood the_schema sql)) ∙ is) h.2)) ok

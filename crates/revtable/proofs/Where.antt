@@ -1,36 +1,51 @@
--- What the tests of WHERE say of a change.
-use Rattle.std.proofs.Common.{◌≡◌, ℕ, pos, List, [], ◌∷◌, ◌++◌, Bool, true, false, not, ◌&&◌, ◌||◌, refl, ap, ◌∙◌, arith, Option, Some, None, is_some, unwrap_or, is_eq, min, int_cmp, Ordering, Less, Equal, Greater, cond, length, suc, zero, filter, ◌==◌}
+-- What the tests of WHERE say of a row.
+use Rattle.std.proofs.Common.{◌≡◌, ℕ, pos, List, [], ◌∷◌, ◌++◌, Bool, true, false, ◌&&◌, ◌||◌, refl, ap, ◌∙◌, sym, arith, Option, Some, None, unwrap_or, is_eq, int_cmp, Ordering, Less, Equal, Greater, ◌==◌}
 use Rattle.std.specs.Prelude.{nat_lt, nat_le, is_none}
-use Rattle.std.specs.Ordering.{int_eq, is_gt, is_ge, is_le, is_lt, nat_cmp, ordering_then}
-use Rattle.std.specs.List.{list_any, list_all}
-use Rattle.std.specs.Cmp.{eq_by_cmp_equiv}
+use Rattle.std.specs.Ordering.{is_gt, is_ge, is_le, nat_cmp, ordering_then}
+use Rattle.std.specs.List.{list_all}
 use Rattle.std.proofs.lemmas.Int.{ints}
 use Rattle.std.proofs.lemmas.Bool.Decides.{nat_tests}
 use Rattle.std.proofs.lemmas.Cmp.{tied_itself}
 use Rattle.sqlite.specs.declared.types.Value.{Value}
 use Rattle.sqlite.specs.declared.types.Value.TheVariants.{Null, Int, Text as Words}
 use Rattle.sqlite.specs.Collation.TheVariants.{Binary}
-use Rattle.sqlite_sql.specs.declared.ops.CompareOp.TheVariants.{Eq, Ge, Le, Lt}
+use Rattle.sqlite_sql.specs.declared.ops.CompareOp.TheVariants.{Eq, Ge, Gt, Le}
 use Rattle.sqlite_sql.specs.declared.ops.BinaryOp.TheVariants.{Compare, Or, Is}
-use Rattle.sqlite_sql.specs.declared.ops.UnaryOp.TheVariants.{Not}
 use Rattle.sqlite_sql.specs.Term.{holds}
-use Rattle.sqlite_sql.specs.Ops.{binary, unary, truth, from_truth, or3, not3}
+use Rattle.sqlite_sql.specs.Ops.{binary, truth, from_truth, or3}
 use Rattle.sqlite_value.proofs.OrderLemmas.{value_cmp-Int, value_cmp-Text, value_cmp_total, value_cmp-apart}
 use Rattle.sqlite_value.specs.Order.{value_cmp, Row}
-use Rattle.history.specs.History.{Key, Change, text_cmp, is_same_key}
-use Rattle.revtable.specs.Asked.{is_last_of, is_superseded, is_past_name, is_in_one, is_from, low_of}
-use Rattle.history.specs.Kept.{replaces, stands}
-use Rattle.history.specs.Page.{is_within}
-use Rattle.revtable.specs.Rows.{row_of, body_value}
-use Rattle.history.proofs.Keys.{key_cmp_total}
-use Rattle.revtable.proofs.Texts.{last_query, span_query, at_query, delete_query, count_query, later_tests, in_tests, from_tests}
+use Rattle.history.specs.History.{Key, text_cmp, is_same_key}
+use Rattle.revtable.specs.Asked.{is_past_name, is_in_one, is_from, low_of}
+use Rattle.history.specs.Page.{is_in_namespace, is_within}
+use Rattle.revtable.specs.Rows.{row_of, body_value, flag, number_value}
+use Rattle.revtable.specs.Spans.{Span, is_ended, is_past, stands_at}
+use Rattle.revtable.proofs.Nexts.{same_key_symm}
+use Rattle.revtable.proofs.Texts.{last_query, newest_query, made_query, deleted_query, end_query, delete_query, in_tests, from_tests}
+
+-- each test, of the values that it compares
+abbrev passes : Value → Bool
+passes v = unwrap_or (truth v) false
 
 pub truth_back : (b : Bool) → unwrap_or (truth (from_truth (Some b))) false ≡ b
 truth_back true = refl
 truth_back false = refl
 
-eq_is : (a b : ℕ) → is_eq (int_cmp (pos a) (pos b)) ≡ is_eq (nat_cmp a b)
-eq_is a b = grind (arith, ints, nat_tests)
+or_both : (a b : Bool) → passes (from_truth (or3 (truth (from_truth (Some a))) (truth (from_truth (Some b))))) ≡ (a || b)
+or_both true true = refl
+or_both true false = refl
+or_both false true = refl
+or_both false false = refl
+
+or_unknown : (a : Bool) → passes (from_truth (or3 (truth (from_truth (Some a))) None)) ≡ a
+or_unknown true = refl
+or_unknown false = refl
+
+same_number : (a b : ℕ) → is_eq (int_cmp (pos a) (pos b)) ≡ (a == b)
+same_number a b = grind (arith, ints, nat_tests)
+
+same_cmp : (a b : ℕ) → is_eq (nat_cmp a b) ≡ (a == b)
+same_cmp a b = grind (arith, nat_tests)
 
 gt_is : (a b : ℕ) → is_gt (int_cmp (pos a) (pos b)) ≡ nat_lt b a
 gt_is a b = grind (arith, ints, nat_tests)
@@ -42,6 +57,69 @@ with_true : (b : Bool) → (b && true) ≡ b
 with_true true = refl
 with_true false = refl
 
+-- ---- one test
+
+equal : (a b : ℕ) → passes (binary (Compare Eq Binary) (Int (pos a)) (Int (pos b))) ≡ (a == b)
+unfolding binary
+equal a b = rw (value_cmp-Int (pos a) (pos b)) (truth_back (is_eq (int_cmp (pos a) (pos b))) ∙ same_number a b)
+
+at_most : (a b : ℕ) → passes (binary (Compare Le Binary) (Int (pos a)) (Int (pos b))) ≡ nat_le a b
+unfolding binary
+at_most a b = rw (value_cmp-Int (pos a) (pos b)) (truth_back (is_le (int_cmp (pos a) (pos b))) ∙ le_is a b)
+
+above : (a b : ℕ) → passes (binary (Compare Gt Binary) (Int (pos a)) (Int (pos b))) ≡ nat_lt b a
+unfolding binary
+above a b = rw (value_cmp-Int (pos a) (pos b)) (truth_back (is_gt (int_cmp (pos a) (pos b))) ∙ gt_is a b)
+
+same_text : (a b : List ℕ) → passes (binary (Compare Eq Binary) (Words a) (Words b)) ≡ is_eq (text_cmp a b)
+unfolding binary
+same_text a b = rw (value_cmp-Text a b) (truth_back (is_eq (text_cmp a b)))
+
+from_low : (a b : List ℕ) → passes (binary (Compare Ge Binary) (Words a) (Words b)) ≡ is_ge (text_cmp a b)
+unfolding binary
+from_low a b = rw (value_cmp-Text a b) (truth_back (is_ge (text_cmp a b)))
+
+null_null : is_eq (value_cmp Null Null) ≡ true
+null_null = ap is_eq (tied_itself value_cmp_total Null)
+
+null_text : (t : List ℕ) → is_eq (value_cmp (Words t) Null) ≡ false
+null_text t = ap is_eq (value_cmp-apart (Words t) Null (λ e. absurd (omega (arith, e))))
+
+null_number : (n : ℕ) → is_eq (value_cmp (Int (pos n)) Null) ≡ false
+null_number n = ap is_eq (value_cmp-apart (Int (pos n)) Null (λ e. absurd (omega (arith, e))))
+
+-- ---- the revision that ended a row
+
+is_living : (o : Option ℕ) → passes (binary (Is Binary) (number_value o) Null) ≡ is_none o
+unfolding binary
+is_living None = rw null_null refl
+is_living (Some n) = rw (null_number n) refl
+
+ended_above : (c : ℕ) (o : Option ℕ) → passes (binary Or (binary (Is Binary) (number_value o) Null) (binary (Compare Gt Binary) (number_value o) (Int (pos c)))) ≡ is_past c o
+unfolding binary
+ended_above c None = rw null_null refl
+ended_above c (Some n) = rw (null_number n) (rw (value_cmp-Int (pos n) (pos c)) (or_both false (is_gt (int_cmp (pos n) (pos c))) ∙ gt_is n c))
+
+-- it ended after one revision and up to another
+abbrev pub is_ended_in : ℕ → ℕ → Option ℕ → Bool
+is_ended_in from to None = false
+is_ended_in from to (Some n) = nat_lt from n && nat_le n to
+
+never_between : (from to : ℕ) (rest : Bool) → (passes (binary (Compare Gt Binary) Null (Int (pos from))) && (passes (binary (Compare Le Binary) Null (Int (pos to))) && rest)) ≡ false
+unfolding binary
+never_between from to rest = refl
+
+ended_between : (from to : ℕ) (o : Option ℕ) (rest : Bool)
+    → (passes (binary (Compare Gt Binary) (number_value o) (Int (pos from))) && (passes (binary (Compare Le Binary) (number_value o) (Int (pos to))) && rest)) ≡ (is_ended_in from to o && rest)
+ended_between from to (Some n) rest = rw (above n from, at_most n to) (both (nat_lt from n) (nat_le n to))
+  where
+    both : (a b : Bool) → (a && (b && rest)) ≡ ((a && b) && rest)
+    both true b = refl
+    both false b = refl
+ended_between from to None rest = never_between from to rest
+
+-- ---- rows of a key
+
 three : (a b c : Ordering) (d : Bool) → (is_eq a && (is_eq b && (is_eq c && d))) ≡ (is_eq (ordering_then a (ordering_then b c)) && d)
 three Less b c d = refl
 three Equal Less c d = refl
@@ -49,116 +127,64 @@ three Equal Equal c d = refl
 three Equal Greater c d = refl
 three Greater b c d = refl
 
-pub same_key_symm : (a b : Key) → is_same_key a b ≡ is_same_key b a
-same_key_symm a b = (eq_by_cmp_equiv key_cmp_total).symm a b
+-- the parameters that name a key
+abbrev pub bound_key : Key → Row → Row
+bound_key k rest = Int (pos k.kind) ∷ Words k.namespace ∷ Words k.name ∷ rest
 
--- the parameters that name a key and a revision
-abbrev pub bound_key : Key → ℕ → Row
-bound_key k r = Int (pos k.kind) ∷ Words k.namespace ∷ Words k.name ∷ Int (pos r) ∷ []
+of_key : (k q : Key) (d : Bool) → ((q.kind == k.kind) && (is_eq (text_cmp q.namespace k.namespace) && (is_eq (text_cmp q.name k.name) && d))) ≡ (is_same_key k q && d)
+of_key k q d =
+    ap (λ b. b && (is_eq (text_cmp q.namespace k.namespace) && (is_eq (text_cmp q.name k.name) && d))) (sym (same_cmp q.kind k.kind))
+    ∙ three (nat_cmp q.kind k.kind) (text_cmp q.namespace k.namespace) (text_cmp q.name k.name) d
+    ∙ ap (λ b. b && d) (same_key_symm q k)
 
-pub last_tests : (k : Key) (r : ℕ) (c : Change) → list_all (holds (bound_key k r ∷ row_of c ∷ [])) last_query.filter ≡ is_last_of k r c
-unfolding binary
-last_tests k r c =
-    rw (value_cmp-Int (pos c.key.kind) (pos k.kind), value_cmp-Text c.key.namespace k.namespace, value_cmp-Text c.key.name k.name, value_cmp-Int (pos c.revision) (pos r)) (
-    rw (
-      truth_back (is_eq (int_cmp (pos c.key.kind) (pos k.kind))),
-      truth_back (is_eq (text_cmp c.key.namespace k.namespace)),
-      truth_back (is_eq (text_cmp c.key.name k.name)),
-      truth_back (is_le (int_cmp (pos c.revision) (pos r))),
-      eq_is c.key.kind k.kind,
-      le_is c.revision r,
-      with_true (nat_le c.revision r),
-    ) (three (nat_cmp c.key.kind k.kind) (text_cmp c.key.namespace k.namespace) (text_cmp c.key.name k.name) (nat_le c.revision r)))
+pub last_tests : (k : Key) (s : Span) → list_all (holds (bound_key k [] ∷ row_of s ∷ [])) last_query.filter ≡ is_same_key k s.key
+last_tests k s = rw (equal s.key.kind k.kind, same_text s.key.namespace k.namespace, same_text s.key.name k.name) (of_key k s.key true ∙ with_true (is_same_key k s.key))
 
--- ---- the changes that replace one
+pub newest_tests : (k : Key) (r : ℕ) (s : Span) → list_all (holds (bound_key k (Int (pos r) ∷ []) ∷ row_of s ∷ [])) newest_query.filter ≡ (is_same_key k s.key && stands_at r s)
+newest_tests k r s =
+    rw (equal s.key.kind k.kind, same_text s.key.namespace k.namespace, same_text s.key.name k.name, at_most s.first r, ended_above r s.ended, with_true (is_past r s.ended))
+    (of_key k s.key (stands_at r s))
 
-not_back : (b : Bool) → unwrap_or (truth (from_truth (not3 (truth (from_truth (Some b)))))) false ≡ not b
-not_back true = refl
-not_back false = refl
+-- ---- the end of a row, and rows that ended
 
-not_above : (a b : ℕ) → not (is_gt (int_cmp (pos a) (pos b))) ≡ nat_le a b
-not_above a b = grind (arith, ints, nat_tests)
+pub end_tests : (n : ℕ) (rest : Row) (s : Span) → list_all (holds ((Int (pos n) ∷ rest) ∷ row_of s ∷ [])) end_query.filter ≡ ((s.first == n) && is_none s.ended)
+end_tests n rest s = rw (equal s.first n, is_living s.ended, with_true (is_none s.ended)) refl
 
-pub later_are : (params : Row) (c : ℕ) (it later : Change) (to : Rattle.sqlite.specs.Term.Term) → Rattle.sqlite_sql.specs.Term.eval to (params ∷ row_of it ∷ row_of later ∷ []) ≡ Int (pos c)
-    → list_all (holds (params ∷ row_of it ∷ row_of later ∷ [])) (later_tests to) ≡ replaces c it later
-unfolding binary unary
-later_are params c it later to is =
-    rw (is, value_cmp-Int (pos it.key.kind) (pos later.key.kind), value_cmp-Text it.key.namespace later.key.namespace, value_cmp-Text it.key.name later.key.name, value_cmp-Int (pos later.revision) (pos it.revision), value_cmp-Int (pos later.revision) (pos c)) (
-    rw (
-      truth_back (is_eq (int_cmp (pos it.key.kind) (pos later.key.kind))),
-      truth_back (is_eq (text_cmp it.key.namespace later.key.namespace)),
-      truth_back (is_eq (text_cmp it.key.name later.key.name)),
-      truth_back (is_gt (int_cmp (pos later.revision) (pos it.revision))),
-      not_back (is_gt (int_cmp (pos later.revision) (pos c))),
-      eq_is it.key.kind later.key.kind,
-      gt_is later.revision it.revision,
-      not_above later.revision c,
-      with_true (nat_le later.revision c),
-    ) (three (nat_cmp it.key.kind later.key.kind) (text_cmp it.key.namespace later.key.namespace) (text_cmp it.key.name later.key.name) (nat_lt it.revision later.revision && nat_le later.revision c)))
+ended_up_to : (c : ℕ) (o : Option ℕ) → (is_ended_in 0 c o && true) ≡ is_ended c o
+ended_up_to c None = refl
+ended_up_to c (Some n) = with_true (nat_lt 0 n && nat_le n c)
 
-nonzero : (n : ℕ) → not (int_eq (pos (min 1 n)) (pos 0)) ≡ nat_lt 0 n
-nonzero zero = grind (arith, ints, nat_tests)
-nonzero (suc n) = grind (arith, ints, nat_tests)
+pub delete_tests : (c : ℕ) (s : Span) → list_all (holds ((Int (pos c) ∷ []) ∷ row_of s ∷ [])) delete_query.filter ≡ is_ended c s.ended
+delete_tests c s = ended_between 0 c s.ended true ∙ ended_up_to c s.ended
 
-pub some_counted : (p : Change → Bool) (cs : List Change) → nat_lt 0 (length (filter p cs)) ≡ list_any p cs
-some_counted p [] = grind (arith, nat_tests)
-some_counted p (c ∷ cs) = go (p c) (some_counted p cs)
-  where
-    go : (b : Bool) → nat_lt 0 (length (filter p cs)) ≡ list_any p cs → nat_lt 0 (length (cond b (c ∷ filter p cs) (filter p cs))) ≡ (b || list_any p cs)
-    go true more = grind (arith, nat_tests)
-    go false more = more
-
-null_is : (b : Option (List ℕ)) → is_eq (value_cmp (body_value b) Null) ≡ is_none b
-null_is None = ap is_eq (tied_itself value_cmp_total Null)
-null_is (Some t) = ap is_eq (value_cmp-apart (Words t) Null (λ e. absurd (omega (arith, e))))
-
--- ---- a type, a namespace, a place and a revision
-
-or_both : (a b : Bool) → unwrap_or (truth (from_truth (or3 (truth (from_truth (Some a))) (truth (from_truth (Some b)))))) false ≡ (a || b)
-or_both true true = refl
-or_both true false = refl
-or_both false true = refl
-or_both false false = refl
-
-same_number : (a b : ℕ) → is_eq (int_cmp (pos a) (pos b)) ≡ (a == b)
-same_number a b = grind (arith, ints, nat_tests)
-
-null_text : (t : List ℕ) → is_eq (value_cmp (Words t) Null) ≡ false
-null_text t = ap is_eq (value_cmp-apart (Words t) Null (λ e. absurd (omega (arith, e))))
-
-null_null : is_eq (value_cmp Null Null) ≡ true
-null_null = ap is_eq (tied_itself value_cmp_total Null)
+-- ---- a span of revisions
 
 abbrev pub bound_span : ℕ → ℕ → ℕ → Option (List ℕ) → ℕ → Row
 bound_span from to kind ns max = Int (pos from) ∷ Int (pos to) ∷ Int (pos kind) ∷ body_value ns ∷ Int (pos max) ∷ []
 
-abbrev pub is_in_span : ℕ → ℕ → ℕ → Option (List ℕ) → Change → Bool
-is_in_span from to kind ns c = nat_lt from c.revision && (nat_le c.revision to && is_within kind ns c.key)
-
-pub span_tests : (from to kind : ℕ) (ns : Option (List ℕ)) (max : ℕ) (c : Change) → list_all (holds (bound_span from to kind ns max ∷ row_of c ∷ [])) span_query.filter ≡ is_in_span from to kind ns c
+in_namespace : (t : List ℕ) (ns : Option (List ℕ)) → passes (binary Or (binary (Is Binary) (body_value ns) Null) (binary (Compare Eq Binary) (Words t) (body_value ns))) ≡ is_in_namespace ns (record { kind = 0; namespace = t; name = [] })
 unfolding binary
-span_tests from to kind None max c =
-    rw (value_cmp-Int (pos c.revision) (pos from), value_cmp-Int (pos c.revision) (pos to), value_cmp-Int (pos c.key.kind) (pos kind)) (rw null_null (
-    rw (
-      truth_back (is_gt (int_cmp (pos c.revision) (pos from))),
-      truth_back (is_le (int_cmp (pos c.revision) (pos to))),
-      truth_back (is_eq (int_cmp (pos c.key.kind) (pos kind))),
-      gt_is c.revision from,
-      le_is c.revision to,
-      same_number c.key.kind kind,
-    ) refl))
-span_tests from to kind (Some ns) max c =
-    rw (value_cmp-Int (pos c.revision) (pos from), value_cmp-Int (pos c.revision) (pos to), value_cmp-Int (pos c.key.kind) (pos kind), value_cmp-Text c.key.namespace ns) (rw (null_text ns) (
-    rw (
-      truth_back (is_gt (int_cmp (pos c.revision) (pos from))),
-      truth_back (is_le (int_cmp (pos c.revision) (pos to))),
-      truth_back (is_eq (int_cmp (pos c.key.kind) (pos kind))),
-      or_both false (is_eq (text_cmp c.key.namespace ns)),
-      gt_is c.revision from,
-      le_is c.revision to,
-      same_number c.key.kind kind,
-      with_true (is_eq (text_cmp c.key.namespace ns)),
-    ) refl))
+in_namespace t None = rw null_null refl
+in_namespace t (Some ns) = rw (null_text ns) (rw (value_cmp-Text t ns) (or_both false (is_eq (text_cmp t ns))))
+
+same_space : (k : Key) (ns : Option (List ℕ)) → is_in_namespace ns (record { kind = 0; namespace = k.namespace; name = [] }) ≡ is_in_namespace ns k
+same_space k None = refl
+same_space k (Some ns) = refl
+
+pub made_tests : (from to kind : ℕ) (ns : Option (List ℕ)) (max : ℕ) (s : Span)
+    → list_all (holds (bound_span from to kind ns max ∷ row_of s ∷ [])) made_query.filter ≡ (nat_lt from s.first && (nat_le s.first to && is_within kind ns s.key))
+made_tests from to kind ns max s =
+    rw (above s.first from, at_most s.first to, equal s.key.kind kind, in_namespace s.key.namespace ns, same_space s.key ns, with_true (is_in_namespace ns s.key)) refl
+
+flag_is : (b : Bool) → passes (binary (Compare Eq Binary) (Int (pos (flag b))) (Int (pos 1))) ≡ b
+flag_is true = equal 1 1
+flag_is false = equal 0 1
+
+pub deleted_tests : (from to kind : ℕ) (ns : Option (List ℕ)) (max : ℕ) (s : Span)
+    → list_all (holds (bound_span from to kind ns max ∷ row_of s ∷ [])) deleted_query.filter ≡ (is_ended_in from to s.ended && (s.gone && is_within kind ns s.key))
+deleted_tests from to kind ns max s =
+    ended_between from to s.ended _
+    ∙ ap (λ b. is_ended_in from to s.ended && b) (rw (flag_is s.gone, equal s.key.kind kind, in_namespace s.key.namespace ns, same_space s.key ns, with_true (is_in_namespace ns s.key)) refl)
 
 -- ---- a page
 
@@ -172,49 +198,7 @@ bound_in kind ns name = Int (pos kind) ∷ Words ns ∷ Words (low_of name) ∷ 
 abbrev pub bound_from : ℕ → List ℕ → Row
 bound_from kind ns = Int (pos kind) ∷ Words ns ∷ []
 
--- each test, of the values that it compares
-abbrev passes : Value → Bool
-passes v = unwrap_or (truth v) false
-
-of_kind : (a b : ℕ) → passes (binary (Compare Eq Binary) (Int (pos a)) (Int (pos b))) ≡ (a == b)
-unfolding binary
-of_kind a b = rw (value_cmp-Int (pos a) (pos b)) (truth_back (is_eq (int_cmp (pos a) (pos b))) ∙ same_number a b)
-
-up_to_revision : (a b : ℕ) → passes (binary (Compare Le Binary) (Int (pos a)) (Int (pos b))) ≡ nat_le a b
-unfolding binary
-up_to_revision a b = rw (value_cmp-Int (pos a) (pos b)) (truth_back (is_le (int_cmp (pos a) (pos b))) ∙ le_is a b)
-
-from_low : (a b : List ℕ) → passes (binary (Compare Ge Binary) (Words a) (Words b)) ≡ is_ge (text_cmp a b)
-unfolding binary
-from_low a b = rw (value_cmp-Text a b) (truth_back (is_ge (text_cmp a b)))
-
-same_text : (a b : List ℕ) → passes (binary (Compare Eq Binary) (Words a) (Words b)) ≡ is_eq (text_cmp a b)
-unfolding binary
-same_text a b = rw (value_cmp-Text a b) (truth_back (is_eq (text_cmp a b)))
-
-not_is : (b : Bool) → passes (from_truth (not3 (truth (from_truth (Some b))))) ≡ not b
-not_is true = refl
-not_is false = refl
-
-not_null : (b : Option (List ℕ)) → not (is_none b) ≡ is_some b
-not_null None = refl
-not_null (Some t) = refl
-
-has_body : (b : Option (List ℕ)) → passes (unary Not (binary (Is Binary) (body_value b) Null)) ≡ is_some b
-unfolding binary unary
-has_body b = rw (null_is b) (not_is (is_none b) ∙ not_null b)
-
-not_counted : (n : ℕ) → passes (unary Not (Int (pos (min 1 n)))) ≡ not (nat_lt 0 n)
-unfolding unary
-not_counted n = not_number (not (int_eq (pos (min 1 n)) (pos 0))) ∙ ap not (nonzero n)
-  where
-    not_number : (b : Bool) → passes (from_truth (not3 (Some b))) ≡ not b
-    not_number true = refl
-    not_number false = refl
-
--- ---- the place of a page
-
--- ---- the text after another
+-- the text after another
 
 never_less : (y : ℕ) → is_ge (nat_cmp y 0) ≡ true
 never_less y = grind (arith, nat_tests)
@@ -261,53 +245,15 @@ later_turn true false false = refl
 later_turn false n true = refl
 later_turn false n false = refl
 
--- what stands beside a change: the row of how many replace it
-abbrev pub beside : ℕ → List Change → Change → Row
-beside r all it = Int (pos (min 1 (length (filter (replaces r it) all)))) ∷ []
+pub in_tests_are : (kind : ℕ) (ns : List ℕ) (name : Option (List ℕ)) (r max : ℕ) (s : Span)
+    → list_all (holds (bound_page r max (bound_in kind ns name) ∷ row_of s ∷ [])) in_tests ≡ (stands_at r s && is_in_one kind ns name s.key)
+in_tests_are kind ns name r max s =
+    rw (equal s.key.kind kind, same_text s.key.namespace ns, from_low s.key.name (low_of name), at_most s.first r, ended_above r s.ended, with_true (is_past r s.ended))
+    (ap (λ b. (s.key.kind == kind) && (is_eq (text_cmp s.key.namespace ns) && (b && stands_at r s))) (from_name name s.key.name)
+    ∙ in_turn (s.key.kind == kind) (is_eq (text_cmp s.key.namespace ns)) (is_past_name name s.key.name) (stands_at r s))
 
-pub in_tests_are : (kind : ℕ) (ns : List ℕ) (name : Option (List ℕ)) (r max : ℕ) (all : List Change) (it : Change)
-    → list_all (holds (bound_page r max (bound_in kind ns name) ∷ row_of it ∷ beside r all it ∷ [])) in_tests ≡ (stands r all it && is_in_one kind ns name it.key)
-in_tests_are kind ns name r max all it =
-    let n = length (filter (replaces r it) all) in
-    let same = it.key.kind == kind in
-    let here = is_eq (text_cmp it.key.namespace ns) in
-    let past = is_past_name name it.key.name in
-    rw (of_kind it.key.kind kind, same_text it.key.namespace ns, from_low it.key.name (low_of name), up_to_revision it.revision r, has_body it.body, not_counted n, with_true (not (nat_lt 0 n)), some_counted (replaces r it) all)
-    (ap (λ b. same && (here && (b && stands r all it))) (from_name name it.key.name)
-    ∙ in_turn same here past (stands r all it))
-
-pub from_tests_are : (kind : ℕ) (low : List ℕ) (r max : ℕ) (all : List Change) (it : Change)
-    → list_all (holds (bound_page r max (bound_from kind low) ∷ row_of it ∷ beside r all it ∷ [])) from_tests ≡ (stands r all it && is_from kind low it.key)
-from_tests_are kind low r max all it =
-    let n = length (filter (replaces r it) all) in
-    rw (of_kind it.key.kind kind, from_low it.key.namespace low, up_to_revision it.revision r, has_body it.body, not_counted n, with_true (not (nat_lt 0 n)), some_counted (replaces r it) all)
-    (later_turn (it.key.kind == kind) (is_ge (text_cmp it.key.namespace low)) (stands r all it))
-
--- ---- the change of a revision, and what it superseded
-
-pub at_tests : (r : ℕ) (c : Change) → list_all (holds ((Int (pos r) ∷ []) ∷ row_of c ∷ [])) at_query.filter ≡ (c.revision == r)
-at_tests r c = rw (of_kind c.revision r) (with_true (c.revision == r))
-
-lt_is : (a b : ℕ) → is_lt (int_cmp (pos a) (pos b)) ≡ nat_lt a b
-lt_is a b = grind (arith, ints, nat_tests)
-
-older_or_none : (a r : ℕ) (b : Option (List ℕ)) → passes (binary Or (binary (Compare Lt Binary) (Int (pos a)) (Int (pos r))) (binary (Is Binary) (body_value b) Null)) ≡ (nat_lt a r || is_none b)
-unfolding binary
-older_or_none a r b = rw (value_cmp-Int (pos a) (pos r)) (rw (null_is b) (or_both (is_lt (int_cmp (pos a) (pos r))) (is_none b) ∙ ap (λ t. t || is_none b) (lt_is a r)))
-
-same_kind : (a b : ℕ) → passes (binary (Compare Eq Binary) (Int (pos a)) (Int (pos b))) ≡ is_eq (nat_cmp a b)
-unfolding binary
-same_kind a b = rw (value_cmp-Int (pos a) (pos b)) (truth_back (is_eq (int_cmp (pos a) (pos b))) ∙ eq_is a b)
-
-and_and : (a b c : Bool) → (a && (b && c)) ≡ ((a && b) && c)
-and_and true b c = refl
-and_and false b c = refl
-
-pub delete_tests : (k : Key) (r : ℕ) (c : Change) → list_all (holds (bound_key k r ∷ row_of c ∷ [])) delete_query.filter ≡ is_superseded k r c
-delete_tests k r c =
-    rw (same_kind c.key.kind k.kind, same_text c.key.namespace k.namespace, same_text c.key.name k.name, up_to_revision c.revision r, older_or_none c.revision r c.body, with_true (nat_lt c.revision r || is_none c.body))
-    (three (nat_cmp c.key.kind k.kind) (text_cmp c.key.namespace k.namespace) (text_cmp c.key.name k.name) (nat_le c.revision r && (nat_lt c.revision r || is_none c.body))
-    ∙ and_and (is_same_key c.key k) (nat_le c.revision r) (nat_lt c.revision r || is_none c.body))
-
-pub count_tests : (c : Change) → list_all (holds ([] ∷ row_of c ∷ [])) count_query.filter ≡ is_some c.body
-count_tests c = rw (has_body c.body) (with_true (is_some c.body))
+pub from_tests_are : (kind : ℕ) (low : List ℕ) (r max : ℕ) (s : Span)
+    → list_all (holds (bound_page r max (bound_from kind low) ∷ row_of s ∷ [])) from_tests ≡ (stands_at r s && is_from kind low s.key)
+from_tests_are kind low r max s =
+    rw (equal s.key.kind kind, from_low s.key.namespace low, at_most s.first r, ended_above r s.ended, with_true (is_past r s.ended))
+    (later_turn (s.key.kind == kind) (is_ge (text_cmp s.key.namespace low)) (stands_at r s))

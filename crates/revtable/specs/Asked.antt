@@ -1,5 +1,5 @@
--- What the statements find among the changes that the rows keep.
-use Rattle.std.specs.Prelude.{ℕ, Bool, true, List, [], ◌∷◌, ◌++◌, Option, Some, None, ◌&&◌, ◌||◌, ◌==◌, not, nat_le, nat_lt, is_none, filter, reverse, slice_get}
+-- What the statements find among the changes and the objects that the rows keep.
+use Rattle.std.specs.Prelude.{ℕ, Bool, true, List, [], ◌∷◌, ◌++◌, Option, Some, None, ◌&&◌, ◌==◌, is_none, filter}
 use Rattle.std.specs.Ordering.{is_ge, is_gt}
 use Rattle.std.specs.declared.cmp.Ordering.{Ordering}
 use Rattle.std.specs.declared.cmp.Ordering.TheVariants.{Less, Equal, Greater}
@@ -7,27 +7,17 @@ use Rattle.std.specs.FinMap as fin
 use Rattle.history.specs.History.{Key, Change, Object, Objects, is_same_key, text_cmp}
 use Rattle.history.specs.Page.{is_within}
 
-abbrev pub is_last_of : Key → ℕ → Change → Bool
-is_last_of k r c = is_same_key c.key k && nat_le c.revision r
-
--- the last change of the key up to the revision
-abbrev pub last_change : Key → ℕ → List Change → Option Change
-last_change k r cs = slice_get (reverse (filter (is_last_of k r) cs)) 0
-
--- the change of a revision, if it is among these
-abbrev pub made_at : ℕ → List Change → List Change
-made_at r = filter (λ c. c.revision == r)
-
--- a change that the key's change of that revision superseded: an older one of the key, and itself if it is a deletion
-abbrev pub is_superseded : Key → ℕ → Change → Bool
-is_superseded k r c = is_last_of k r c && (nat_lt c.revision r || is_none c.body)
-
-abbrev pub without : Key → ℕ → List Change → List Change
-without k r = filter (λ c. not (is_superseded k r c))
-
 -- the change that left an object
 abbrev pub as_change : Key × Object → Change
 as_change e = record { revision = e.1.revision; key = e.0; body = Some e.1.body }
+
+-- what stands under a key, if anything does
+abbrev pub under : Key → Objects → List (Key × Object)
+under k s = filter (λ e. is_same_key k e.0) (fin.entries s)
+
+-- those that are deletions
+abbrev pub deletions : List Change → List Change
+deletions = filter (λ c. is_none c.body)
 
 -- ---- a page, read from one namespace and from those after it
 

@@ -1,4 +1,5 @@
 -- What a shown row says, column by column.
+use Rattle.std.specs.Prelude.{ℕ}
 use Rattle.sqlite.specs.Order.{Row, column}
 use Rattle.history.specs.History.{Key, Change, Object}
 use Rattle.revtable.specs.Rows.{number_in, text_in, body_in}
@@ -14,3 +15,7 @@ object_shown row = record { revision = number_in (column row 0); body = text_in 
 
 abbrev pub entry_shown : Row → Key × Object
 entry_shown row = (key_shown row, object_shown row)
+
+-- the two numbers
+abbrev pub marks_shown : Row → ℕ × ℕ
+marks_shown row = (number_in (column row 0), number_in (column row 1))

@@ -4,9 +4,10 @@ use Rattle.sqlite_schema.specs.Program.{lets_of}
 use Rattle.sqlite.specs.Command.{Command}
 use Rattle.sqlite.specs.Command.TheVariants.{Select}
 use Rattle.sqlite.specs.Order.{Row}
-use Rattle.history.specs.History.{Key, Object, Change, last_revision}
+use Rattle.history.specs.History.{Key, Object, last_revision}
 use Rattle.revtable.specs.Decoded.{entry_shown}
 use Rattle.revtable.specs.Rows.{IsAnswer}
+use Rattle.revtable.specs.Spans.{Stored}
 
 -- those whose texts are kept
 abbrev pub kept_among : (List ℕ → Bool) → List (Key × Object) → List (Key × Object)
@@ -22,6 +23,6 @@ IsBare (Select q names) = lets_of q ≡ []
 IsBare _ = ⊥
 
 -- the first kept among the rows of an answer, which are no more than there are revisions
-abbrev pub AreFirstKept : List ℕ → Row → List Change → (List ℕ → Bool) → ℕ → List (Key × Object) → Type 0
-AreFirstKept sql params changes kept max found =
-    (rows : List Row) × IsAnswer sql params changes rows × (found ≡ first_kept kept max (map entry_shown (take last_revision rows)))
+abbrev pub AreFirstKept : List ℕ → Row → Stored → (List ℕ → Bool) → ℕ → List (Key × Object) → Type 0
+AreFirstKept sql params st kept max found =
+    (rows : List Row) × IsAnswer sql params st rows × (found ≡ first_kept kept max (map entry_shown (take last_revision rows)))

@@ -4,3 +4,4 @@ pub mod Faults
 pub mod Kept
 pub mod Read
 pub mod Rows
+pub mod Spans

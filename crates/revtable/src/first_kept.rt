@@ -2,13 +2,14 @@
 //! no more are. What is kept stands in `keep`; where a page begins, in `paging`.
 
 ghost use Rattle.std.specs.Prelude.{◌≡◌, [], ◌∷◌, ◌++◌, ℕ, ◌^◌, ◌<◌, List, Option, false, map, IfOk, OnOk, option_map};
-ghost use Rattle.history.specs.History.{Change, state_at};
+ghost use Rattle.history.specs.History.{state_at};
 ghost use Rattle.history.specs.Page.{listed};
 ghost use Rattle.revtable.specs.Asked.{in_from, in_later, in_one, low_of};
 ghost use Rattle.revtable.specs.Decoded.{entry_shown};
 ghost use Rattle.revtable.specs.Kept.{first_kept, kept_among, AreFirstKept, IsBare};
 ghost use Rattle.revtable.specs.Read.{entry_of};
-ghost use Rattle.revtable.specs.Rows.{change_schema, command_in, IsAlwaysClean, Keeps};
+ghost use Rattle.revtable.specs.Rows.{the_schema, command_in, IsAlwaysClean, Keeps};
+ghost use Rattle.revtable.specs.Spans.{Stored};
 ghost use Rattle.sqlite.specs.Given.{IsPlain};
 ghost use Rattle.sqlite.specs.Held.{state};
 ghost use Rattle.sqlite.specs.Listing.{reads_listing, understood};
@@ -52,12 +53,12 @@ pub(crate) fn read<S: Alter, K: Keep>(
     keep: &K,
 ) -> Result<Vec<Entry>, Fault>
     requires clean { IsAlwaysClean S.Store }
-    requires plain { IsPlain (understood change_schema sql.now) }
-    requires unlisted { reads_listing change_schema sql.now ≡ false }
-    requires bare { IsBare (command_in (understood change_schema sql.now)) }
-    ensures keeps { (cs : List Change) → Keeps cs (state S.Store base.old) → Keeps cs (state S.Store base.new) }
-    ensures found { (cs : List Change) → Keeps cs (state S.Store base.old)
-        → IfOk result (λ v. AreFirstKept sql.now (bound params.now) cs (K.Keep.kept keep.now) max (map entry_of v.items)) }
+    requires plain { IsPlain (understood the_schema sql.now) }
+    requires unlisted { reads_listing the_schema sql.now ≡ false }
+    requires bare { IsBare (command_in (understood the_schema sql.now)) }
+    ensures keeps { (st : Stored) → Keeps st (state S.Store base.old) → Keeps st (state S.Store base.new) }
+    ensures found { (st : Stored) → Keeps st (state S.Store base.old)
+        → IfOk result (λ v. AreFirstKept sql.now (bound params.now) st (K.Keep.kept keep.now) max (map entry_of v.items)) }
 {
     let mut found = Vec::new(alloc);
     let mut rows = base.query(sql, params)?;
@@ -88,7 +89,7 @@ impl Table {
         ensures same { self.new ≡ self.old }
     {
         self.ask_kept(
-            "SELECT revision, kind, namespace, name, body FROM change WHERE kind = ?3 AND namespace = ?4 AND name >= ?5 AND revision <= ?1 AND body IS NOT NULL AND NOT EXISTS (SELECT 1 FROM change AS later WHERE change.kind = later.kind AND change.namespace = later.namespace AND change.name = later.name AND later.revision > change.revision AND NOT later.revision > ?1) ORDER BY namespace, name LIMIT ?2",
+            "SELECT first, kind, namespace, name, body FROM object WHERE kind = ?3 AND namespace = ?4 AND name >= ?5 AND first <= ?1 AND (ended IS NULL OR ended > ?1) ORDER BY namespace, name LIMIT ?2",
             params![
                 wanted.revision as i64,
                 LAST_REVISION as i64,
@@ -114,7 +115,7 @@ impl Table {
         ensures same { self.new ≡ self.old }
     {
         self.ask_kept(
-            "SELECT revision, kind, namespace, name, body FROM change WHERE kind = ?3 AND namespace >= ?4 AND revision <= ?1 AND body IS NOT NULL AND NOT EXISTS (SELECT 1 FROM change AS later WHERE change.kind = later.kind AND change.namespace = later.namespace AND change.name = later.name AND later.revision > change.revision AND NOT later.revision > ?1) ORDER BY namespace, name LIMIT ?2",
+            "SELECT first, kind, namespace, name, body FROM object WHERE kind = ?3 AND namespace >= ?4 AND first <= ?1 AND (ended IS NULL OR ended > ?1) ORDER BY namespace, name LIMIT ?2",
             params![
                 wanted.revision as i64,
                 LAST_REVISION as i64,

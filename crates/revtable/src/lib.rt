@@ -14,11 +14,14 @@ mod file;
 mod first_kept;
 mod keep;
 mod memory;
+mod merging;
 mod paging;
 mod reading;
 mod row;
 mod statements;
 mod table;
+mod tables;
+mod writing;
 
 pub use fault::Fault;
 pub use keep::Keep;

@@ -1,6 +1,6 @@
-//! The changes in a database over two files in memory. Only here is its store named; the calls stand in `change_log`.
+//! The tables of a database over two files in memory. Only here is its store named; the calls stand in `change_log`.
 
-ghost use Rattle.std.specs.Prelude.{◌≡◌, [], IfOk};
+ghost use Rattle.std.specs.Prelude.{◌≡◌, [], ◌^◌, ◌<◌, IfOk};
 ghost use Rattle.sqlite.specs.Files.{file_state};
 ghost use Rattle.sqlite.specs.Steps.{IsEmpty};
 
@@ -13,7 +13,7 @@ use std::alloc::Global;
 /// changes the pages of the index again and again; where they stay in memory, that log doesn't grow by each such change.
 const SPILL_PAGES: usize = 6_000;
 
-/// The changes over two files in memory.
+/// The tables over two files in memory.
 pub(crate) type MemoryLog = ChangeLog<FileStore<MemoryFile>>;
 
 /// An empty database over two empty files.
@@ -32,9 +32,10 @@ fn empty(alloc: Global) -> Result<Connection<FileStore<MemoryFile>>, Error>
     }
 }
 
-/// No changes yet.
-pub(crate) fn open(alloc: Global) -> Result<MemoryLog, Error>
-    ensures { IfOk result (λ log. log ≡ []) }
+/// No row yet, and both numbers are this revision.
+pub(crate) fn open(alloc: Global, revision: u64) -> Result<MemoryLog, Error>
+    requires fits { revision < 2 ^ 63 }
+    ensures { IfOk result (λ log. log ≡ record { spans = []; current = revision; compacted = revision }) }
 {
-    ChangeLog::new(empty(alloc)?)
+    ChangeLog::new(empty(alloc)?, revision)
 }

@@ -1,13 +1,12 @@
 //! Reads rows as changes and objects. The statements that give the rows stand in `statements`.
 
-ghost use Rattle.std.specs.Prelude.{◌≡◌, IfOk, map, option_map};
-ghost use Rattle.revtable.specs.Decoded.{key_shown, change_shown, entry_shown};
-ghost use Rattle.history.specs.History.{object_by};
+ghost use Rattle.std.specs.Prelude.{◌≡◌, IfOk, map};
+ghost use Rattle.revtable.specs.Decoded.{key_shown, change_shown, entry_shown, marks_shown, object_shown};
 ghost use Rattle.history.specs.Read.{key_of};
 ghost use Rattle.revtable.specs.Read.{change_of, entry_of, object_of};
 
 use crate::fault::Fault;
-use crate::row::{Change, Entry, Object};
+use crate::row::{Change, Entry, Marks, Object};
 use history::Key;
 use sqlite::{Error, Row};
 use std::alloc::Global;
@@ -32,30 +31,22 @@ fn read_change(row: &Row) -> Result<Change, Error>
     })
 }
 
+pub(crate) fn read_object(row: &Row) -> Result<Object, Error>
+    ensures { IfOk result (λ o. object_of o ≡ object_shown row.now) }
+{
+    Ok(Object {
+        revision: row.get(0)?,
+        body: row.get(4)?,
+    })
+}
+
 fn read_entry(row: &Row) -> Result<Entry, Error>
     ensures { IfOk result (λ e. entry_of e ≡ entry_shown row.now) }
 {
     Ok(Entry {
         key: read_key(row)?,
-        object: Object {
-            revision: row.get(0)?,
-            body: row.get(4)?,
-        },
+        object: read_object(row)?,
     })
-}
-
-/// The object that a change leaves, or none if it is a deletion.
-pub(crate) fn read_left(row: &Row) -> Result<Option<Object>, Error>
-    ensures { IfOk result (λ o. option_map object_of o ≡ object_by (change_shown row.now).revision (change_shown row.now).body) }
-{
-    let body: Option<String> = row.get(4)?;
-    match body {
-        None => Ok(None),
-        Some(body) => Ok(Some(Object {
-            revision: row.get(0)?,
-            body,
-        })),
-    }
 }
 
 pub(crate) fn read_changes(alloc: Global, rows: &[Row]) -> Result<Vec<Change>, Fault>
@@ -76,4 +67,13 @@ pub(crate) fn read_entries(alloc: Global, rows: &[Row]) -> Result<Vec<Entry>, Fa
         all.push(read_entry(row)?)?;
     }
     Ok(all)
+}
+
+pub(crate) fn read_marks(row: &Row) -> Result<Marks, Error>
+    ensures { IfOk result (λ m. (m.current ≡ (marks_shown row.now).0) × (m.compacted ≡ (marks_shown row.now).1)) }
+{
+    Ok(Marks {
+        current: row.get(0)?,
+        compacted: row.get(1)?,
+    })
 }

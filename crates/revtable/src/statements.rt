@@ -1,9 +1,9 @@
-//! The SELECT statements over the table's rows. What they give is read in `reading`; `compaction` deletes rows.
+//! The SELECT statements over the table's rows. What they give is read in `reading`; `writing` adds and ends rows, and
+//! `compaction` deletes some.
 
 ghost use Rattle.std.specs.Prelude.{◌≡◌, [], ◌∷◌, ℕ, ◌^◌, ◌<◌, List, Option, pos, min, length, map, take, IfOk, option_map};
 ghost use Rattle.history.specs.Read.{key_of};
-ghost use Rattle.std.specs.Option.{option_to_list};
-ghost use Rattle.revtable.specs.Asked.{as_change, in_from, in_one, last_change, low_of};
+ghost use Rattle.revtable.specs.Asked.{as_change, deletions, in_from, in_one, low_of, under};
 ghost use Rattle.history.specs.History.{last_revision, later, state_at, up_to};
 ghost use Rattle.history.specs.Kept.{IsPruned, with_body};
 ghost use Rattle.history.specs.Page.{changes_within};
@@ -16,20 +16,21 @@ use history::Key;
 use sqlite::{Row, params};
 
 impl Table {
-    /// The last change of a key up to a revision, if there is one.
+    /// The row that stood under a key at a revision, if one did. The index by key begins with the last one up to the
+    /// revision, which is the one unless a deletion ended it.
     pub(crate) fn newest(&mut self, key: &Key, revision: u64) -> Result<Vec<Row>, Fault>
         requires fits { revision < 2 ^ 63 }
-        ensures ok { IfOk result (λ rows. rows.items ≡ map shown (option_to_list (last_change (key_of key.now) revision self.old.changes))) }
+        ensures ok { IfOk result (λ rows. rows.items ≡ map (λ e. shown (as_change e)) (under (key_of key.now) (state_at self.old.changes revision))) }
         ensures same { self.new ≡ self.old }
     {
         self.ask(
-            "SELECT revision, kind, namespace, name, body FROM change WHERE kind = ?1 AND namespace = ?2 AND name = ?3 AND revision <= ?4 ORDER BY revision DESC LIMIT 1",
+            "SELECT first, kind, namespace, name, body FROM object WHERE kind = ?1 AND namespace = ?2 AND name = ?3 AND first <= ?4 AND (ended IS NULL OR ended > ?4) ORDER BY first DESC LIMIT 1",
             params![key.kind, &key.namespace, &key.name, revision as i64],
         )
     }
 
-    /// The first changes of a type, and of a namespace if one is named, after one revision up to another.
-    pub(crate) fn spanned(
+    /// The first changes that left an object of a type, and in a namespace if one is named, after one revision up to another.
+    pub(crate) fn made_in(
         &mut self,
         kind: u32,
         namespace: Option<&str>,
@@ -40,19 +41,39 @@ impl Table {
         requires from { from < 2 ^ 63 }
         requires to { to < 2 ^ 63 }
         requires max { max < 2 ^ 63 }
-        ensures ok { IfOk result (λ rows. rows.items ≡ map shown (changes_within kind (option_map (λ b. b.now) namespace.entry) max (up_to to (later from self.old.changes)))) }
+        ensures ok { IfOk result (λ rows. rows.items ≡ map shown (changes_within kind (option_map (λ b. b.now) namespace.entry) max (with_body (up_to to (later from self.old.changes))))) }
+        ensures same { self.new ≡ self.old }
+        ensures sound { IsPruned self.old }
+    {
+        self.ask(
+            "SELECT first, kind, namespace, name, body FROM object WHERE first > ?1 AND first <= ?2 AND kind = ?3 AND (?4 IS NULL OR namespace = ?4) ORDER BY first LIMIT ?5",
+            params![from as i64, to as i64, kind, namespace, max as i64],
+        )
+    }
+
+    /// The first deletions of the same, by the index over the revisions that ended a row.
+    pub(crate) fn deleted_in(
+        &mut self,
+        kind: u32,
+        namespace: Option<&str>,
+        from: u64,
+        to: u64,
+        max: u64,
+    ) -> Result<Vec<Row>, Fault>
+        requires from { from < 2 ^ 63 }
+        requires to { to < 2 ^ 63 }
+        requires max { max < 2 ^ 63 }
+        ensures ok { IfOk result (λ rows. rows.items ≡ map shown (changes_within kind (option_map (λ b. b.now) namespace.entry) max (deletions (up_to to (later from self.old.changes))))) }
         ensures same { self.new ≡ self.old }
     {
         self.ask(
-            "SELECT revision, kind, namespace, name, body FROM change WHERE revision > ?1 AND revision <= ?2 AND kind = ?3 AND (?4 IS NULL OR namespace = ?4) ORDER BY revision LIMIT ?5",
+            "SELECT ended, kind, namespace, name, NULL FROM object WHERE ended > ?1 AND ended <= ?2 AND gone = 1 AND kind = ?3 AND (?4 IS NULL OR namespace = ?4) ORDER BY ended LIMIT ?5",
             params![from as i64, to as i64, kind, namespace, max as i64],
         )
     }
 
     /// The first objects of a type in one namespace at a revision, from a text on that their names begin from. The
-    /// index by key begins there and ends with the namespace, or where there are enough. `NOT later.revision > ?1` says
-    /// `<=`, but as two bounds of the rowid would be preferred to the index by key, which finds the next change of the
-    /// key at once, it is kept from being one.
+    /// index by key begins there and ends with the namespace, or where there are enough.
     pub(crate) fn listed_in(
         &mut self,
         kind: u32,
@@ -68,7 +89,7 @@ impl Table {
         ensures same { self.new ≡ self.old }
     {
         self.ask(
-            "SELECT revision, kind, namespace, name, body FROM change WHERE kind = ?3 AND namespace = ?4 AND name >= ?5 AND revision <= ?1 AND body IS NOT NULL AND NOT EXISTS (SELECT 1 FROM change AS later WHERE change.kind = later.kind AND change.namespace = later.namespace AND change.name = later.name AND later.revision > change.revision AND NOT later.revision > ?1) ORDER BY namespace, name LIMIT ?2",
+            "SELECT first, kind, namespace, name, body FROM object WHERE kind = ?3 AND namespace = ?4 AND name >= ?5 AND first <= ?1 AND (ended IS NULL OR ended > ?1) ORDER BY namespace, name LIMIT ?2",
             params![revision as i64, max as i64, kind, namespace, low],
         )
     }
@@ -87,17 +108,17 @@ impl Table {
         ensures same { self.new ≡ self.old }
     {
         self.ask(
-            "SELECT revision, kind, namespace, name, body FROM change WHERE kind = ?3 AND namespace >= ?4 AND revision <= ?1 AND body IS NOT NULL AND NOT EXISTS (SELECT 1 FROM change AS later WHERE change.kind = later.kind AND change.namespace = later.namespace AND change.name = later.name AND later.revision > change.revision AND NOT later.revision > ?1) ORDER BY namespace, name LIMIT ?2",
+            "SELECT first, kind, namespace, name, body FROM object WHERE kind = ?3 AND namespace >= ?4 AND first <= ?1 AND (ended IS NULL OR ended > ?1) ORDER BY namespace, name LIMIT ?2",
             params![revision as i64, max as i64, kind, low],
         )
     }
 
-    /// How many rows hold an object.
+    /// How many rows there are.
     pub(crate) fn counted(&mut self) -> Result<Vec<Row>, Fault>
         ensures ok { IfOk result (λ rows. rows.items ≡ (Int (pos (min (length (with_body self.old.changes)) last_revision)) ∷ []) ∷ []) }
         ensures same { self.new ≡ self.old }
         ensures sound { IsPruned self.old }
     {
-        self.ask("SELECT COUNT(*) FROM change WHERE body IS NOT NULL", &[])
+        self.ask("SELECT COUNT(*) FROM object", &[])
     }
 }

@@ -1,13 +1,15 @@
-//! The table and its calls. The statements stand in `statements`, their rows in `reading`.
+//! The table and its calls. The SELECT statements stand in `statements`, their rows in `reading`.
 ghost use Rattle.std.specs.Prelude.{◌≡◌, suc, ◌≤◌, true, map, IfOk, OnOk, OnErr, Some, None, option_map, length, false};
 ghost use Rattle.std.specs.FinMap as fin;
 ghost use Rattle.history.specs.History.{fresh, last_revision, later, standing, state_at, up_to, written};
 ghost use Rattle.history.specs.Kept.{IsPruned, between_marks, pruned, with_body};
 ghost use Rattle.history.specs.Page.{changes_within, listed, page, picked};
 ghost use Rattle.history.specs.Read.{key_of};
+ghost use Rattle.history.specs.Whole.{AreThere};
 ghost use Rattle.revtable.specs.Kept.{first_kept, kept_among, AreFirstKept, IsBare};
 ghost use Rattle.revtable.specs.Read.{change_of, entry_of, object_of};
-ghost use Rattle.revtable.specs.Rows.{change_schema, command_in, IsAnswer};
+ghost use Rattle.revtable.specs.Rows.{the_schema, command_in, IsAnswer};
+ghost use Rattle.revtable.specs.Spans.{stored_of};
 ghost use Rattle.sqlite.specs.Given.{IsPlain};
 ghost use Rattle.sqlite.specs.Listing.{reads_listing, understood};
 ghost use Rattle.sqlite.specs.Values.{bound};
@@ -16,8 +18,9 @@ use crate::fault::Fault;
 use crate::first_kept;
 use crate::keep::Keep;
 use crate::memory::{self, MemoryLog};
+use crate::merging::{merged, reached};
 use crate::paging::{self, Wanted};
-use crate::reading::{read_changes, read_entries, read_left};
+use crate::reading::{read_entries, read_object};
 use crate::row::{Change, Entry, Marks, Object};
 use history::{Key, LAST_REVISION};
 use sqlite::Row;
@@ -32,19 +35,21 @@ const MOST_ROWS: u64 = LAST_REVISION;
 pub struct Table {
     alloc: Global,
     log: MemoryLog,
+    /// The two numbers, as they stand in their table.
     current: u64,
     compacted: u64,
 }
 
 impl Model for Table {
+    ghost use Rattle.std.specs.Prelude.{◌≡◌};
     ghost use Rattle.history.specs.History.{History};
-    ghost use Rattle.history.specs.Kept.{IsPruned};
+    ghost use Rattle.revtable.specs.Spans.{history_of, IsWritten};
 
     ghost Value = { History };
 
-    ghost view = { λ t. record { changes = t.log; current = t.current; compacted = t.compacted } };
+    ghost view = { λ t. history_of t.log };
 
-    ghost invariant = { λ t. IsPruned (record { changes = t.log; current = t.current; compacted = t.compacted }) };
+    ghost invariant = { λ t. IsWritten t.log × (t.current ≡ t.log.current) × (t.compacted ≡ t.log.compacted) };
 }
 
 // It is written out, so that what holds a table does not prove again how each part is dropped.
@@ -73,11 +78,13 @@ impl Table {
         requires to { revision ≤ last_revision }
         ensures { IfOk result (λ t. t ≡ fresh revision) }
     {
+        let mut log = memory::open(alloc, revision)?;
+        let Marks { current, compacted } = log.marks()?;
         Ok(Table {
             alloc,
-            log: memory::open(alloc)?,
-            current: revision,
-            compacted: revision,
+            log,
+            current,
+            compacted,
         })
     }
 
@@ -101,7 +108,12 @@ impl Table {
         ensures ok { OnOk result (self.new ≡ written self.old (key_of key.now) (option_map (λ b. b.now) body.entry)) }
         ensures err { OnErr result (self.new ≡ self.old) }
     {
-        self.log.insert(revision, key, body)?;
+        let compacted = self.compacted;
+        let marks = Marks {
+            current: revision,
+            compacted,
+        };
+        self.log.put(marks, key, body)?;
         self.current = revision;
         Ok(())
     }
@@ -123,7 +135,7 @@ impl Table {
         let rows = self.newest(key, revision)?;
         match rows.first() {
             None => Ok(None),
-            Some(row) => Ok(read_left(row)?),
+            Some(row) => Ok(Some(read_object(row)?)),
         }
     }
 
@@ -195,12 +207,22 @@ impl Table {
         let from = from.min(self.current);
         let to = to.min(self.current);
         let max = max.min(MOST_ROWS);
-        let rows = self.spanned(kind, namespace, from, to, max)?;
-        read_changes(self.alloc, &rows)
+        let made = self.made_in(kind, namespace, from, to, max)?;
+        let to = reached(&made, max, to)?;
+        let deleted = self.deleted_in(kind, namespace, from, to, max)?;
+        merged(self.alloc, &made, &deleted, max)
     }
 
     /// How many rows hold an object: as many as there are kept changes with a body.
     pub fn rows(&mut self) -> Result<u64, Fault>
+        ensures ok { IfOk result (λ n. n ≡ length (with_body self.old.changes)) }
+        ensures same { self.new ≡ self.old }
+    {
+        self.stored_rows()
+    }
+
+    /// How many rows the objects' table has in all. Each holds an object; a deletion has none.
+    pub fn stored_rows(&mut self) -> Result<u64, Fault>
         ensures ok { IfOk result (λ n. n ≡ length (with_body self.old.changes)) }
         ensures same { self.new ≡ self.old }
     {
@@ -218,24 +240,29 @@ impl Table {
         ensures err { OnErr result (self.new ≡ self.old) }
     {
         let to = revision.min(self.current).max(self.compacted);
-        self.log.compact(self.compacted, to)?;
+        let marks = Marks {
+            current: self.current,
+            compacted: to,
+        };
+        self.log.prune(marks)?;
         self.compacted = to;
         Ok(())
     }
 
-    /// What a SELECT over the kept changes shows. Each of `statements` asks here: so it sees a history, and this call alone
+    /// What a SELECT over the rows of the kept changes shows. Each of `statements` asks here: so it sees a history, and this call alone
     /// is proved at the store that `memory` names.
     pub(crate) fn ask(&mut self, sql: &str, params: &[ValueRef<'_>]) -> Result<Vec<Row>, Fault>
-        requires plain { IsPlain (understood change_schema sql.now) }
-        requires unlisted { reads_listing change_schema sql.now ≡ false }
-        ensures ok { IfOk result (λ rows. IsAnswer sql.now (bound params.now) self.old.changes rows.items) }
+        requires plain { IsPlain (understood the_schema sql.now) }
+        requires unlisted { reads_listing the_schema sql.now ≡ false }
+        ensures ok { IfOk result (λ rows. IsAnswer sql.now (bound params.now) (stored_of self.old) rows.items) }
         ensures same { self.new ≡ self.old }
         ensures sound { IsPruned self.old }
+        ensures there { AreThere fin.empty self.old.changes }
     {
         Ok(self.log.ask(sql, params)?)
     }
 
-    /// The first objects that a SELECT over the kept changes shows and that are kept; `first_kept` asks here, as
+    /// The first objects that a SELECT over the same rows shows and that are kept; `first_kept` asks here, as
     /// `statements` ask above.
     pub(crate) fn ask_kept<K: Keep>(
         &mut self,
@@ -244,10 +271,10 @@ impl Table {
         max: u64,
         keep: &K,
     ) -> Result<Vec<Entry>, Fault>
-        requires plain { IsPlain (understood change_schema sql.now) }
-        requires unlisted { reads_listing change_schema sql.now ≡ false }
-        requires bare { IsBare (command_in (understood change_schema sql.now)) }
-        ensures ok { IfOk result (λ v. AreFirstKept sql.now (bound params.now) self.old.changes (K.Keep.kept keep.now) max (map entry_of v.items)) }
+        requires plain { IsPlain (understood the_schema sql.now) }
+        requires unlisted { reads_listing the_schema sql.now ≡ false }
+        requires bare { IsBare (command_in (understood the_schema sql.now)) }
+        ensures ok { IfOk result (λ v. AreFirstKept sql.now (bound params.now) (stored_of self.old) (K.Keep.kept keep.now) max (map entry_of v.items)) }
         ensures same { self.new ≡ self.old }
         ensures sound { IsPruned self.old }
     {

@@ -10,7 +10,7 @@
 //! | `stood KEY REVISION` | what stood under the key |
 //! | `page NAMESPACE REVISION MAX`, `page-after KEY REVISION MAX` | a page, of a namespace or of all (`-`), or of all after a key |
 //! | `changes NAMESPACE FROM TO MAX` | the changes of a namespace or of all |
-//! | `marks`, `rows`, `seen` | the current and the compacted revision; how many rows there are; all that there is to be seen |
+//! | `marks`, `rows`, `stored-rows`, `seen` | the current and the compacted revision; how many rows hold an object, and how many there are in all; all that there is to be seen |
 
 use crate::rows::{Answers, done, play};
 use history::Key;
@@ -165,6 +165,7 @@ fn answer_of_table(
     match call {
         "marks" => told(alloc, marks(table)),
         "rows" => told(alloc, table.rows()?),
+        "stored-rows" => told(alloc, table.stored_rows()?),
         "seen" => Ok(seen_of_table(table, alloc)?),
         "prune" => {
             prune(table, number(word)?)?;
@@ -308,7 +309,7 @@ fn play_each(alloc: Global, examples: &str) -> Result<(), Fail> {
 }
 
 const EXAMPLES: &str =
-    r#"rows_after_a_prune at 1: one key has five writes, another is made and deleted: a prune leaves what still stands or came later
+    r#"rows_after_a_prune at 1: one key has five writes, another is made and deleted: a prune leaves what still stands or came later; a deletion has no row
 add w1 a => done
 add w1 b => done
 add w1 c => done
@@ -318,10 +319,13 @@ add w2 f => done
 remove w2 => done
 marks => (8, 1)
 rows => 6
+stored-rows => 6
 prune 5 => done
 rows => 3
+stored-rows => 3
 prune 8 => done
 rows => 1
+stored-rows => 1
 marks => (8, 8)
 
 the_highest_revision at 9223372036854775806

@@ -2,11 +2,10 @@ use Rattle.std.proofs.Common.{◌≡◌, ◌≤◌, List, length, map}
 use Rattle.sqlite.specs.Given.{HasGiven}
 use Rattle.sqlite.specs.Held.{state}
 use Rattle.sqlite.specs.Order.{Row}
-use Rattle.sqlite.specs.State.{IsUnchanged}
 use Rattle.sqlite.specs.Values.{bound}
-use Rattle.history.specs.History.{Change}
 use Rattle.revtable.specs.Read.{entry_of}
 use Rattle.revtable.specs.Rows.{Keeps}
+use Rattle.revtable.specs.Spans.{Stored}
 use Rattle.revtable.proofs.FirstKept.{found_in}
 use Rattle.revtable.proofs.first_kept.read.Given as goal
 
@@ -14,6 +13,6 @@ use Rattle.revtable.proofs.first_kept.read.Given as goal
 abbrev pub invariant-rows : goal.invariant-rows
 invariant-rows g l =
     (l.rows.conn.ghost_name ≡ l.initial.rows.conn.ghost_name)
-    × ((cs : List Change) → Keeps cs (state g.S.Store l.fn.base) → (given : List Row) × HasGiven g.S.Store l.sql (bound l.params) l.rows.conn.now given × Keeps cs (state g.S.Store l.rows.conn.now)
+    × ((st : Stored) → Keeps st (state g.S.Store l.fn.base) → (given : List Row) × HasGiven g.S.Store l.sql (bound l.params) l.rows.conn.now given × Keeps st (state g.S.Store l.rows.conn.now)
     × (length given ≡ l.counter) × (map entry_of l.found.items ≡ found_in (g.K.Keep.kept l.keep) given))
     × (length l.found.items ≤ l.max)

@@ -1,7 +1,6 @@
 use Rattle.std.proofs.Common.{sym, subst}
 use Rattle.sqlite.specs.Held.{state}
 use Rattle.revtable.specs.Rows.{Keeps}
-use Rattle.revtable.proofs.change_log.ChangeLog.ask_kept.Given.{Over}
 use Rattle.revtable.proofs.change_log.ChangeLog.ask_kept.Goals as goal
 
 pub read-requires-clause-clean : goal.read-requires-clause-clean

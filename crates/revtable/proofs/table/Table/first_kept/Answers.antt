@@ -20,8 +20,8 @@ done : (g : Over) (c : goal.After-listed g)
     → IfOk c.listed.result (λ v. map entry_of v.items ≡ first_kept (g.K.Keep.kept c.args.keep.now) c.args.max (listed c.args.kind (named g c) (place g c) (state_at c.args.self.now.changes c.args.revision)))
 done g c =
     let h = c.args.self.now in
-    let pruned = subst IsPruned c.self.view_is c.self.invariant in
-    let revision = c.min.ensures ∙ ap (λ (h : History). min c.args.revision h.current) c.self.view_is in
+    let pruned = subst IsPruned c.self.view_is c.self.invariant.0.pruned in
+    let revision = c.min.ensures ∙ ap (min c.args.revision) (c.self.invariant.1 ∙ ap (λ (h : History). h.current) c.self.view_is) in
     when_ok c.listed.result _ _ (λ v is.
     is ∙ ap (λ s. first_kept (g.K.Keep.kept c.args.keep.now) c.args.max (listed c.args.kind (named g c) (place g c) s)) (ap (state_at h.changes) revision ∙ state_min h c.args.revision pruned.is)) c.listed.ensures.ok
 
@@ -32,6 +32,6 @@ pub returns-clause-whole : goal.returns-clause-whole
 returns-clause-whole g c = λ le.
     let h = c.args.self.now in
     let kept = g.K.Keep.kept c.args.keep.now in
-    let pruned = subst IsPruned c.self.view_is c.self.invariant in
+    let pruned = subst IsPruned c.self.view_is c.self.invariant.0.pruned in
     when_ok c.listed.result _ _ (λ v is.
     is ∙ take_most c.args.max (kept_among kept (listed c.args.kind (named g c) (place g c) (state_at h.changes c.args.revision))) (kept_few h c.args.revision kept c.args.kind (named g c) (place g c) pruned.is) le) (done g c)

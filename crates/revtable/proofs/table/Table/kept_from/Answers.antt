@@ -1,10 +1,11 @@
-use Rattle.std.proofs.Common.{◌≡◌, map, IfOk, subst, to_z, w64, pos, [], ◌∷◌, refl, arith}
+use Rattle.std.proofs.Common.{◌≡◌, map, IfOk, subst, to_z, w64, pos, [], ◌∷◌, refl}
 use Rattle.std.proofs.lemmas.Int.{to_z_pos}
 use Rattle.sqlite.specs.declared.types.Value.TheVariants.{Int, Text as Words}
 use Rattle.history.specs.History.{last_revision, state_at}
 use Rattle.revtable.specs.Asked.{in_from}
 use Rattle.revtable.specs.Kept.{AreFirstKept}
 use Rattle.revtable.specs.Read.{entry_of}
+use Rattle.revtable.specs.Spans.{stored_of}
 use Rattle.revtable.proofs.Numbers.{objects_few}
 use Rattle.revtable.proofs.Pages.{finds_from}
 use Rattle.revtable.proofs.FirstKept.{from_bare, kept_answered, last_fits}
@@ -29,7 +30,7 @@ returns-clause-ok g c =
     let bound : Int (to_z w64 revision) ∷ Int (to_z w64 last_revision) ∷ Int (pos c.args.wanted.kind) ∷ Words c.args.low.now ∷ [] ≡ params =
     rw (to_z_pos w64 revision c.requires.fits, to_z_pos w64 last_revision last_fits) refl in
     let few = objects_few h revision _ c.ask_kept.ensures.sound.is in
-    kept_answered from_text _ params h.changes (g.K.Keep.kept c.args.keep.now) c.args.wanted.max c.ask_kept.result (in_from c.args.wanted.kind c.args.low.now (state_at h.changes revision)) from_is.0
-    (λ db rows is h2. finds_from db h.changes c.args.wanted.kind c.args.low.now revision last_revision h.current rows is c.ask_kept.ensures.sound.is.rising h2) few
-    (subst (λ p. IfOk c.ask_kept.result (λ v. AreFirstKept from_text p h.changes (g.K.Keep.kept c.args.keep.now) c.args.wanted.max (map entry_of v.items))) bound
+    kept_answered from_text _ params (stored_of h) (g.K.Keep.kept c.args.keep.now) c.args.wanted.max c.ask_kept.result (in_from c.args.wanted.kind c.args.low.now (state_at h.changes revision)) from_is.0
+    (λ db rows has h2. finds_from db h.changes c.args.wanted.kind c.args.low.now revision last_revision h.current rows has.rows c.ask_kept.ensures.sound.is.rising h2) few
+    (subst (λ p. IfOk c.ask_kept.result (λ v. AreFirstKept from_text p (stored_of h) (g.K.Keep.kept c.args.keep.now) c.args.wanted.max (map entry_of v.items))) bound
     (rw (c.params-to_sql.ensures, c.params-to_sql-2.ensures, c.params-to_sql-3.ensures, c.params-to_sql-4.ensures) at c.ask_kept.ensures.ok))

@@ -1,0 +1,34 @@
+use Rattle.std.proofs.Common.{◌≡◌, sym, subst, ◌∙◌, option_map}
+use Rattle.sqlite.specs.Held.{state}
+use Rattle.history.specs.Read.{key_of}
+use Rattle.revtable.specs.Rows.{stored_in, Amid, Keeps}
+use Rattle.revtable.specs.Spans.{Stored, put_in}
+use Rattle.revtable.proofs.Within.{begins, committed, on_err, rolled_back, uncommitted}
+use Rattle.revtable.proofs.writing.put.Goals as goal
+
+pub returns-in_err-write_change-clause-err : goal.returns-in_err-write_change-clause-err
+returns-in_err-write_change-clause-err g c st cs top rising below rows keeps =
+    let start = subst (λ h. Amid st st (state g.S.Store h)) (sym c.transaction-writing.ensures.begun) (begins st (state g.S.Store c.args.base.now) keeps) in
+    let end = c.drop-writing.new.self.0 in
+    let same : end ≡ c.base-1.given.0 = sym (c.base-1.given.1 (sym c.transaction-writing.ensures.same_reference ∙ sym c.write_change.ensures.same_reference)) in
+    on_err c.from_residual.result _
+    (subst (λ h. Keeps st (state g.S.Store h)) same
+    (rolled_back (state g.S.Store c.write_change.new.writing.conn.now) (state g.S.Store end) st (c.in_err-write_change.ensures.err st st cs top rising below rows start) (c.drop-writing.ensures.undone (c.requires.clean end))))
+
+pub returns-in_err-commit-clause-err : goal.returns-in_err-commit-clause-err
+returns-in_err-commit-clause-err g c st cs top rising below rows keeps =
+    let start = subst (λ h. Amid st st (state g.S.Store h)) (sym c.transaction-writing.ensures.begun) (begins st (state g.S.Store c.args.base.now) keeps) in
+    let end = c.commit.new.self.0 in
+    let same : end ≡ c.base-2-1.given.0 = sym (c.base-2-1.given.1 (sym c.transaction-writing.ensures.same_reference ∙ sym c.write_change.ensures.same_reference)) in
+    on_err c.from_residual-in_err-commit.result _
+    (subst (λ h. Keeps st (state g.S.Store h)) same
+    (uncommitted (state g.S.Store c.write_change.new.writing.conn.now) (state g.S.Store end) _ st (put_in c.args.marks.current c.args.marks.compacted (key_of c.args.key.now) (option_map (λ b. b.now) c.args.body) st) (c.in_ok-write_change.ensures.ok st st cs top rising below rows start) (c.in_err-commit.ensures.err (c.requires.clean end))))
+
+pub returns-clause-ok : goal.returns-clause-ok
+returns-clause-ok g c st cs top rising below rows keeps =
+    let start = subst (λ h. Amid st st (state g.S.Store h)) (sym c.transaction-writing.ensures.begun) (begins st (state g.S.Store c.args.base.now) keeps) in
+    let end = c.commit.new.self.0 in
+    let next : Stored = put_in c.args.marks.current c.args.marks.compacted (key_of c.args.key.now) (option_map (λ b. b.now) c.args.body) st in
+    let same : end ≡ c.base-2-1.given.0 = sym (c.base-2-1.given.1 (sym c.transaction-writing.ensures.same_reference ∙ sym c.write_change.ensures.same_reference)) in
+    subst (λ h. Keeps next (state g.S.Store h) × (stored_in (state g.S.Store h).now ≡ next)) same
+    (committed (state g.S.Store c.write_change.new.writing.conn.now) (state g.S.Store end) st next (c.in_ok-write_change.ensures.ok st st cs top rising below rows start) (c.in_ok-commit.ensures.ok (c.requires.clean end)).1)
