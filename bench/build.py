@@ -1,8 +1,9 @@
 #!/usr/bin/env python3
 """Proves and builds a program that times layers, over the crates of this tree or of a commit.
 
-Usage: bench/build.py PROGRAM FOLDER [COMMIT]     leaves FOLDER/PROGRAM; `tables` times the revisioned store over tables, and
-                                                  `layers` selectors, indexer, the reader of replies, objects' texts and the client,
+Usage: bench/build.py PROGRAM FOLDER [COMMIT]     leaves FOLDER/PROGRAM; `tables` times the revisioned store over tables,
+                                                  `connections` a hub that serves many, one after another, `layers`
+                                                  selectors, indexer, the reader of replies, objects' texts and the client,
                                                   and `runs` a server and a client in one run, beside the hub alone
 
 It makes a repository of its own, FOLDER/source-PROGRAM, with the program and the crates below it, and calls `rt run` in it, so the
@@ -20,6 +21,7 @@ import sys
 TOP = os.path.dirname(os.path.dirname(os.path.realpath(__file__)))
 LIBRARIES = {
     "tables": "history revtable revstore anyhow",
+    "connections": "schema serde_json verbs httpedge anyhow",
     "layers": "selector indexer wireclient decoder reflector schema typed ownership serde_json anyhow",
     "runs": "schema verbs httpedge wireclient indexer world serde_json anyhow",
 }

@@ -1,12 +1,12 @@
 #!/usr/bin/env python3
 """Times the layers by the programs of bench/build.py, and the hub by the built program ssa_replay, with the peak memory.
 
-Usage: bench/layers.py [--layers PROGRAM] [--tables PROGRAM] [--replay PROGRAM] [LAYER..]   (default: all layers whose program is
-                       given, and the hub by the program that `rt run` leaves in crates/ssa_replay/out)
+Usage: bench/layers.py [--layers PROGRAM] [--tables PROGRAM] [--connections PROGRAM] [--replay PROGRAM] [LAYER..]   (default:
+                       all layers whose program is given, and the hub by the program that `rt run` leaves in crates/ssa_replay/out)
 
 Runs each layer at 1,000, 10,000 and 100,000 (the reader at 1,000 and 10,000 lines, objects' texts over objects of 10, 100 and
 1,000 fields) in a process of its own and prints what the program says of the processor time (one core) and the peak memory of
-the process. `tables` is a program of its own; `layers` has the others. The layer `hub` are tables of scripts' times
+the process. `tables` and `connections` (1,000, 100,000 and 1,000,000 of them) are programs of their own; `layers` has the others. The layer `hub` are tables of scripts' times
 (bench/scripts.py): applies, GETs on connections one after another, and requests in pieces.
 """
 import argparse
@@ -19,8 +19,9 @@ from scripts import WIDGETS, Script, a_second, head, program_of, request, row, t
 
 TOP = os.path.dirname(os.path.dirname(os.path.abspath(__file__)))
 TABLES = "tables"
+CONNECTIONS = "connections"
 SIZES = {"selectors": (1000, 10000, 100000), "indexer": (1000, 10000, 100000), "reader": (1000, 10000),
-         TABLES: (1000, 10000, 100000), "objects": (10, 100, 1000), "client": (5000, 100000)}
+         TABLES: (1000, 10000, 100000), CONNECTIONS: (1000, 100000, 1000000), "objects": (10, 100, 1000), "client": (5000, 100000)}
 LIMIT = 120
 OBJECT = WIDGETS + "/w1"
 APPLY = OBJECT + "?fieldManager=alice"
@@ -28,8 +29,8 @@ PIECE = 64
 
 
 def words_of(program, layer, size):
-    """What runs a layer at a size: the program of the tables has no other layer, so it takes sizes alone."""
-    return [program, str(size)] if layer == TABLES else [program, str(size), layer]
+    """What runs a layer at a size: a program of its own has no other layer, so it takes sizes alone."""
+    return [program, str(size)] if layer in (TABLES, CONNECTIONS) else [program, str(size), layer]
 
 
 def run(program, layer, size):
@@ -133,16 +134,18 @@ def main():
     words = argparse.ArgumentParser()
     words.add_argument("--layers", dest="program")
     words.add_argument("--tables")
+    words.add_argument("--connections")
     words.add_argument("--replay", default=program_of(TOP))
     words.add_argument("layers", nargs="*", metavar="LAYER")
     given = words.parse_args()
     for layer in given.layers or [*SIZES, "hub"]:
-        program = given.tables if layer == TABLES else given.program
+        own = layer if layer in (TABLES, CONNECTIONS) else "layers"
+        program = {TABLES: given.tables, CONNECTIONS: given.connections}.get(layer, given.program)
         if layer == "hub":
             with tempfile.TemporaryDirectory() as folder:
                 run_hub(given.replay, folder)
         elif not program:
-            print(f"== {layer}: left out, since its program isn't given (--{TABLES if layer == TABLES else 'layers'})", flush=True)
+            print(f"== {layer}: left out, since its program isn't given (--{own})", flush=True)
         else:
             run_layer(program, layer)
 

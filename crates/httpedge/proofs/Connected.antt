@@ -9,7 +9,7 @@ use Rattle.std.specs.FinMap as fin
 use Rattle.std.specs.FinMap.Entries as entries
 use Rattle.std.specs.declared.cmp.Ordering.{Ordering}
 use Rattle.std.specs.declared.cmp.Ordering.TheVariants.{Less, Equal, Greater}
-use Rattle.httpedge.specs.Connections.{Connection, Connections, each, is_new, is_open, open_count}
+use Rattle.httpedge.specs.Connections.{Connection, Connections, each, is_new, is_open}
 
 pub itself : (id : ℕ) → eq_by_cmp nat_cmp id id ≡ true
 itself id = ap is_eq (tied_itself nat_cmp_total id)
@@ -17,7 +17,7 @@ itself id = ap is_eq (tied_itself nat_cmp_total id)
 pub put_there : (all : Connections) (id : ℕ) (c : Connection) → fin.get (fin.insert all id c) id ≡ Some c
 put_there all id c = fin.get-insert nat_cmp_total all id c id ∙ ap (λ (b : Bool). cond b (Some c) (fin.get all id)) (itself id)
 
-hidden : {A : Type 0} (b : Bool) (x y z : A) → cond b x (cond b y z) ≡ cond b x z
+pub hidden : {A : Type 0} (b : Bool) (x y z : A) → cond b x (cond b y z) ≡ cond b x z
 hidden true x y z = refl
 hidden false x y z = refl
 
@@ -154,10 +154,10 @@ counted : (c : Connection) (cs : List Connection) (b : Bool) → length (cond b 
 counted c cs true = omega arith
 counted c cs false = omega arith
 
-opens_first : (e : ℕ × Connection) (es : Entries) → opens_in (e ∷ es) ≡ one_if (is_open e.1.standing) + opens_in es
+pub opens_first : (e : ℕ × Connection) (es : Entries) → opens_in (e ∷ es) ≡ one_if (is_open e.1.standing) + opens_in es
 opens_first e es = counted e.1 (filter (λ c. is_open c.standing) (map (λ e. e.1) es)) (is_open e.1.standing)
 
-none_below : (id : ℕ) (es : Entries) → entries.below_all nat_cmp id es ≡ true → entries.find nat_cmp id es ≡ None
+pub none_below : (id : ℕ) (es : Entries) → entries.below_all nat_cmp id es ≡ true → entries.find nat_cmp id es ≡ None
 none_below id [] below = refl
 none_below id (e ∷ es) below = go (nat_cmp id e.0) (and_parts (is_lt (nat_cmp id e.0)) (entries.below_all nat_cmp id es) below) (none_below id es)
   where
@@ -166,53 +166,3 @@ none_below id (e ∷ es) below = go (nat_cmp id e.0) (and_parts (is_lt (nat_cmp 
     go Less lt rest = rest lt.1
     go Equal lt rest = absurd cc
     go Greater lt rest = rest lt.1
-
-is_less : (r : Ordering) → is_lt r ≡ true → r ≡ Less
-is_less Less e = refl
-is_less Equal e = absurd cc
-is_less Greater e = absurd cc
-
-both : (a b : Bool) → a ≡ true → b ≡ true → a && b ≡ true
-both true b x y = y
-both false b x y = absurd cc
-
-below_less : (x y : ℕ) (es : Entries) → nat_cmp x y ≡ Less → entries.below_all nat_cmp y es ≡ true → entries.below_all nat_cmp x es ≡ true
-below_less x y [] less below = refl
-below_less x y (e ∷ es) less below =
-    let parts = and_parts (is_lt (nat_cmp y e.0)) (entries.below_all nat_cmp y es) below in
-    both (is_lt (nat_cmp x e.0)) (entries.below_all nat_cmp x es) (ap is_lt (nat_cmp_total.trans x y e.0 less (is_less (nat_cmp y e.0) parts.0))) (below_less x y es less parts.1)
-
-opens_by : (id : ℕ) (c : Connection) (e : ℕ × Connection) (es : Entries) (r : Ordering) → nat_cmp id e.0 ≡ r → entries.below_all nat_cmp e.0 es ≡ true
-    → opens_in (put id c es) + opens_of (entries.find nat_cmp id es) ≡ opens_in es + one_if (is_open c.standing)
-    → opens_in (put_by id c e es r) + opens_of (cond (is_eq r) (Some e.1) (entries.find nat_cmp id es)) ≡ opens_in (e ∷ es) + one_if (is_open c.standing)
-opens_by id c e es Less is below rest =
-    let none : opens_of (entries.find nat_cmp id es) ≡ 0 = ap opens_of (none_below id es (below_less id e.0 es is below)) in
-    let first = opens_first (id, c) (e ∷ es) in
-    omega (arith, none, first)
-opens_by id c e es Equal is below rest =
-    let first = opens_first e es in
-    let put = opens_first (e.0, c) es in
-    omega (arith, first, put)
-opens_by id c e es Greater is below rest =
-    let first = opens_first e es in
-    let put = opens_first e (put id c es) in
-    omega (arith, first, put, rest)
-
-opens_put : (id : ℕ) (c : Connection) (es : Entries) → entries.is_sorted nat_cmp es ≡ true
-    → opens_in (put id c es) + opens_of (entries.find nat_cmp id es) ≡ opens_in es + one_if (is_open c.standing)
-opens_put id c [] sorted = (let first = opens_first (id, c) [] in omega (arith, first))
-opens_put id c (e ∷ es) sorted =
-    let parts = and_parts (entries.below_all nat_cmp e.0 es) (entries.is_sorted nat_cmp es) sorted in
-    opens_by id c e es (nat_cmp id e.0) refl parts.0 (opens_put id c es parts.1)
-
-truly : (b : Bool) → T b → b ≡ true
-truly true t = refl
-truly false t = absurd t
-
--- how many are open after what becomes of one
-pub open_put : (all : Connections) (id : ℕ) (c : Connection) → open_count (fin.insert all id c) + opens_of (fin.get all id) ≡ open_count all + one_if (is_open c.standing)
-open_put all id c =
-    let put : open_count (fin.insert all id c) ≡ opens_in (put id c (fin.entries all)) = ap opens_in (fin.entries-insert nat_cmp_total all id c) in
-    let got : opens_of (fin.get all id) ≡ opens_of (entries.find nat_cmp id (fin.entries all)) = ap opens_of (fin.get-entries all id) in
-    let both = opens_put id c (fin.entries all) (truly _ (fin.entries_sorted all)) in
-    omega (arith, put, got, both)

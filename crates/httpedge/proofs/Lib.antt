@@ -1,5 +1,9 @@
 pub mod Adding
+pub mod Ranging
 pub mod Connected
+pub mod Counting
+pub mod Forgetting
+pub mod Making
 pub mod Ended
 pub mod Going
 pub mod Turning

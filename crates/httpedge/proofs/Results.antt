@@ -8,3 +8,7 @@ some_of e = cc
 pub on_err_both : {A E P Q R : Type 0} (r : Result A E) → (P → Q → R) → OnErr r P → OnErr r Q → OnErr r R
 on_err_both (Ok a) f p q = tt {0}
 on_err_both (Err e) f p q = f p q
+
+pub on_err : {A E P : Type 0} (r : Result A E) → P → OnErr r P
+on_err (Ok a) p = tt {0}
+on_err (Err e) p = p

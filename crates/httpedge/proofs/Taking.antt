@@ -20,7 +20,7 @@ out_by (watching w) taken n written = left_after taken n written
 out_by ended taken n written = left_after taken n written
 out_by (gone had_ended) taken n written = sym (none_left n)
 
-out_taken : (c : Connection) (n : ℕ) → out_of (with_taken c n) ≡ drop n (out_of c)
+pub out_taken : (c : Connection) (n : ℕ) → out_of (with_taken c n) ≡ drop n (out_of c)
 out_taken c n = out_by c.standing c.taken n c.written
 
 out_on_by : (s : State) (id n : ℕ) (o : Option Connection) → fin.get s.connections id ≡ o

@@ -1,7 +1,7 @@
 -- Connections at a tick, one after the other.
 use Rattle.std.proofs.Common.{◌≡◌, ℕ, Bool, true, false, ◌&&◌, ◌||◌, cond, T, List, [], ◌∷◌, Option, Some, None, refl, sym, ap, ap₂, subst, ◌∙◌}
-use Rattle.std.specs.Prelude.{option_map, unwrap_or, nat_lt}
-use Rattle.std.specs.BTreeMap.{get, is_at}
+use Rattle.std.specs.Prelude.{is_some, option_map, unwrap_or, nat_lt}
+use Rattle.std.specs.BTreeMap.{BTreeMap, get, is_at}
 use Rattle.std.specs.BTreeSet.{BTreeSet, contains}
 use Rattle.std.specs.Cmp.{nat_cmp_total}
 use Rattle.std.specs.FinMap as fin
@@ -15,15 +15,18 @@ use Rattle.std.proofs.lemmas.Map.Views.{any-filter_same}
 use Rattle.schema.specs.TypesFile.{ServedShape}
 use Rattle.verbs.specs.declared.api.Api.{Api}
 use Rattle.httpedge.specs.declared.connection.Connection as conns
-use Rattle.httpedge.specs.Connections.{Connection, Connections, Standing, waiting, watching, ended, gone, each, is_new, is_open, is_watching, open_count, open_on}
+use Rattle.httpedge.specs.declared.connections.Connections.{Connections as Kept}
+use Rattle.httpedge.specs.Connections.{Connection, Connections, Standing, waiting, watching, ended, gone, each, is_new, is_open, is_watching, open_on}
 use Rattle.requests.specs.Decision.{undecided}
-use Rattle.httpedge.specs.Held.{Holds, HoldsAt, Lists, PutAt, Represents, count_after, is_open_in}
+use Rattle.httpedge.specs.Held.{Holds, HoldsAt, IsApart, Lists, PutAt, Represents, found, found_in, held_or, is_above, is_open_in, over_by}
+use Rattle.httpedge.specs.Ids.{is_in}
 use Rattle.httpedge.specs.Runs.{Steps}
 use Rattle.httpedge.specs.Steps.{Refusal, State, tick_back, ticks, dead_or_ticked, refusal, unless_refused, with_tick, with_turn, writes_at, Starves}
-use Rattle.httpedge.specs.Ticks.{HoldsAll, TicksAll, TicksAt, TicksOne, due_on, put_where, ticked_all, ticked_at}
+use Rattle.httpedge.specs.Ticks.{HoldsAll, TicksAll, TicksAt, TicksIn, due_on, put_where, ticked_all, ticked_at}
 use Rattle.httpedge.specs.Watches.{ticked}
-use Rattle.httpedge.proofs.Connected.{Entries, changed, got_each, ids, itself, put_there, sorted_same, tied_same}
-use Rattle.httpedge.proofs.Representing.{Held, OpensNone, count_moves, held_put, none_held, open_in, same_open, some_held, watching_open}
+use Rattle.httpedge.proofs.Connected.{Entries, changed, got_each, ids, itself, sorted_same, tied_same}
+use Rattle.httpedge.proofs.Counting.{sorted_parts}
+use Rattle.httpedge.proofs.Representing.{Found, closed_watches, held_put, open_in, put_same, same_open, some_held, watching_open}
 use Rattle.httpedge.proofs.Staying.{dead_idle}
 
 wrong : false ≡ true → ⊥
@@ -51,53 +54,62 @@ no_turn types ms b (Some c) is = ap (λ (d : Connection). Some d) (dead_idle typ
 
 -- ---- the connection of an id
 
-pub none_ticks : (types : List ServedShape) (ms id : ℕ) (before : Connections) (old new : Held) → HoldsAll types old before → get nat_cmp old id ≡ None
-    → ((q : ℕ) → get nat_cmp new q ≡ get nat_cmp old q) → TicksAt types ms id before new false
-none_ticks types ms id before old new held at same =
-    let none = none_held types (get nat_cmp old id) (fin.get before id) (held id) at in (
-      subst (HoldsAll types new) (sym (ap (λ (o : Option Connection). put_where o (dead_or_ticked types ms false) before id) none))
-          (λ q. subst (λ (o : Option conns.Connection). HoldsAt types o (fin.get before q)) (sym (same q)) (held q)),
-      λ is. absurd (wrong is),
-    )
+closed_over : (types : List ServedShape) (a b : Bool) (c : Connection) → HoldsAt types (over_by a b) (Some c) → is_open c.standing ≡ false
+closed_over types true b c holds = holds.0
+closed_over types false true c holds = holds.0
+closed_over types false false c holds = absurd holds
 
-pub some_ticks : (types : List ServedShape) (ms id : ℕ) (before : Connections) (old new : Held) (d e : conns.Connection) (found_none : Bool) → HoldsAll types old before → get nat_cmp old id ≡ Some d
+-- one that isn't held stays as it is
+over_ticks : (types : List ServedShape) (ms id : ℕ) (before : Connections) (held : Found) (a b : Bool) (o : Option Connection) → HoldsAll types held before → fin.get before id ≡ o
+    → HoldsAt types (over_by a b) o → HoldsAll types held (put_where o (dead_or_ticked types ms false) before id)
+over_ticks types ms id before held a b None all got holds = all
+over_ticks types ms id before held a b (Some c) all got holds =
+    let idle = dead_idle types ms false c (closed_watches c.standing (closed_over types a b c holds)) in
+    subst (HoldsAll types held) (sym (ap (fin.insert before id) idle ∙ put_same before id c got)) all
+
+pub none_ticks : (types : List ServedShape) (ms id : ℕ) (before : Connections) (held held' : BTreeMap ℕ conns.Connection) (had_ended cut : ℕ → Bool) → HoldsAll types (found_in held had_ended cut) before
+    → get nat_cmp held id ≡ None → held' ≡ held → TicksAt types ms id before (found_in held' had_ended cut) false
+none_ticks types ms id before held held' had_ended cut all at same = (
+  over_ticks types ms id before (found_in held' had_ended cut) (had_ended id) (cut id) (fin.get before id)
+      (subst (λ (h : BTreeMap ℕ conns.Connection). HoldsAll types (found_in h had_ended cut) before) (sym same) all) refl
+      (subst (λ (o : Option conns.Connection). HoldsAt types (held_or o (over_by (had_ended id) (cut id))) (fin.get before id)) at (all id)),
+  λ is. absurd (wrong is),
+)
+
+found_by : (b : Bool) (e : conns.Connection) (o r : Option conns.Connection) → held_or (cond b (Some e) o) r ≡ cond b (Some e) (held_or o r)
+found_by true e o r = refl
+found_by false e o r = refl
+
+-- what is held under an id is found under it
+pub found_put : (held held' : BTreeMap ℕ conns.Connection) (had_ended cut : ℕ → Bool) (id : ℕ) (e : conns.Connection)
+    → ((q : ℕ) → get nat_cmp held' q ≡ cond (eq_by_cmp nat_cmp id q) (Some e) (get nat_cmp held q)) → PutAt id e (found_in held had_ended cut) (found_in held' had_ended cut)
+found_put held held' had_ended cut id e put q =
+    ap (λ (o : Option conns.Connection). held_or o (over_by (had_ended q) (cut q))) (put q) ∙ found_by (eq_by_cmp nat_cmp id q) e (get nat_cmp held q) (over_by (had_ended q) (cut q))
+
+pub put_keys : (held held' : BTreeMap ℕ conns.Connection) (id : ℕ) (e : conns.Connection) → is_some (get nat_cmp held id) ≡ true
+    → ((q : ℕ) → get nat_cmp held' q ≡ cond (eq_by_cmp nat_cmp id q) (Some e) (get nat_cmp held q)) → (q : ℕ) → is_some (get nat_cmp held' q) ≡ is_some (get nat_cmp held q)
+put_keys held held' id e was put q = ap is_some (put q) ∙ go (eq_by_cmp nat_cmp id q) (tied_same id q)
+  where
+    go : (b : Bool) → (b ≡ true → id ≡ q) → is_some (cond b (Some e) (get nat_cmp held q)) ≡ is_some (get nat_cmp held q)
+    go true same = sym (ap (λ (k : ℕ). is_some (get nat_cmp held k)) (sym (same refl)) ∙ was)
+    go false same = refl
+
+pub some_ticks : (types : List ServedShape) (ms id : ℕ) (before : Connections) (old new : Found) (d e : conns.Connection) (found_none : Bool) → HoldsAll types old before → old id ≡ Some d
     → PutAt id e old new → ((c : Connection) → Holds types d c → Holds types e (dead_or_ticked types ms found_none c))
     → ((c : Connection) → Holds types d c → found_none ≡ true → writes_at ms c.standing ≡ true) → TicksAt types ms id before new found_none
 some_ticks types ms id before old new d e found_none held at put turns due =
-    let found = some_held types (get nat_cmp old id) (fin.get before id) d (held id) at in
+    let found = some_held types (old id) (fin.get before id) d (held id) at in
     let f = dead_or_ticked types ms found_none in (
       subst (HoldsAll types new) (sym (ap (λ (o : Option Connection). put_where o f before id) found.1))
           (held_put types old new before id e (f found.0) held put (turns found.0 found.2)),
       λ is. ap (λ (o : Option Connection). unwrap_or (option_map (λ c. writes_at ms c.standing) o) false) found.1 ∙ due found.0 found.2 is,
     )
 
--- ---- and how many are open then
-
-open_same : (types : List ServedShape) (o : Option conns.Connection) (p : Option Connection) → HoldsAt types o p → option_map is_open_in o ≡ option_map (λ c. is_open c.standing) p
+open_same : (types : List ServedShape) (o : Option conns.Connection) (p : Option Connection) → HoldsAt types o p → unwrap_or (option_map is_open_in o) false ≡ open_in p
 open_same types None None holds = refl
 open_same types None (Some c) holds = absurd holds
 open_same types (Some d) None holds = absurd holds
-open_same types (Some d) (Some c) holds = ap (λ (b : Bool). Some b) (same_open types d c holds)
-
-count_ticks : (types : List ServedShape) (ms : ℕ) (b : Bool) (before : Connections) (id count count' : ℕ) (was : Bool) (now : Option Bool) (o : Option Connection) → fin.get before id ≡ o
-    → count ≡ open_count before → was ≡ open_in o
-    → now ≡ option_map (λ c. is_open c.standing) (fin.get (put_where o (dead_or_ticked types ms b) before id) id) → count' ≡ count_after count was now
-    → count' ≡ open_count (put_where o (dead_or_ticked types ms b) before id)
-count_ticks types ms b before id count count' was now None got counted is then after = after ∙ ap (λ (w : Bool). count_after count w now) is ∙ counted
-count_ticks types ms b before id count count' was now (Some c) got counted is then after =
-    let c' = dead_or_ticked types ms b c in
-    count_moves before id c c' count count' got counted (tick_opens types ms b c)
-    (after ∙ ap₂ (λ (w : Bool) (n : Option Bool). count_after count w n) is (then ∙ ap (option_map (λ x. is_open x.standing)) (put_there before id c')))
-
-pub one_ticks : (types : List ServedShape) (ms id : ℕ) (before : Connections) (old new : Held) (count count' : ℕ) (was : Bool) (found_none : Bool) → HoldsAll types old before
-    → count ≡ open_count before → was ≡ unwrap_or (option_map is_open_in (get nat_cmp old id)) false → TicksAt types ms id before new found_none
-    → count' ≡ count_after count was (option_map is_open_in (get nat_cmp new id)) → TicksOne types ms id before new (count', found_none)
-one_ticks types ms id before old new count count' was found_none held counted is turns after = (
-  turns,
-  count_ticks types ms found_none before id count count' was (option_map is_open_in (get nat_cmp new id)) (fin.get before id) refl counted
-      (is ∙ ap (λ (o : Option Bool). unwrap_or o false) (open_same types (get nat_cmp old id) (fin.get before id) (held id)))
-      (open_same types (get nat_cmp new id) (fin.get (ticked_at types ms found_none before id) id) (turns.0 id)) after,
-)
+open_same types (Some d) (Some c) holds = same_open types d c holds
 
 -- ---- one after the other
 
@@ -129,10 +141,6 @@ ticks_begin types ms before old_ids listed = (
 not_again : (id : ℕ) (left : List ℕ) → AllByRecursion (λ y. nat_cmp id y ≡ Less) left → lists left id ≡ false
 not_again id [] all = refl
 not_again id (x ∷ left) (first, rest) = ap₂ (λ (o : Ordering) (b : Bool). is_eq o || b) first (not_again id left rest)
-
-sorted_parts : (id : ℕ) (left : List ℕ) → IsStrictlySortedBy nat_cmp (id ∷ left) → AllByRecursion (λ y. nat_cmp id y ≡ Less) left × IsStrictlySortedBy nat_cmp left
-unfolding IsStrictlySortedBy
-sorted_parts id left sorted = sorted
 
 pub sorted_rest : (id : ℕ) (left : List ℕ) → IsStrictlySortedBy nat_cmp (id ∷ left) → IsStrictlySortedBy nat_cmp left
 sorted_rest id left sorted = (sorted_parts id left sorted).1
@@ -215,15 +223,14 @@ ticks_more types ms before id left after found_none starved sorted (which, waits
             by_id false e = ap (λ (b : Bool). cond b starved (which q)) e ∙ was
     some_by false false ex ey is = absurd (wrong (sym (ap₂ (λ (a b : Bool). a || b) ex ey) ∙ is))
 
-pub ticks_end : (types : List ServedShape) (ms : ℕ) (before after : Connections) (held : Held) (count : ℕ) (found_none : Bool) → HoldsAll types held after → count ≡ open_count after
-    → SoFar types ms before [] after found_none → TicksAll types ms before held (count, found_none)
-ticks_end types ms before after held count found_none holds counted (which, waits, had, due, none, some) =
+pub ticks_end : (types : List ServedShape) (ms : ℕ) (before after : Connections) (held : Found) (found_none : Bool) → HoldsAll types held after
+    → SoFar types ms before [] after found_none → TicksAll types ms before held found_none
+ticks_end types ms before after held found_none holds (which, waits, had, due, none, some) =
     let f = λ (q : ℕ) (c : Connection). dead_or_ticked types ms (which q) c in
     let same : after ≡ ticked_all types ms which before =
     fin.same_map nat_cmp_total fin.nat_cmp-IsAntisymmetric _ _ (λ q. had q refl ∙ sym (got_each f before q)) in (
       which,
       subst (HoldsAll types held) same holds,
-      counted ∙ ap open_count same,
       none,
       λ is. let found = some is in (found.0, found.1, due found.0 found.1),
     )
@@ -249,7 +256,7 @@ new_each f all q =
     ∙ ap (λ (ks : List ℕ). list_all (λ known. nat_lt known q) ks) (ids_same f (fin.entries all))
 
 -- a tick opens none of them
-each_opens : (types : List ServedShape) (ms : ℕ) (which : ℕ → Bool) (all : Connections) → OpensNone all (ticked_all types ms which all)
+each_opens : (types : List ServedShape) (ms : ℕ) (which : ℕ → Bool) (all : Connections) (q : ℕ) → open_on (ticked_all types ms which all) q ≡ true → open_on all q ≡ true
 each_opens types ms which all q now =
     go (fin.get all q) (sym (ap open_in (got_each (λ k c. dead_or_ticked types ms (which k) c) all q)) ∙ now)
   where
@@ -257,47 +264,71 @@ each_opens types ms which all q now =
     go None is = is
     go (Some c) is = tick_opens types ms (which q) c is
 
--- those that are still open are listed
-kept_listed : (types : List ServedShape) (ids ids' : BTreeSet ℕ) (held : Held) (all after : Connections) → Lists ids all → OpensNone all after → HoldsAll types held after
-    → ids'.keys ≡ filter (λ id. unwrap_or (option_map is_open_in (get nat_cmp held id)) false) ids.keys → Lists ids' after
-kept_listed types old_ids new_ids held all after listed opening holds kept q now =
-    ap (list_any (is_at (nat_cmp q))) kept
-    ∙ any-filter_same (is_at (nat_cmp q)) (λ id. unwrap_or (option_map is_open_in (get nat_cmp held id)) false) true
-    (λ k e. ap (λ (j : ℕ). unwrap_or (option_map is_open_in (get nat_cmp held j)) false) (sym (tied_same q k e)) ∙ is_open_there) old_ids.keys
-    ∙ listed q (opening q now)
+abbrev open_held : BTreeMap ℕ conns.Connection → ℕ → Bool
+open_held held id = unwrap_or (option_map is_open_in (get nat_cmp held id)) false
+
+-- one that isn't held isn't open
+open_found : (o : Option conns.Connection) (a b : Bool) → unwrap_or (option_map is_open_in o) false ≡ unwrap_or (option_map is_open_in (held_or o (over_by a b))) false
+open_found None true b = refl
+open_found None false true = refl
+open_found None false false = refl
+open_found (Some d) a b = refl
+
+keeps_true : (b c : Bool) → (b ≡ true → c ≡ true) → b && c ≡ b
+keeps_true true c then = then refl
+keeps_true false c then = refl
+
+pub ticks_in : (s : State) (ms : ℕ) (api : Api) (old new : Kept) (found_none : Bool) → Represents api old s → TicksAll s.types ms s.connections (found new) found_none
+    → new.open_ids.keys ≡ filter (open_held new.held) old.open_ids.keys → new.highest ≡ old.highest → IsApart new → TicksIn api ms s new found_none
+ticks_in s ms api old new found_none held (which, holds, none, some) kept same apart = (
+  which,
+  record {
+    machine = held.machine;
+    connections = holds;
+    open_is = listed;
+    highest_is = λ q. new_each f s.connections q ∙ held.highest_is q ∙ sym (ap (λ (h : Option ℕ). is_above h q) same);
+    apart = apart;
+  },
+  none,
+  some,
+)
   where
-    is_open_there : unwrap_or (option_map is_open_in (get nat_cmp held q)) false ≡ true
-    is_open_there = ap (λ (o : Option Bool). unwrap_or o false) (open_same types (get nat_cmp held q) (fin.get after q) (holds q)) ∙ now
+    f : ℕ → Connection → Connection
+    f q c = dead_or_ticked s.types ms (which q) c
 
--- the hub is in this state
-abbrev pub IsInState : Api → Held → ℕ → Option ℕ → ℕ → BTreeSet ℕ → State → Type 0
-IsInState api held count highest last_tick ids s = Represents api held count highest s × (last_tick ≡ s.last_tick) × Lists ids s.connections
+    after : Connections
+    after = ticked_all s.types ms which s.connections
 
-ticked_in : (s : State) (ms : ℕ) (which : ℕ → Bool) (api : Api) (old new : Held) (count count' : ℕ) (highest : Option ℕ) (ids ids' : BTreeSet ℕ) → Represents api old count highest s → Lists ids s.connections
-    → HoldsAll s.types new (ticked_all s.types ms which s.connections) → count' ≡ open_count (ticked_all s.types ms which s.connections)
-    → ids'.keys ≡ filter (λ id. unwrap_or (option_map is_open_in (get nat_cmp new id)) false) ids.keys
-    → IsInState api new count' highest ms ids' (with_tick s ms (ticked_all s.types ms which s.connections))
-ticked_in s ms which api old new count count' highest old_ids new_ids held listed holds counted kept =
-    let f = λ (q : ℕ) (c : Connection). dead_or_ticked s.types ms (which q) c in (
-      record { machine = held.machine; connections = holds; count_is = counted; highest_is = λ q. new_each f s.connections q ∙ held.highest_is q },
-      refl,
-      kept_listed s.types old_ids new_ids new s.connections (each f s.connections) listed (each_opens s.types ms which s.connections) holds kept,
-    )
+    there : (q : ℕ) → open_held new.held q ≡ open_on after q
+    there q = open_found (get nat_cmp new.held q) (is_in new.ended.ranges q) (is_in new.cut.ranges q) ∙ open_same s.types (found new q) (fin.get after q) (holds q)
+
+    listed : (q : ℕ) → contains nat_cmp new.open_ids q ≡ open_on after q
+    listed q =
+        ap (list_any (is_at (nat_cmp q))) kept
+        ∙ any-filter_same (is_at (nat_cmp q)) (open_held new.held) (open_on after q) (λ k e. ap (open_held new.held) (sym (tied_same q k e)) ∙ there q) old.open_ids.keys
+        ∙ keeps_true (open_on after q) (contains nat_cmp old.open_ids q) (λ now. held.open_is q ∙ each_opens s.types ms which s.connections q now)
 
 not_back : (s : State) (ms last_tick : ℕ) → last_tick ≡ s.last_tick → nat_lt ms last_tick ≡ false → refusal s (ticks ms) ≡ None
 not_back s ms last_tick same forward = ap (λ (b : Bool). cond b (Some tick_back) None) (ap (nat_lt ms) (sym same) ∙ forward)
 
-pub ticks_well : (s : State) (ms last_tick : ℕ) (api : Api) (old new : Held) (count : ℕ) (highest : Option ℕ) (ids ids' : BTreeSet ℕ) (r : ℕ × Bool) → Represents api old count highest s
-    → last_tick ≡ s.last_tick → Lists ids s.connections → nat_lt ms last_tick ≡ false → TicksAll s.types ms s.connections new r → r.1 ≡ false
-    → ids'.keys ≡ filter (λ id. unwrap_or (option_map is_open_in (get nat_cmp new id)) false) ids.keys
-    → (t : State) × Steps s (ticks ms) t × IsInState api new r.0 highest ms ids' t
-ticks_well s ms last_tick api old new count highest old_ids new_ids r held same listed forward (which, holds, counted, none, some) fine kept =
+pub ticks_refused : (s : State) (ms last_tick : ℕ) → last_tick ≡ s.last_tick → nat_lt ms last_tick ≡ true → refusal s (ticks ms) ≡ Some tick_back
+ticks_refused s ms last_tick same back = ap (λ (b : Bool). cond b (Some tick_back) None) (ap (nat_lt ms) (sym same) ∙ back)
+
+-- the hub is in this state
+abbrev pub IsInState : Api → Kept → ℕ → State → Type 0
+IsInState api k last_tick s = Represents api k s × (last_tick ≡ s.last_tick)
+
+pub ticks_well : (s : State) (ms last_tick : ℕ) (api : Api) (new : Kept) (found_none : Bool) → last_tick ≡ s.last_tick → nat_lt ms last_tick ≡ false → TicksIn api ms s new found_none → found_none ≡ false
+    → (refusal s (ticks ms) ≡ None) × (t : State) × Steps s (ticks ms) t × IsInState api new ms t
+ticks_well s ms last_tick api new found_none same forward (which, held, none, some) fine =
     let g = λ (q : ℕ) (c : Connection). with_turn (ticked s.types ms) c in
+    let free = not_back s ms last_tick same forward in
     let all : ticked_all s.types ms which s.connections ≡ each g s.connections =
     each_same _ g s.connections (λ q c. ap (λ (b : Bool). dead_or_ticked s.types ms b c) (none fine q)) in (
+      free,
       with_tick s ms (each g s.connections),
-      (undecided, refl, sym (ap (λ (o : Option Refusal). unless_refused o s (with_tick s ms (each g s.connections))) (not_back s ms last_tick same forward))),
-      subst (λ (cs : Connections). IsInState api new r.0 highest ms new_ids (with_tick s ms cs)) all (ticked_in s ms which api old new count r.0 highest old_ids new_ids held listed holds counted kept),
+      (undecided, refl, sym (ap (λ (o : Option Refusal). unless_refused o s (with_tick s ms (each g s.connections))) free)),
+      subst (λ (cs : Connections). IsInState api new ms (with_tick s ms cs)) all (held, refl),
     )
 
 any_entry : (ms : ℕ) (which : ℕ → Bool) (q : ℕ) → which q ≡ true → (es : Entries) → unwrap_or (option_map (λ c. writes_at ms c.standing) (entries.find nat_cmp q es)) false ≡ true
@@ -316,11 +347,9 @@ any_entry ms which q found (e ∷ es) due = go (eq_by_cmp nat_cmp q e.0) (tied_s
         ap₂ (λ (a b : Bool). (a && b) || list_any (λ x. which x.0 && writes_at ms x.1.standing) es) (sym (ap which (is refl)) ∙ found) here
     go false is there rest = ap (λ (b : Bool). (which e.0 && writes_at ms e.1.standing) || b) (rest there) ∙ later (which e.0 && writes_at ms e.1.standing)
 
-pub ticks_starve : (s : State) (ms last_tick : ℕ) (api : Api) (old new : Held) (count : ℕ) (highest : Option ℕ) (ids ids' : BTreeSet ℕ) (r : ℕ × Bool) → Represents api old count highest s
-    → last_tick ≡ s.last_tick → Lists ids s.connections → nat_lt ms last_tick ≡ false → TicksAll s.types ms s.connections new r → r.1 ≡ true
-    → ids'.keys ≡ filter (λ id. unwrap_or (option_map is_open_in (get nat_cmp new id)) false) ids.keys
-    → (which : ℕ → Bool) × (t : State) × Starves s (ticks ms) which t × IsInState api new r.0 highest ms ids' t
-ticks_starve s ms last_tick api old new count highest old_ids new_ids r held same listed forward (which, holds, counted, none, some) starved kept =
+pub ticks_starve : (s : State) (ms last_tick : ℕ) (api : Api) (new : Kept) (found_none : Bool) → last_tick ≡ s.last_tick → nat_lt ms last_tick ≡ false → TicksIn api ms s new found_none → found_none ≡ true
+    → (which : ℕ → Bool) × (t : State) × Starves s (ticks ms) which t × IsInState api new ms t
+ticks_starve s ms last_tick api new found_none same forward (which, held, none, some) starved =
     let found = some starved in (
       which,
       with_tick s ms (ticked_all s.types ms which s.connections),
@@ -330,5 +359,5 @@ ticks_starve s ms last_tick api old new count highest old_ids new_ids r held sam
             (sym (ap (λ (o : Option Connection). unwrap_or (option_map (λ c. writes_at ms c.standing) o) false) (fin.get-entries s.connections found.0)) ∙ found.2),
         refl,
       ),
-      ticked_in s ms which api old new count r.0 highest old_ids new_ids held listed holds counted kept,
+      (held, refl),
     )

@@ -129,6 +129,12 @@ pump_idle types turn d c (watching w) stands isnt holds = absurd (isnt w refl)
 pump_idle types turn d c ended stands isnt holds = holds
 pump_idle types turn d c (gone had_ended) stands isnt holds = holds
 
+pub turn_closed : (turn : Watch → Turn) (c : Connection) (st : Standing) → is_open st ≡ false → after_turn turn c st ≡ c
+turn_closed turn c (waiting front) closed = absurd (wrong (sym closed))
+turn_closed turn c (watching w) closed = absurd (wrong (sym closed))
+turn_closed turn c ended closed = refl
+turn_closed turn c (gone had_ended) closed = refl
+
 -- ---- at a tick
 
 pub dead_is : (types : List ServedShape) (ms : ℕ) (c : Connection) (w : Watch) → c.standing ≡ watching w → is_due ms w ≡ true → dead_or_ticked types ms true c ≡ with_standing c ended

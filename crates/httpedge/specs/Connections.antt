@@ -30,59 +30,49 @@ abbrev pub opened : Connection
 opened = record { written = []; taken = 0; standing = waiting [] }
 
 abbrev pub with_standing : Connection → Standing → Connection
-with_standing c standing = record { written = c.written; taken = c.taken; standing = standing }
+with_standing c standing = record c { standing = standing }
 
 -- more is written on it, and then it stands so
 abbrev pub with_written : Connection → List ℕ → Standing → Connection
-with_written c bytes standing = record { written = c.written ++ bytes; taken = c.taken; standing = standing }
+with_written c bytes standing = record c { written = c.written ++ bytes; standing = standing }
 
 -- ---- how it stands
 
 -- an end stays when the peer goes
 abbrev pub has_ended : Standing → Bool
-has_ended (waiting bytes) = false
-has_ended (watching w) = false
 has_ended ended = true
 has_ended (gone had_ended) = had_ended
+has_ended _ = false
 
 -- it is open, and what its bytes ask is undecided
 abbrev pub is_waiting : Standing → Bool
 is_waiting (waiting bytes) = true
-is_waiting (watching w) = false
-is_waiting ended = false
-is_waiting (gone had_ended) = false
+is_waiting _ = false
 
 abbrev pub is_watching : Standing → Bool
-is_watching (waiting bytes) = false
 is_watching (watching w) = true
-is_watching ended = false
-is_watching (gone had_ended) = false
+is_watching _ = false
 
 abbrev pub is_open : Standing → Bool
 is_open (waiting bytes) = true
 is_open (watching w) = true
-is_open ended = false
-is_open (gone had_ended) = false
+is_open _ = false
 
 abbrev pub has_gone : Standing → Bool
-has_gone (waiting bytes) = false
-has_gone (watching w) = false
-has_gone ended = false
 has_gone (gone had_ended) = true
+has_gone _ = false
 
 -- what was written and not taken; nothing where the peer has gone
 abbrev pub left_out : Standing → List ℕ → List ℕ
-left_out (waiting bytes) out = out
-left_out (watching w) out = out
-left_out ended out = out
 left_out (gone had_ended) out = []
+left_out _ out = out
 
 abbrev pub out_of : Connection → List ℕ
 out_of c = left_out c.standing (drop c.taken c.written)
 
 -- the next n bytes of these are taken, at most all
 abbrev pub with_taken : Connection → ℕ → Connection
-with_taken c n = record { written = c.written; taken = c.taken + min n (length (out_of c)); standing = c.standing }
+with_taken c n = record c { taken = c.taken + min n (length (out_of c)) }
 
 -- ---- all connections
 

@@ -1,7 +1,7 @@
 -- What the hub's values stand for.
-use Rattle.std.specs.Prelude.{◌≡◌, ℕ, ◌++◌, ◌-◌, ◌≤◌, Bool, true, false, not, ◌&&◌, cond, if◌then◌else◌, List, [], drop, length, nat_lt, Option, Some, None, unwrap_or, ⊤}
+use Rattle.std.specs.Prelude.{◌≡◌, ℕ, ◌++◌, ◌+◌, ◌≤◌, Bool, true, false, ◌&&◌, ◌==◌, cond, if◌then◌else◌, List, [], drop, length, nat_lt, Option, Some, None, is_some, option_map, ⊤}
 use Rattle.std.specs.Ordering.{nat_cmp, eq_by_cmp}
-use Rattle.std.specs.BTreeMap.{BTreeMap, get}
+use Rattle.std.specs.BTreeMap.{BTreeMap, btree_map_len, get}
 use Rattle.std.specs.BTreeSet.{BTreeSet, contains}
 use Rattle.std.specs.FinMap as fin
 use Rattle.schema.specs.TypesFile.{ServedShape}
@@ -10,10 +10,12 @@ use Rattle.history.specs.History.{History}
 use Rattle.verbs.specs.Seen.{Stands}
 use Rattle.httpedge.specs.declared.connection.Connection as conns
 use Rattle.httpedge.specs.declared.connection.Connection.TheVariants as conn
+use Rattle.httpedge.specs.declared.connections.Connections.{Connections as Kept}
 use Rattle.httpedge.specs.declared.out.Out as outs
 use Rattle.httpedge.specs.declared.watching.Watch as watches
 use Rattle.requests.specs.Asks.{CallDecision, Asks}
-use Rattle.httpedge.specs.Connections.{Connection, Connections, Standing, waiting, watching, ended, gone, opened, with_standing, open_count, open_on, is_new}
+use Rattle.httpedge.specs.Connections.{Connection, Connections, Standing, waiting, watching, ended, gone, has_ended, is_new, is_open, is_waiting, is_watching, open_on, opened, out_of, with_standing}
+use Rattle.httpedge.specs.Ids.{is_in}
 use Rattle.requests.specs.Fronts.{front_bytes}
 use Rattle.requests.specs.Pendings.{Awaits}
 use Rattle.httpedge.specs.Steps.{State, connection_after, machine_after, turn_bytes}
@@ -27,40 +29,36 @@ left o = drop o.taken o.bytes.items
 abbrev pub watch_of : watches.Watch → Watch
 watch_of w = record { cursor = w.cursor; opened = w.opened; timeout = w.timeout }
 
+-- how one stands that the code holds; of one whose body hasn't come whole its bytes aren't known here
+abbrev pub standing_in : conns.Connection → Standing
+standing_in (conn.Head front) = waiting (front_bytes front)
+standing_in (conn.Body p) = waiting []
+standing_in (conn.Watch w out) = watching (watch_of w)
+standing_in (conn.Ended out) = ended
+standing_in (conn.Over had_ended) = gone had_ended
+
 abbrev pub is_open_in : conns.Connection → Bool
-is_open_in (conn.Head front) = true
-is_open_in (conn.Body p) = true
-is_open_in (conn.Watch w out) = true
-is_open_in (conn.Ended out) = false
-is_open_in (conn.Gone had_ended) = false
+is_open_in d = is_open (standing_in d)
 
 abbrev pub is_waiting_in : conns.Connection → Bool
-is_waiting_in (conn.Head front) = true
-is_waiting_in (conn.Body p) = true
-is_waiting_in (conn.Watch w out) = false
-is_waiting_in (conn.Ended out) = false
-is_waiting_in (conn.Gone had_ended) = false
+is_waiting_in d = is_waiting (standing_in d)
 
 abbrev pub is_watching_in : conns.Connection → Bool
-is_watching_in (conn.Head front) = false
-is_watching_in (conn.Body p) = false
-is_watching_in (conn.Watch w out) = true
-is_watching_in (conn.Ended out) = false
-is_watching_in (conn.Gone had_ended) = false
+is_watching_in d = is_watching (standing_in d)
 
 abbrev pub has_ended_in : conns.Connection → Bool
-has_ended_in (conn.Head front) = false
-has_ended_in (conn.Body p) = false
-has_ended_in (conn.Watch w out) = false
-has_ended_in (conn.Ended out) = true
-has_ended_in (conn.Gone had_ended) = had_ended
+has_ended_in d = has_ended (standing_in d)
 
 abbrev pub out_in : conns.Connection → List ℕ
-out_in (conn.Head front) = []
-out_in (conn.Body p) = []
 out_in (conn.Watch w out) = left out
 out_in (conn.Ended out) = left out
-out_in (conn.Gone had_ended) = []
+out_in _ = []
+
+-- whether it had ended, where it is over
+abbrev pub over_in : conns.Connection → Option Bool
+over_in (conn.Ended out) = if length (left out) == 0 then Some true else None
+over_in (conn.Over had_ended) = Some had_ended
+over_in _ = None
 
 -- one on which nothing was written, and these bytes came
 abbrev pub waiting_for : List ℕ → Connection
@@ -72,7 +70,8 @@ Holds types (conn.Head front) c = c ≡ waiting_for (front_bytes front)
 Holds types (conn.Body p) c = (front : List ℕ) × (c ≡ waiting_for front) × Awaits types front p
 Holds types (conn.Watch w out) c = (c.standing ≡ watching (watch_of w)) × (drop c.taken c.written ≡ left out) × (c.taken ≤ length c.written)
 Holds types (conn.Ended out) c = (c.standing ≡ ended) × (drop c.taken c.written ≡ left out)
-Holds types (conn.Gone had_ended) c = c.standing ≡ gone had_ended
+-- over: nothing more is written on it, nothing is out, and it had ended or not
+Holds types (conn.Over had_ended) c = (is_open c.standing ≡ false) × (has_ended c.standing ≡ had_ended) × (out_of c ≡ [])
 
 -- ---- what bytes make of it
 
@@ -84,9 +83,7 @@ Becomes types m last_tick bytes c api =
 -- by how it stood
 abbrev pub ReceivedBy : List ServedShape → History → ℕ → Connection → Standing → List ℕ → conns.Connection → Api → Type 0
 ReceivedBy types m last_tick c (waiting front) bytes d api = (c ≡ waiting_for front) × Becomes types m last_tick (front ++ bytes) d api
-ReceivedBy types m last_tick c (watching w) bytes d api = Holds types d c × Stands api types m
-ReceivedBy types m last_tick c ended bytes d api = Holds types d c × Stands api types m
-ReceivedBy types m last_tick c (gone had_ended) bytes d api = Holds types d c × Stands api types m
+ReceivedBy types m last_tick c _ bytes d api = Holds types d c × Stands api types m
 
 abbrev pub Received : List ServedShape → History → ℕ → Connection → List ℕ → conns.Connection → Api → Type 0
 Received types m last_tick c bytes d api = ReceivedBy types m last_tick c c.standing bytes d api
@@ -110,33 +107,90 @@ abbrev pub is_above : Option ℕ → ℕ → Bool
 is_above None id = true
 is_above (Some highest) id = nat_lt highest id
 
--- the connection of an id, written, and the others as they were
-abbrev pub PutAt : ℕ → conns.Connection → BTreeMap ℕ conns.Connection → BTreeMap ℕ conns.Connection → Type 0
-PutAt id d old new = (q : ℕ) → get nat_cmp new q ≡ cond (eq_by_cmp nat_cmp id q) (Some d) (get nat_cmp old q)
+-- whether one that isn't held had ended, by the ids that had ended and those that hadn't
+abbrev pub over_of : Bool → Bool → Option Bool
+over_of true cut = Some true
+over_of false true = Some false
+over_of false false = None
 
-abbrev pub ReceivedAt : List ServedShape → History → ℕ → Connection → ℕ → List ℕ → BTreeMap ℕ conns.Connection → BTreeMap ℕ conns.Connection → Api → Type 0
-ReceivedAt types m last_tick c id bytes old new api = (d : conns.Connection) × Received types m last_tick c bytes d api × PutAt id d old new
+abbrev pub over_by : Bool → Bool → Option conns.Connection
+over_by had_ended cut = option_map (λ h. conn.Over h) (over_of had_ended cut)
 
--- what becomes of a connection by its id
-abbrev pub BecomesAt : List ServedShape → Connection → ℕ → BTreeMap ℕ conns.Connection → BTreeMap ℕ conns.Connection → Type 0
-BecomesAt types c id old new = (d : conns.Connection) × Holds types d c × PutAt id d old new
+abbrev pub held_or : Option conns.Connection → Option conns.Connection → Option conns.Connection
+held_or None other = other
+held_or (Some d) other = Some d
 
--- one that waited is dead, or one that watched
-abbrev pub DiesAt : List ServedShape → Bool → Connection → ℕ → BTreeMap ℕ conns.Connection → BTreeMap ℕ conns.Connection → Type 0
-DiesAt types could c id old new = (could ≡ true) × BecomesAt types (with_standing c ended) id old new
+-- the connection of an id
+abbrev pub found_in : BTreeMap ℕ conns.Connection → (ℕ → Bool) → (ℕ → Bool) → ℕ → Option conns.Connection
+found_in held had_ended cut id = held_or (get nat_cmp held id) (over_by (had_ended id) (cut id))
 
--- one fewer where it was open and is no longer
-abbrev pub count_after : ℕ → Bool → Option Bool → ℕ
-count_after count was_open is_open = if was_open && not (unwrap_or is_open false) then count - 1 else count
+abbrev pub found : Kept → ℕ → Option conns.Connection
+found k = found_in k.held (is_in k.ended.ranges) (is_in k.cut.ranges)
 
--- ---- the hub
+-- how many are held, and how many ranges the ids of all others are
+abbrev pub kept_in : Kept → ℕ × ℕ
+kept_in k = (btree_map_len k.held, btree_map_len k.ended.ranges + btree_map_len k.cut.ranges)
 
--- these connections, of which so many are open, with this highest id, hold those of the state; and the API stands for its machine
-pub record Represents (api : Api) (held : BTreeMap ℕ conns.Connection) (count : ℕ) (highest : Option ℕ) (s : State) : Type 0 where
+-- none that is held is among those that are over and had ended
+abbrev pub IsApart : Kept → Type 0
+IsApart k = (q : ℕ) → is_some (get nat_cmp k.held q) ≡ true → is_in k.ended.ranges q ≡ false
+
+-- these connections are those of the state, with the ids of those that are open and the highest id, and the API stands for its machine
+pub record Represents (api : Api) (k : Kept) (s : State) : Type 0 where
   pub machine : Stands api s.types s.machine
-  pub connections : (id : ℕ) → HoldsAt s.types (get nat_cmp held id) (fin.get s.connections id)
-  pub count_is : count ≡ open_count s.connections
-  pub highest_is : (id : ℕ) → is_new s.connections id ≡ is_above highest id
+  pub connections : (id : ℕ) → HoldsAt s.types (found k id) (fin.get s.connections id)
+  pub open_is : (id : ℕ) → contains nat_cmp k.open_ids id ≡ open_on s.connections id
+  pub highest_is : (id : ℕ) → is_new s.connections id ≡ is_above k.highest id
+  pub apart : IsApart k
+
+-- ---- words of private clauses
+
+-- the connection of an id is this one, the others are as they were
+abbrev pub PutAt : ℕ → conns.Connection → (ℕ → Option conns.Connection) → (ℕ → Option conns.Connection) → Type 0
+PutAt id d old new = (q : ℕ) → new q ≡ cond (eq_by_cmp nat_cmp id q) (Some d) (old q)
+
+-- an id is among those that are open if it was and still is
+abbrev pub Closes : ℕ → Bool → Kept → Kept → Type 0
+Closes id still old new = (q : ℕ) → contains nat_cmp new.open_ids q ≡ cond (eq_by_cmp nat_cmp id q) (contains nat_cmp old.open_ids q && still) (contains nat_cmp old.open_ids q)
+
+-- what becomes of a connection by its id, and whether it is open if it was
+pub record BecomesAt (types : List ServedShape) (still : Bool) (c : Connection) (id : ℕ) (old new : Kept) : Type 0 where
+  pub one : conns.Connection
+  pub holds : Holds types one c
+  pub put : PutAt id one (found old) (found new)
+  pub open_is : Closes id still old new
+  pub highest : new.highest ≡ old.highest
+  pub apart : IsApart new
+
+-- of a connection that is over only the id may be kept; that says as much
+pub record Forgets (id : ℕ) (d : conns.Connection) (old new : Kept) : Type 0 where
+  pub one : conns.Connection
+  pub as_much : (types : List ServedShape) (c : Connection) → Holds types d c → Holds types one c
+  pub put : PutAt id one (found old) (found new)
+  pub open_is : new.open_ids ≡ old.open_ids
+  pub highest : new.highest ≡ old.highest
+  pub apart : IsApart new
+
+-- this is the connection of an id
+abbrev pub IsAt : ℕ → conns.Connection → Kept → Type 0
+IsAt id d k = (found k id ≡ Some d) × (contains nat_cmp k.open_ids id ≡ is_open_in d) × IsApart k
+
+-- there is no connection of this id
+abbrev pub IsFresh : ℕ → Kept → Type 0
+IsFresh id k = (found k id ≡ None) × (contains nat_cmp k.open_ids id ≡ false) × IsApart k
+
+-- one is opened
+pub record Opens (id : ℕ) (d : conns.Connection) (old new : Kept) : Type 0 where
+  pub put : PutAt id d (found old) (found new)
+  pub open_is : (q : ℕ) → contains nat_cmp new.open_ids q ≡ cond (eq_by_cmp nat_cmp id q) (is_open_in d) (contains nat_cmp old.open_ids q)
+  pub highest : new.highest ≡ Some id
+  pub apart : IsApart new
+
+pub record IsSame (old new : Kept) : Type 0 where
+  pub found_is : (q : ℕ) → found new q ≡ found old q
+  pub open_is : (q : ℕ) → contains nat_cmp new.open_ids q ≡ contains nat_cmp old.open_ids q
+  pub highest : new.highest ≡ old.highest
+  pub apart : IsApart new
 
 -- each that is open is among these ids
 abbrev pub Lists : BTreeSet ℕ → Connections → Type 0

@@ -7,9 +7,9 @@ use Rattle.httpedge.specs.declared.event.Event.TheVariants as event
 use Rattle.httpedge.specs.declared.fault.HubFault as faults
 use Rattle.httpedge.specs.declared.fault.HubFault.TheVariants as fault
 use Rattle.httpedge.specs.declared.hub.Hub as hubs
-use Rattle.httpedge.specs.Held.{Lists, Represents}
-use Rattle.httpedge.specs.Runs.{Happening, happens, starves}
-use Rattle.httpedge.specs.Steps.{Event, Refusal, State, opens, comes, goes, pumps, ticks, compacts, id_not_above, unknown_id, no_lines, tick_back, compaction_refused}
+use Rattle.httpedge.specs.Held.{Represents}
+use Rattle.httpedge.specs.Runs.{Happening, Steps, happens, starves}
+use Rattle.httpedge.specs.Steps.{Event, Refusal, Starves, State, refusal, opens, comes, goes, pumps, ticks, compacts, id_not_above, unknown_id, no_lines, tick_back, compaction_refused}
 
 abbrev pub event_of : events.Event → Event
 event_of (event.Open id) = opens id
@@ -21,7 +21,7 @@ event_of (event.Compact c) = compacts c
 
 -- the hub is in this state
 abbrev pub IsIn : hubs.Hub → State → Type 0
-IsIn hub s = Represents hub.api hub.connections hub.open_count hub.highest s × (hub.last_tick ≡ s.last_tick) × Lists hub.open_ids s.connections
+IsIn hub s = Represents hub.api hub.connections s × (hub.last_tick ≡ s.last_tick)
 
 -- which events ask the store: bytes, which may be a call, a pump, a compaction
 abbrev pub asks_store : Event → Bool
@@ -59,3 +59,9 @@ abbrev pub Happened : Event → Outcome → Happening → Type 0
 Happened e done h = h ≡ happens e
 Happened e (refused why) h = h ≡ happens e
 Happened e starved h = (which : ℕ → Bool) × (h ≡ starves e which)
+
+-- a call of the hub with this event, by how it ended: what the definition says of the event came of it
+abbrev pub Handles : hubs.Hub → Event → Outcome → hubs.Hub → Type 0
+Handles old e done new = (s : State) → IsIn old s → (refusal s e ≡ None) × (t : State) × Steps s e t × IsIn new t
+Handles old e (refused why) new = (new ≡ old) × ((s : State) → IsIn old s → refusal s e ≡ Some why)
+Handles old e starved new = (s : State) → IsIn old s → (which : ℕ → Bool) × (t : State) × Starves s e which t × IsIn new t

@@ -2,8 +2,10 @@ pub mod Watches
 pub mod Connections
 pub mod Steps
 pub mod Runs
+pub mod Ids
 pub mod Held
 pub mod Ticks
 pub mod HubSeen
+pub mod Changes
 pub mod Faults
 pub mod Streams

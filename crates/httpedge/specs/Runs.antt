@@ -4,7 +4,7 @@ use Rattle.std.specs.FinMap as fin
 use Rattle.history.specs.History.{Change}
 use Rattle.history.specs.Whole.{IsGapless}
 use Rattle.requests.specs.Asks.{CallDecision, Asks}
-use Rattle.httpedge.specs.Connections.{Standing, waiting, watching, ended, gone}
+use Rattle.httpedge.specs.Connections.{Standing, waiting}
 use Rattle.requests.specs.Decision.{undecided}
 use Rattle.httpedge.specs.Steps.{State, Event, opens, comes, goes, pumps, ticks, compacts, stepped, Starves, with_bytes_taken}
 
@@ -13,9 +13,7 @@ use Rattle.httpedge.specs.Steps.{State, Event, opens, comes, goes, pumps, ticks,
 -- the bytes that came before on a connection that waits, and these
 abbrev pub all_bytes : Standing → List ℕ → Option (List ℕ)
 all_bytes (waiting front) bytes = Some (front ++ bytes)
-all_bytes (watching w) bytes = None
-all_bytes ended bytes = None
-all_bytes (gone had_ended) bytes = None
+all_bytes _ bytes = None
 
 -- all the bytes of the connection on which an event brings some, where it waits for them
 abbrev pub bytes_at : State → Event → Option (List ℕ)

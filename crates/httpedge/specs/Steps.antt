@@ -61,10 +61,10 @@ refusal s (compacts c) = if nat_le s.machine.compacted c && nat_le c s.machine.c
 -- ---- parts of a state
 
 abbrev pub with_machine : State → History → State
-with_machine s m = record { types = s.types; machine = m; last_tick = s.last_tick; connections = s.connections }
+with_machine s m = record s { machine = m }
 
 abbrev pub with_connections : State → Connections → State
-with_connections s all = record { types = s.types; machine = s.machine; last_tick = s.last_tick; connections = all }
+with_connections s all = record s { connections = all }
 
 abbrev pub with_connection : State → ℕ → Connection → State
 with_connection s id c = with_connections s (fin.insert s.connections id c)
@@ -112,9 +112,7 @@ received s id c bytes asked =
 -- only a connection that waits receives bytes
 abbrev pub received_by : State → ℕ → Connection → Standing → List ℕ → CallDecision → State
 received_by s id c (waiting front) bytes asked = received s id c (front ++ bytes) asked
-received_by s id c (watching w) bytes asked = s
-received_by s id c ended bytes asked = s
-received_by s id c (gone had_ended) bytes asked = s
+received_by s id c _ bytes asked = s
 
 -- ---- watches
 
@@ -133,9 +131,7 @@ turn_bytes t = chunks t.lines (has_no_next t.next)
 -- a watch at its turn; any other connection stays as it is
 abbrev pub after_turn : (Watch → Turn) → Connection → Standing → Connection
 after_turn turn c (watching w) = with_written c (turn_bytes (turn w)) (standing_after (turn w).next)
-after_turn turn c (waiting bytes) = c
-after_turn turn c ended = c
-after_turn turn c (gone had_ended) = c
+after_turn turn c _ = c
 
 abbrev pub with_turn : (Watch → Turn) → Connection → Connection
 with_turn turn c = after_turn turn c c.standing
@@ -143,7 +139,7 @@ with_turn turn c = after_turn turn c c.standing
 -- ---- one event
 
 abbrev pub with_tick : State → ℕ → Connections → State
-with_tick s ms all = record { types = s.types; machine = s.machine; last_tick = ms; connections = all }
+with_tick s ms all = record s { last_tick = ms; connections = all }
 
 -- the state after an event that is not refused: asked is what the bytes of its connection ask
 abbrev pub carried_out : State → Event → CallDecision → State
@@ -171,10 +167,8 @@ dead c = if is_open c.standing then with_standing c ended else c
 
 -- it watches, and its turn at this tick writes something
 abbrev pub writes_at : ℕ → Standing → Bool
-writes_at ms (waiting bytes) = false
 writes_at ms (watching w) = is_due ms w
-writes_at ms ended = false
-writes_at ms (gone had_ended) = false
+writes_at ms _ = false
 
 -- a watch that found no room for what it writes is dead; every other connection has its turn: one to which nothing is due needs no room
 abbrev pub dead_or_ticked : List ServedShape → ℕ → Bool → Connection → Connection

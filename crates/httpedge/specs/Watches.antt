@@ -19,7 +19,7 @@ abbrev pub begun_at : ℕ → WatchFrom → Watch
 begun_at last_tick from = record { cursor = begun from; opened = last_tick; timeout = from.timeout }
 
 abbrev pub with_cursor : Watch → Cursor → Watch
-with_cursor w cursor = record { cursor = cursor; opened = w.opened; timeout = w.timeout }
+with_cursor w cursor = record w { cursor = cursor }
 
 -- the lines that a watch writes at its turn, and where it then stands, unless it has ended
 pub record Turn : Type 0 where

@@ -1,21 +1,25 @@
-//! One connection: its state, and how the bytes that come change it. Its watch stands in `watching`, all connections in
+//! One connection: its state, and how an event changes it. Its watch stands in `watching` and `turns`, all connections in
 //! `connections`.
 
-ghost use Rattle.std.specs.Prelude.{◌≡◌, ◌++◌, ◌+◌, ◌&&◌, ℕ, List, true, cond, nat_lt, IfOk, OnOk, OnErr, option_map};
+ghost use Rattle.std.specs.Prelude.{◌≡◌, ◌++◌, ℕ, List, true, Ok, IfOk, OnOk, OnErr, option_map};
 ghost use Rattle.schema.specs.TypesFile.{ServedShape};
 ghost use Rattle.history.specs.History.{History};
 ghost use Rattle.verbs.specs.Calls.{Answer};
 ghost use Rattle.verbs.specs.Seen.{Stands};
+ghost use Rattle.httpedge.specs.Changes.{MakesHeld, takes_memory_on};
 ghost use Rattle.httpedge.specs.Connections as model;
-ghost use Rattle.httpedge.specs.Connections.{Connections, ended, gone, max_open, open_count, opened, with_standing, with_taken};
-ghost use Rattle.httpedge.specs.Held.{Becomes, Holds, Received, has_ended_in, is_open_in, is_waiting_in, left, out_in};
+ghost use Rattle.httpedge.specs.Connections.{Connections, ended, gone, open_count, opened, with_standing, with_taken};
+ghost use Rattle.httpedge.specs.Held.{Becomes, Holds, Received, has_ended_in, is_open_in, is_waiting_in, out_in, over_in};
 ghost use Rattle.requests.specs.Fronts.{front_bytes};
 ghost use Rattle.requests.specs.Pendings.{Awaits, Finds};
 ghost use Rattle.httpedge.specs.Steps.{answered, opening};
+ghost use Rattle.httpedge.specs.declared.event.Change.TheVariants as changes;
 ghost use Rattle.requests.specs.Replies.{answer_bytes};
 ghost use Rattle.watchline.specs.Views.{watch_from};
 
+use crate::event::Change;
 use crate::out::Out;
+use crate::turns::pump_on;
 use crate::watching::Watch;
 use requests::{Front, Pending, Progress, Refusal, Served, ask, ask_on, refusal_reply, serve};
 use std::alloc::{AllocError, Global};
@@ -35,8 +39,8 @@ pub(crate) enum Connection {
     Watch(Watch, Out),
     /// It has ended.
     Ended(Out),
-    /// Its peer has gone; it had ended before that, or not.
-    Gone(bool),
+    /// It is over: its peer has gone, or it had ended before that and all was taken. So it had ended, or not.
+    Over(bool),
 }
 
 /// A new connection where `count` are open; past the limit it is refused.
@@ -55,7 +59,7 @@ pub(crate) fn is_open(connection: &Connection) -> bool
 {
     match connection {
         Connection::Head(_) | Connection::Body(_) | Connection::Watch(_, _) => true,
-        Connection::Ended(_) | Connection::Gone(_) => false,
+        Connection::Ended(_) | Connection::Over(_) => false,
     }
 }
 
@@ -64,7 +68,7 @@ pub(crate) fn is_waiting(connection: &Connection) -> bool
 {
     match connection {
         Connection::Head(_) | Connection::Body(_) => true,
-        Connection::Watch(_, _) | Connection::Ended(_) | Connection::Gone(_) => false,
+        Connection::Watch(_, _) | Connection::Ended(_) | Connection::Over(_) => false,
     }
 }
 
@@ -74,18 +78,24 @@ pub(crate) fn has_ended(connection: &Connection) -> bool
     match connection {
         Connection::Head(_) | Connection::Body(_) | Connection::Watch(_, _) => false,
         Connection::Ended(_) => true,
-        Connection::Gone(had_ended) => *had_ended,
+        Connection::Over(had_ended) => *had_ended,
     }
 }
 
-/// How many are open once this one is added.
-pub(crate) fn count_with(count: usize, connection: &Connection) -> usize
-    ensures { result ≡ cond (is_open_in connection.now && nat_lt count max_open) (count + 1) count }
+/// Whether it had ended, where it is over: its peer has gone, or it has ended and all is taken.
+pub(crate) fn over(connection: &Connection) -> Option<bool>
+    ensures { result ≡ over_in connection.now }
 {
-    if is_open(connection) && count < MAX_OPEN {
-        count + 1
-    } else {
-        count
+    match connection {
+        Connection::Head(_) | Connection::Body(_) | Connection::Watch(_, _) => None,
+        Connection::Ended(out) => {
+            if out.left().is_empty() {
+                Some(true)
+            } else {
+                None
+            }
+        }
+        Connection::Over(had_ended) => Some(*had_ended),
     }
 }
 
@@ -96,7 +106,7 @@ pub(crate) fn out_of(connection: &Connection) -> &[u8]
     match connection {
         Connection::Watch(_, out) => out.left(),
         Connection::Ended(out) => out.left(),
-        Connection::Head(_) | Connection::Body(_) | Connection::Gone(_) => &[],
+        Connection::Head(_) | Connection::Body(_) | Connection::Over(_) => &[],
     }
 }
 
@@ -107,7 +117,7 @@ pub(crate) fn take_from(alloc: Global, connection: &mut Connection, n: usize)
     match connection {
         Connection::Watch(_, out) => out.take(alloc, n),
         Connection::Ended(out) => out.take(alloc, n),
-        Connection::Head(_) | Connection::Body(_) | Connection::Gone(_) => {}
+        Connection::Head(_) | Connection::Body(_) | Connection::Over(_) => {}
     }
 }
 
@@ -116,7 +126,7 @@ pub(crate) fn go_from(connection: &mut Connection)
     ensures { (types : List ServedShape) (c : model.Connection) → Holds types connection.new (with_standing c (gone (has_ended_in connection.old))) }
 {
     let had_ended = has_ended(connection);
-    *connection = Connection::Gone(had_ended);
+    *connection = Connection::Over(had_ended);
 }
 
 /// What becomes of a connection with the answer of its call, after this tick.
@@ -203,7 +213,7 @@ fn receive(
         Connection::Body(pending) => receive_body(alloc, api, pending, bytes, last_tick),
         Connection::Watch(watch, out) => Ok(Connection::Watch(watch, out)),
         Connection::Ended(out) => Ok(Connection::Ended(out)),
-        Connection::Gone(had_ended) => Ok(Connection::Gone(had_ended)),
+        Connection::Over(had_ended) => Ok(Connection::Over(had_ended)),
     }
 }
 
@@ -224,4 +234,28 @@ pub(crate) fn receive_on(
     let was = mem::replace(connection, dead);
     *connection = receive(alloc, api, was, bytes, last_tick)?;
     Ok(())
+}
+
+/// Changes a connection; out of memory, one that waits is dead where bytes come on it, and a watch where it is pumped.
+pub(crate) fn change(
+    alloc: Global,
+    api: &mut Api,
+    connection: &mut Connection,
+    what: Change,
+    last_tick: u64,
+) -> Result<(), Fault>
+    ensures ok { (types : List ServedShape) (m : History) (c : model.Connection) → Stands api.old types m → Holds types connection.old c → OnOk result (MakesHeld types m last_tick what.entry c connection.new api.new) }
+    ensures err { (types : List ServedShape) (m : History) → Stands api.old types m → OnErr result (Stands api.new types m) }
+    ensures could { (types : List ServedShape) (c : model.Connection) → Holds types connection.old c → OnErr result (takes_memory_on what.entry c.standing ≡ true) }
+    ensures dead { (types : List ServedShape) (c : model.Connection) → Holds types connection.old c → OnErr result (Holds types connection.new (with_standing c ended)) }
+    ensures gone { what.entry ≡ changes.Gone → result ≡ Ok tt }
+{
+    match what {
+        Change::Bytes(bytes) => receive_on(alloc, api, connection, bytes, last_tick),
+        Change::Lines(max) => pump_on(alloc, api, connection, max),
+        Change::Gone => {
+            go_from(connection);
+            Ok(())
+        }
+    }
 }

@@ -1,147 +1,257 @@
-//! The connections of the hub, found by their ids; how one of them changes stands in `connection` and `turns`.
+//! All connections that were ever opened, by their ids: those that are open, and those that are over, of which ranges of ids
+//! are left. How one of them changes stands in `connection`, how all have their turn at a tick in `ticking`.
 
-ghost use Rattle.std.specs.Prelude.{◌≡◌, [], ℕ, List, Some, None, unwrap_or, option_map, OnOk, OnErr};
+ghost use Rattle.std.specs.Prelude.{◌≡◌, ◌≢◌, [], ℕ, Bool, List, None, Some, Err, true, false, cond, is_some, unwrap_or, option_map, OnOk, OnErr};
 ghost use Rattle.std.specs.BTreeMap.{get};
 ghost use Rattle.std.specs.Ordering.{nat_cmp};
 ghost use Rattle.schema.specs.TypesFile.{ServedShape};
 ghost use Rattle.history.specs.History.{History};
 ghost use Rattle.verbs.specs.Seen.{Stands};
+ghost use Rattle.verbs.specs.declared.api.Api as apis;
+ghost use Rattle.httpedge.specs.Changes.{Changes};
 ghost use Rattle.httpedge.specs.Connections.{Connection as TheConnection};
-ghost use Rattle.httpedge.specs.Connections.{gone, with_standing, with_taken};
-ghost use Rattle.httpedge.specs.Held.{BecomesAt, DiesAt, Holds, PutAt, ReceivedAt, count_after, has_ended_in, is_open_in, is_waiting_in, is_watching_in, out_in};
-ghost use Rattle.httpedge.specs.Steps.{with_turn};
-ghost use Rattle.httpedge.specs.Watches.{pumped};
+ghost use Rattle.httpedge.specs.Connections.{open_count, with_taken};
+ghost use Rattle.httpedge.specs.Held.{BecomesAt, Closes, Forgets, Holds, IsApart, IsAt, IsFresh, IsSame, Opens, Represents, found, has_ended_in, is_waiting_in, kept_in, out_in, over_in, over_of};
+ghost use Rattle.httpedge.specs.HubSeen.{done, outcome_of, refusal_in, refused};
+ghost use Rattle.httpedge.specs.Ids.{is_in};
+ghost use Rattle.httpedge.specs.Steps.{State, start, unknown_id};
+ghost use Rattle.httpedge.specs.Ticks.{TicksIn};
 ghost use Rattle.httpedge.specs.declared.connection.Connection as held;
+ghost use Rattle.httpedge.specs.declared.event.Change.TheVariants as changes;
+ghost use Rattle.httpedge.specs.declared.fault.HubFault.TheVariants as fault;
 
 use crate::connection::{
-    Connection, go_from, has_ended, is_open, is_waiting, out_of, receive_on, take_from,
+    Connection, change, has_ended, is_open, is_waiting, out_of, over, take_from,
 };
-use crate::turns::pump_on;
+use crate::event::Change;
+use crate::fault::HubFault;
+use crate::ids::Ids;
+use crate::ticking::{drop_ended, tick_all};
 use std::alloc::{AllocError, Global};
-use std::collections::BTreeMap;
-use verbs::{Api, Fault};
+use std::collections::{BTreeMap, BTreeSet};
+use verbs::Api;
 
-pub(crate) fn put(
-    all: &mut BTreeMap<u64, Connection>,
-    id: u64,
-    connection: Connection,
-) -> Result<(), AllocError>
-    ensures ok { OnOk result (PutAt id connection all.old all.new) }
-    ensures err { OnErr result ((q : ℕ) → get nat_cmp all.new q ≡ get nat_cmp all.old q) }
-{
-    all.insert(id, connection)?;
-    Ok(())
+/// The connections of a hub.
+#[derive(Drop)]
+pub(crate) struct Connections {
+    /// Those that aren't over, and of the others such as found no memory: for the id alone, or at a tick.
+    held: BTreeMap<u64, Connection>,
+    /// The ids of those that are open.
+    open_ids: BTreeSet<u64>,
+    /// The ids of those that are over and had ended.
+    ended: Ids,
+    /// The ids of those whose peers went before they had ended.
+    cut: Ids,
+    /// The highest id so far.
+    highest: Option<u64>,
 }
 
-/// Whether a connection is open, if the id is known.
-pub(crate) fn open_at(all: &BTreeMap<u64, Connection>, id: u64) -> Option<bool>
-    ensures { result ≡ option_map is_open_in (get nat_cmp all.now id) }
-{
-    let connection = all.get(&id)?;
-    Some(is_open(connection))
-}
-
-/// Whether what a connection asks isn't decided, if the id is known.
-pub(crate) fn waiting_at(all: &BTreeMap<u64, Connection>, id: u64) -> Option<bool>
-    ensures { result ≡ option_map is_waiting_in (get nat_cmp all.now id) }
-{
-    let connection = all.get(&id)?;
-    Some(is_waiting(connection))
-}
-
-/// Whether a connection has ended, if the id is known.
-pub(crate) fn ended_at(all: &BTreeMap<u64, Connection>, id: u64) -> Option<bool>
-    ensures { result ≡ option_map has_ended_in (get nat_cmp all.now id) }
-{
-    let connection = all.get(&id)?;
-    Some(has_ended(connection))
-}
-
-/// How many are open after one that was open, or not, may have ended.
-pub(crate) fn open_count(
-    count: usize,
-    was_open: bool,
-    all: &BTreeMap<u64, Connection>,
-    id: u64,
-) -> usize
-    ensures { result ≡ count_after count was_open (option_map is_open_in (get nat_cmp all.now id)) }
-{
-    if was_open && !open_at(all, id).unwrap_or(false) {
-        count.saturating_sub(1)
-    } else {
-        count
+impl Connections {
+    /// None.
+    pub(crate) fn new(alloc: Global) -> Connections
+        ensures { (types : List ServedShape) (m : History) (api : apis.Api) → Stands api types m → Represents api result (start types m) }
+    {
+        Connections {
+            held: BTreeMap::new(alloc),
+            open_ids: BTreeSet::new(alloc),
+            ended: Ids::new(alloc),
+            cut: Ids::new(alloc),
+            highest: None,
+        }
     }
-}
 
-/// What was written on a connection and not yet taken; nothing for an unknown id.
-pub(crate) fn out_at(all: &BTreeMap<u64, Connection>, id: u64) -> &[u8]
-    ensures { result.now ≡ unwrap_or (option_map out_in (get nat_cmp all.now id)) [] }
-{
-    match all.get(&id) {
-        Some(connection) => out_of(connection),
-        None => &[],
+    /// The highest id so far.
+    pub(crate) fn highest(&self) -> Option<u64>
+        ensures { result ≡ self.now.highest }
+    {
+        self.highest
     }
-}
 
-/// Takes the first n bytes of what is out on a connection, at most all; nothing for an unknown id.
-pub(crate) fn take_at(alloc: Global, all: &mut BTreeMap<u64, Connection>, id: u64, n: usize)
-    ensures known { (types : List ServedShape) (d : held.Connection) (c : TheConnection) → get nat_cmp all.old id ≡ Some d → Holds types d c → BecomesAt types (with_taken c n) id all.old all.new }
-    ensures unknown { get nat_cmp all.old id ≡ None → (q : ℕ) → get nat_cmp all.new q ≡ get nat_cmp all.old q }
-{
-    match all.get_mut(&id) {
-        None => {}
-        Some(connection) => take_from(alloc, connection, n),
+    /// How many are open.
+    pub(crate) fn open_count(&self) -> usize
+        ensures { (api : apis.Api) (s : State) → Represents api self.now s → result ≡ open_count s.connections }
+    {
+        self.open_ids.len()
     }
-}
 
-/// The peer of a connection goes; nothing happens for an unknown id.
-pub(crate) fn go_at(all: &mut BTreeMap<u64, Connection>, id: u64)
-    ensures { (types : List ServedShape) (d : held.Connection) (c : TheConnection) → get nat_cmp all.old id ≡ Some d
-        → BecomesAt types (with_standing c (gone (has_ended_in d))) id all.old all.new }
-{
-    match all.get_mut(&id) {
-        None => {}
-        Some(connection) => go_from(connection),
+    /// How many are held, and how many ranges the ids of all others are.
+    pub(crate) fn kept(&self) -> (usize, usize)
+        ensures { result ≡ kept_in self.now }
+    {
+        (self.held.len(), self.ended.len() + self.cut.len())
     }
-}
 
-/// Bytes come on the connection of an id that is known.
-pub(crate) fn receive_at(
-    alloc: Global,
-    api: &mut Api,
-    all: &mut BTreeMap<u64, Connection>,
-    id: u64,
-    bytes: &[u8],
-    last_tick: u64,
-) -> Result<(), Fault>
-    ensures ok { (types : List ServedShape) (m : History) (d : held.Connection) (c : TheConnection) → Stands api.old types m → get nat_cmp all.old id ≡ Some d → Holds types d c
-        → OnOk result (ReceivedAt types m last_tick c id bytes.now all.old all.new api.new) }
-    ensures err { (types : List ServedShape) (m : History) → Stands api.old types m → OnErr result (Stands api.new types m) }
-    ensures dead { (types : List ServedShape) (d : held.Connection) (c : TheConnection) → get nat_cmp all.old id ≡ Some d → Holds types d c
-        → OnErr result (DiesAt types (is_waiting_in d) c id all.old all.new) }
-{
-    match all.get_mut(&id) {
-        None => Ok(()),
-        Some(connection) => receive_on(alloc, api, connection, bytes, last_tick),
+    /// Whether a connection that isn't held had ended, if the id is known.
+    fn over(&self, id: u64) -> Option<bool>
+        ensures { result ≡ over_of (is_in self.now.ended.ranges id) (is_in self.now.cut.ranges id) }
+    {
+        if self.ended.contains(id) {
+            return Some(true);
+        }
+        if self.cut.contains(id) {
+            return Some(false);
+        }
+        None
     }
-}
 
-/// The connection of an id that is known, at a pump.
-pub(crate) fn pump_at(
-    alloc: Global,
-    api: &mut Api,
-    all: &mut BTreeMap<u64, Connection>,
-    id: u64,
-    max: usize,
-) -> Result<(), Fault>
-    ensures ok { (types : List ServedShape) (m : History) (d : held.Connection) (c : TheConnection) → Stands api.old types m → get nat_cmp all.old id ≡ Some d → Holds types d c
-        → OnOk result (BecomesAt types (with_turn (pumped m max) c) id all.old all.new) }
-    ensures stands { (types : List ServedShape) (m : History) → Stands api.old types m → Stands api.new types m }
-    ensures dead { (types : List ServedShape) (d : held.Connection) (c : TheConnection) → get nat_cmp all.old id ≡ Some d → Holds types d c
-        → OnErr result (DiesAt types (is_watching_in d) c id all.old all.new) }
-{
-    match all.get_mut(&id) {
-        None => Ok(()),
-        Some(connection) => pump_on(alloc, api, connection, max),
+    /// Whether there is a connection of this id.
+    pub(crate) fn is_known(&self, id: u64) -> bool
+        ensures { result ≡ is_some (found self.now id) }
+    {
+        match self.held.get(&id) {
+            Some(_) => true,
+            None => self.over(id).is_some(),
+        }
+    }
+
+    /// Whether a connection has ended; none of an unknown id has.
+    pub(crate) fn has_ended(&self, id: u64) -> bool
+        ensures { result ≡ unwrap_or (option_map has_ended_in (found self.now id)) false }
+    {
+        match self.held.get(&id) {
+            Some(connection) => has_ended(connection),
+            None => self.over(id).unwrap_or(false),
+        }
+    }
+
+    /// Whether what a connection asks isn't decided; false for an unknown id.
+    pub(crate) fn is_waiting(&self, id: u64) -> bool
+        ensures { result ≡ unwrap_or (option_map is_waiting_in (found self.now id)) false }
+    {
+        match self.held.get(&id) {
+            Some(connection) => is_waiting(connection),
+            None => false,
+        }
+    }
+
+    /// What was written on a connection and not yet taken; nothing for an unknown id.
+    pub(crate) fn out(&self, id: u64) -> &[u8]
+        ensures { result.now ≡ unwrap_or (option_map out_in (found self.now id)) [] }
+    {
+        match self.held.get(&id) {
+            Some(connection) => out_of(connection),
+            None => &[],
+        }
+    }
+
+    /// A connection is opened under an id that is above all others.
+    pub(crate) fn open(&mut self, id: u64, connection: Connection) -> Result<(), AllocError>
+        ensures ok { IsFresh id self.old → OnOk result (Opens id connection self.old self.new) }
+        ensures err { IsFresh id self.old → OnErr result (IsSame self.old self.new) }
+    {
+        if !is_open(&connection) {
+            self.held.insert(id, connection)?;
+            self.highest = Some(id);
+            return Ok(());
+        }
+        self.open_ids.insert(id)?;
+        if let Err(refused) = self.held.insert(id, connection) {
+            self.open_ids.remove(&id);
+            return Err(AllocError::from(refused));
+        }
+        self.highest = Some(id);
+        Ok(())
+    }
+
+    /// Changes the connection of an id. Nothing becomes of one that is over.
+    pub(crate) fn change(
+        &mut self,
+        alloc: Global,
+        api: &mut Api,
+        id: u64,
+        what: Change,
+        last_tick: u64,
+    ) -> Result<(), HubFault>
+        ensures known { (types : List ServedShape) (m : History) (d : held.Connection) (c : TheConnection) → Stands api.old types m → IsAt id d self.old → Holds types d c
+            → Changes types m last_tick what.entry id c self.old self.new api.new (outcome_of result) }
+        ensures unknown { found self.old id ≡ None → (outcome_of result ≡ refused unknown_id) × (self.new ≡ self.old) × (api.new ≡ api.old) }
+        ensures taken { is_some (found self.old id) ≡ true → refusal_in (outcome_of result) ≡ None }
+        ensures gone { what.entry ≡ changes.Gone → result ≢ Err fault.Store }
+    {
+        match self.held.get_mut(&id) {
+            None => self.pass(id),
+            Some(connection) => {
+                let changed = change(alloc, api, connection, what, last_tick);
+                let still_open = is_open(connection);
+                let had_ended = over(connection);
+                self.close(id, still_open);
+                self.forget(id, had_ended);
+                match changed {
+                    Ok(()) => Ok(()),
+                    Err(fault) => Err(HubFault::from(fault)),
+                }
+            }
+        }
+    }
+
+    /// One that isn't held is over, or unknown.
+    fn pass(&self, id: u64) -> Result<(), HubFault>
+        ensures outcome { outcome_of result ≡ cond (is_some (over_of (is_in self.now.ended.ranges id) (is_in self.now.cut.ranges id))) done (refused unknown_id) }
+        ensures store { result ≢ Err fault.Store }
+    {
+        if self.over(id).is_some() {
+            Ok(())
+        } else {
+            Err(HubFault::UnknownId)
+        }
+    }
+
+    /// Takes the first n bytes of what is out on a connection, at most all; nothing for an unknown id.
+    pub(crate) fn take(&mut self, alloc: Global, id: u64, n: usize)
+        ensures known { (types : List ServedShape) (d : held.Connection) (c : TheConnection) → IsAt id d self.old → Holds types d c
+            → BecomesAt types true (with_taken c n) id self.old self.new }
+        ensures unknown { found self.old id ≡ None → self.new ≡ self.old }
+    {
+        match self.held.get_mut(&id) {
+            None => {}
+            Some(connection) => {
+                take_from(alloc, connection, n);
+                let had_ended = over(connection);
+                self.forget(id, had_ended);
+            }
+        }
+    }
+
+    /// Each open connection has its turn at a tick; whether one was out of memory.
+    pub(crate) fn tick(&mut self, alloc: Global, api: &Api, ms: u64) -> bool
+        ensures { (s : State) → Represents api.now self.old s → TicksIn api.now ms s self.new result }
+    {
+        let found_none = tick_all(alloc, api, &mut self.held, &self.open_ids, ms);
+        drop_ended(&mut self.open_ids, &self.held);
+        found_none
+    }
+
+    /// The id of one that isn't open is no longer among those that are.
+    fn close(&mut self, id: u64, is_open: bool)
+        ensures closes { Closes id is_open self.old self.new }
+        ensures held { self.new.held ≡ self.old.held }
+        ensures ended { self.new.ended ≡ self.old.ended }
+        ensures cut { self.new.cut ≡ self.old.cut }
+        ensures highest { self.new.highest ≡ self.old.highest }
+    {
+        if !is_open {
+            self.open_ids.remove(&id);
+        }
+    }
+
+    /// Of one that is over the id alone is kept, where there is memory for it.
+    fn forget(&mut self, id: u64, over: Option<bool>)
+        ensures { (d : held.Connection) → get nat_cmp self.old.held id ≡ Some d → over_in d ≡ over → IsApart self.old → Forgets id d self.old self.new }
+    {
+        match over {
+            None => {}
+            Some(true) => match self.ended.insert(id) {
+                Ok(()) => {
+                    self.held.remove(&id);
+                }
+                Err(_) => {}
+            },
+            Some(false) => match self.cut.insert(id) {
+                Ok(()) => {
+                    self.held.remove(&id);
+                }
+                Err(_) => {}
+            },
+        }
     }
 }

@@ -17,3 +17,14 @@ pub enum Event {
     /// current one.
     Compact(u64),
 }
+
+/// What an event changes one connection by.
+#[derive(Clone, Copy, Debug)]
+pub(crate) enum Change<'a> {
+    /// Bytes come on it.
+    Bytes(&'a [u8]),
+    /// It may write so many lines.
+    Lines(usize),
+    /// Its peer has gone.
+    Gone,
+}

@@ -1,39 +1,30 @@
-//! The hub: an API and its connections, which events change. A single connection stands in `connection`.
+//! The hub: an API and its connections, which events change. The connections stand in `connections`.
 
-ghost use Rattle.std.specs.Prelude.{◌≡◌, ◌≢◌, ◌++◌, ◌∷◌, [], ℕ, Bool, List, None, true, false, Err, Ok, OnOk};
+ghost use Rattle.std.specs.Prelude.{◌≡◌, ◌≢◌, ◌++◌, ◌∷◌, [], ℕ, List, Some, None, true, false, Err, Ok, OnOk, OnErr};
 ghost use Rattle.schema.specs.TypesFile.{ServedShape};
 ghost use Rattle.history.specs.History.{History};
 ghost use Rattle.verbs.specs.Seen.{Stands};
+ghost use Rattle.httpedge.specs.Changes.{event_on};
 ghost use Rattle.httpedge.specs.Connections.{ended_on, next_id, out_on, waiting_on};
-ghost use Rattle.httpedge.specs.Held.{is_above};
-ghost use Rattle.httpedge.specs.HubSeen.{Happened, IsIn, asks_store, event_of, outcome_of, refusal_in, starved};
+ghost use Rattle.httpedge.specs.Held.{is_above, kept_in};
+ghost use Rattle.httpedge.specs.HubSeen.{Handles, Happened, IsIn, asks_store, event_of, outcome_of, refusal_in};
 ghost use Rattle.httpedge.specs.Runs.{Follows, Happening, Runs, Steps, takes};
-ghost use Rattle.httpedge.specs.Steps.{State, comes, compacts, goes, opens, pumps, refusal, start, ticks, with_bytes_taken, Starves};
+ghost use Rattle.httpedge.specs.declared.event.Change.TheVariants as changes;
+ghost use Rattle.httpedge.specs.Steps.{State, compacts, opens, pumps, refusal, start, ticks, with_bytes_taken};
 
-use crate::connection::{Connection, count_with, opening};
-use crate::connections::{
-    ended_at, go_at, open_at, open_count, out_at, pump_at, put, receive_at, take_at, waiting_at,
-};
-use crate::event::Event;
+use crate::connection::opening;
+use crate::connections::Connections;
+use crate::event::{Change, Event};
 use crate::fault::HubFault;
-use crate::ticking::{drop_ended, tick_all};
 use revstore::CompactFault;
-use std::alloc::Global;
-use std::collections::{BTreeMap, BTreeSet};
+use std::alloc::{AllocError, Global};
 use verbs::{Api, Fault};
 
 /// Connections over one API: bytes in, reply bytes out.
 pub struct Hub {
     alloc: Global,
     api: Api,
-    connections: BTreeMap<u64, Connection>,
-    /// How many of them are open.
-    open_count: usize,
-    /// The ids of those that are open, and of some that aren't: they ended since the last tick, or found no memory as they
-    /// opened.
-    open_ids: BTreeSet<u64>,
-    /// The highest id so far.
-    highest: Option<u64>,
+    connections: Connections,
     /// The time of the last tick, in milliseconds after the start.
     last_tick: u64,
 }
@@ -45,9 +36,6 @@ impl Drop for Hub {
             alloc: _,
             api: _,
             connections: _,
-            open_count: _,
-            open_ids: _,
-            highest: _,
             last_tick: _,
         } = self;
     }
@@ -70,113 +58,64 @@ impl Hub {
         Hub {
             alloc,
             api,
-            connections: BTreeMap::new(alloc),
-            open_count: 0,
-            open_ids: BTreeSet::new(alloc),
-            highest: None,
+            connections: Connections::new(alloc),
             last_tick: 0,
         }
     }
 
+    /// Opens a connection under an id that is above all others.
+    fn open_above(&mut self, id: u64) -> Result<(), AllocError>
+        ensures ok { (s : State) → IsIn self.old s → is_above self.old.connections.highest id ≡ true → OnOk result ((t : State) × Steps s (opens id) t × IsIn self.new t) }
+        ensures err { (s : State) → IsIn self.old s → is_above self.old.connections.highest id ≡ true → OnErr result (IsIn self.new s) }
+    {
+        let connection = opening(self.alloc, self.connections.open_count())?;
+        self.connections.open(id, connection)
+    }
+
     fn open(&mut self, id: u64) -> Result<(), HubFault>
-        ensures ok { (s : State) → IsIn self.old s → OnOk result ((t : State) × Steps s (opens id) t × IsIn self.new t) }
-        ensures refused { (s : State) → IsIn self.old s → refusal_in (outcome_of result) ≡ refusal s (opens id) }
-        ensures unchanged { refusal_in (outcome_of result) ≢ None → self.new ≡ self.old }
-        ensures memory { (s : State) → IsIn self.old s → outcome_of result ≡ starved → (which : ℕ → Bool) × (t : State) × Starves s (opens id) which t × IsIn self.new t }
+        ensures handles { Handles self.old (opens id) (outcome_of result) self.new }
         ensures store { result ≢ Err HubFault.Store }
     {
-        if !is_above(self.highest, id) {
+        if !is_above(self.connections.highest(), id) {
             return Err(HubFault::IdNotAbove);
         }
-        let connection = opening(self.alloc, self.open_count)?;
-        let count = count_with(self.open_count, &connection);
-        self.open_ids.insert(id)?;
-        put(&mut self.connections, id, connection)?;
-        self.open_count = count;
-        self.highest = Some(id);
-        Ok(())
+        match self.open_above(id) {
+            Ok(()) => Ok(()),
+            Err(_) => Err(HubFault::Memory),
+        }
     }
 
-    fn receive(&mut self, id: u64, bytes: &[u8]) -> Result<(), HubFault>
-        ensures ok { (s : State) → IsIn self.old s → OnOk result ((t : State) × Steps s (comes id bytes.now) t × IsIn self.new t) }
-        ensures refused { (s : State) → IsIn self.old s → refusal_in (outcome_of result) ≡ refusal s (comes id bytes.now) }
-        ensures unchanged { refusal_in (outcome_of result) ≢ None → self.new ≡ self.old }
-        ensures memory { (s : State) → IsIn self.old s → outcome_of result ≡ starved → (which : ℕ → Bool) × (t : State) × Starves s (comes id bytes.now) which t × IsIn self.new t }
+    /// Changes the connection of an id.
+    fn change(&mut self, id: u64, what: Change) -> Result<(), HubFault>
+        ensures handles { what.entry ≢ changes.Lines 0 → Handles self.old (event_on id what.entry) (outcome_of result) self.new }
+        ensures gone { what.entry ≡ changes.Gone → result ≢ Err HubFault.Store }
     {
-        let Some(was_open) = open_at(&self.connections, id) else {
-            return Err(HubFault::UnknownId);
-        };
-        let received = receive_at(
-            self.alloc,
-            &mut self.api,
-            &mut self.connections,
-            id,
-            bytes,
-            self.last_tick,
-        );
-        self.open_count = open_count(self.open_count, was_open, &self.connections, id);
-        Ok(received?)
-    }
-
-    fn go(&mut self, id: u64) -> Result<(), HubFault>
-        ensures ok { (s : State) → IsIn self.old s → OnOk result ((t : State) × Steps s (goes id) t × IsIn self.new t) }
-        ensures refused { (s : State) → IsIn self.old s → refusal_in (outcome_of result) ≡ refusal s (goes id) }
-        ensures unchanged { refusal_in (outcome_of result) ≢ None → self.new ≡ self.old }
-        ensures memory { (s : State) → IsIn self.old s → outcome_of result ≡ starved → (which : ℕ → Bool) × (t : State) × Starves s (goes id) which t × IsIn self.new t }
-        ensures store { result ≢ Err HubFault.Store }
-    {
-        let Some(was_open) = open_at(&self.connections, id) else {
-            return Err(HubFault::UnknownId);
-        };
-        go_at(&mut self.connections, id);
-        self.open_count = open_count(self.open_count, was_open, &self.connections, id);
-        Ok(())
+        self.connections
+            .change(self.alloc, &mut self.api, id, what, self.last_tick)
     }
 
     fn pump(&mut self, id: u64, max: u64) -> Result<(), HubFault>
-        ensures ok { (s : State) → IsIn self.old s → OnOk result ((t : State) × Steps s (pumps id max) t × IsIn self.new t) }
-        ensures refused { (s : State) → IsIn self.old s → refusal_in (outcome_of result) ≡ refusal s (pumps id max) }
-        ensures unchanged { refusal_in (outcome_of result) ≢ None → self.new ≡ self.old }
-        ensures memory { (s : State) → IsIn self.old s → outcome_of result ≡ starved → (which : ℕ → Bool) × (t : State) × Starves s (pumps id max) which t × IsIn self.new t }
+        ensures { Handles self.old (pumps id max) (outcome_of result) self.new }
     {
-        let Some(was_open) = open_at(&self.connections, id) else {
-            return Err(HubFault::UnknownId);
-        };
-        if max == 0 {
-            return Err(HubFault::NoLines);
+        if max > 0 {
+            return self.change(id, Change::Lines(max as usize));
         }
-        let pumped = pump_at(
-            self.alloc,
-            &mut self.api,
-            &mut self.connections,
-            id,
-            max as usize,
-        );
-        self.open_count = open_count(self.open_count, was_open, &self.connections, id);
-        Ok(pumped?)
+        if self.connections.is_known(id) {
+            Err(HubFault::NoLines)
+        } else {
+            Err(HubFault::UnknownId)
+        }
     }
 
     fn tick(&mut self, ms: u64) -> Result<(), HubFault>
-        ensures ok { (s : State) → IsIn self.old s → OnOk result ((t : State) × Steps s (ticks ms) t × IsIn self.new t) }
-        ensures refused { (s : State) → IsIn self.old s → refusal_in (outcome_of result) ≡ refusal s (ticks ms) }
-        ensures unchanged { refusal_in (outcome_of result) ≢ None → self.new ≡ self.old }
-        ensures memory { (s : State) → IsIn self.old s → outcome_of result ≡ starved → (which : ℕ → Bool) × (t : State) × Starves s (ticks ms) which t × IsIn self.new t }
+        ensures handles { Handles self.old (ticks ms) (outcome_of result) self.new }
         ensures store { result ≢ Err HubFault.Store }
     {
         if ms < self.last_tick {
             return Err(HubFault::TickBack);
         }
-        let (count, found_none) = tick_all(
-            self.alloc,
-            &self.api,
-            &mut self.connections,
-            &self.open_ids,
-            ms,
-            self.open_count,
-        );
-        self.open_count = count;
+        let found_none = self.connections.tick(self.alloc, &self.api, ms);
         self.last_tick = ms;
-        drop_ended(&mut self.open_ids, &self.connections);
         if found_none {
             return Err(HubFault::Memory);
         }
@@ -184,10 +123,7 @@ impl Hub {
     }
 
     fn compact(&mut self, revision: u64) -> Result<(), HubFault>
-        ensures ok { (s : State) → IsIn self.old s → OnOk result ((t : State) × Steps s (compacts revision) t × IsIn self.new t) }
-        ensures refused { (s : State) → IsIn self.old s → refusal_in (outcome_of result) ≡ refusal s (compacts revision) }
-        ensures unchanged { refusal_in (outcome_of result) ≢ None → self.new ≡ self.old }
-        ensures memory { (s : State) → IsIn self.old s → outcome_of result ≡ starved → (which : ℕ → Bool) × (t : State) × Starves s (compacts revision) which t × IsIn self.new t }
+        ensures { Handles self.old (compacts revision) (outcome_of result) self.new }
     {
         match self.api.compact(revision) {
             Ok(()) => Ok(()),
@@ -212,8 +148,8 @@ impl Hub {
     {
         match event {
             Event::Open(id) => self.open(*id),
-            Event::In(id, bytes) => self.receive(*id, bytes),
-            Event::Gone(id) => self.go(*id),
+            Event::In(id, bytes) => self.change(*id, Change::Bytes(bytes)),
+            Event::Gone(id) => self.change(*id, Change::Gone),
             Event::Pump(id, max) => self.pump(*id, *max),
             Event::Tick(ms) => self.tick(*ms),
             Event::Compact(revision) => self.compact(*revision),
@@ -221,40 +157,48 @@ impl Hub {
     }
 
     /// Takes the first n bytes of what is out on a connection, at most all; nothing for an unknown id. Once all the bytes
-    /// of a connection that has ended are taken, no buffer is kept for it.
+    /// of a connection that has ended are taken, its id alone is kept.
     pub fn take(&mut self, id: u64, n: usize)
         ensures takes { (s : State) → IsIn self.old s → IsIn self.new (with_bytes_taken s id n) }
         ensures runs { (r s : State) (before : List Happening) → Runs r before s → IsIn self.old s → Runs r (before ++ takes id n ∷ []) (with_bytes_taken s id n) }
     {
-        take_at(self.alloc, &mut self.connections, id, n);
+        self.connections.take(self.alloc, id, n);
     }
 
     /// What was written on a connection and not yet taken; nothing for an unknown id.
     pub fn out(&self, id: u64) -> &[u8]
         ensures { (s : State) → IsIn self.now s → result.now ≡ out_on s.connections id }
     {
-        out_at(&self.connections, id)
+        self.connections.out(id)
     }
 
     /// Whether a connection has ended.
     pub fn ended(&self, id: u64) -> bool
         ensures { (s : State) → IsIn self.now s → result ≡ ended_on s.connections id }
     {
-        ended_at(&self.connections, id).unwrap_or(false)
+        self.connections.has_ended(id)
     }
 
     /// Whether a connection is open and what it asks isn't decided.
     pub fn wants(&self, id: u64) -> bool
         ensures { (s : State) → IsIn self.now s → result ≡ waiting_on s.connections id }
     {
-        waiting_at(&self.connections, id).unwrap_or(false)
+        self.connections.is_waiting(id)
     }
 
     /// The id after those of all connections that were ever opened: 1 at the start, none where no id is left.
     pub fn next_id(&self) -> Option<u64>
         ensures { (s : State) → IsIn self.now s → result ≡ next_id s.connections }
     {
-        self.highest.unwrap_or(0).checked_add(1)
+        self.connections.highest().unwrap_or(0).checked_add(1)
+    }
+
+    /// How many connections are held, and how many ranges of ids of those that are over: one for all that lie side by side and
+    /// had all ended, or all not. One that is over is held where there was no memory for its id.
+    pub fn kept(&self) -> (usize, usize)
+        ensures { result ≡ kept_in self.now.connections }
+    {
+        self.connections.kept()
     }
 
     /// The current revision and the compacted number.

@@ -13,6 +13,7 @@ mod connections;
 mod event;
 mod fault;
 mod hub;
+mod ids;
 mod laws;
 mod out;
 mod streams;

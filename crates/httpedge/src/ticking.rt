@@ -3,75 +3,64 @@
 ghost use Rattle.std.specs.Prelude.{◌≡◌, List};
 ghost use Rattle.std.specs.List.{filter};
 ghost use Rattle.std.specs.Ordering.{nat_cmp};
-ghost use Rattle.std.specs.Prelude.{option_map, unwrap_or, false};
+ghost use Rattle.std.specs.Prelude.{is_some, option_map, unwrap_or, false, ℕ, Bool};
 ghost use Rattle.std.specs.BTreeMap.{get};
 ghost use Rattle.schema.specs.TypesFile.{ServedShape};
 ghost use Rattle.history.specs.History.{History};
 ghost use Rattle.verbs.specs.Seen.{Stands};
-ghost use Rattle.httpedge.specs.Connections.{Connections, open_count};
-ghost use Rattle.httpedge.specs.Held.{Lists, is_open_in};
-ghost use Rattle.httpedge.specs.Ticks.{HoldsAll, TicksAll, TicksAt, TicksOne};
+ghost use Rattle.httpedge.specs.Connections.{Connections};
+ghost use Rattle.httpedge.specs.Held.{Lists, found_in, is_open_in};
+ghost use Rattle.httpedge.specs.Ticks.{HoldsAll, TicksAll, TicksAt};
 
-use crate::connection::Connection;
-use crate::connections::{open_at, open_count};
+use crate::connection::{Connection, is_open};
 use crate::turns::tick_on;
 use std::alloc::Global;
 use std::collections::{BTreeMap, BTreeSet};
 use verbs::Api;
 
-/// The connection of an id has its turn; whether it was out of memory.
-fn tick_at(alloc: Global, api: &Api, all: &mut BTreeMap<u64, Connection>, id: u64, ms: u64) -> bool
-    ensures { (types : List ServedShape) (m : History) (before : Connections) → Stands api.now types m → HoldsAll types all.old before → TicksAt types ms id before all.new result }
+/// The connection of an id has its turn; whether it was out of memory. The others are over, or as they were.
+fn tick_at(alloc: Global, api: &Api, held: &mut BTreeMap<u64, Connection>, id: u64, ms: u64) -> bool
+    ensures keys { (q : ℕ) → is_some (get nat_cmp held.new q) ≡ is_some (get nat_cmp held.old q) }
+    ensures ticks { (types : List ServedShape) (m : History) (before : Connections) (had_ended cut : ℕ → Bool) → Stands api.now types m → HoldsAll types (found_in held.old had_ended cut) before
+        → TicksAt types ms id before (found_in held.new had_ended cut) result }
 {
-    match all.get_mut(&id) {
+    match held.get_mut(&id) {
         None => false,
         Some(connection) => tick_on(alloc, api, connection, ms),
     }
 }
 
-/// The same, with how many are open then.
-fn tick_one(
-    alloc: Global,
-    api: &Api,
-    all: &mut BTreeMap<u64, Connection>,
-    id: u64,
-    ms: u64,
-    count: usize,
-) -> (usize, bool)
-    ensures { (types : List ServedShape) (m : History) (before : Connections) → Stands api.now types m → HoldsAll types all.old before → count ≡ open_count before
-        → TicksOne types ms id before all.new result }
-{
-    let was_open = open_at(all, id).unwrap_or(false);
-    let found_none = tick_at(alloc, api, all, id, ms);
-    (open_count(count, was_open, all, id), found_none)
-}
-
-/// Each connection has its turn, where each that is open is among these ids; how many are open then, and whether one was
-/// out of memory.
+/// Each connection has its turn, where each that is open is among these ids; whether one was out of memory.
 pub(crate) fn tick_all(
     alloc: Global,
     api: &Api,
-    all: &mut BTreeMap<u64, Connection>,
+    held: &mut BTreeMap<u64, Connection>,
     ids: &BTreeSet<u64>,
     ms: u64,
-    count: usize,
-) -> (usize, bool)
-    ensures { (types : List ServedShape) (m : History) (before : Connections) → Stands api.now types m → HoldsAll types all.old before → count ≡ open_count before → Lists ids.now before
-        → TicksAll types ms before all.new result }
+) -> bool
+    ensures keys { (q : ℕ) → is_some (get nat_cmp held.new q) ≡ is_some (get nat_cmp held.old q) }
+    ensures ticks { (types : List ServedShape) (m : History) (before : Connections) (had_ended cut : ℕ → Bool) → Stands api.now types m → HoldsAll types (found_in held.old had_ended cut) before
+        → Lists ids.now before → TicksAll types ms before (found_in held.new had_ended cut) result }
 {
-    let mut count = count;
     let mut found_none = false;
     for id in ids {
-        let (open, starved) = tick_one(alloc, api, all, *id, ms, count);
-        count = open;
+        let starved = tick_at(alloc, api, held, *id, ms);
         found_none = found_none || starved;
     }
-    (count, found_none)
+    found_none
 }
 
 /// Drops the ids of those that are no longer open.
-pub(crate) fn drop_ended(ids: &mut BTreeSet<u64>, all: &BTreeMap<u64, Connection>)
-    ensures { ids.new.keys ≡ filter (λ id. unwrap_or (option_map is_open_in (get nat_cmp all.now id)) false) ids.old.keys }
+pub(crate) fn drop_ended(ids: &mut BTreeSet<u64>, held: &BTreeMap<u64, Connection>)
+    ensures { ids.new.keys ≡ filter (λ id. unwrap_or (option_map is_open_in (get nat_cmp held.now id)) false) ids.old.keys }
 {
-    ids.retain(|id| open_at(all, *id).unwrap_or(false));
+    ids.retain(|id| open_at(held, *id).unwrap_or(false));
+}
+
+/// Whether a connection is open, if it is held.
+fn open_at(held: &BTreeMap<u64, Connection>, id: u64) -> Option<bool>
+    ensures { result ≡ option_map is_open_in (get nat_cmp held.now id) }
+{
+    let connection = held.get(&id)?;
+    Some(is_open(connection))
 }

@@ -73,6 +73,33 @@ ask 1026 GET namespaces/default/widgets/w1 => -
 out 1026 => HTTP/1.1 404 Not Found|$Content-Type: application/json|$Content-Length: 149|$Connection: close|$|${"apiVersion":"v1","code":404,"kind":"Status","message":"widgets.demo.example \"w1\" not found","metadata":{},"reason":"NotFound","status":"Failure"}
 stand 1026 => 0 false true
 
+over_leaves_a_range on widgets: connections that are over leave a range of ids, whoever is open meanwhile
+kept 0 => 0 0
+serve 1 10000 GET namespaces/default/widgets/w1 => -
+kept 0 => 0 1
+stand 1 => 0 false true
+stand 10000 => 0 false true
+open 10005 => -
+kept 0 => 1 1
+serve 10006 10007 GET namespaces/default/widgets/w1 => -
+kept 0 => 1 2
+stand 10004 => 0 false false
+in 10004 GET => UnknownId
+gone 10005 => -
+kept 0 => 0 3
+stand 10005 => 0 false false
+in 10005 GET => -
+gone 10006 => -
+stand 10006 => 0 false true
+pump 10006 1 => -
+pump 10006 0 => NoLines
+open 10007 => IdNotAbove
+ask 10008 GET namespaces/default/widgets/w1 => -
+kept 0 => 1 3
+gone 10008 => -
+kept 0 => 0 3
+stand 10008 => 0 false true
+
 nobody_waits_for_another on widgets: a request that isn't whole keeps nobody waiting
 open 1 => -
 in 1 PATCH /apis/demo => -

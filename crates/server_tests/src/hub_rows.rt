@@ -10,9 +10,11 @@
 //! | `bytes K METHOD TARGET BODY` | it comes byte by byte, and nothing is written before the last |
 //! | `in K TEXT`, `gone K`, `pump K N`, `tick MS`, `compact C` | the event |
 //! | `told K METHOD TARGET BODY`, `got K METHOD TARGET BODY` | as `ask`; nothing without METHOD TARGET BODY |
+//! | `serve A B METHOD TARGET BODY` | on each from A to B, one after another: it opens, the request comes, its reply is taken |
 //! | `out K` | no event; the bytes that are out on K are taken |
 //! | `take K N` | the next N of them are taken: how many are left |
 //! | `stand K` | no event: how many are out, whether K waits, whether it has ended |
+//! | `kept 0` | no event: how many connections are held, and how many ranges of ids of all others |
 //!
 //! The answer of an event is why the hub refuses it, or the bytes that then are out on connection 1, which are taken. Of
 //! `told` it is the status and the message of the reply on K, or else the version of its object; of `got` the status and
@@ -94,6 +96,29 @@ fn comes_by_bytes(alloc: Global, hub: &mut Hub, id: u64, line: &str) -> Result<(
     Ok(())
 }
 
+/// A request comes on each connection from one to another, one after another, and its reply is taken.
+fn serve_all(
+    alloc: Global,
+    hub: &mut Hub,
+    first: u64,
+    last: u64,
+    request: &[u8],
+) -> Result<(), HubFault> {
+    for id in first..=last {
+        on(hub, &Event::Open(id))?;
+        on(hub, &Event::In(id, Vec::from_slice(alloc, request)?))?;
+        hub.take(id, usize::MAX);
+    }
+    Ok(())
+}
+
+/// The same by the words `B METHOD TARGET BODY`.
+fn serves(alloc: Global, hub: &mut Hub, id: u64, rest: &str) -> Result<Result<(), HubFault>, Fail> {
+    let (last, line) = first_word(rest);
+    let request = request_of(alloc, line)?;
+    Ok(serve_all(alloc, hub, id, number(last)?, &request))
+}
+
 /// What the hub says to what happens at a step; at one that only looks nothing does. Where a request comes, its connection
 /// opens before; that is refused, and changes nothing, where it waits.
 fn happens(
@@ -104,7 +129,7 @@ fn happens(
     rest: &str,
 ) -> Result<Result<(), HubFault>, Fail> {
     let event = match word {
-        "out" | "take" | "stand" => return Ok(Ok(())),
+        "out" | "take" | "stand" | "kept" => return Ok(Ok(())),
         "told" | "got" if rest.is_empty() => return Ok(Ok(())),
         "ask" | "told" | "got" => {
             let _ = on(hub, &Event::Open(id));
@@ -113,6 +138,7 @@ fn happens(
         "bytes" => return Ok(Ok(comes_by_bytes(alloc, hub, id, rest)?)),
         "open" if !rest.is_empty() => return Ok(open_all(hub, id, number(rest)?)),
         "open" => Event::Open(id),
+        "serve" => return serves(alloc, hub, id, rest),
         "in" => Event::In(id, bytes_of(alloc, rest)?),
         "gone" => Event::Gone(id),
         "pump" => Event::Pump(id, number(rest)?),
@@ -147,6 +173,11 @@ fn standing(alloc: Global, hub: &Hub, id: u64) -> Result<String, Fail> {
     Ok(format!(in alloc; "{length} {wants} {has_ended}")?)
 }
 
+fn kept(alloc: Global, hub: &Hub) -> Result<String, Fail> {
+    let (held, ranges) = hub.kept();
+    Ok(format!(in alloc; "{held} {ranges}")?)
+}
+
 /// What stands between two texts, behind the last of the first.
 fn between<'a>(text: &'a str, before: &str, after: &str) -> Option<&'a str> {
     let (_, rest) = text.rsplit_once(before)?;
@@ -171,6 +202,7 @@ fn seen(alloc: Global, hub: &mut Hub, word: &str, id: u64, rest: &str) -> Result
         "out" => shown(alloc, hub, id),
         "take" => taken(alloc, hub, id, rest),
         "stand" => standing(alloc, hub, id),
+        "kept" => kept(alloc, hub),
         "told" | "got" => told(alloc, shown(alloc, hub, id)?.as_str(), word == "got"),
         _ => shown(alloc, hub, 1),
     }

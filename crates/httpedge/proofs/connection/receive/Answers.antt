@@ -3,6 +3,7 @@ use Rattle.std.proofs.lemmas.Result.{IfOk-weaker}
 use Rattle.httpedge.specs.declared.connection.Connection as conns
 use Rattle.httpedge.specs.Connections.{Connection}
 use Rattle.httpedge.specs.Held.{Holds, ReceivedBy}
+use Rattle.httpedge.proofs.Making.{received_over}
 use Rattle.httpedge.proofs.connection.receive.Goals as goal
 
 pub returns-in-Head-clause-ok : goal.returns-in-Head-clause-ok
@@ -18,3 +19,8 @@ returns-in-Body-clause-ok c = λ types m x stands holds.
     IfOk-weaker c.receive_body.result _ _ (λ d becomes.
     subst (λ (y : Connection). ReceivedBy types m c.args.last_tick y y.standing c.args.bytes.now d c.receive_body.new.api) (sym waits.1) (refl, becomes))
     (c.receive_body.ensures.ok types m waits.0 stands waits.2)
+
+pub returns-in-Over-clause-ok : goal.returns-in-Over-clause-ok
+returns-in-Over-clause-ok c = λ types m x stands holds.
+    let is = subst (λ (d : conns.Connection). Holds types d x) c.in-Over.is holds in
+    received_over types m c.args.last_tick x x.standing c.args.bytes.now _ c.args.api.now is.0 is stands

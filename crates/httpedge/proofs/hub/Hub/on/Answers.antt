@@ -1,71 +1,126 @@
-use Rattle.std.proofs.Common.{sym, ap, ◌∙◌}
-use Rattle.httpedge.specs.HubSeen.{event_of}
-use Rattle.httpedge.specs.Steps.{opens, comes, goes, pumps, ticks, compacts}
-use Rattle.httpedge.proofs.Ended.{carries_out, runs_out}
+use Rattle.std.proofs.Common.{sym, ap, subst, ◌∙◌}
+use Rattle.httpedge.specs.HubSeen.{Handles, event_of, outcome_of}
+use Rattle.httpedge.specs.Steps.{Event, comes}
+use Rattle.httpedge.proofs.Ended.{follows_in, refused_in, runs_in, unchanged_in}
+use Rattle.httpedge.proofs.Representing.{bytes_arent, gone_isnt}
 use Rattle.httpedge.proofs.hub.Hub.on.Goals as goal
 
 pub returns-in-Open-clause-follows : goal.returns-in-Open-clause-follows
 returns-in-Open-clause-follows c =
-    carries_out c.args.self.now c.open.new.self c.args.event.now (opens c.in-Open.id) c.open.result (ap event_of c.in-Open.is)
-    c.open.ensures.ok c.open.ensures.refused c.open.ensures.unchanged c.open.ensures.memory
+    follows_in c.args.self.now c.open.new.self (event_of c.args.event.now) (outcome_of c.open.result)
+    (subst (λ (e : Event). Handles c.args.self.now e (outcome_of c.open.result) c.open.new.self) (sym (ap event_of c.in-Open.is)) c.open.ensures.handles)
 
 pub returns-in-Open-clause-runs : goal.returns-in-Open-clause-runs
 returns-in-Open-clause-runs c =
-    runs_out c.args.self.now c.open.new.self (event_of c.args.event.now) c.open.result
-    (carries_out c.args.self.now c.open.new.self c.args.event.now (opens c.in-Open.id) c.open.result (ap event_of c.in-Open.is)
-    c.open.ensures.ok c.open.ensures.refused c.open.ensures.unchanged c.open.ensures.memory)
+    runs_in c.args.self.now c.open.new.self (event_of c.args.event.now) (outcome_of c.open.result)
+    (subst (λ (e : Event). Handles c.args.self.now e (outcome_of c.open.result) c.open.new.self) (sym (ap event_of c.in-Open.is)) c.open.ensures.handles)
+
+pub returns-in-Open-clause-refused : goal.returns-in-Open-clause-refused
+returns-in-Open-clause-refused c =
+    refused_in c.args.self.now c.open.new.self (event_of c.args.event.now) (outcome_of c.open.result)
+    (subst (λ (e : Event). Handles c.args.self.now e (outcome_of c.open.result) c.open.new.self) (sym (ap event_of c.in-Open.is)) c.open.ensures.handles)
+
+pub returns-in-Open-clause-unchanged : goal.returns-in-Open-clause-unchanged
+returns-in-Open-clause-unchanged c =
+    unchanged_in c.args.self.now c.open.new.self (event_of c.args.event.now) (outcome_of c.open.result)
+    (subst (λ (e : Event). Handles c.args.self.now e (outcome_of c.open.result) c.open.new.self) (sym (ap event_of c.in-Open.is)) c.open.ensures.handles)
 
 pub returns-in-In-clause-follows : goal.returns-in-In-clause-follows
 returns-in-In-clause-follows c =
-    carries_out c.args.self.now c.receive.new.self c.args.event.now (comes c.in-In.id c.deref.result.now) c.receive.result (ap event_of c.in-In.is ∙ ap (comes c.in-In.id) (sym c.deref.ensures.value))
-    c.receive.ensures.ok c.receive.ensures.refused c.receive.ensures.unchanged c.receive.ensures.memory
+    follows_in c.args.self.now c.change.new.self (event_of c.args.event.now) (outcome_of c.change.result)
+    (subst (λ (e : Event). Handles c.args.self.now e (outcome_of c.change.result) c.change.new.self) (sym (ap event_of c.in-In.is ∙ ap (comes c.in-In.id) (sym c.deref.ensures.value))) (c.change.ensures.handles (bytes_arent c.deref.result)))
 
 pub returns-in-In-clause-runs : goal.returns-in-In-clause-runs
 returns-in-In-clause-runs c =
-    runs_out c.args.self.now c.receive.new.self (event_of c.args.event.now) c.receive.result
-    (carries_out c.args.self.now c.receive.new.self c.args.event.now (comes c.in-In.id c.deref.result.now) c.receive.result (ap event_of c.in-In.is ∙ ap (comes c.in-In.id) (sym c.deref.ensures.value))
-    c.receive.ensures.ok c.receive.ensures.refused c.receive.ensures.unchanged c.receive.ensures.memory)
+    runs_in c.args.self.now c.change.new.self (event_of c.args.event.now) (outcome_of c.change.result)
+    (subst (λ (e : Event). Handles c.args.self.now e (outcome_of c.change.result) c.change.new.self) (sym (ap event_of c.in-In.is ∙ ap (comes c.in-In.id) (sym c.deref.ensures.value))) (c.change.ensures.handles (bytes_arent c.deref.result)))
+
+pub returns-in-In-clause-refused : goal.returns-in-In-clause-refused
+returns-in-In-clause-refused c =
+    refused_in c.args.self.now c.change.new.self (event_of c.args.event.now) (outcome_of c.change.result)
+    (subst (λ (e : Event). Handles c.args.self.now e (outcome_of c.change.result) c.change.new.self) (sym (ap event_of c.in-In.is ∙ ap (comes c.in-In.id) (sym c.deref.ensures.value))) (c.change.ensures.handles (bytes_arent c.deref.result)))
+
+pub returns-in-In-clause-unchanged : goal.returns-in-In-clause-unchanged
+returns-in-In-clause-unchanged c =
+    unchanged_in c.args.self.now c.change.new.self (event_of c.args.event.now) (outcome_of c.change.result)
+    (subst (λ (e : Event). Handles c.args.self.now e (outcome_of c.change.result) c.change.new.self) (sym (ap event_of c.in-In.is ∙ ap (comes c.in-In.id) (sym c.deref.ensures.value))) (c.change.ensures.handles (bytes_arent c.deref.result)))
 
 pub returns-in-Gone-clause-follows : goal.returns-in-Gone-clause-follows
 returns-in-Gone-clause-follows c =
-    carries_out c.args.self.now c.go.new.self c.args.event.now (goes c.in-Gone.id) c.go.result (ap event_of c.in-Gone.is)
-    c.go.ensures.ok c.go.ensures.refused c.go.ensures.unchanged c.go.ensures.memory
+    follows_in c.args.self.now c.change-in-Gone.new.self (event_of c.args.event.now) (outcome_of c.change-in-Gone.result)
+    (subst (λ (e : Event). Handles c.args.self.now e (outcome_of c.change-in-Gone.result) c.change-in-Gone.new.self) (sym (ap event_of c.in-Gone.is)) (c.change-in-Gone.ensures.handles gone_isnt))
 
 pub returns-in-Gone-clause-runs : goal.returns-in-Gone-clause-runs
 returns-in-Gone-clause-runs c =
-    runs_out c.args.self.now c.go.new.self (event_of c.args.event.now) c.go.result
-    (carries_out c.args.self.now c.go.new.self c.args.event.now (goes c.in-Gone.id) c.go.result (ap event_of c.in-Gone.is)
-    c.go.ensures.ok c.go.ensures.refused c.go.ensures.unchanged c.go.ensures.memory)
+    runs_in c.args.self.now c.change-in-Gone.new.self (event_of c.args.event.now) (outcome_of c.change-in-Gone.result)
+    (subst (λ (e : Event). Handles c.args.self.now e (outcome_of c.change-in-Gone.result) c.change-in-Gone.new.self) (sym (ap event_of c.in-Gone.is)) (c.change-in-Gone.ensures.handles gone_isnt))
+
+pub returns-in-Gone-clause-refused : goal.returns-in-Gone-clause-refused
+returns-in-Gone-clause-refused c =
+    refused_in c.args.self.now c.change-in-Gone.new.self (event_of c.args.event.now) (outcome_of c.change-in-Gone.result)
+    (subst (λ (e : Event). Handles c.args.self.now e (outcome_of c.change-in-Gone.result) c.change-in-Gone.new.self) (sym (ap event_of c.in-Gone.is)) (c.change-in-Gone.ensures.handles gone_isnt))
+
+pub returns-in-Gone-clause-unchanged : goal.returns-in-Gone-clause-unchanged
+returns-in-Gone-clause-unchanged c =
+    unchanged_in c.args.self.now c.change-in-Gone.new.self (event_of c.args.event.now) (outcome_of c.change-in-Gone.result)
+    (subst (λ (e : Event). Handles c.args.self.now e (outcome_of c.change-in-Gone.result) c.change-in-Gone.new.self) (sym (ap event_of c.in-Gone.is)) (c.change-in-Gone.ensures.handles gone_isnt))
 
 pub returns-in-Pump-clause-follows : goal.returns-in-Pump-clause-follows
 returns-in-Pump-clause-follows c =
-    carries_out c.args.self.now c.pump.new.self c.args.event.now (pumps c.in-Pump.id c.in-Pump.max) c.pump.result (ap event_of c.in-Pump.is)
-    c.pump.ensures.ok c.pump.ensures.refused c.pump.ensures.unchanged c.pump.ensures.memory
+    follows_in c.args.self.now c.pump.new.self (event_of c.args.event.now) (outcome_of c.pump.result)
+    (subst (λ (e : Event). Handles c.args.self.now e (outcome_of c.pump.result) c.pump.new.self) (sym (ap event_of c.in-Pump.is)) c.pump.ensures)
 
 pub returns-in-Pump-clause-runs : goal.returns-in-Pump-clause-runs
 returns-in-Pump-clause-runs c =
-    runs_out c.args.self.now c.pump.new.self (event_of c.args.event.now) c.pump.result
-    (carries_out c.args.self.now c.pump.new.self c.args.event.now (pumps c.in-Pump.id c.in-Pump.max) c.pump.result (ap event_of c.in-Pump.is)
-    c.pump.ensures.ok c.pump.ensures.refused c.pump.ensures.unchanged c.pump.ensures.memory)
+    runs_in c.args.self.now c.pump.new.self (event_of c.args.event.now) (outcome_of c.pump.result)
+    (subst (λ (e : Event). Handles c.args.self.now e (outcome_of c.pump.result) c.pump.new.self) (sym (ap event_of c.in-Pump.is)) c.pump.ensures)
+
+pub returns-in-Pump-clause-refused : goal.returns-in-Pump-clause-refused
+returns-in-Pump-clause-refused c =
+    refused_in c.args.self.now c.pump.new.self (event_of c.args.event.now) (outcome_of c.pump.result)
+    (subst (λ (e : Event). Handles c.args.self.now e (outcome_of c.pump.result) c.pump.new.self) (sym (ap event_of c.in-Pump.is)) c.pump.ensures)
+
+pub returns-in-Pump-clause-unchanged : goal.returns-in-Pump-clause-unchanged
+returns-in-Pump-clause-unchanged c =
+    unchanged_in c.args.self.now c.pump.new.self (event_of c.args.event.now) (outcome_of c.pump.result)
+    (subst (λ (e : Event). Handles c.args.self.now e (outcome_of c.pump.result) c.pump.new.self) (sym (ap event_of c.in-Pump.is)) c.pump.ensures)
 
 pub returns-in-Tick-clause-follows : goal.returns-in-Tick-clause-follows
 returns-in-Tick-clause-follows c =
-    carries_out c.args.self.now c.tick.new.self c.args.event.now (ticks c.in-Tick.ms) c.tick.result (ap event_of c.in-Tick.is)
-    c.tick.ensures.ok c.tick.ensures.refused c.tick.ensures.unchanged c.tick.ensures.memory
+    follows_in c.args.self.now c.tick.new.self (event_of c.args.event.now) (outcome_of c.tick.result)
+    (subst (λ (e : Event). Handles c.args.self.now e (outcome_of c.tick.result) c.tick.new.self) (sym (ap event_of c.in-Tick.is)) c.tick.ensures.handles)
 
 pub returns-in-Tick-clause-runs : goal.returns-in-Tick-clause-runs
 returns-in-Tick-clause-runs c =
-    runs_out c.args.self.now c.tick.new.self (event_of c.args.event.now) c.tick.result
-    (carries_out c.args.self.now c.tick.new.self c.args.event.now (ticks c.in-Tick.ms) c.tick.result (ap event_of c.in-Tick.is)
-    c.tick.ensures.ok c.tick.ensures.refused c.tick.ensures.unchanged c.tick.ensures.memory)
+    runs_in c.args.self.now c.tick.new.self (event_of c.args.event.now) (outcome_of c.tick.result)
+    (subst (λ (e : Event). Handles c.args.self.now e (outcome_of c.tick.result) c.tick.new.self) (sym (ap event_of c.in-Tick.is)) c.tick.ensures.handles)
+
+pub returns-in-Tick-clause-refused : goal.returns-in-Tick-clause-refused
+returns-in-Tick-clause-refused c =
+    refused_in c.args.self.now c.tick.new.self (event_of c.args.event.now) (outcome_of c.tick.result)
+    (subst (λ (e : Event). Handles c.args.self.now e (outcome_of c.tick.result) c.tick.new.self) (sym (ap event_of c.in-Tick.is)) c.tick.ensures.handles)
+
+pub returns-in-Tick-clause-unchanged : goal.returns-in-Tick-clause-unchanged
+returns-in-Tick-clause-unchanged c =
+    unchanged_in c.args.self.now c.tick.new.self (event_of c.args.event.now) (outcome_of c.tick.result)
+    (subst (λ (e : Event). Handles c.args.self.now e (outcome_of c.tick.result) c.tick.new.self) (sym (ap event_of c.in-Tick.is)) c.tick.ensures.handles)
 
 pub returns-in-Compact-clause-follows : goal.returns-in-Compact-clause-follows
 returns-in-Compact-clause-follows c =
-    carries_out c.args.self.now c.compact.new.self c.args.event.now (compacts c.in-Compact.revision) c.compact.result (ap event_of c.in-Compact.is)
-    c.compact.ensures.ok c.compact.ensures.refused c.compact.ensures.unchanged c.compact.ensures.memory
+    follows_in c.args.self.now c.compact.new.self (event_of c.args.event.now) (outcome_of c.compact.result)
+    (subst (λ (e : Event). Handles c.args.self.now e (outcome_of c.compact.result) c.compact.new.self) (sym (ap event_of c.in-Compact.is)) c.compact.ensures)
 
 pub returns-in-Compact-clause-runs : goal.returns-in-Compact-clause-runs
 returns-in-Compact-clause-runs c =
-    runs_out c.args.self.now c.compact.new.self (event_of c.args.event.now) c.compact.result
-    (carries_out c.args.self.now c.compact.new.self c.args.event.now (compacts c.in-Compact.revision) c.compact.result (ap event_of c.in-Compact.is)
-    c.compact.ensures.ok c.compact.ensures.refused c.compact.ensures.unchanged c.compact.ensures.memory)
+    runs_in c.args.self.now c.compact.new.self (event_of c.args.event.now) (outcome_of c.compact.result)
+    (subst (λ (e : Event). Handles c.args.self.now e (outcome_of c.compact.result) c.compact.new.self) (sym (ap event_of c.in-Compact.is)) c.compact.ensures)
+
+pub returns-in-Compact-clause-refused : goal.returns-in-Compact-clause-refused
+returns-in-Compact-clause-refused c =
+    refused_in c.args.self.now c.compact.new.self (event_of c.args.event.now) (outcome_of c.compact.result)
+    (subst (λ (e : Event). Handles c.args.self.now e (outcome_of c.compact.result) c.compact.new.self) (sym (ap event_of c.in-Compact.is)) c.compact.ensures)
+
+pub returns-in-Compact-clause-unchanged : goal.returns-in-Compact-clause-unchanged
+returns-in-Compact-clause-unchanged c =
+    unchanged_in c.args.self.now c.compact.new.self (event_of c.args.event.now) (outcome_of c.compact.result)
+    (subst (λ (e : Event). Handles c.args.self.now e (outcome_of c.compact.result) c.compact.new.self) (sym (ap event_of c.in-Compact.is)) c.compact.ensures)

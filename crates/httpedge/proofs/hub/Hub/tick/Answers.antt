@@ -3,16 +3,14 @@ use Rattle.std.specs.Prelude.{nat_lt}
 use Rattle.httpedge.proofs.Ticked.{ticks_starve, ticks_well}
 use Rattle.httpedge.proofs.hub.Hub.tick.Goals as goal
 
-pub returns-clause-ok : goal.returns-clause-ok
-returns-clause-ok c = λ s is.
+pub returns-clause-handles : goal.returns-clause-handles
+returns-clause-handles c = λ s is.
     let self = c.args.self.now in
     let forward : nat_lt c.args.ms self.last_tick ≡ false = search rules in
-    ticks_well s c.args.ms self.last_tick self.api self.connections c.tick_all-count.new.all self.open_count self.highest self.open_ids c.drop_ended.new.ids c.tick_all-count.result is.0 is.1 is.2 forward
-    (c.tick_all-count.ensures s.types s.machine s.connections is.0.machine is.0.connections is.0.count_is is.2) (search rules) c.drop_ended.ensures
+    ticks_well s c.args.ms self.last_tick self.api c.tick-found_none.new.self c.tick-found_none.result is.1 forward (c.tick-found_none.ensures s is.0) (search rules)
 
-pub returns-then-found_none-clause-memory : goal.returns-then-found_none-clause-memory
-returns-then-found_none-clause-memory c = λ s is memory.
+pub returns-then-found_none-clause-handles : goal.returns-then-found_none-clause-handles
+returns-then-found_none-clause-handles c = λ s is.
     let self = c.args.self.now in
     let forward : nat_lt c.args.ms self.last_tick ≡ false = search rules in
-    ticks_starve s c.args.ms self.last_tick self.api self.connections c.tick_all-count.new.all self.open_count self.highest self.open_ids c.drop_ended.new.ids c.tick_all-count.result is.0 is.1 is.2 forward
-    (c.tick_all-count.ensures s.types s.machine s.connections is.0.machine is.0.connections is.0.count_is is.2) (search rules) c.drop_ended.ensures
+    ticks_starve s c.args.ms self.last_tick self.api c.tick-found_none.new.self c.tick-found_none.result is.1 forward (c.tick-found_none.ensures s is.0) (search rules)

@@ -1,0 +1,346 @@
+-- What the connections are after one is opened, changed or over.
+use Rattle.std.proofs.Common.{arith, ◌≡◌, ℕ, Bool, true, false, cond, ◌&&◌, List, [], ◌∷◌, length, drop, Option, Some, None, Result, Ok, Err, refl, sym, ap, ap₂, subst, ◌∙◌}
+use Rattle.std.specs.Prelude.{◌==◌, is_some, option_map, unwrap_or, OnErr, OnOk}
+use Rattle.std.proofs.lemmas.Bool.{eqb-true}
+use Rattle.std.specs.BTreeMap.{BTreeMap, get}
+use Rattle.std.specs.BTreeSet.{BTreeSet, contains}
+use Rattle.std.specs.Ordering.{nat_cmp, eq_by_cmp}
+use Rattle.schema.specs.TypesFile.{ServedShape}
+use Rattle.history.specs.History.{History}
+use Rattle.verbs.specs.declared.api.Api.{Api}
+use Rattle.verbs.specs.Seen.{Stands}
+use Rattle.httpedge.specs.declared.connection.Connection as conns
+use Rattle.httpedge.specs.declared.connection.Connection.TheVariants as conn
+use Rattle.httpedge.specs.declared.connections.Connections.{Connections as Kept}
+use Rattle.httpedge.specs.declared.event.Change as changes
+use Rattle.httpedge.specs.declared.event.Change.TheVariants as change
+use Rattle.httpedge.specs.declared.ids.Ids.{Ids}
+use Rattle.httpedge.specs.declared.out.Out.{Out}
+use Rattle.httpedge.specs.Changes.{Changes, Makes, Receives}
+use Rattle.httpedge.specs.Connections.{Connection, Standing, waiting, watching, ended, gone, has_ended, is_open, left_out, with_standing, with_taken}
+use Rattle.httpedge.specs.Held.{BecomesAt, Closes, Forgets, Holds, IsApart, IsAt, IsFresh, IsSame, Opens, PutAt, found, has_ended_in, held_or, is_open_in, is_waiting_in, left, out_in, over_by, over_in, over_of}
+use Rattle.httpedge.specs.HubSeen.{Outcome, done, refusal_in, refused}
+use Rattle.httpedge.specs.Ids.{is_in}
+use Rattle.httpedge.specs.Steps.{unknown_id}
+use Rattle.httpedge.specs.Watches.{pumped}
+use Rattle.httpedge.proofs.Connected.{hidden, itself, tied_same}
+use Rattle.httpedge.proofs.Representing.{takes_over}
+use Rattle.httpedge.proofs.Ticked.{found_put}
+use Rattle.httpedge.proofs.Turning.{turn_closed}
+
+wrong : false ≡ true → ⊥
+wrong e = cc
+
+pub some_of : {A : Type 0} {x y : A} → Some x ≡ Some y → x ≡ y
+some_of e = cc
+
+pub none_some : {A : Type 0} {x : A} → None ≡ Some x → ⊥
+none_some e = cc
+
+abbrev pub Map : Type 0
+Map = BTreeMap ℕ conns.Connection
+
+-- ---- what is found
+
+self_put : (f : ℕ → Option conns.Connection) (id : ℕ) (d : conns.Connection) → f id ≡ Some d → PutAt id d f f
+self_put f id d at q = go (eq_by_cmp nat_cmp id q) (tied_same id q)
+  where
+    go : (b : Bool) → (b ≡ true → id ≡ q) → f q ≡ cond b (Some d) (f q)
+    go true same = ap f (sym (same refl)) ∙ at
+    go false same = refl
+
+here : (held held' : Map) (id : ℕ) (e : conns.Connection) → ((q : ℕ) → get nat_cmp held' q ≡ cond (eq_by_cmp nat_cmp id q) (Some e) (get nat_cmp held q)) → get nat_cmp held' id ≡ Some e
+here held held' id e put = put id ∙ ap (λ (b : Bool). cond b (Some e) (get nat_cmp held id)) (itself id)
+
+abbrev pub with_held : Kept → Map → Kept
+with_held k h = record { held = h; open_ids = k.open_ids; ended = k.ended; cut = k.cut; highest = k.highest }
+
+pub found_held : (k : Kept) (id : ℕ) (o : Option conns.Connection) → get nat_cmp k.held id ≡ o → found k id ≡ held_or o (over_by (is_in k.ended.ranges id) (is_in k.cut.ranges id))
+found_held k id o at = ap (λ (o : Option conns.Connection). held_or o (over_by (is_in k.ended.ranges id) (is_in k.cut.ranges id))) at
+
+-- one that isn't held had ended or not; it doesn't wait, and nothing is out on it
+pub ended_over : (a b : Bool) → unwrap_or (over_of a b) false ≡ unwrap_or (option_map has_ended_in (over_by a b)) false
+ended_over true b = refl
+ended_over false true = refl
+ended_over false false = refl
+
+pub waiting_over : (a b : Bool) → false ≡ unwrap_or (option_map is_waiting_in (over_by a b)) false
+waiting_over true b = refl
+waiting_over false true = refl
+waiting_over false false = refl
+
+pub out_over : (a b : Bool) → [] ≡ unwrap_or (option_map out_in (over_by a b)) []
+out_over true b = refl
+out_over false true = refl
+out_over false false = refl
+
+pub known_over : (a b : Bool) → is_some (over_of a b) ≡ is_some (over_by a b)
+known_over true b = refl
+known_over false true = refl
+known_over false false = refl
+
+-- ---- a connection is changed, and then forgotten where it is over
+
+still_apart : (old : Kept) (held' : Map) (id : ℕ) (e : conns.Connection) → is_some (get nat_cmp old.held id) ≡ true → IsApart old
+    → ((q : ℕ) → get nat_cmp held' q ≡ cond (eq_by_cmp nat_cmp id q) (Some e) (get nat_cmp old.held q)) → (q : ℕ) → is_some (get nat_cmp held' q) ≡ true → is_in old.ended.ranges q ≡ false
+still_apart old held' id e was apart put q has = go (eq_by_cmp nat_cmp id q) (tied_same id q) (sym (ap is_some (put q)) ∙ has)
+  where
+    go : (b : Bool) → (b ≡ true → id ≡ q) → is_some (cond b (Some e) (get nat_cmp old.held q)) ≡ true → is_in old.ended.ranges q ≡ false
+    go true same now = apart q (ap (λ (k : ℕ). is_some (get nat_cmp old.held k)) (sym (same refl)) ∙ was)
+    go false same now = apart q now
+
+pub becomes_at : (types : List ServedShape) (still : Bool) (c : Connection) (id : ℕ) (old mid new : Kept) (held' : Map) (e : conns.Connection) → Holds types e c
+    → is_some (get nat_cmp old.held id) ≡ true → IsApart old → ((q : ℕ) → get nat_cmp held' q ≡ cond (eq_by_cmp nat_cmp id q) (Some e) (get nat_cmp old.held q))
+    → mid.held ≡ held' → mid.ended ≡ old.ended → mid.cut ≡ old.cut → mid.highest ≡ old.highest → Closes id still old mid
+    → (get nat_cmp mid.held id ≡ Some e → IsApart mid → Forgets id e mid new) → BecomesAt types still c id old new
+becomes_at types still c id old mid new held' e holds was apart put held_is ended_is cut_is highest_is closes forgets =
+    let at : get nat_cmp mid.held id ≡ Some e = ap (λ (m : Map). get nat_cmp m id) held_is ∙ here old.held held' id e put in
+    let f = forgets at mid_apart in
+    record {
+      one = f.one;
+      holds = f.as_much types c holds;
+      put = λ q. f.put q ∙ ap (cond (eq_by_cmp nat_cmp id q) (Some f.one)) (mid_put q) ∙ hidden (eq_by_cmp nat_cmp id q) (Some f.one) (Some e) (found old q);
+      open_is = λ q. ap (λ (s : BTreeSet ℕ). contains nat_cmp s q) f.open_is ∙ closes q;
+      highest = f.highest ∙ highest_is;
+      apart = f.apart;
+    }
+  where
+    mid_put : PutAt id e (found old) (found mid)
+    mid_put q =
+        ap₂ (λ (m : Map) (o : Option conns.Connection). held_or (get nat_cmp m q) o) held_is (ap₂ over_by (ap (λ (i : Ids). is_in i.ranges q) ended_is) (ap (λ (i : Ids). is_in i.ranges q) cut_is))
+        ∙ found_put old.held held' (is_in old.ended.ranges) (is_in old.cut.ranges) id e put q
+
+    mid_apart : IsApart mid
+    mid_apart q has = ap (λ (i : Ids). is_in i.ranges q) ended_is ∙ still_apart old held' id e was apart put q (sym (ap (λ (m : Map). is_some (get nat_cmp m q)) held_is) ∙ has)
+
+pub closes_none : (id : ℕ) (k : Kept) → Closes id true k k
+closes_none id k q = go (eq_by_cmp nat_cmp id q) (contains nat_cmp k.open_ids q)
+  where
+    go : (b x : Bool) → x ≡ cond b (x && true) x
+    go true true = refl
+    go true false = refl
+    go false x = refl
+
+pub closes_then : (b y x : Bool) → x ≡ false → cond b false y ≡ cond b (y && x) y
+closes_then true true x is = sym is
+closes_then true false x is = refl
+closes_then false y x is = refl
+
+pub closes_else : (b y x : Bool) → x ≡ true → y ≡ cond b (y && x) y
+closes_else true true x is = sym is
+closes_else true false x is = refl
+closes_else false y x is = refl
+
+-- ---- one that is over
+
+no_bytes : (xs : List ℕ) → length xs ≡ 0 → xs ≡ []
+no_bytes [] e = refl
+no_bytes (x ∷ xs) e = absurd (omega (arith, e))
+
+none_left : (types : List ServedShape) (out : Out) (c : Connection) (h b : Bool) → (length (left out) == 0) ≡ b → cond b (Some true) None ≡ Some h → Holds types (conn.Ended out) c
+    → Holds types (conn.Over h) c
+none_left types out c h true is over (stands, rest) = (
+  ap is_open stands,
+  ap has_ended stands ∙ some_of over,
+  ap (λ (st : Standing). left_out st (drop c.taken c.written)) stands ∙ rest ∙ no_bytes (left out) (eqb-true (length (left out)) 0 is),
+)
+none_left types out c h false is over holds = absurd (none_some over)
+
+over_holds : (types : List ServedShape) (d : conns.Connection) (c : Connection) (h : Bool) → over_in d ≡ Some h → Holds types d c → Holds types (conn.Over h) c
+over_holds types (conn.Head front) c h over holds = absurd (none_some over)
+over_holds types (conn.Body p) c h over holds = absurd (none_some over)
+over_holds types (conn.Watch w out) c h over holds = absurd (none_some over)
+over_holds types (conn.Ended out) c h over holds = none_left types out c h (length (left out) == 0) refl over holds
+over_holds types (conn.Over had_ended) c h over (closed, had, none) = (closed, had ∙ some_of over, none)
+
+-- it is held as it was
+pub forgets_none : (id : ℕ) (d : conns.Connection) (old new : Kept) → get nat_cmp old.held id ≡ Some d → IsApart old → new.held ≡ old.held → new.open_ids ≡ old.open_ids → new.highest ≡ old.highest
+    → ((q : ℕ) → is_in new.ended.ranges q ≡ is_in old.ended.ranges q) → ((q : ℕ) → is_in new.cut.ranges q ≡ is_in old.cut.ranges q) → Forgets id d old new
+forgets_none id d old new at apart held_is open_is highest_is ended_is cut_is = record {
+  one = d;
+  as_much = λ types c holds. holds;
+  put = λ q.
+      ap₂ (λ (m : Map) (o : Option conns.Connection). held_or (get nat_cmp m q) o) held_is (ap₂ over_by (ended_is q) (cut_is q))
+      ∙ self_put (found old) id d (ap (λ (o : Option conns.Connection). held_or o (over_by (is_in old.ended.ranges id) (is_in old.cut.ranges id))) at) q;
+  open_is = open_is;
+  highest = highest_is;
+  apart = λ q has. ended_is q ∙ apart q (sym (ap (λ (m : Map). is_some (get nat_cmp m q)) held_is) ∙ has);
+}
+
+-- its id is kept
+pub forgets_one : (id : ℕ) (d : conns.Connection) (h : Bool) (old new : Kept) → get nat_cmp old.held id ≡ Some d → over_in d ≡ Some h → IsApart old
+    → ((q : ℕ) → get nat_cmp new.held q ≡ cond (eq_by_cmp nat_cmp id q) None (get nat_cmp old.held q)) → new.open_ids ≡ old.open_ids → new.highest ≡ old.highest
+    → ((q : ℕ) → is_in new.ended.ranges q ≡ cond (eq_by_cmp nat_cmp id q) h (is_in old.ended.ranges q))
+    → ((q : ℕ) → is_in new.cut.ranges q ≡ cond (eq_by_cmp nat_cmp id q && cond h false true) true (is_in old.cut.ranges q)) → Forgets id d old new
+forgets_one id d h old new at over apart held_is open_is highest_is ended_is cut_is = record {
+  one = conn.Over h;
+  as_much = λ types c holds. over_holds types d c h over holds;
+  put = λ q.
+      ap₂ held_or (held_is q) (ap₂ over_by (ended_is q) (cut_is q))
+      ∙ go (eq_by_cmp nat_cmp id q) h (get nat_cmp old.held q) (is_in old.ended.ranges q) (is_in old.cut.ranges q);
+  open_is = open_is;
+  highest = highest_is;
+  apart = λ q has. away q (eq_by_cmp nat_cmp id q) refl has;
+}
+  where
+    go : (b h : Bool) (o : Option conns.Connection) (x y : Bool)
+        → held_or (cond b None o) (over_by (cond b h x) (cond (b && cond h false true) true y)) ≡ cond b (Some (conn.Over h)) (held_or o (over_by x y))
+    go true true o x y = refl
+    go true false o x y = refl
+    go false h o x y = refl
+
+    away : (q : ℕ) (b : Bool) → eq_by_cmp nat_cmp id q ≡ b → is_some (get nat_cmp new.held q) ≡ true → is_in new.ended.ranges q ≡ false
+    away q true e has = absurd (wrong (sym (ap is_some (held_is q) ∙ ap (λ (b : Bool). is_some (cond b None (get nat_cmp old.held q))) e) ∙ has))
+    away q false e has =
+        ended_is q ∙ ap (λ (b : Bool). cond b h (is_in old.ended.ranges q)) e
+        ∙ apart q (sym (ap is_some (held_is q) ∙ ap (λ (b : Bool). is_some (cond b None (get nat_cmp old.held q))) e) ∙ has)
+
+-- ids that are or aren't there
+pub with_id : (b x : Bool) → cond b true x ≡ cond (b && true) true x
+with_id true x = refl
+with_id false x = refl
+
+pub without_id : (b x : Bool) → x ≡ cond (b && false) true x
+without_id true x = refl
+without_id false x = refl
+
+pub no_id_there : (f : ℕ → Bool) (id q : ℕ) → f id ≡ false → f q ≡ cond (eq_by_cmp nat_cmp id q) false (f q)
+no_id_there f id q none = go (eq_by_cmp nat_cmp id q) (tied_same id q)
+  where
+    go : (b : Bool) → (b ≡ true → id ≡ q) → f q ≡ cond b false (f q)
+    go true same = ap f (sym (same refl)) ∙ none
+    go false same = refl
+
+-- ---- a change of one that is over
+
+receives_closed : (types : List ServedShape) (m : History) (last_tick : ℕ) (c : Connection) (st : Standing) (bytes : List ℕ) (api : Api) → is_open st ≡ false → Stands api types m
+    → Receives types m last_tick c st bytes c api
+receives_closed types m last_tick c (waiting front) bytes api closed stands = absurd (wrong (sym closed))
+receives_closed types m last_tick c (watching w) bytes api closed stands = absurd (wrong (sym closed))
+receives_closed types m last_tick c ended bytes api closed stands = (refl, stands)
+receives_closed types m last_tick c (gone had_ended) bytes api closed stands = (refl, stands)
+
+-- what it makes of it, and that it is over
+makes_over : (types : List ServedShape) (m : History) (last_tick : ℕ) (what : changes.Change) (c : Connection) (h : Bool) (api : Api) → Stands api types m → Holds types (conn.Over h) c
+    → (c' : Connection) × Makes types m last_tick what c c' api × Holds types (conn.Over h) c'
+makes_over types m last_tick (change.Bytes bytes) c h api stands holds = (c, receives_closed types m last_tick c c.standing bytes.now api holds.0 stands, holds)
+makes_over types m last_tick (change.Lines max) c h api stands holds = (c, (sym (turn_closed (pumped m max) c c.standing holds.0), stands), holds)
+makes_over types m last_tick change.Gone c h api stands holds = (with_standing c (gone (has_ended c.standing)), (refl, stands), (refl, holds.1, refl))
+
+-- one that isn't held is over
+is_over : (a b : Bool) (d : conns.Connection) → over_by a b ≡ Some d → (h : Bool) × (d ≡ conn.Over h)
+is_over true b d is = (true, sym (some_of is))
+is_over false true d is = (false, sym (some_of is))
+is_over false false d is = absurd (none_some is)
+
+pub passes : (types : List ServedShape) (m : History) (last_tick : ℕ) (what : changes.Change) (id : ℕ) (d : conns.Connection) (c : Connection) (k : Kept) (api : Api) → Stands api types m
+    → get nat_cmp k.held id ≡ None → IsAt id d k → Holds types d c → Changes types m last_tick what id c k k api done
+passes types m last_tick what id d c k api stands none (at, there, apart) holds =
+    let over = is_over (is_in k.ended.ranges id) (is_in k.cut.ranges id) d
+    (sym (ap (λ (o : Option conns.Connection). held_or o (over_by (is_in k.ended.ranges id) (is_in k.cut.ranges id))) none) ∙ at) in
+    let made = makes_over types m last_tick what c over.0 api stands (subst (λ (x : conns.Connection). Holds types x c) over.1 holds) in (
+      made.0,
+      made.1,
+      record {
+        one = d;
+        holds = subst (λ (x : conns.Connection). Holds types x made.0) (sym over.1) made.2;
+        put = self_put (found k) id d at;
+        open_is = λ q. go q (is_open made.0.standing) made.2.0 (eq_by_cmp nat_cmp id q) (tied_same id q) (there ∙ ap is_open_in over.1);
+        highest = refl;
+        apart = apart;
+      },
+    )
+  where
+    no_more : (b : Bool) → b ≡ false → (x : Bool) → x ≡ false → b ≡ b && x
+    no_more true is x closed = absurd (wrong (sym is))
+    no_more false is x closed = refl
+
+    go : (q : ℕ) (x : Bool) → x ≡ false → (b : Bool) → (b ≡ true → id ≡ q) → contains nat_cmp k.open_ids id ≡ false → contains nat_cmp k.open_ids q ≡ cond b (contains nat_cmp k.open_ids q && x) (contains nat_cmp k.open_ids q)
+    go q x closed true same shut = no_more (contains nat_cmp k.open_ids q) (ap (contains nat_cmp k.open_ids) (sym (same refl)) ∙ shut) x closed
+    go q x closed false same shut = refl
+
+pub takes_passed : (types : List ServedShape) (id n : ℕ) (d : conns.Connection) (c : Connection) (old new : Kept) → get nat_cmp old.held id ≡ None → new ≡ old → IsAt id d old → Holds types d c
+    → BecomesAt types true (with_taken c n) id old new
+takes_passed types id n d c old new none same (at, there, apart) holds =
+    let over = is_over (is_in old.ended.ranges id) (is_in old.cut.ranges id) d (sym (found_held old id None none) ∙ at) in
+    subst (BecomesAt types true (with_taken c n) id old) (sym same) (record {
+      one = d;
+      holds = subst (λ (x : conns.Connection). Holds types x (with_taken c n)) (sym over.1) (takes_over types over.0 c n (subst (λ (x : conns.Connection). Holds types x c) over.1 holds));
+      put = self_put (found old) id d at;
+      open_is = closes_none id old;
+      highest = refl;
+      apart = apart;
+    })
+
+known_by : (a b : Bool) (f : Option conns.Connection) → held_or None (over_by a b) ≡ f → is_some (over_of a b) ≡ is_some f
+known_by a b f is = known_over a b ∙ ap is_some is
+
+abbrev pub Passes : Kept → ℕ → Outcome → Type 0
+Passes k id o = o ≡ cond (is_some (over_of (is_in k.ended.ranges id) (is_in k.cut.ranges id))) done (refused unknown_id)
+
+passed_is : (k : Kept) (id : ℕ) (f : Option conns.Connection) (o : Outcome) → get nat_cmp k.held id ≡ None → Passes k id o → found k id ≡ f → o ≡ cond (is_some f) done (refused unknown_id)
+passed_is k id f o none passes is =
+    passes ∙ ap (λ (b : Bool). cond b done (refused unknown_id)) (known_by (is_in k.ended.ranges id) (is_in k.cut.ranges id) f (sym (found_held k id None none) ∙ is))
+
+pub pass_known : (types : List ServedShape) (m : History) (last_tick : ℕ) (what : changes.Change) (id : ℕ) (d : conns.Connection) (c : Connection) (old new : Kept) (api : Api) (o : Outcome) → Stands api types m
+    → get nat_cmp old.held id ≡ None → new ≡ old → Passes old id o → IsAt id d old → Holds types d c → Changes types m last_tick what id c old new api o
+pass_known types m last_tick what id d c old new api o stands none same passed at holds =
+    subst (Changes types m last_tick what id c old new api) (sym (passed_is old id (Some d) o none passed at.0))
+    (subst (λ (k : Kept). Changes types m last_tick what id c old k api done) (sym same) (passes types m last_tick what id d c old api stands none at holds))
+
+pub pass_unknown : (old : Kept) (id : ℕ) (o : Outcome) → get nat_cmp old.held id ≡ None → Passes old id o → found old id ≡ None → o ≡ refused unknown_id
+pass_unknown old id o none passed is = passed_is old id None o none passed is
+
+pub pass_taken : (old : Kept) (id : ℕ) (o : Outcome) → get nat_cmp old.held id ≡ None → Passes old id o → is_some (found old id) ≡ true → refusal_in o ≡ None
+pass_taken old id o none passed is = go (found old id) refl is
+  where
+    go : (f : Option conns.Connection) → found old id ≡ f → is_some f ≡ true → refusal_in o ≡ None
+    go None at has = absurd (wrong has)
+    go (Some d) at has = ap refusal_in (passed_is old id (Some d) o none passed at)
+
+pub on_ok_is : {A E P : Type 0} (r : Result A E) (a : A) → r ≡ Ok a → OnOk r P → P
+on_ok_is {A} {E} {P} r a is told = subst (λ (x : Result A E). OnOk x P) is told
+
+pub on_err_is : {A E P : Type 0} (r : Result A E) (e : E) → r ≡ Err e → OnErr r P → P
+on_err_is {A} {E} {P} r e is told = subst (λ (x : Result A E). OnErr x P) is told
+
+pub ok_not_err : {A E : Type 0} {a : A} {e : E} (r : Result A E) → r ≡ Ok a → r ≡ Err e → ⊥
+ok_not_err r is isnt = cc
+
+-- ---- one is opened
+
+fresh_parts : (o : Option conns.Connection) (a b : Bool) → held_or o (over_by a b) ≡ None → (o ≡ None) × (a ≡ false)
+fresh_parts None true b is = absurd (none_some (sym is))
+fresh_parts None false b is = (refl, refl)
+fresh_parts (Some d) a b is = absurd (none_some (sym is))
+
+pub opens_one : (id : ℕ) (d : conns.Connection) (old new : Kept) → IsFresh id old → ((q : ℕ) → get nat_cmp new.held q ≡ cond (eq_by_cmp nat_cmp id q) (Some d) (get nat_cmp old.held q))
+    → ((q : ℕ) → contains nat_cmp new.open_ids q ≡ cond (eq_by_cmp nat_cmp id q) (is_open_in d) (contains nat_cmp old.open_ids q)) → new.ended ≡ old.ended → new.cut ≡ old.cut → new.highest ≡ Some id
+    → Opens id d old new
+opens_one id d old new (none, shut, apart) put listed ended_is cut_is highest = record {
+  put = λ q.
+      ap (held_or (get nat_cmp new.held q)) (ap₂ over_by (ap (λ (i : Ids). is_in i.ranges q) ended_is) (ap (λ (i : Ids). is_in i.ranges q) cut_is))
+      ∙ found_put old.held new.held (is_in old.ended.ranges) (is_in old.cut.ranges) id d put q;
+  open_is = listed;
+  highest = highest;
+  apart = λ q has. ap (λ (i : Ids). is_in i.ranges q) ended_is ∙ go q (eq_by_cmp nat_cmp id q) (tied_same id q) (sym (ap is_some (put q)) ∙ has);
+}
+  where
+    go : (q : ℕ) (b : Bool) → (b ≡ true → id ≡ q) → is_some (cond b (Some d) (get nat_cmp old.held q)) ≡ true → is_in old.ended.ranges q ≡ false
+    go q true same now = ap (is_in old.ended.ranges) (sym (same refl)) ∙ (fresh_parts (get nat_cmp old.held id) (is_in old.ended.ranges id) (is_in old.cut.ranges id) none).1
+    go q false same now = apart q now
+
+pub same_opened : (id : ℕ) (old new : Kept) → IsFresh id old → ((q : ℕ) → get nat_cmp new.held q ≡ get nat_cmp old.held q) → ((q : ℕ) → contains nat_cmp new.open_ids q ≡ contains nat_cmp old.open_ids q)
+    → new.ended ≡ old.ended → new.cut ≡ old.cut → new.highest ≡ old.highest → IsSame old new
+same_opened id old new (none, shut, apart) held_is open_is ended_is cut_is highest_is = record {
+  found_is = λ q. ap₂ held_or (held_is q) (ap₂ over_by (ap (λ (i : Ids). is_in i.ranges q) ended_is) (ap (λ (i : Ids). is_in i.ranges q) cut_is));
+  open_is = open_is;
+  highest = highest_is;
+  apart = λ q has. ap (λ (i : Ids). is_in i.ranges q) ended_is ∙ apart q (sym (ap is_some (held_is q)) ∙ has);
+}
+
+-- put in and taken out again
+pub in_and_out : (start one two : BTreeSet ℕ) (id q : ℕ) → contains nat_cmp start id ≡ false → contains nat_cmp one q ≡ cond (eq_by_cmp nat_cmp id q) true (contains nat_cmp start q)
+    → contains nat_cmp two q ≡ cond (eq_by_cmp nat_cmp id q) false (contains nat_cmp one q) → contains nat_cmp two q ≡ contains nat_cmp start q
+in_and_out start one two id q shut put took =
+    took ∙ ap (cond (eq_by_cmp nat_cmp id q) false) put ∙ hidden (eq_by_cmp nat_cmp id q) false true (contains nat_cmp start q) ∙ sym (no_id_there (contains nat_cmp start) id q shut)
