@@ -22,6 +22,10 @@ use Rattle.mirroring.proofs.Texts.{front_after, kept_not_none, none_before, text
 pub due_now : (s : Settings) (c : Client) (bytes : List ℕ) → c.is_asking ≡ false → Some bytes ≡ due s c → bytes ≡ request_of s c
 due_now s c bytes idle is = let now : Some bytes ≡ Some (request_of s c) = is ∙ ap (λ (b : Bool). cond b None (Some (request_of s c))) idle in cc
 
+-- there is one
+pub not_none_due : (s : Settings) (c : Client) → c.is_asking ≡ false → None ≡ due s c → ⊥
+not_none_due s c idle is = let none : None ≡ Some (request_of s c) = is ∙ ap (λ (b : Bool). cond b None (Some (request_of s c))) idle in cc
+
 -- ---- one turn
 
 pub front_same : {T E : Type 0} (r : Result T E) (other wanted : Wanted) (c : Client) (a b : Option (List ℕ)) → other ≡ wanted → OnErr r (HeardFront other c a b) → OnErr r (HeardFront wanted c a b)

@@ -1,7 +1,7 @@
 -- The cache as a whole list has it, beside the client that takes the list.
 use Rattle.std.proofs.Common.{◌≡◌, ℕ, Bool, true, false, cond, ◌&&◌, T, List, [], ◌∷◌, ◌++◌, length, map, Option, Some, None, refl, sym, ap, ap₂, subst, ◌∙◌}
 use Rattle.std.proofs.lemmas.List.{length-map}
-use Rattle.std.specs.Prelude.{option_map}
+use Rattle.std.specs.Prelude.{option_map, nat_le}
 use Rattle.std.specs.Ordering.{eq_by_cmp, is_lt}
 use Rattle.std.specs.FinMap as fin
 use Rattle.std.specs.FinMap.Entries.{find, below_all, is_sorted}
@@ -9,10 +9,13 @@ use Rattle.indexer.specs.Kept.{Held, objects_in}
 use Rattle.indexer.specs.Objects.{Place, place_cmp, Stored}
 use Rattle.indexer.specs.PutAll.{put_all}
 use Rattle.reflector.specs.Between.{between}
-use Rattle.reflector.specs.Client.{Objects, place_in, by_place, Notice, Client, kept}
+use Rattle.reflector.specs.Client.{Objects, place_in, by_place, max_objects, Notice, Client, kept}
 use Rattle.reflector.specs.Mirrors.{Keys, with_keys, keyed, Mirrors}
 use Rattle.reflector.specs.Run.{again, is_list, listed, set_aside, with_page}
 use Rattle.reflector.specs.Standing.{keys_in}
+use Rattle.reflector.specs.Troubles.{of_page}
+use Rattle.reflector.specs.declared.trouble.Trouble.{Trouble}
+use Rattle.reflector.specs.declared.trouble.Trouble.TheVariants.{NotAscending, TooManyObjects}
 use Rattle.decoder.specs.Pages.{Page}
 use Rattle.reflector.proofs.Places.{place_total}
 use Rattle.reflector.proofs.Keyed.{Entries, beside, place_antisymmetric, keyed-get, keyed-entries}
@@ -95,8 +98,11 @@ list_kept keys before after held held_now r notes notes_now revision all same fi
           ∙ ap (λ ns. c.notices ++ ns) (ap (between (fin.entries (kept c.cache))) (sym (fin.entries-from_sorted place_cmp (by_place all) h)) ∙ of_entries (kept c.cache) o);
     })
 
--- a page that goes on behind what is set aside, whatever is to be shown of the client after it
-pub page_taken : (c : Client) (aside all : List Stored) (p : Page) (fits : Bool) → fits ≡ is_list (aside ++ p.objects) → fits ≡ true → all ≡ aside ++ p.objects → (P : Client → Type 0)
-    → P (set_aside c p.revision all p.token) → P (with_page c aside p)
+-- a page that goes on behind what is set aside, whatever is to be shown of the client after it, and of what is wrong with it
+pub page_taken : (c : Client) (aside all : List Stored) (p : Page) (fits : Bool) → fits ≡ is_list (aside ++ p.objects) → fits ≡ true → all ≡ aside ++ p.objects → (P : Client → Option Trouble → Type 0)
+    → P (set_aside c p.revision all p.token) None → P (with_page c aside p) (of_page aside p)
 page_taken c aside all p fits is holds same P h =
-    subst P (ap (λ t. set_aside c p.revision t p.token) same ∙ sym (ap (λ b. cond b (set_aside c p.revision (aside ++ p.objects) p.token) (again c)) (sym is ∙ holds))) h
+    let is_so : is_list (aside ++ p.objects) ≡ true = sym is ∙ holds in
+    let wrong = Some (cond (nat_le (length (aside ++ p.objects)) max_objects) NotAscending TooManyObjects) in
+    subst (P (with_page c aside p)) (sym (ap (λ b. cond b None wrong) is_so))
+    (subst (λ d. P d None) (ap (λ t. set_aside c p.revision t p.token) same ∙ sym (ap (λ b. cond b (set_aside c p.revision (aside ++ p.objects) p.token) (again c)) is_so)) h)

@@ -14,7 +14,7 @@ use Rattle.decoder.specs.Lines.{Line, line_in, put, deleted, bookmark, error}
 use Rattle.reflector.specs.Client.{place_in, max_objects, Cache, Asks, first, next, follow, Client, notice_of}
 use Rattle.reflector.specs.Items.{begun, line, unfit, page_or_unfit, line_or_unfit, said_of_list, said_of_watch}
 use Rattle.reflector.specs.Run.{again, hears, hears_all, is_list, moved, over_at, set_aside, with_item, with_list, with_next, with_page, with_watch}
-use Rattle.reflector.specs.Troubles.{of_body, of_item, of_line, of_list, of_next, of_objects, of_page, of_text, of_watch, trouble_after, trouble_with}
+use Rattle.reflector.specs.Troubles.{of_body, of_item, of_line, of_list, of_next, of_page, of_text, of_watch, trouble_after, trouble_with}
 use Rattle.reflector.specs.declared.trouble.Trouble.{Trouble}
 use Rattle.reflector.specs.declared.trouble.Trouble.TheVariants.{Status, Http, NotAList, NotAWatch, OtherRevision, NotAscending, TooManyObjects, NotAbove, Below, ErrorLine}
 use Rattle.reflector.specs.declared.trouble.Trouble.TheVariants as trouble
@@ -37,11 +37,6 @@ next_trouble f wanted c t xs i x lt is =
 pub trouble_then : (wanted : Wanted) (c : Client) (t : Option Trouble) (xs ys : List Told) → trouble_after wanted c t (xs ++ ys) ≡ trouble_after wanted (hears_all wanted c xs) (trouble_after wanted c t xs) ys
 trouble_then wanted c t [] ys = refl
 trouble_then wanted c t (x ∷ xs) ys = trouble_then wanted (hears wanted c x) (trouble_with wanted c t x) xs ys
-
--- ---- pages
-
-pub fits : (all : List Stored) (b : Bool) → b ≡ is_list all → b ≡ true → of_objects all ≡ None
-fits all b is holds = ap (λ (f : Bool). cond f None (Some (cond (nat_le (length all) max_objects) NotAscending TooManyObjects))) (sym is ∙ holds)
 
 -- ---- a reply is given up where something is wrong with an item, and nowhere else
 
@@ -103,7 +98,7 @@ module _ (c : Client) (asking : c.is_asking ≡ true) where
 
   -- ---- a watch
 
-  line_told : (now : Option Cache) (l : Line) → IsTold (of_line now l) (with_watch c now (line l))
+  pub line_told : (now : Option Cache) (l : Line) → IsTold (of_line now l) (with_watch c now (line l))
   line_told None l = ends NotAList
   line_told (Some now) (put o) =
       twice (nat_lt now.revision o.revision) (nat_le (fin.len (fin.insert now.objects (place_in o) o)) max_objects) TooManyObjects NotAbove

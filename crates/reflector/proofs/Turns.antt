@@ -1,8 +1,8 @@
 -- One turn of the merge of two lists, and its end.
-use Rattle.std.proofs.Common.{◌≡◌, ℕ, ◌+◌, ◌≤◌, suc, T, Bool, true, false, List, [], ◌∷◌, ◌++◌, map, length, Ordering, Less, Equal, Greater, Some, None, refl, sym, ap, ap₂, subst, ◌∙◌, append_assoc, append-nil, arith}
+use Rattle.std.proofs.Common.{◌≡◌, ◌+◌, ◌≤◌, suc, T, Bool, true, false, List, [], ◌∷◌, ◌++◌, map, length, Ordering, Less, Equal, Greater, Some, None, refl, sym, ap, ap₂, subst, ◌∙◌, append_assoc, append-nil, arith}
 use Rattle.std.proofs.lemmas.List.{length-map}
 use Rattle.std.specs.FinMap.Entries.{is_sorted}
-use Rattle.indexer.specs.Objects.{Place, place_cmp, Shared, Stored, shared_of}
+use Rattle.indexer.specs.Objects.{place_cmp, Shared, shared_of}
 use Rattle.indexer.specs.declared.object.ObjectKey.{ObjectKey}
 use Rattle.reflector.specs.Between.{between, first_order, first_told, new_left, old_left}
 use Rattle.reflector.specs.Client.{Notice, by_place, place_in}

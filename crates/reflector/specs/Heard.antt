@@ -1,7 +1,6 @@
 -- What an item said, and what it leaves to ask.
-use Rattle.std.specs.Prelude.{◌≡◌, ℕ, ◌==◌, nat_lt, List, ◌++◌, Option, Some, None, if◌then◌else◌}
+use Rattle.std.specs.Prelude.{◌≡◌, ℕ, ◌==◌, Bool, true, false, List, [], ◌++◌, Option, Some, None, if◌then◌else◌}
 use Rattle.wireclient.specs.Reply.{Told}
-use Rattle.decoder.specs.Lines.{Line, put, deleted, bookmark, error}
 use Rattle.decoder.specs.Pages.{Page}
 use Rattle.decoder.specs.Seen.{line_seen, page_seen}
 use Rattle.decoder.specs.Wanted.{Wanted}
@@ -9,13 +8,13 @@ use Rattle.reflector.specs.declared.mirror.Mirror.{Mirror}
 use Rattle.reflector.specs.declared.news.News as news
 use Rattle.reflector.specs.declared.news.News.TheVariants as said
 use Rattle.reflector.specs.declared.trouble.Trouble.{Trouble}
-use Rattle.reflector.specs.declared.trouble.Trouble.TheVariants.{NotAList, NotAWatch, TooManyObjects, NotAbove, Below, ErrorLine}
+use Rattle.reflector.specs.declared.trouble.Trouble.TheVariants.{NotAList, NotAWatch}
 use Rattle.indexer.specs.Objects.{Stored}
-use Rattle.reflector.specs.Client.{Cache, Client}
+use Rattle.reflector.specs.Client.{Asks, next, follow, Cache, Client}
 use Rattle.reflector.specs.Items.{News, begun, page, line, over, unfit}
-use Rattle.reflector.specs.Run.{hears_all}
+use Rattle.reflector.specs.Run.{hears_all, with_next, with_page}
 use Rattle.reflector.specs.Standing.{Stands}
-use Rattle.reflector.specs.Troubles.{of_line}
+use Rattle.reflector.specs.Troubles.{of_line, of_next, of_page}
 
 abbrev pub news_of : news.News → News
 news_of said.Begun = begun
@@ -23,6 +22,15 @@ news_of (said.Page p) = page (page_seen p)
 news_of (said.Line l) = line (line_seen l)
 news_of said.Over = over
 news_of (said.Unfit t) = unfit
+
+abbrev pub is_follow : Asks → Bool
+is_follow follow = true
+is_follow _ = false
+
+-- a page behind what is asked; of a client that follows, none is set aside
+abbrev pub with_page_behind : Client → Asks → Page → Client
+with_page_behind c (next revision token aside) = with_next c revision aside
+with_page_behind c _ = with_page c []
 
 abbrev pub head_said : ℕ → News
 head_said status = if status == 200 then begun else unfit
@@ -32,6 +40,10 @@ abbrev pub HeardSome : {I : Type 0} → (I → Stored → List (List ℕ)) → W
 HeardSome keys wanted m c items = (heard : List Told) × (rest : List Told) × (items ≡ heard ++ rest) × Stands keys m (hears_all wanted c heard)
 
 -- ---- what is wrong with it
+
+abbrev pub of_page_behind : Asks → Page → Option Trouble
+of_page_behind (next revision token aside) = of_next revision aside
+of_page_behind _ = of_page []
 
 abbrev pub list_trouble : (Page → Option Trouble) → news.News → Option Trouble
 list_trouble rules said.Begun = None
@@ -46,11 +58,3 @@ watch_trouble now (said.Page p) = Some NotAWatch
 watch_trouble now (said.Line l) = of_line now (line_seen l)
 watch_trouble now said.Over = None
 watch_trouble now (said.Unfit t) = Some t
-
--- the rule that a line broke, if it was refused, where this revision was reported
-abbrev pub refused_by : Option ℕ → Line → Trouble
-refused_by None l = NotAList
-refused_by (Some now) (put o) = if nat_lt now o.revision then TooManyObjects else NotAbove
-refused_by (Some now) (deleted o) = NotAbove
-refused_by (Some now) (bookmark revision) = Below
-refused_by (Some now) error = ErrorLine

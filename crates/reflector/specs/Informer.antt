@@ -1,15 +1,15 @@
 -- An informer, beside a client and the reply that it has read.
-use Rattle.std.specs.Prelude.{ℕ, if◌then◌else◌, List, Option, Some, None, is_some}
+use Rattle.std.specs.Prelude.{◌≡◌, ℕ, if◌then◌else◌, List, Option, Some, None, is_some}
 use Rattle.indexer.specs.Indexer.{indexes_of, names_of}
 use Rattle.indexer.specs.Objects.{Stored}
 use Rattle.wireclient.specs.Reply.{Told}
 use Rattle.reflector.specs.declared.informer.Informer.{Informer}
 use Rattle.reflector.specs.declared.trouble.Trouble.{Trouble}
 use Rattle.reflector.specs.Client.{Client}
-use Rattle.reflector.specs.Reading.{IsRead}
+use Rattle.reflector.specs.Reading.{IsRead, reader_of, trouble_of}
 use Rattle.reflector.specs.Requests.{Settings, request_of}
-use Rattle.reflector.specs.Seen.{settings_of}
-use Rattle.reflector.specs.Standing.{Keeps}
+use Rattle.reflector.specs.Seen.{asks_of, settings_of}
+use Rattle.reflector.specs.Standing.{Stands}
 
 abbrev pub settings_in : {I : Type 0} → Informer I → Settings
 settings_in i = settings_of i.settings
@@ -23,12 +23,25 @@ names_in i = names_of i.mirror.indexer
 
 -- why the last reply was given up, if it was
 abbrev pub trouble_in : {I : Type 0} → Informer I → Option Trouble
-trouble_in i = i.trouble
+trouble_in i = trouble_of i.reply
+
+-- what it mirrors, its index functions and their names stay
+pub record SameSetup {I : Type 0} (old new : Informer I) : Type 0 where
+  pub settings : settings_in new ≡ settings_in old
+  pub indexes : indexes_in new ≡ indexes_in old
+  pub names : names_in new ≡ names_in old
+
+-- it keeps and asks what this client does, and this is why the last reply was given up, if it was
+pub record Keeps {I : Type 0} (keys : I → Stored → List (List ℕ)) (i : Informer I) (c : Client) (t : Option Trouble) : Type 0 where
+  pub mirror : Stands keys i.mirror c
+  pub asks : asks_of i.asks ≡ c.asks
+  pub asking : is_some (reader_of i.reply) ≡ c.is_asking
+  pub trouble : trouble_in i ≡ t
 
 -- it is this client; of the reply to what it asks, if it asks, these bytes came, and they hold these items
 pub record Runs {I : Type 0} (keys : I → Stored → List (List ℕ)) (i : Informer I) (c : Client) (bytes : List ℕ) (told : List Told) : Type 0 where
-  pub kept : Keeps keys i.mirror i.asks (is_some i.reader) c
-  pub read : IsRead i.reader bytes told
+  pub kept : Keeps keys i c (trouble_in i)
+  pub read : IsRead (reader_of i.reply) bytes told
 
 -- the request that is due: none while one is under way
 abbrev pub due : Settings → Client → Option (List ℕ)

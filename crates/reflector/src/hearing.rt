@@ -1,201 +1,167 @@
 //! Takes the items of a reply, which change what is kept and what is asked. Pages are taken in `pages`, lines in
 //! `taking`.
 
-ghost use Rattle.std.specs.Prelude.{◌≡◌, [], None, map, true, IfOk, OnErr};
-ghost use Rattle.indexer.specs.Indexer.{indexes_of, names_of};
+ghost use Rattle.std.specs.Prelude.{◌≡◌, ◌++◌, ℕ, List, Option, None, Some, Ok, map, true, false, IfOk, OnErr, OnOk};
+ghost use Rattle.wireclient.specs.Reads.{Items};
+ghost use Rattle.wireclient.specs.Reply.{Told};
 ghost use Rattle.wireclient.specs.Views.{told_of};
-ghost use Rattle.decoder.specs.Seen.{line_seen, page_seen, wanted_of};
-ghost use Rattle.reflector.specs.Aside.{aside_of};
-ghost use Rattle.reflector.specs.Client.{Client};
-ghost use Rattle.reflector.specs.Heard.{HeardSome, list_trouble, news_of, refused_by, watch_trouble};
-ghost use Rattle.reflector.specs.Run.{hears, hears_all, with_item, with_list, with_next, with_page, with_watch};
-ghost use Rattle.reflector.specs.Standing.{Keeps, Stands};
-ghost use Rattle.reflector.specs.Troubles.{of_item, of_next, of_page, trouble_after, trouble_with};
+ghost use Rattle.decoder.specs.Seen.{line_seen};
+ghost use Rattle.reflector.specs.Client.{Client, follow};
+ghost use Rattle.reflector.specs.Heard.{HeardSome, list_trouble, news_of, of_page_behind, watch_trouble, with_page_behind};
+ghost use Rattle.reflector.specs.Informer.{Keeps, Runs, SameSetup, settings_in, trouble_in};
+ghost use Rattle.reflector.specs.Items as items;
+ghost use Rattle.reflector.specs.Reading.{AreHeard, IsRead, ReadsOn, reader_of};
+ghost use Rattle.reflector.specs.Run.{again, hears, hears_all, with_list, with_watch};
+ghost use Rattle.reflector.specs.Seen.{asks_of};
+ghost use Rattle.reflector.specs.Standing.{Stands};
+ghost use Rattle.reflector.specs.Troubles.{of_line, trouble_after, trouble_with};
 
-use crate::aside::Aside;
 use crate::asks::Asks;
-use crate::mirror::Mirror;
+use crate::informer::Informer;
 use crate::news::{News, list_news, watch_news};
-use crate::pages::take_page;
-use crate::taking::take_line;
+use crate::reply::Reply;
 use crate::trouble::Trouble;
-use crate::turn::{Turn, given_up, later, still};
-use decoder::{Line, Page, Wanted};
+use decoder::Line;
 use indexer::IndexBy;
-use std::alloc::{AllocError, Global};
-use wireclient::Item;
+use std::alloc::AllocError;
+use wireclient::{Item, ReadFault, ReplyReader};
 
-/// The rule that a line breaks, if it is refused where this revision was reported.
-fn refused_by(revision: Option<u64>, line: &Line) -> Trouble
-    ensures { result ≡ refused_by revision (line_seen line.now) }
+/// The items that a piece of the reply completes. A reader that has told a malformed reply isn't fed again, so this fails
+/// only out of memory.
+fn read(reader: &mut ReplyReader, piece: &[u8]) -> Result<Vec<Item>, AllocError>
+    ensures { (bytes : List ℕ) (told : List Told) → IsRead (Some reader.old) bytes told → IfOk result (λ items. IsRead (Some reader.new) (bytes ++ piece.now) (told ++ map told_of items.items)) }
 {
-    let Some(now) = revision else {
-        return Trouble::NotAList;
-    };
-    match line {
-        Line::Put(object) if now < object.revision => Trouble::TooManyObjects,
-        Line::Put(_) | Line::Deleted(_) => Trouble::NotAbove,
-        Line::Bookmark(_) => Trouble::Below,
-        Line::Error => Trouble::ErrorLine,
+    match reader.feed(piece) {
+        Ok(items) => Ok(items),
+        Err(ReadFault::Malformed | ReadFault::Memory) => Err(AllocError),
     }
 }
 
-fn hear_first<I: IndexBy>(
-    alloc: Global,
-    mirror: &mut Mirror<I>,
-    news: News,
-) -> Result<Turn, AllocError>
-    ensures heard { (c : Client) → Keeps (λ b s. I.keys b s) mirror.old Asks.First true c
-        → IfOk result (λ t. Keeps (λ b s. I.keys b s) mirror.new t.asks t.is_asking (with_list c (with_page c []) (news_of news))) }
-    ensures trouble { IfOk result (λ t. t.trouble ≡ list_trouble (of_page []) news) }
-    ensures refused { (c : Client) → Stands (λ b s. I.keys b s) mirror.old c → OnErr result (Stands (λ b s. I.keys b s) mirror.new c) }
-    ensures indexes { indexes_of mirror.new.indexer ≡ indexes_of mirror.old.indexer }
-    ensures names { names_of mirror.new.indexer ≡ names_of mirror.old.indexer }
-{
-    match news {
-        News::Begun => Ok(still(Asks::First)),
-        News::Page(page) => take_page(alloc, mirror, Aside::new(alloc), page),
-        News::Line(_) => Ok(given_up(Trouble::NotAList)),
-        News::Over => Ok(given_up(Trouble::NotAList)),
-        News::Unfit(trouble) => Ok(given_up(trouble)),
+impl<I: IndexBy> Informer<I> {
+    /// The reply is given up, and a first page is asked next.
+    pub(crate) fn give_up(&mut self, trouble: Trouble)
+        ensures given_up { (c : Client) → Stands I.keys self.old.mirror c → Keeps I.keys self.new (again c) (Some trouble) }
+        ensures trouble { trouble_in self.new ≡ Some trouble }
+        ensures read { ReadsOn self.old.reply self.new.reply }
+        ensures setup { SameSetup self.old self.new }
+    {
+        self.asks = Asks::First;
+        self.reply = Reply::GivenUp(trouble);
     }
-}
 
-/// Takes a later page, if it is of the first one's revision.
-fn take_next<I: IndexBy>(
-    alloc: Global,
-    mirror: &mut Mirror<I>,
-    revision: u64,
-    aside: Aside,
-    page: Page,
-) -> Result<Turn, AllocError>
-    ensures taken { (c : Client) → Stands (λ b s. I.keys b s) mirror.old c
-        → IfOk result (λ t. Keeps (λ b s. I.keys b s) mirror.new t.asks t.is_asking (with_next c revision (aside_of aside) (page_seen page))) }
-    ensures trouble { IfOk result (λ t. t.trouble ≡ of_next revision (aside_of aside) (page_seen page)) }
-    ensures refused { (c : Client) → Stands (λ b s. I.keys b s) mirror.old c → OnErr result (Stands (λ b s. I.keys b s) mirror.new c) }
-    ensures indexes { indexes_of mirror.new.indexer ≡ indexes_of mirror.old.indexer }
-    ensures names { names_of mirror.new.indexer ≡ names_of mirror.old.indexer }
-{
-    if page.revision == revision {
-        take_page(alloc, mirror, aside, page)
-    } else {
-        Ok(given_up(Trouble::OtherRevision))
+    /// The reply has told all that was asked, and this is asked next.
+    pub(crate) fn ask_next(&mut self, next: Asks)
+        ensures kept { (c : Client) → Stands I.keys self.old.mirror c → asks_of next ≡ c.asks → c.is_asking ≡ false → Keeps I.keys self.new c None }
+        ensures read { ReadsOn self.old.reply self.new.reply }
+        ensures setup { SameSetup self.old self.new }
+    {
+        self.asks = next;
+        self.reply = Reply::Over;
     }
-}
 
-fn hear_next<I: IndexBy>(
-    alloc: Global,
-    mirror: &mut Mirror<I>,
-    revision: u64,
-    token: String,
-    aside: Aside,
-    news: News,
-) -> Result<Turn, AllocError>
-    ensures heard { (c : Client) → Keeps (λ b s. I.keys b s) mirror.old (Asks.Next revision token aside) true c
-        → IfOk result (λ t. Keeps (λ b s. I.keys b s) mirror.new t.asks t.is_asking (with_list c (with_next c revision (aside_of aside)) (news_of news))) }
-    ensures trouble { IfOk result (λ t. t.trouble ≡ list_trouble (of_next revision (aside_of aside)) news) }
-    ensures refused { (c : Client) → Stands (λ b s. I.keys b s) mirror.old c → OnErr result (Stands (λ b s. I.keys b s) mirror.new c) }
-    ensures indexes { indexes_of mirror.new.indexer ≡ indexes_of mirror.old.indexer }
-    ensures names { names_of mirror.new.indexer ≡ names_of mirror.old.indexer }
-{
-    match news {
-        News::Begun => Ok(still(Asks::Next(revision, token, aside))),
-        News::Page(page) => take_next(alloc, mirror, revision, aside, page),
-        News::Line(_) => Ok(given_up(Trouble::NotAList)),
-        News::Over => Ok(given_up(Trouble::NotAList)),
-        News::Unfit(trouble) => Ok(given_up(trouble)),
+    fn hear_list(&mut self, news: News) -> Result<(), AllocError>
+        ensures heard { (c : Client) → Keeps I.keys self.old c None
+            → OnOk result (Keeps I.keys self.new (with_list c (with_page_behind c c.asks) (news_of news)) (list_trouble (of_page_behind c.asks) news)) }
+        ensures refused { (c : Client) → Stands I.keys self.old.mirror c → OnErr result (Stands I.keys self.new.mirror c) }
+        ensures read { ReadsOn self.old.reply self.new.reply }
+        ensures setup { SameSetup self.old self.new }
+    {
+        match news {
+            News::Begun => {}
+            News::Page(page) => self.take_page(page)?,
+            News::Line(_) | News::Over => self.give_up(Trouble::NotAList),
+            News::Unfit(trouble) => self.give_up(trouble),
+        }
+        Ok(())
     }
-}
 
-fn hear_watch<I: IndexBy>(mirror: &mut Mirror<I>, news: News) -> Result<Turn, AllocError>
-    ensures heard { (c : Client) → Keeps (λ b s. I.keys b s) mirror.old Asks.Follow true c
-        → IfOk result (λ t. Keeps (λ b s. I.keys b s) mirror.new t.asks t.is_asking (with_watch c c.cache (news_of news))) }
-    ensures trouble { (c : Client) → Stands (λ b s. I.keys b s) mirror.old c → IfOk result (λ t. t.trouble ≡ watch_trouble c.cache news) }
-    ensures refused { (c : Client) → Stands (λ b s. I.keys b s) mirror.old c → OnErr result (Stands (λ b s. I.keys b s) mirror.new c) }
-    ensures indexes { indexes_of mirror.new.indexer ≡ indexes_of mirror.old.indexer }
-    ensures names { names_of mirror.new.indexer ≡ names_of mirror.old.indexer }
-{
-    match news {
-        News::Begun => Ok(still(Asks::Follow)),
-        News::Line(line) => {
-            let refused = refused_by(mirror.revision, &line);
-            if take_line(mirror, line)? {
-                Ok(still(Asks::Follow))
-            } else {
-                Ok(given_up(refused))
+    /// Takes a watch's line; the reply is given up, if it breaks a rule.
+    fn hear_line(&mut self, line: Line) -> Result<(), AllocError>
+        ensures heard { (c : Client) → Keeps I.keys self.old c None → c.asks ≡ follow → c.is_asking ≡ true
+            → OnOk result (Keeps I.keys self.new (with_watch c c.cache (items.line (line_seen line))) (of_line c.cache (line_seen line))) }
+        ensures refused { (c : Client) → Stands I.keys self.old.mirror c → OnErr result (Stands I.keys self.new.mirror c) }
+        ensures read { ReadsOn self.old.reply self.new.reply }
+        ensures setup { SameSetup self.old self.new }
+    {
+        if let Some(broken) = self.mirror.take_line(line)? {
+            self.give_up(broken);
+        }
+        Ok(())
+    }
+
+    fn hear_watch(&mut self, news: News) -> Result<(), AllocError>
+        ensures heard { (c : Client) → Keeps I.keys self.old c None → c.asks ≡ follow → c.is_asking ≡ true
+            → OnOk result (Keeps I.keys self.new (with_watch c c.cache (news_of news)) (watch_trouble c.cache news)) }
+        ensures refused { (c : Client) → Stands I.keys self.old.mirror c → OnErr result (Stands I.keys self.new.mirror c) }
+        ensures read { ReadsOn self.old.reply self.new.reply }
+        ensures setup { SameSetup self.old self.new }
+    {
+        match news {
+            News::Begun => Ok(()),
+            News::Line(line) => self.hear_line(line),
+            News::Over => {
+                self.ask_next(Asks::Follow);
+                Ok(())
+            }
+            News::Page(_) => {
+                self.give_up(Trouble::NotAWatch);
+                Ok(())
+            }
+            News::Unfit(trouble) => {
+                self.give_up(trouble);
+                Ok(())
             }
         }
-        News::Over => Ok(later(Asks::Follow)),
-        News::Page(_) => Ok(given_up(Trouble::NotAWatch)),
-        News::Unfit(trouble) => Ok(given_up(trouble)),
     }
-}
 
-/// Takes an item of the reply to what is asked. Out of memory, it changes nothing that is kept.
-fn hear_asking<I: IndexBy>(
-    alloc: Global,
-    wanted: &Wanted,
-    mirror: &mut Mirror<I>,
-    asks: Asks,
-    item: &Item,
-) -> Result<Turn, AllocError>
-    ensures heard { (c : Client) → Keeps (λ b s. I.keys b s) mirror.old asks true c
-        → IfOk result (λ t. Keeps (λ b s. I.keys b s) mirror.new t.asks t.is_asking (with_item (wanted_of wanted.now) c c.asks (told_of item.now))) }
-    ensures trouble { (c : Client) → Keeps (λ b s. I.keys b s) mirror.old asks true c → IfOk result (λ t. t.trouble ≡ of_item (wanted_of wanted.now) c.cache c.asks (told_of item.now)) }
-    ensures refused { (c : Client) → Stands (λ b s. I.keys b s) mirror.old c → OnErr result (Stands (λ b s. I.keys b s) mirror.new c) }
-    ensures indexes { indexes_of mirror.new.indexer ≡ indexes_of mirror.old.indexer }
-    ensures names { names_of mirror.new.indexer ≡ names_of mirror.old.indexer }
-{
-    match asks {
-        Asks::First => hear_first(alloc, mirror, list_news(alloc, wanted, item)?),
-        Asks::Next(revision, token, aside) => {
-            let news = list_news(alloc, wanted, item)?;
-            hear_next(alloc, mirror, revision, token, aside, news)
+    /// Takes an item of the reply, if it is still under way. Out of memory, what is kept stays.
+    fn hear(&mut self, item: &Item) -> Result<(), AllocError>
+        ensures heard { (c : Client) (t : Option Trouble) → Keeps I.keys self.old c t
+            → OnOk result (Keeps I.keys self.new (hears (settings_in self.old).wanted c (told_of item.now)) (trouble_with (settings_in self.old).wanted c t (told_of item.now))) }
+        ensures refused { (c : Client) → Stands I.keys self.old.mirror c → OnErr result (Stands I.keys self.new.mirror c) }
+        ensures read { ReadsOn self.old.reply self.new.reply }
+        ensures setup { SameSetup self.old self.new }
+    {
+        if !self.reply.is_open() {
+            return Ok(());
         }
-        Asks::Follow => hear_watch(mirror, watch_news(alloc, wanted, item)?),
+        if self.asks.is_follow() {
+            let news = watch_news(self.alloc, &self.settings.wanted, item)?;
+            return self.hear_watch(news);
+        }
+        let news = list_news(self.alloc, &self.settings.wanted, item)?;
+        self.hear_list(news)
     }
-}
 
-/// Takes an item of a reply; where nothing is asked, it changes nothing.
-fn hear<I: IndexBy>(
-    alloc: Global,
-    wanted: &Wanted,
-    mirror: &mut Mirror<I>,
-    turn: Turn,
-    item: &Item,
-) -> Result<Turn, AllocError>
-    ensures heard { (c : Client) → Keeps (λ b s. I.keys b s) mirror.old turn.asks turn.is_asking c
-        → IfOk result (λ t. Keeps (λ b s. I.keys b s) mirror.new t.asks t.is_asking (hears (wanted_of wanted.now) c (told_of item.now))) }
-    ensures trouble { (c : Client) → Keeps (λ b s. I.keys b s) mirror.old turn.asks turn.is_asking c
-        → IfOk result (λ t. t.trouble ≡ trouble_with (wanted_of wanted.now) c turn.trouble (told_of item.now)) }
-    ensures refused { (c : Client) → Stands (λ b s. I.keys b s) mirror.old c → OnErr result (Stands (λ b s. I.keys b s) mirror.new c) }
-    ensures indexes { indexes_of mirror.new.indexer ≡ indexes_of mirror.old.indexer }
-    ensures names { names_of mirror.new.indexer ≡ names_of mirror.old.indexer }
-{
-    if !turn.is_asking {
-        return Ok(turn);
+    /// Takes the items of a reply, one after the other. Refused, it has taken some of them, each whole or not at all.
+    fn hear_all(&mut self, items: &[Item]) -> Result<(), AllocError>
+        ensures heard { (c : Client) (t : Option Trouble) → Keeps I.keys self.old c t
+            → OnOk result (Keeps I.keys self.new (hears_all (settings_in self.old).wanted c (map told_of items.now)) (trouble_after (settings_in self.old).wanted c t (map told_of items.now))) }
+        ensures some { (c : Client) (t : Option Trouble) → Keeps I.keys self.old c t → OnErr result (HeardSome I.keys (settings_in self.old).wanted self.new.mirror c (map told_of items.now)) }
+        ensures read { ReadsOn self.old.reply self.new.reply }
+        ensures setup { SameSetup self.old self.new }
+    {
+        for item in items {
+            self.hear(item)?;
+        }
+        Ok(())
     }
-    hear_asking(alloc, wanted, mirror, turn.asks, item)
-}
 
-/// Takes the items of a reply, one after the other. Refused, it has taken some of them, each whole or not at all.
-pub(crate) fn hear_all<I: IndexBy>(
-    alloc: Global,
-    wanted: &Wanted,
-    mirror: &mut Mirror<I>,
-    asks: Asks,
-    items: &[Item],
-) -> Result<Turn, AllocError>
-    ensures heard { (c : Client) → Keeps (λ b s. I.keys b s) mirror.old asks true c
-        → IfOk result (λ t. Keeps (λ b s. I.keys b s) mirror.new t.asks t.is_asking (hears_all (wanted_of wanted.now) c (map told_of items.now))) }
-    ensures trouble { (c : Client) → Keeps (λ b s. I.keys b s) mirror.old asks true c → IfOk result (λ t. t.trouble ≡ trouble_after (wanted_of wanted.now) c None (map told_of items.now)) }
-    ensures some { (c : Client) → Keeps (λ b s. I.keys b s) mirror.old asks true c → OnErr result (HeardSome (λ b s. I.keys b s) (wanted_of wanted.now) mirror.new c (map told_of items.now)) }
-    ensures indexes { indexes_of mirror.new.indexer ≡ indexes_of mirror.old.indexer }
-    ensures names { names_of mirror.new.indexer ≡ names_of mirror.old.indexer }
-{
-    let mut turn = still(asks);
-    for item in items {
-        turn = hear(alloc, wanted, mirror, turn, item)?;
+    /// Takes the items that a piece of the reply under way completes; with none under way it changes nothing. Refused, it
+    /// has taken some of them.
+    pub(crate) fn hear_piece(&mut self, piece: &[u8]) -> Result<(), AllocError>
+        ensures heard { (c : Client) (bytes : List ℕ) (told : List Told) → Runs I.keys self.old c bytes told → c.is_asking ≡ true
+            → OnOk result ((news : List Told) × IsRead (reader_of self.new.reply) (bytes ++ piece.now) (told ++ news) × Items (bytes ++ piece.now) (told ++ news)
+            × Keeps I.keys self.new (hears_all (settings_in self.old).wanted c news) (trouble_after (settings_in self.old).wanted c None news)) }
+        ensures idle { (c : Client) (bytes : List ℕ) (told : List Told) → Runs I.keys self.old c bytes told → c.is_asking ≡ false → (result ≡ Ok tt) × (self.new ≡ self.old) }
+        ensures some { (c : Client) (bytes : List ℕ) (told : List Told) → Runs I.keys self.old c bytes told
+            → OnErr result ((heard : List Told) × AreHeard bytes told piece.now heard × Stands I.keys self.new.mirror (hears_all (settings_in self.old).wanted c heard)) }
+        ensures setup { SameSetup self.old self.new }
+    {
+        let Reply::Open(reader) = &mut self.reply else {
+            return Ok(());
+        };
+        let items = read(reader, piece)?;
+        self.hear_all(&items)
     }
-    Ok(turn)
 }

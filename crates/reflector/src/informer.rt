@@ -1,15 +1,10 @@
 //! The informer: a client that mirrors a server's objects, and the calls on it. How a reply changes it stands in
-//! `replying` and `hearing`.
-
-ghost use Rattle.std.specs.Prelude.{◌≡◌};
-ghost use Rattle.indexer.specs.Indexer.{indexes_of, names_of};
-ghost use Rattle.reflector.specs.Client.{fresh};
-ghost use Rattle.reflector.specs.Standing.{Stands};
+//! `hearing`.
 
 use crate::asks::Asks;
 use crate::mirror::Mirror;
 use crate::notice::Notice;
-use crate::replying::{Open, hear_open};
+use crate::reply::Reply;
 use crate::requests::request_of;
 use crate::settings::{Settings, SettingsFault, fault_in};
 use crate::trouble::Trouble;
@@ -24,38 +19,11 @@ use wireclient::ReplyReader;
 /// end of an older connection would count for the request under way, so that one is dropped first.
 #[derive(Drop)]
 pub struct Informer<I: Drop> {
-    settings: Settings,
-    mirror: Mirror<I>,
-    asks: Asks,
-    reader: Option<ReplyReader>,
-    trouble: Option<Trouble>,
-    alloc: Global,
-}
-
-/// Keeps nothing, as at the start.
-fn forget<I: IndexBy>(alloc: Global, mirror: &mut Mirror<I>)
-    ensures fresh { Stands (λ b s. I.keys b s) mirror.new fresh }
-    ensures indexes { indexes_of mirror.new.indexer ≡ indexes_of mirror.old.indexer }
-    ensures names { names_of mirror.new.indexer ≡ names_of mirror.old.indexer }
-{
-    mirror.indexer.clear();
-    mirror.revision = None;
-    mirror.notices = Vec::new(alloc);
-}
-
-/// The indexer's functions, and nothing kept.
-fn empty<I: IndexBy>(alloc: Global, indexer: Indexer<I>) -> Mirror<I>
-    ensures fresh { Stands (λ b s. I.keys b s) result fresh }
-    ensures indexes { indexes_of result.indexer ≡ indexes_of indexer }
-    ensures names { names_of result.indexer ≡ names_of indexer }
-{
-    let mut indexer = indexer;
-    indexer.clear();
-    Mirror {
-        indexer,
-        revision: None,
-        notices: Vec::new(alloc),
-    }
+    pub(crate) settings: Settings,
+    pub(crate) mirror: Mirror<I>,
+    pub(crate) asks: Asks,
+    pub(crate) reply: Reply,
+    pub(crate) alloc: Global,
 }
 
 impl<I: IndexBy> Informer<I> {
@@ -86,7 +54,7 @@ impl<I: IndexBy> Informer<I> {
         page: u32,
         indexer: Indexer<I>,
     ) -> Result<Informer<I>, SettingsFault>
-        ensures fresh { IfOk result (λ i. Runs (λ b s. I.keys b s) i fresh [] []) }
+        ensures fresh { IfOk result (λ i. Runs I.keys i fresh [] []) }
         ensures settings { IfOk result (λ i. settings_in i ≡ settings_from source namespace selector page) }
         ensures indexes { IfOk result (λ i. indexes_in i ≡ indexes_of indexer) }
         ensures names { IfOk result (λ i. names_in i ≡ names_of indexer) }
@@ -104,10 +72,9 @@ impl<I: IndexBy> Informer<I> {
         }
         Ok(Informer {
             settings,
-            mirror: empty(alloc, indexer),
+            mirror: Mirror::new(alloc, indexer),
             asks: Asks::First,
-            reader: None,
-            trouble: None,
+            reply: Reply::Over,
             alloc,
         })
     }
@@ -115,21 +82,20 @@ impl<I: IndexBy> Informer<I> {
     /// The bytes to send next, on a new connection: the request is under way then, and the old connection is dropped. None
     /// while a request is under way. Out of memory, it changes nothing.
     pub fn next_request(&mut self) -> Result<Option<Vec<u8>>, AllocError>
-        ensures due { (c : Client) (bytes : List ℕ) (told : List Told) → Runs (λ b s. I.keys b s) self.old c bytes told → IfOk result (λ r. option_map (λ v. v.items) r ≡ due (settings_in self.old) c) }
-        ensures asked { (c : Client) (bytes : List ℕ) (told : List Told) → Runs (λ b s. I.keys b s) self.old c bytes told → c.is_asking ≡ false → OnOk result (Runs (λ b s. I.keys b s) self.new (asked c) [] []) }
-        ensures waits { (c : Client) (bytes : List ℕ) (told : List Told) → Runs (λ b s. I.keys b s) self.old c bytes told → c.is_asking ≡ true → self.new ≡ self.old }
+        ensures due { (c : Client) (bytes : List ℕ) (told : List Told) → Runs I.keys self.old c bytes told → IfOk result (λ r. option_map (λ v. v.items) r ≡ due (settings_in self.old) c) }
+        ensures asked { (c : Client) (bytes : List ℕ) (told : List Told) → Runs I.keys self.old c bytes told → c.is_asking ≡ false → OnOk result (Runs I.keys self.new (asked c) [] []) }
+        ensures waits { (c : Client) (bytes : List ℕ) (told : List Told) → Runs I.keys self.old c bytes told → c.is_asking ≡ true → self.new ≡ self.old }
         ensures refused { OnErr result (self.new ≡ self.old) }
-        ensures trouble { (c : Client) (bytes : List ℕ) (told : List Told) → Runs (λ b s. I.keys b s) self.old c bytes told → c.is_asking ≡ false → OnOk result (trouble_in self.new ≡ None) }
+        ensures trouble { (c : Client) (bytes : List ℕ) (told : List Told) → Runs I.keys self.old c bytes told → c.is_asking ≡ false → OnOk result (trouble_in self.new ≡ None) }
         ensures settings { settings_in self.new ≡ settings_in self.old }
         ensures indexes { indexes_in self.new ≡ indexes_in self.old }
         ensures names { names_in self.new ≡ names_in self.old }
     {
-        if self.reader.is_some() {
+        if self.reply.is_open() {
             return Ok(None);
         }
         let request = request_of(self.alloc, &self.settings, &self.asks, self.mirror.revision)?;
-        self.reader = Some(ReplyReader::new(self.alloc));
-        self.trouble = None;
+        self.reply = Reply::Open(ReplyReader::new(self.alloc));
         Ok(Some(request))
     }
 
@@ -138,53 +104,38 @@ impl<I: IndexBy> Informer<I> {
     /// objects and revision stay. With no request under way it changes nothing. Out of memory, the reply is given up; what
     /// was taken of this piece before, with its notices, counts.
     pub fn feed(&mut self, piece: &[u8]) -> Result<(), AllocError>
-        ensures heard { (c : Client) (bytes : List ℕ) (told : List Told) → Runs (λ b s. I.keys b s) self.old c bytes told → c.is_asking ≡ true
-            → OnOk result ((news : List Told) × Items (bytes ++ piece.now) (told ++ news) × Runs (λ b s. I.keys b s) self.new (hears_all (settings_in self.old).wanted c news) (bytes ++ piece.now) (told ++ news)) }
-        ensures idle { (c : Client) (bytes : List ℕ) (told : List Told) → Runs (λ b s. I.keys b s) self.old c bytes told → c.is_asking ≡ false → (result ≡ Ok tt) × (self.new ≡ self.old) }
-        ensures trouble { (c : Client) (bytes : List ℕ) (told news : List Told) → Runs (λ b s. I.keys b s) self.old c bytes told → c.is_asking ≡ true → Items (bytes ++ piece.now) (told ++ news)
+        ensures heard { (c : Client) (bytes : List ℕ) (told : List Told) → Runs I.keys self.old c bytes told → c.is_asking ≡ true
+            → OnOk result ((news : List Told) × Items (bytes ++ piece.now) (told ++ news) × Runs I.keys self.new (hears_all (settings_in self.old).wanted c news) (bytes ++ piece.now) (told ++ news)) }
+        ensures idle { (c : Client) (bytes : List ℕ) (told : List Told) → Runs I.keys self.old c bytes told → c.is_asking ≡ false → (result ≡ Ok tt) × (self.new ≡ self.old) }
+        ensures trouble { (c : Client) (bytes : List ℕ) (told news : List Told) → Runs I.keys self.old c bytes told → c.is_asking ≡ true → Items (bytes ++ piece.now) (told ++ news)
             → OnOk result (trouble_in self.new ≡ trouble_after (settings_in self.old).wanted c None news) }
         ensures memory { OnErr result (trouble_in self.new ≡ Some OutOfMemory) }
-        ensures given_up { (c : Client) (bytes : List ℕ) (told : List Told) → Runs (λ b s. I.keys b s) self.old c bytes told
-            → OnErr result ((heard : List Told) × AreHeard bytes told piece.now heard × Runs (λ b s. I.keys b s) self.new (again (hears_all (settings_in self.old).wanted c heard)) [] []) }
+        ensures given_up { (c : Client) (bytes : List ℕ) (told : List Told) → Runs I.keys self.old c bytes told
+            → OnErr result ((heard : List Told) × AreHeard bytes told piece.now heard × Runs I.keys self.new (again (hears_all (settings_in self.old).wanted c heard)) [] []) }
         ensures settings { settings_in self.new ≡ settings_in self.old }
         ensures indexes { indexes_in self.new ≡ indexes_in self.old }
         ensures names { names_in self.new ≡ names_in self.old }
     {
-        let Some(reader) = self.reader.take() else {
-            return Ok(());
-        };
-        let asks = mem::replace(&mut self.asks, Asks::First);
-        self.trouble = Some(Trouble::OutOfMemory);
-        let open = hear_open(
-            self.alloc,
-            &self.settings.wanted,
-            &mut self.mirror,
-            asks,
-            reader,
-            piece,
-        )?;
-        let Open {
-            asks,
-            reader,
-            trouble,
-        } = open;
-        self.asks = asks;
-        self.reader = reader;
-        self.trouble = trouble;
-        Ok(())
+        match self.hear_piece(piece) {
+            Ok(()) => Ok(()),
+            Err(fault) => {
+                self.give_up(Trouble::OutOfMemory);
+                Err(fault)
+            }
+        }
     }
 
     /// The connection of the last request has ended or was cut. A list begins again at its first page, a watch goes on
     /// from the revision that it reached. With no request under way it changes nothing.
     pub fn closed(&mut self)
-        ensures closed { (c : Client) (bytes : List ℕ) (told : List Told) → Runs (λ b s. I.keys b s) self.old c bytes told → Runs (λ b s. I.keys b s) self.new (closed c) bytes told }
+        ensures closed { (c : Client) (bytes : List ℕ) (told : List Told) → Runs I.keys self.old c bytes told → Runs I.keys self.new (closed c) bytes told }
         ensures trouble { trouble_in self.new ≡ trouble_in self.old }
         ensures settings { settings_in self.new ≡ settings_in self.old }
         ensures indexes { indexes_in self.new ≡ indexes_in self.old }
         ensures names { names_in self.new ≡ names_in self.old }
     {
-        if self.reader.is_some() {
-            self.reader = None;
+        if let Reply::Open(_) = &self.reply {
+            self.reply = Reply::Over;
             if let Asks::Next(_, _, _) = &self.asks {
                 self.asks = Asks::First;
             }
@@ -196,23 +147,22 @@ impl<I: IndexBy> Informer<I> {
     /// server that was started anew asks for this: where its revisions are lower than the kept one, nothing that it
     /// sends tells so, and a watch would wait.
     pub fn restart(&mut self)
-        ensures restarted { Runs (λ b s. I.keys b s) self.new fresh [] [] }
+        ensures restarted { Runs I.keys self.new fresh [] [] }
         ensures trouble { trouble_in self.new ≡ None }
         ensures settings { settings_in self.new ≡ settings_in self.old }
         ensures indexes { indexes_in self.new ≡ indexes_in self.old }
         ensures names { names_in self.new ≡ names_in self.old }
     {
-        forget(self.alloc, &mut self.mirror);
+        self.mirror.forget(self.alloc);
         self.asks = Asks::First;
-        self.reader = None;
-        self.trouble = None;
+        self.reply = Reply::Over;
     }
 
     /// Whether a request is under way: pieces of its reply are still awaited.
     pub fn is_asking(&self) -> bool
-        ensures { (c : Client) (bytes : List ℕ) (told : List Told) → Runs (λ b s. I.keys b s) self.now c bytes told → result ≡ c.is_asking }
+        ensures { (c : Client) (bytes : List ℕ) (told : List Told) → Runs I.keys self.now c bytes told → result ≡ c.is_asking }
     {
-        self.reader.is_some()
+        self.reply.is_open()
     }
 
     /// Why the reply to the last request was given up. None while a request is under way, before the first one, and where
@@ -220,21 +170,21 @@ impl<I: IndexBy> Informer<I> {
     pub fn trouble(&self) -> Option<Trouble>
         ensures { result ≡ trouble_in self.now }
     {
-        self.trouble
+        self.reply.trouble()
     }
 
     /// The revision of the server whose objects these are; None before the first whole list, and after a restart until
     /// the next. That there is one is what client-go calls `HasSynced`.
     pub fn revision(&self) -> Option<u64>
-        ensures { (c : Client) (bytes : List ℕ) (told : List Told) → Runs (λ b s. I.keys b s) self.now c bytes told → result ≡ option_map (λ now. now.revision) c.cache }
+        ensures { (c : Client) (bytes : List ℕ) (told : List Told) → Runs I.keys self.now c bytes told → result ≡ option_map (λ now. now.revision) c.cache }
     {
         self.mirror.revision
     }
 
     /// What was added, updated and deleted since the last call, the start or the last restart, in order and each once.
     pub fn take_notices(&mut self) -> Vec<Notice>
-        ensures notices { (c : Client) (bytes : List ℕ) (told : List Told) → Runs (λ b s. I.keys b s) self.old c bytes told → map notice_seen result.items ≡ c.notices }
-        ensures taken { (c : Client) (bytes : List ℕ) (told : List Told) → Runs (λ b s. I.keys b s) self.old c bytes told → Runs (λ b s. I.keys b s) self.new (taken c) bytes told }
+        ensures notices { (c : Client) (bytes : List ℕ) (told : List Told) → Runs I.keys self.old c bytes told → map notice_seen result.items ≡ c.notices }
+        ensures taken { (c : Client) (bytes : List ℕ) (told : List Told) → Runs I.keys self.old c bytes told → Runs I.keys self.new (taken c) bytes told }
         ensures trouble { trouble_in self.new ≡ trouble_in self.old }
         ensures settings { settings_in self.new ≡ settings_in self.old }
         ensures indexes { indexes_in self.new ≡ indexes_in self.old }
@@ -245,7 +195,7 @@ impl<I: IndexBy> Informer<I> {
 
     /// The objects, and their indexes.
     pub fn indexer(&self) -> &Indexer<I>
-        ensures objects { (c : Client) (bytes : List ℕ) (told : List Told) → Runs (λ b s. I.keys b s) self.now c bytes told → held_of result.now ≡ keyed (keys_in (λ b s. I.keys b s) (indexes_of result.now)) (kept c.cache) }
+        ensures objects { (c : Client) (bytes : List ℕ) (told : List Told) → Runs I.keys self.now c bytes told → held_of result.now ≡ keyed (keys_in I.keys (indexes_of result.now)) (kept c.cache) }
         ensures indexes { indexes_of result.now ≡ indexes_in self.now }
         ensures names { names_of result.now ≡ names_in self.now }
     {

@@ -26,12 +26,11 @@ mod news;
 mod notice;
 mod noting;
 mod pages;
-mod replying;
+mod reply;
 mod requests;
 mod settings;
 mod taking;
 mod trouble;
-mod turn;
 
 pub use decoder::{Malformed, Source};
 pub use informer::Informer;

@@ -2,7 +2,7 @@ use Rattle.std.proofs.Common.{[], ◌∙◌, ap, refl, subst, sym}
 use Rattle.std.specs.Prelude.{option_map}
 use Rattle.reflector.specs.Informer.{settings_in}
 use Rattle.reflector.specs.Run.{asked}
-use Rattle.mirroring.proofs.Following.{due_now, front_same, turns_once}
+use Rattle.mirroring.proofs.Following.{due_now, front_same, not_none_due, turns_once}
 use Rattle.mirroring.proofs.turning.turn.Goals as goal
 
 pub returns-clause-told : goal.returns-clause-told
@@ -24,3 +24,7 @@ returns-clause-fault g c = λ d is idle.
 pub returns-in-Err-clause-undialled : goal.returns-in-Err-clause-undialled
 returns-in-Err-clause-undialled g c = λ d is idle undialled.
     (([], [], c.closed.ensures.closed (asked d) [] [] (c.in_ok-request.ensures.asked d is.0 is.1 is.2 idle.0)), refl)
+
+pub returns-in_default-clause-told : goal.returns-in_default-clause-told
+returns-in_default-clause-told g c = λ d is idle.
+    absurd (not_none_due (settings_in c.args.informer.now) d idle.0 (ap (option_map (λ v. v.items)) (sym c.in_default.is) ∙ c.in_ok-request.ensures.due d is.0 is.1 is.2))
