@@ -1,12 +1,13 @@
 """Runs the commands of README.md and docs/API.md against a server that was built, and compares what they print; then makes
 the same requests by urllib and compares their replies. All of it twice: of a server that serves one connection after another,
-and of one that serves many at once.
+and of one that serves many at once. The commands of the programs that play scripts are run by themselves.
 
     tools/newcomer.py [PROGRAM]
 
 PROGRAM is crates/ssa_server/out/ssa_server where none is named. The commands are the lines "$ COMMAND" of the code blocks that
 begin with such a line, in the order of the page; the lines behind one are what it prints. A command of ./ssa-server starts a
 fresh server, on a free port in place of the page's, and the next one sets the variable S; those after it are run by bash.
+What ./ssa-mirror prints depends on what others do meanwhile: it isn't run.
 urllib leaves out the commands of curl -si, whose replies are shown with their heads: it can't make some of these requests.
 The status is 1 where something differs.
 """
@@ -47,8 +48,15 @@ def sessions():
         for row in commands(page):
             if row[0].startswith("./ssa-server "):
                 found.append([])
+            elif row[0].startswith("./"):
+                continue
             found[-1].append(row)
     return found
+
+
+def plays():
+    """The commands that play scripts."""
+    return [row for page in PAGES for row in commands(page) if row[0].startswith(("./ssa-replay ", "./ssa-loop "))]
 
 
 class Server:
@@ -145,6 +153,11 @@ def main(words):
         sys.exit(f"newcomer: {program} isn't built: run `rt run` in crates/ssa_server")
     os.environ["no_proxy"] = "127.0.0.1"
     count = played = 0
+    for command, wanted in plays():
+        # A program that isn't built is compiled first.
+        done = subprocess.run(["bash", "-c", command], cwd=TOP, stdout=subprocess.PIPE, text=True, timeout=600, check=False)
+        count += differs(command, done.stdout.rstrip("\n"), wanted)
+        played += 1
     for session in sessions():
         (start, said), (setting, _), *rows = session
         played += len(rows)
@@ -153,7 +166,7 @@ def main(words):
                 count += differs(start, server.said.replace(server.port, PORT), said)
                 base = setting.partition("=")[2].replace(PORT, server.port)
                 count += ask(base, rows)
-    print(f"{played} commands by curl and by urllib, of both modes, {count} differences")
+    print(f"{played} commands, those of servers by curl and by urllib and in both modes, {count} differences")
     return int(count > 0)
 
 

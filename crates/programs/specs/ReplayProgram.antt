@@ -24,7 +24,7 @@ status_of_kind kind.DisplayHelp = 0
 status_of_kind kind.DisplayVersion = 0
 status_of_kind _ = wrong_usage
 
--- the exit status: 2 for the arguments, 3 for a file or the types, 4 for a line of the script, 5 for memory or the store;
+-- the exit status: 2 for the arguments, 3 for a file or the types, 5 for memory or the store;
 -- 6 for a port; 1 where the output cannot be written, 0 where help or the version was asked for
 abbrev pub status_of : RunFault → ℕ
 status_of (fault.Arguments e) = status_of_kind (kind_of e)
@@ -33,8 +33,6 @@ status_of (fault.Number o) = wrong_usage
 status_of (fault.TypesFile path e) = 3
 status_of (fault.TypesText path e) = 3
 status_of (fault.Types path refusal) = 3
-status_of (fault.ScriptFile path e) = 3
-status_of (fault.Script n) = 4
 status_of (fault.Output e) = 1
 status_of (fault.Port p e) = 6
 status_of fault.Memory = 5

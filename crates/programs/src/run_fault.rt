@@ -37,12 +37,6 @@ pub enum RunFault {
     /// The types file declares no types.
     #[error("types file {0}: {1}")]
     Types(String, TypesRefusal),
-    /// The script cannot be read.
-    #[error("script {0}: {1}")]
-    ScriptFile(String, io::Error),
-    /// The first bad line of the script, counted from 1.
-    #[error("line {0}: bad event")]
-    Script(usize),
     /// The replies cannot be written.
     #[error("standard output: {0}")]
     Output(io::Error),
@@ -59,7 +53,7 @@ pub enum RunFault {
 
 impl RunFault {
     /// The exit status that tells the fault: 0 where help or the version was asked for, 1 for the output, 2 for other
-    /// arguments, 3 for a file or the types, 4 for a line of the script, 5 for memory or the store, 6 for a port.
+    /// arguments, 3 for a file or the types, 5 for memory or the store, 6 for a port.
     pub fn status(&self) -> u8
         ensures { result ≡ status_of self.now }
     {
@@ -68,11 +62,7 @@ impl RunFault {
             RunFault::Output(_) => 1,
             RunFault::Arguments(_) => WRONG_USAGE,
             RunFault::NotText | RunFault::Number(_) => WRONG_USAGE,
-            RunFault::TypesFile(..)
-            | RunFault::TypesText(..)
-            | RunFault::Types(..)
-            | RunFault::ScriptFile(..) => 3,
-            RunFault::Script(_) => 4,
+            RunFault::TypesFile(..) | RunFault::TypesText(..) | RunFault::Types(..) => 3,
             RunFault::Memory | RunFault::Store => 5,
             RunFault::Port(..) => 6,
         }
@@ -92,12 +82,22 @@ impl RunFault {
 }
 
 impl From<AllocError> for RunFault {
+    ghost use Rattle.std.specs.Prelude.{◌≡◌};
+    ghost use Rattle.programs.specs.declared.run_fault.RunFault.TheVariants.{Memory};
+
+    ghost from_gives = { λ _ e. e ≡ Memory };
+
     fn from(_: AllocError) -> RunFault {
         RunFault::Memory
     }
 }
 
 impl From<clap::Error> for RunFault {
+    ghost use Rattle.std.specs.Prelude.{◌≡◌, ◌⊎◌};
+    ghost use Rattle.programs.specs.declared.run_fault.RunFault.TheVariants.{Arguments, Memory};
+
+    ghost from_gives = { λ e f. (f ≡ Memory) ⊎ (f ≡ Arguments e) };
+
     fn from(error: clap::Error) -> RunFault {
         match error.kind() {
             ErrorKind::OutOfMemory => RunFault::Memory,

@@ -1,5 +1,4 @@
-mod FrontLemmas
-mod PlayRuns
-mod ReplayArguments
-mod RunLemmas
+mod Endings
+mod OutputLemmas
+mod PlayerArguments
 mod ScriptLemmas

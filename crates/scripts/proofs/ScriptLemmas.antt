@@ -14,8 +14,11 @@ use Rattle.std.proofs.lemmas.Slice.Eq.{bytes_eq-Decides}
 use Rattle.serde_json.specs.Data.{unsigned, negative, float, Data, null, boolean, number, string, array, object, Items, no_items, item, Members, no_members, member}
 use Rattle.serde_json.specs.Find.{as_array, as_bool, as_object, as_str}
 use Rattle.serde_json.specs.Read.{read as read_json}
-use Rattle.scripts.specs.Script.{Apply, AreEvents, Event, apply, opens, comes, goes, pumps, ticks, compacts, HasTarget, IsFirstBad, IsTarget, IsEventLine, is_filled, object_of}
-use Rattle.scripts.specs.ScriptSteps.{apply_in, comes_in, event_in, event_named, event_of, if_target, is_last, is_last_item, is_target, next_item, next_named, number_in, numbered, only_member, pumps_in, with_items, with_rest}
+use Rattle.httpedge.specs.Steps.{opens, comes, goes, pumps, ticks, compacts}
+use Rattle.world_laws.specs.World.{WorldEvent, other, request, send, to_server, to_client, cut, restart, reconcile}
+use Rattle.scripts.specs.Requests.{Apply}
+use Rattle.scripts.specs.Script.{AreEvents, IsFirstBad, IsTarget, IsEventLine, IsEventObject, apply_object, is_filled, only, pair, whole}
+use Rattle.scripts.specs.ScriptSteps.{Line, Makes, applies, apply_in, client_named, comes_in, event_named, happens, if_target, is_last, is_last_item, is_target, line_in, line_named, line_of, next_item, next_named, number_in, numbered, only_member, pumps_in, with_items, with_rest}
 
 some≢none : {X : Type 0} (x : X) → Some x ≡ None → ⊥
 some≢none x e = cc
@@ -176,103 +179,138 @@ last_item : {X : Type 0} (x y : X) (ds : Items) → is_last_item x ds ≡ Some y
 last_item x y no_items e = (refl, cc)
 last_item x y (item d ds) e = cc
 
-comes_is : (ds : Items) (e : Event) → comes_in ds ≡ Some e → (k : ℕ) × (s : List ℕ) × (e ≡ comes k s) × (ds ≡ item (number (unsigned k)) (item (string s) no_items))
+comes_is : (ds : Items) (e : WorldEvent) → comes_in ds ≡ Some e → IsEventObject (only (codes "in") (array ds)) e
 comes_is ds e is =
     let k = and_then-Some _ _ e is in
     let first = leading number_in ds k.0 k.1 in
     let t = and_then-Some _ _ e k.2 in
     let second = leading as_str k.0.1 t.0 t.1 in
     let end = last_item _ e t.0.1 t.2 in
-    (k.0.0, t.0.0, sym end.1, first.1 ∙ ap₂ item (counted first.0 k.0.0 first.2) (second.1 ∙ ap₂ item (text second.0 t.0.0 second.2) end.0))
+    let all : ds ≡ item (whole k.0.0) (item (string t.0.0) no_items) = first.1 ∙ ap₂ item (counted first.0 k.0.0 first.2) (second.1 ∙ ap₂ item (text second.0 t.0.0 second.2) end.0) in
+    subst (IsEventObject (only (codes "in") (array ds))) end.1 (ap (λ (items : Items). only (codes "in") (array items)) all)
 
-pumps_is : (ds : Items) (e : Event) → pumps_in ds ≡ Some e → (k : ℕ) × (n : ℕ) × (e ≡ pumps k n) × (ds ≡ item (number (unsigned k)) (item (number (unsigned n)) no_items))
+pumps_is : (ds : Items) (e : WorldEvent) → pumps_in ds ≡ Some e → IsEventObject (only (codes "pump") (array ds)) e
 pumps_is ds e is =
     let k = and_then-Some _ _ e is in
     let first = leading number_in ds k.0 k.1 in
     let n = and_then-Some _ _ e k.2 in
     let second = leading number_in k.0.1 n.0 n.1 in
     let end = last_item _ e n.0.1 n.2 in
-    (k.0.0, n.0.0, sym end.1, first.1 ∙ ap₂ item (counted first.0 k.0.0 first.2) (second.1 ∙ ap₂ item (counted second.0 n.0.0 second.2) end.0))
+    let all : ds ≡ item (whole k.0.0) (item (whole n.0.0) no_items) = first.1 ∙ ap₂ item (counted first.0 k.0.0 first.2) (second.1 ∙ ap₂ item (counted second.0 n.0.0 second.2) end.0) in
+    subst (IsEventObject (only (codes "pump") (array ds))) end.1 (ap (λ (items : Items). only (codes "pump") (array items)) all)
 
-only : (ms : Members) (p : List ℕ × Data) → only_member ms ≡ Some p → ms ≡ member p.0 p.1 no_members
-only no_members p e = cc
-only (member k d ms) p e = let l = last (k, d) p ms e in ap₂ (λ (q : List ℕ × Data) r. member q.0 q.1 r) l.1 l.0
+the_only : (ms : Members) (p : List ℕ × Data) → only_member ms ≡ Some p → object ms ≡ only p.0 p.1
+the_only no_members p e = cc
+the_only (member k d ms) p e = let l = last (k, d) p ms e in ap₂ (λ (q : List ℕ × Data) r. object (member q.0 q.1 r)) l.1 l.0
 
--- the only member has the name k and the value x
-whole : (name k : List ℕ) (d x : Data) → name ≡ k → d ≡ x → object (member name d no_members) ≡ object (member k x no_members)
-whole name k d x n v = ap₂ (λ m y. object (member m y no_members)) n v
+-- the member has the name and the value of the event's object
+named_so : (name k : List ℕ) (d x : Data) (e : WorldEvent) → bytes_eq name k ≡ true → d ≡ x → IsEventObject (only k x) e → IsEventObject (only name d) e
+named_so name k d x e named value says =
+    subst (λ (n : List ℕ). IsEventObject (only n d) e) (sym ((bytes_eq-Decides name k).0 named)) (subst (λ (v : Data). IsEventObject (only k v) e) (sym value) says)
 
-numbered_is : (name : List ℕ) (n : ℕ) (e : Event) → numbered name n ≡ Some e → (object (member name (number (unsigned n)) no_members) ≡ object_of e) × HasTarget e
-numbered_is name n e is = go (bytes_eq name (codes "open")) (bytes_eq name (codes "gone")) (bytes_eq name (codes "tick")) (bytes_eq name (codes "compact")) refl refl refl refl is
+numbered_is : (name : List ℕ) (n : ℕ) (e : WorldEvent) → numbered name n ≡ Some e → IsEventObject (only name (whole n)) e
+numbered_is name n e is =
+    go (bytes_eq name (codes "open")) (bytes_eq name (codes "gone")) (bytes_eq name (codes "tick")) (bytes_eq name (codes "compact")) (bytes_eq name (codes "toServer")) (bytes_eq name (codes "toClient"))
+    refl refl refl refl refl refl is
   where
-    one : (k : List ℕ) (f : Event) → name ≡ k → f ≡ e → (object (member k (number (unsigned n)) no_members) ≡ object_of f) × HasTarget f
-        → (object (member name (number (unsigned n)) no_members) ≡ object_of e) × HasTarget e
-    one k f same is says =
-        subst (λ (x : Event). (object (member name (number (unsigned n)) no_members) ≡ object_of x) × HasTarget x) is
-        (whole name k (number (unsigned n)) (number (unsigned n)) same refl ∙ says.0, says.1)
+    one : (k : List ℕ) (f : WorldEvent) → bytes_eq name k ≡ true → f ≡ e → IsEventObject (only k (whole n)) f → IsEventObject (only name (whole n)) e
+    one k f named is says = named_so name k (whole n) (whole n) e named refl (subst (IsEventObject (only k (whole n))) is says)
 
-    go : (o g t p : Bool) → bytes_eq name (codes "open") ≡ o → bytes_eq name (codes "gone") ≡ g → bytes_eq name (codes "tick") ≡ t → bytes_eq name (codes "compact") ≡ p
-        → cond o (Some (opens n)) (cond g (Some (goes n)) (cond t (Some (ticks n)) (cond p (Some (compacts n)) None))) ≡ Some e
-        → (object (member name (number (unsigned n)) no_members) ≡ object_of e) × HasTarget e
-    go true g t p ot gt it pt h = one (codes "open") (opens n) ((bytes_eq-Decides name (codes "open")).0 ot) (cc) (refl, tt)
-    go false true t p ot gt it pt h = one (codes "gone") (goes n) ((bytes_eq-Decides name (codes "gone")).0 gt) (cc) (refl, tt)
-    go false false true p ot gt it pt h = one (codes "tick") (ticks n) ((bytes_eq-Decides name (codes "tick")).0 it) (cc) (refl, tt)
-    go false false false true ot gt it pt h = one (codes "compact") (compacts n) ((bytes_eq-Decides name (codes "compact")).0 pt) (cc) (refl, tt)
-    go false false false false ot gt it pt h = cc
+    go : (o g t p s c : Bool) → bytes_eq name (codes "open") ≡ o → bytes_eq name (codes "gone") ≡ g → bytes_eq name (codes "tick") ≡ t → bytes_eq name (codes "compact") ≡ p
+        → bytes_eq name (codes "toServer") ≡ s → bytes_eq name (codes "toClient") ≡ c
+        → cond o (Some (other (opens n))) (cond g (Some (other (goes n))) (cond t (Some (other (ticks n))) (cond p (Some (other (compacts n))) (cond s (Some (to_server n)) (cond c (Some (to_client n)) None))))) ≡ Some e
+        → IsEventObject (only name (whole n)) e
+    go true g t p s c ot gt it pt st ct h = one (codes "open") (other (opens n)) ot (cc) refl
+    go false true t p s c ot gt it pt st ct h = one (codes "gone") (other (goes n)) gt (cc) refl
+    go false false true p s c ot gt it pt st ct h = one (codes "tick") (other (ticks n)) it (cc) refl
+    go false false false true s c ot gt it pt st ct h = one (codes "compact") (other (compacts n)) pt (cc) refl
+    go false false false false true c ot gt it pt st ct h = one (codes "toServer") (to_server n) st (cc) refl
+    go false false false false false true ot gt it pt st ct h = one (codes "toClient") (to_client n) ct (cc) refl
+    go false false false false false false ot gt it pt st ct h = cc
 
-named_is : (name : List ℕ) (d : Data) (e : Event) → event_named name d ≡ Some e → (object (member name d no_members) ≡ object_of e) × HasTarget e
-named_is name d e is = go (bytes_eq name (codes "apply")) (bytes_eq name (codes "in")) (bytes_eq name (codes "pump")) refl refl refl is
+client_is : (name : List ℕ) (e : WorldEvent) → client_named name ≡ Some e → IsEventObject (only (codes "client") (string name)) e
+client_is name e is =
+    go (bytes_eq name (codes "send")) (bytes_eq name (codes "cut")) (bytes_eq name (codes "restart")) (bytes_eq name (codes "reconcile")) refl refl refl refl is
   where
-    go : (a i p : Bool) → bytes_eq name (codes "apply") ≡ a → bytes_eq name (codes "in") ≡ i → bytes_eq name (codes "pump") ≡ p
-        → cond a (option_map apply (option_and_then apply_in (as_object d)))
-        (cond i (option_and_then comes_in (as_array d)) (cond p (option_and_then pumps_in (as_array d)) (option_and_then (numbered name) (number_in d)))) ≡ Some e
-        → (object (member name d no_members) ≡ object_of e) × HasTarget e
-    go true i p at it pt h =
-        let a = map-Some apply _ e h in
+    one : (k : List ℕ) (f : WorldEvent) → bytes_eq name k ≡ true → f ≡ e → IsEventObject (only (codes "client") (string k)) f → IsEventObject (only (codes "client") (string name)) e
+    one k f named is says =
+        subst (IsEventObject (only (codes "client") (string name))) is
+        (subst (λ (n : List ℕ). IsEventObject (only (codes "client") (string n)) f) (sym ((bytes_eq-Decides name k).0 named)) says)
+
+    go : (s c r y : Bool) → bytes_eq name (codes "send") ≡ s → bytes_eq name (codes "cut") ≡ c → bytes_eq name (codes "restart") ≡ r → bytes_eq name (codes "reconcile") ≡ y
+        → cond s (Some send) (cond c (Some cut) (cond r (Some restart) (cond y (Some reconcile) None))) ≡ Some e → IsEventObject (only (codes "client") (string name)) e
+    go true c r y st ct rt yt h = one (codes "send") send st (cc) refl
+    go false true r y st ct rt yt h = one (codes "cut") cut ct (cc) refl
+    go false false true y st ct rt yt h = one (codes "restart") restart rt (cc) refl
+    go false false false true st ct rt yt h = one (codes "reconcile") reconcile yt (cc) refl
+    go false false false false st ct rt yt h = cc
+
+named_is : (name : List ℕ) (d : Data) (e : WorldEvent) → event_named name d ≡ Some e → IsEventObject (only name d) e
+named_is name d e is = go (bytes_eq name (codes "in")) (bytes_eq name (codes "pump")) (bytes_eq name (codes "client")) refl refl refl is
+  where
+    go : (i p c : Bool) → bytes_eq name (codes "in") ≡ i → bytes_eq name (codes "pump") ≡ p → bytes_eq name (codes "client") ≡ c
+        → cond i (option_and_then comes_in (as_array d))
+        (cond p (option_and_then pumps_in (as_array d)) (cond c (option_and_then client_named (as_str d)) (option_and_then (numbered name) (number_in d)))) ≡ Some e
+        → IsEventObject (only name d) e
+    go true p c it pt ct h =
+        let ds = and_then-Some comes_in _ e h in
+        named_so name (codes "in") d (array ds.0) e it (listed d ds.0 ds.1) (comes_is ds.0 e ds.2)
+    go false true c it pt ct h =
+        let ds = and_then-Some pumps_in _ e h in
+        named_so name (codes "pump") d (array ds.0) e pt (listed d ds.0 ds.1) (pumps_is ds.0 e ds.2)
+    go false false true it pt ct h =
+        let s = and_then-Some client_named _ e h in
+        named_so name (codes "client") d (string s.0) e ct (text d s.0 s.1) (client_is s.0 e s.2)
+    go false false false it pt ct h =
+        let n = and_then-Some (numbered name) _ e h in
+        subst (λ (v : Data). IsEventObject (only name v) e) (sym (counted d n.0 n.1)) (numbered_is name n.0 e n.2)
+
+named_line_is : (name : List ℕ) (d : Data) (l : Line) (e : WorldEvent) → line_named name d ≡ Some l → Makes l e → IsEventObject (only name d) e
+named_line_is name d l e is makes = go (bytes_eq name (codes "apply")) refl is
+  where
+    go : (a : Bool) → bytes_eq name (codes "apply") ≡ a → cond a (option_map applies (option_and_then apply_in (as_object d))) (option_map happens (event_named name d)) ≡ Some l
+        → IsEventObject (only name d) e
+    go true at h =
+        let a = map-Some applies _ l h in
         let ms = and_then-Some apply_in _ a.0 a.1 in
         let said = apply_is ms.0 a.0 ms.2 in
-        subst (λ (x : Event). (object (member name d no_members) ≡ object_of x) × HasTarget x) a.2
-        (whole name (codes "apply") d _ ((bytes_eq-Decides name (codes "apply")).0 at) (inner d ms.0 ms.1 ∙ ap object said.0), said.1)
-    go false true p at it pt h =
-        let ds = and_then-Some comes_in _ e h in
-        let said = comes_is ds.0 e ds.2 in
-        subst (λ (x : Event). (object (member name d no_members) ≡ object_of x) × HasTarget x) (sym said.2)
-        (whole name (codes "in") d _ ((bytes_eq-Decides name (codes "in")).0 it) (listed d ds.0 ds.1 ∙ ap array said.3), tt)
-    go false false true at it pt h =
-        let ds = and_then-Some pumps_in _ e h in
-        let said = pumps_is ds.0 e ds.2 in
-        subst (λ (x : Event). (object (member name d no_members) ≡ object_of x) × HasTarget x) (sym said.2)
-        (whole name (codes "pump") d _ ((bytes_eq-Decides name (codes "pump")).0 pt) (listed d ds.0 ds.1 ∙ ap array said.3), tt)
-    go false false false at it pt h =
-        let n = and_then-Some (numbered name) _ e h in
-        let said = numbered_is name n.0 e n.2 in
-        (whole name name d (number (unsigned n.0)) refl (counted d n.0 n.1) ∙ said.0, said.1)
+        let made = subst (λ (x : Line). Makes x e) (sym a.2) makes in
+        subst (IsEventObject (only name d)) (sym made.2)
+        (named_so name (codes "apply") d (apply_object a.0) (request made.0) at (inner d ms.0 ms.1 ∙ ap object said.0) (a.0, refl, said.1, made.1))
+    go false at h =
+        let x = map-Some happens _ l h in
+        let made = subst (λ (y : Line). Makes y e) (sym x.2) makes in
+        subst (IsEventObject (only name d)) (sym made) (named_is name d x.0 x.1)
 
-event_is : (d : Data) (e : Event) → event_in d ≡ Some e → (d ≡ object_of e) × HasTarget e
-event_is d e is =
-    let p = and_then-Some _ _ e is in
+line_is : (d : Data) (l : Line) (e : WorldEvent) → line_in d ≡ Some l → Makes l e → IsEventObject d e
+line_is d l e is makes =
+    let p = and_then-Some _ _ l is in
     let ms = and_then-Some only_member _ p.0 p.1 in
-    let said = named_is p.0.0 p.0.1 e p.2 in
-    (inner d ms.0 ms.1 ∙ ap object (only ms.0 p.0 ms.2) ∙ said.0, said.1)
+    subst (λ (x : Data). IsEventObject x e) (sym (inner d ms.0 ms.1 ∙ the_only ms.0 p.0 ms.2)) (named_line_is p.0.0 p.0.1 l e p.2 makes)
 
-pub says_event : (line : List ℕ) (e : Event) → event_of line ≡ Some e → IsEventLine line e
-says_event line e is =
-    let d = and_then-Some event_in (read_json line) e is in
-    let said = event_is d.0 e d.2 in
-    (d.1 ∙ ap Some said.0, said.1)
+pub says_event : (text : List ℕ) (l : Line) (e : WorldEvent) → line_of text ≡ Some l → Makes l e → IsEventLine text e
+says_event text l e is makes =
+    let d = and_then-Some line_in (read_json text) l is in
+    (d.0, d.1, line_is d.0 l e d.2 makes)
 
-event_said : (line : List ℕ) (e : Event) → IsEventLine line e → event_of line ≡ Some e
-event_said line (apply a) says = rw (says.0, is_target_of a.target says.1) refl
-event_said line (opens k) says = rw says.0 refl
-event_said line (comes k text) says = rw says.0 refl
-event_said line (goes k) says = rw says.0 refl
-event_said line (pumps k max) says = rw says.0 refl
-event_said line (ticks ms) says = rw says.0 refl
-event_said line (compacts c) says = rw says.0 refl
+event_said : (text : List ℕ) (e : WorldEvent) → IsEventLine text e → (l : Line) × (line_of text ≡ Some l)
+event_said text (other (opens k)) (d, reads, is) = (happens (other (opens k)), rw (reads, is) refl)
+event_said text (other (comes k bytes)) (d, reads, is) = (happens (other (comes k bytes)), rw (reads, is) refl)
+event_said text (other (goes k)) (d, reads, is) = (happens (other (goes k)), rw (reads, is) refl)
+event_said text (other (pumps k max)) (d, reads, is) = (happens (other (pumps k max)), rw (reads, is) refl)
+event_said text (other (ticks ms)) (d, reads, is) = (happens (other (ticks ms)), rw (reads, is) refl)
+event_said text (other (compacts c)) (d, reads, is) = (happens (other (compacts c)), rw (reads, is) refl)
+event_said text (request bytes) (d, reads, (a, is, target, asked)) = (applies a, rw (reads, is, is_target_of a.target target) refl)
+event_said text send (d, reads, is) = (happens send, rw (reads, is) refl)
+event_said text (to_server n) (d, reads, is) = (happens (to_server n), rw (reads, is) refl)
+event_said text (to_client n) (d, reads, is) = (happens (to_client n), rw (reads, is) refl)
+event_said text cut (d, reads, is) = (happens cut, rw (reads, is) refl)
+event_said text restart (d, reads, is) = (happens restart, rw (reads, is) refl)
+event_said text reconcile (d, reads, is) = (happens reconcile, rw (reads, is) refl)
 
 -- ---- lists of lines
 
-zip_push : (xs : List (List ℕ)) (ys : List Event) (x : List ℕ) (y : Event) → AllZip IsEventLine xs ys → IsEventLine x y → AllZip IsEventLine (xs ++ x ∷ []) (ys ++ y ∷ [])
+zip_push : (xs : List (List ℕ)) (ys : List WorldEvent) (x : List ℕ) (y : WorldEvent) → AllZip IsEventLine xs ys → IsEventLine x y → AllZip IsEventLine (xs ++ x ∷ []) (ys ++ y ∷ [])
 zip_push [] [] x y h r = (r, tt)
 zip_push [] (z ∷ ys) x y h r = absurd h
 zip_push (w ∷ xs) [] x y h r = absurd h
@@ -285,7 +323,7 @@ one_more : (lines : List (Bor (List ℕ))) (i : ℕ) (d : Bor (List ℕ)) → i 
 one_more lines i d lt = ap texts (take_more lines i d lt) ∙ map-append (λ (l : Bor (List ℕ)). l.now) (take i lines) (slice_index_or lines i d ∷ [])
 
 -- an empty line is read past
-pub past_empty : (lines : List (Bor (List ℕ))) (i : ℕ) (d : Bor (List ℕ)) (events : List Event) → i < length lines → is_filled (slice_index_or lines i d).now ≡ false
+pub past_empty : (lines : List (Bor (List ℕ))) (i : ℕ) (d : Bor (List ℕ)) (events : List WorldEvent) → i < length lines → is_filled (slice_index_or lines i d).now ≡ false
     → AreEvents (texts (take i lines)) events → AreEvents (texts (take (i + 1) lines)) events
 past_empty lines i d events lt empty before =
     let line = (slice_index_or lines i d).now in
@@ -295,26 +333,26 @@ past_empty lines i d events lt empty before =
     subst (λ xs. AllZip IsEventLine xs events) (sym same) before
 
 -- an event's line adds it
-pub with_event : (lines : List (Bor (List ℕ))) (i : ℕ) (d : Bor (List ℕ)) (events : List Event) (a : Event) → i < length lines → is_filled (slice_index_or lines i d).now ≡ true
-    → event_of (slice_index_or lines i d).now ≡ Some a → AreEvents (texts (take i lines)) events → AreEvents (texts (take (i + 1) lines)) (events ++ a ∷ [])
-with_event lines i d events a lt full says before =
+pub with_event : (lines : List (Bor (List ℕ))) (i : ℕ) (d : Bor (List ℕ)) (events : List WorldEvent) (l : Line) (a : WorldEvent) → i < length lines → is_filled (slice_index_or lines i d).now ≡ true
+    → line_of (slice_index_or lines i d).now ≡ Some l → Makes l a → AreEvents (texts (take i lines)) events → AreEvents (texts (take (i + 1) lines)) (events ++ a ∷ [])
+with_event lines i d events l a lt full says makes before =
     let line = (slice_index_or lines i d).now in
     let same : filter is_filled (texts (take (i + 1) lines)) ≡ filter is_filled (texts (take i lines)) ++ line ∷ [] =
     ap (filter is_filled) (one_more lines i d lt) ∙ filter-append is_filled (texts (take i lines)) (line ∷ [])
     ∙ ap (λ xs. filter is_filled (texts (take i lines)) ++ xs) (rw full refl) in
-    subst (λ xs. AllZip IsEventLine xs (events ++ a ∷ [])) (sym same) (zip_push _ events line a before (says_event line a says))
+    subst (λ xs. AllZip IsEventLine xs (events ++ a ∷ [])) (sym same) (zip_push _ events line a before (says_event line l a says makes))
 
 -- a line that isn't empty and is no event's is the first bad one
-pub first_bad : (lines : List (Bor (List ℕ))) (i : ℕ) (d : Bor (List ℕ)) (events : List Event) (n : ℕ) → i < length lines → is_filled (slice_index_or lines i d).now ≡ true
-    → event_of (slice_index_or lines i d).now ≡ None → AreEvents (texts (take i lines)) events → n ≡ i + 1 → IsFirstBad (texts lines) n
+pub first_bad : (lines : List (Bor (List ℕ))) (i : ℕ) (d : Bor (List ℕ)) (events : List WorldEvent) (n : ℕ) → i < length lines → is_filled (slice_index_or lines i d).now ≡ true
+    → line_of (slice_index_or lines i d).now ≡ None → AreEvents (texts (take i lines)) events → n ≡ i + 1 → IsFirstBad (texts lines) n
 first_bad lines i d events n lt full none before counted = record {
   before = texts (take i lines);
   line = (slice_index_or lines i d).now;
   after = texts (drop (suc i) lines);
   events = events;
-  cut = ap texts (sym (take-append-drop i lines) ∙ ap (λ xs. take i lines ++ xs) (drop-cons lines i d lt)) ∙ map-append (λ (l : Bor (List ℕ)). l.now) (take i lines) (slice_index_or lines i d ∷ drop (suc i) lines);
+  split = ap texts (sym (take-append-drop i lines) ∙ ap (λ xs. take i lines ++ xs) (drop-cons lines i d lt)) ∙ map-append (λ (l : Bor (List ℕ)). l.now) (take i lines) (slice_index_or lines i d ∷ drop (suc i) lines);
   good = before;
   place = counted ∙ ap (λ k. k + 1) (sym (length-map (take i lines) (λ (l : Bor (List ℕ)). l.now) ∙ length-take-le i lines (omega arith)));
   filled = λ e. let bad : true ≡ false = sym full ∙ ap is_filled e in cc;
-  bad = λ a says. some≢none a (sym (event_said _ a says) ∙ none);
+  bad = λ a says. let said = event_said _ a says in some≢none said.0 (sym said.1 ∙ none);
 }

@@ -1,8 +1,10 @@
-pub mod ApplyLine
-pub mod ReplayCommand
-pub mod ReplayFaults
-pub mod Replays
+pub mod Asked
+pub mod Output
+pub mod Parts
+pub mod PlayerCommand
+pub mod Plays
 pub mod Requests
-pub mod Running
 pub mod Script
 pub mod ScriptSteps
+pub mod Seen
+pub mod Statuses

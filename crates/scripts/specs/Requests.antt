@@ -6,7 +6,13 @@ use Rattle.serde_json.specs.Read.{max_depth, read}
 use Rattle.serde_json.specs.Written.{compact_text, has_float}
 use Rattle.verbs.specs.Admit.{apply_type}
 use Rattle.wireclient.specs.Request.{request}
-use Rattle.scripts.specs.Script.{Apply}
+
+-- a body applied to an object, whose path is the target, by a manager
+pub record Apply : Type 0 where
+  pub body : Data
+  pub force : Bool
+  pub manager : List ℕ
+  pub target : List ℕ
 
 -- the query names the manager and, where the apply takes over what others own, says so
 abbrev pub with_force : Bool → List ℕ → List ℕ

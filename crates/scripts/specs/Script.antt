@@ -3,65 +3,61 @@ use Rattle.std.specs.Prelude.{◌≡◌, ◌≢◌, ◌≤◌, ◌+◌, ◌==◌
 use Rattle.std.specs.List.{All, AllZip, filter, slice_split}
 use Rattle.serde_json.specs.Data.{Data, unsigned, boolean, number, string, array, object, no_items, item, no_members, member}
 use Rattle.serde_json.specs.Read.{read as read_json}
+use Rattle.httpedge.specs.Steps.{opens, comes, goes, pumps, ticks, compacts}
+use Rattle.world_laws.specs.World.{WorldEvent, other, request, send, to_server, to_client, cut, restart, reconcile}
+use Rattle.scripts.specs.Requests.{Apply, IsRequestOf}
 
 -- the lines of a text, which line feeds part
 abbrev pub lines_of : List ℕ → List (List ℕ)
 lines_of text = slice_split (λ b. b == 10) text
 
--- a body applied to an object, whose path is the target, by a manager
-pub record Apply : Type 0 where
-  pub body : Data
-  pub force : Bool
-  pub manager : List ℕ
-  pub target : List ℕ
+-- ---- the line of an event
 
--- what happens: an apply; a connection that opens; a text's bytes that come on a connection; its peer goes; a watch may write so many lines;
--- so many milliseconds have passed since the start; changes up to a revision may be forgotten
-pub data Event : Type 0 where
-  apply : Apply → Event
-  opens : ℕ → Event
-  comes : ℕ → List ℕ → Event
-  goes : ℕ → Event
-  pumps : ℕ → ℕ → Event
-  ticks : ℕ → Event
-  compacts : ℕ → Event
+-- {"<name>":<value>}
+abbrev pub only : List ℕ → Data → Data
+only name value = object (member name value no_members)
 
--- the JSON object of an event
-abbrev pub object_of : Event → Data
-object_of (apply a) = object (member (codes "apply") (object
-    (member (codes "body") a.body
-    (member (codes "force") (boolean a.force)
-    (member (codes "manager") (string a.manager)
-    (member (codes "target") (string a.target) no_members))))) no_members)
-object_of (opens k) = object (member (codes "open") (number (unsigned k)) no_members)
-object_of (comes k text) = object (member (codes "in") (array (item (number (unsigned k)) (item (string text) no_items))) no_members)
-object_of (goes k) = object (member (codes "gone") (number (unsigned k)) no_members)
-object_of (pumps k max) = object (member (codes "pump") (array (item (number (unsigned k)) (item (number (unsigned max)) no_items))) no_members)
-object_of (ticks ms) = object (member (codes "tick") (number (unsigned ms)) no_members)
-object_of (compacts c) = object (member (codes "compact") (number (unsigned c)) no_members)
+abbrev pub whole : ℕ → Data
+whole n = number (unsigned n)
+
+-- [<value>,<value>]
+abbrev pub pair : Data → Data → Data
+pair x y = array (item x (item y no_items))
+
+abbrev pub apply_object : Apply → Data
+apply_object a = object (member (codes "body") a.body (member (codes "force") (boolean a.force) (member (codes "manager") (string a.manager) (member (codes "target") (string a.target) no_members))))
 
 -- a target is of printable ASCII characters, without blanks and `?`
 abbrev pub IsTarget : List ℕ → Type 0
 IsTarget = All (λ b. (33 ≤ b) × (b ≤ 126) × (b ≢ 63))
 
-abbrev pub HasTarget : Event → Type 0
-HasTarget (apply a) = IsTarget a.target
-HasTarget (opens k) = Unit {0}
-HasTarget (comes k text) = Unit {0}
-HasTarget (goes k) = Unit {0}
-HasTarget (pumps k max) = Unit {0}
-HasTarget (ticks ms) = Unit {0}
-HasTarget (compacts c) = Unit {0}
+-- the JSON object of each event; that of a request is its apply
+abbrev pub IsEventObject : Data → WorldEvent → Type 0
+IsEventObject d (other (opens k)) = d ≡ only (codes "open") (whole k)
+IsEventObject d (other (comes k text)) = d ≡ only (codes "in") (pair (whole k) (string text))
+IsEventObject d (other (goes k)) = d ≡ only (codes "gone") (whole k)
+IsEventObject d (other (pumps k max)) = d ≡ only (codes "pump") (pair (whole k) (whole max))
+IsEventObject d (other (ticks ms)) = d ≡ only (codes "tick") (whole ms)
+IsEventObject d (other (compacts c)) = d ≡ only (codes "compact") (whole c)
+IsEventObject d send = d ≡ only (codes "client") (string (codes "send"))
+IsEventObject d (to_server n) = d ≡ only (codes "toServer") (whole n)
+IsEventObject d (to_client n) = d ≡ only (codes "toClient") (whole n)
+IsEventObject d cut = d ≡ only (codes "client") (string (codes "cut"))
+IsEventObject d restart = d ≡ only (codes "client") (string (codes "restart"))
+IsEventObject d reconcile = d ≡ only (codes "client") (string (codes "reconcile"))
+IsEventObject d (request bytes) = (a : Apply) × (d ≡ only (codes "apply") (apply_object a)) × IsTarget a.target × IsRequestOf a bytes
 
 -- the line is the event's: it is the JSON text of the event's object
-abbrev pub IsEventLine : List ℕ → Event → Type 0
-IsEventLine line e = (read_json line ≡ Some (object_of e)) × HasTarget e
+abbrev pub IsEventLine : List ℕ → WorldEvent → Type 0
+IsEventLine line e = (d : Data) × (read_json line ≡ Some d) × IsEventObject d e
+
+-- ---- the lines of a script
 
 abbrev pub is_filled : List ℕ → Bool
 is_filled line = not (length line == 0)
 
 -- each line that isn't empty is an event's: these, in order
-abbrev pub AreEvents : List (List ℕ) → List Event → Type 0
+abbrev pub AreEvents : List (List ℕ) → List WorldEvent → Type 0
 AreEvents lines events = AllZip IsEventLine (filter is_filled lines) events
 
 -- line n, counted from 1, is the first that isn't empty and is no event's
@@ -69,9 +65,9 @@ pub record IsFirstBad (lines : List (List ℕ)) (n : ℕ) : Type 0 where
   pub before : List (List ℕ)
   pub line : List ℕ
   pub after : List (List ℕ)
-  pub events : List Event
-  pub cut : lines ≡ before ++ line ∷ after
+  pub events : List WorldEvent
+  pub split : lines ≡ before ++ line ∷ after
   pub good : AreEvents before events
   pub place : n ≡ length before + 1
   pub filled : line ≢ []
-  pub bad : (e : Event) → IsEventLine line e → ⊥
+  pub bad : (e : WorldEvent) → IsEventLine line e → ⊥

@@ -1,11 +1,13 @@
 -- What each step of reading a line finds. Words of private clauses, step by step as the code goes; what a line says is said without them.
-use Rattle.std.specs.Prelude.{◌&&◌, ◌==◌, ℕ, Bool, not, nat_le, List, Option, Some, None, option_and_then, option_map, if◌then◌else◌, codes}
+use Rattle.std.specs.Prelude.{◌≡◌, ◌&&◌, ◌==◌, ℕ, Bool, not, nat_le, List, Option, Some, None, option_and_then, option_map, if◌then◌else◌, codes}
 use Rattle.std.specs.List.{list_all}
 use Rattle.std.specs.Str.{bytes_eq}
 use Rattle.serde_json.specs.Data.{Data, Items, no_items, item, Members, no_members, member}
 use Rattle.serde_json.specs.Find.{as_array, as_bool, as_number, as_object, as_str, as_u64}
 use Rattle.serde_json.specs.Read.{read as read_json}
-use Rattle.scripts.specs.Script.{Apply, Event, apply, opens, comes, goes, pumps, ticks, compacts}
+use Rattle.httpedge.specs.Steps.{opens, comes, goes, pumps, ticks, compacts}
+use Rattle.world_laws.specs.World.{WorldEvent, other, request, send, to_server, to_client, cut, restart, reconcile}
+use Rattle.scripts.specs.Requests.{Apply, IsRequestOf}
 
 -- the first member's value, if the member has the name, and the members after it
 abbrev pub next_named : List ℕ → Members → Option (Data × Members)
@@ -54,36 +56,62 @@ abbrev pub is_last_item : {X : Type 0} → X → Items → Option X
 is_last_item x no_items = Some x
 is_last_item x (item d ds) = None
 
-abbrev pub comes_in : Items → Option Event
+abbrev pub comes_in : Items → Option WorldEvent
 comes_in ds =
-    option_and_then (λ k. option_and_then (λ t. is_last_item (comes k.0 t.0) t.1)
+    option_and_then (λ k. option_and_then (λ t. is_last_item (other (comes k.0 t.0)) t.1)
     (with_items as_str (next_item k.1)))
     (with_items number_in (next_item ds))
 
-abbrev pub pumps_in : Items → Option Event
+abbrev pub pumps_in : Items → Option WorldEvent
 pumps_in ds =
-    option_and_then (λ k. option_and_then (λ n. is_last_item (pumps k.0 n.0) n.1)
+    option_and_then (λ k. option_and_then (λ n. is_last_item (other (pumps k.0 n.0)) n.1)
     (with_items number_in (next_item k.1)))
     (with_items number_in (next_item ds))
 
 -- an event that is told by one number
-abbrev pub numbered : List ℕ → ℕ → Option Event
+abbrev pub numbered : List ℕ → ℕ → Option WorldEvent
 numbered name n =
-    if bytes_eq name (codes "open") then Some (opens n)
-    else if bytes_eq name (codes "gone") then Some (goes n)
-    else if bytes_eq name (codes "tick") then Some (ticks n)
-    else if bytes_eq name (codes "compact") then Some (compacts n)
+    if bytes_eq name (codes "open") then Some (other (opens n))
+    else if bytes_eq name (codes "gone") then Some (other (goes n))
+    else if bytes_eq name (codes "tick") then Some (other (ticks n))
+    else if bytes_eq name (codes "compact") then Some (other (compacts n))
+    else if bytes_eq name (codes "toServer") then Some (to_server n)
+    else if bytes_eq name (codes "toClient") then Some (to_client n)
     else None
 
-abbrev pub event_named : List ℕ → Data → Option Event
+-- what the client does
+abbrev pub client_named : List ℕ → Option WorldEvent
+client_named name =
+    if bytes_eq name (codes "send") then Some send
+    else if bytes_eq name (codes "cut") then Some cut
+    else if bytes_eq name (codes "restart") then Some restart
+    else if bytes_eq name (codes "reconcile") then Some reconcile
+    else None
+
+abbrev pub event_named : List ℕ → Data → Option WorldEvent
 event_named name d =
-    if bytes_eq name (codes "apply") then option_map apply (option_and_then apply_in (as_object d))
-    else if bytes_eq name (codes "in") then option_and_then comes_in (as_array d)
+    if bytes_eq name (codes "in") then option_and_then comes_in (as_array d)
     else if bytes_eq name (codes "pump") then option_and_then pumps_in (as_array d)
+    else if bytes_eq name (codes "client") then option_and_then client_named (as_str d)
     else option_and_then (numbered name) (number_in d)
 
-abbrev pub event_in : Data → Option Event
-event_in d = option_and_then (λ p. event_named p.0 p.1) (option_and_then only_member (as_object d))
+-- what a line says: an apply, or an event as it is
+pub data Line : Type 0 where
+  applies : Apply → Line
+  happens : WorldEvent → Line
 
-abbrev pub event_of : List ℕ → Option Event
-event_of line = option_and_then event_in (read_json line)
+abbrev pub line_named : List ℕ → Data → Option Line
+line_named name d =
+    if bytes_eq name (codes "apply") then option_map applies (option_and_then apply_in (as_object d))
+    else option_map happens (event_named name d)
+
+abbrev pub line_in : Data → Option Line
+line_in d = option_and_then (λ p. line_named p.0 p.1) (option_and_then only_member (as_object d))
+
+abbrev pub line_of : List ℕ → Option Line
+line_of text = option_and_then line_in (read_json text)
+
+-- the event of what a line says; of an apply it is a request of its own
+abbrev pub Makes : Line → WorldEvent → Type 0
+Makes (applies a) e = (bytes : List ℕ) × IsRequestOf a bytes × (e ≡ request bytes)
+Makes (happens x) e = e ≡ x

@@ -1,23 +1,32 @@
-//! Scripts of events, and the program `ssa-replay` that plays them, of which `main` only calls the body.
+//! Scripts of events, and the programs `ssa-replay` and `ssa-loop` that play them, of which each `main` only calls the
+//! body.
 //!
-//! Promises: the values of the program's arguments are those of `clap`'s exact matches. A script reads as exactly the
-//! events of its lines, or as the number of its first bad line. A play of events writes the replies of one hub to the
-//! requests of its apply lines, in order. Then it writes what the hub wrote on the other connections, gone or not.
-//! Stands on `programs` for what programs share, on `httpedge` for what a connection's bytes lead to, on `recorder` for
-//! all that was written on it, on `wireclient` for the bytes of a request and the reading of a reply, on `clap` for the
-//! arguments.
+//! Promises: the values of the programs' arguments are those of `clap`'s exact matches. A script reads as exactly the
+//! events of its lines, or as the number of its first bad line. A play of events writes what the trace of their run shows:
+//! the reply to the request of each apply line, what was written on the other connections, gone or not, and the client's
+//! reports. After a fault it has written a front of that.
+//! Stands on `world` for the run, on `programs` for what programs share, on `wireclient` for the bytes of a request and
+//! the reading of a reply, on `clap` for the arguments.
 #![tactic(auto)]
 
-mod laws;
+mod apply_line;
+mod arguments;
+mod by_namespace;
+mod over_loopback;
+mod playing;
+mod printing;
+mod program;
+mod program_fault;
 mod replay_fault;
-mod replay_options;
-mod replay_program;
 mod replaying;
 mod script;
+mod settings;
 
-pub use laws::plays_are_runs;
+pub use arguments::{Player, PlayerOptions, options};
+pub use over_loopback::OverLoopback;
+pub use playing::play_script;
+pub use program::{ssa_loop, ssa_replay};
+pub use program_fault::ProgramFault;
 pub use replay_fault::ReplayFault;
-pub use replay_options::{ReplayOptions, options};
-pub use replay_program::ssa_replay;
 pub use replaying::replay;
-pub use script::{ApplyLine, Event, ScriptFault, read_script};
+pub use script::{ScriptFault, read_script};

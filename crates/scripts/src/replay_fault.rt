@@ -1,50 +1,42 @@
-//! Why a play of a script ends before its last event. Faults of a whole program stand in the crate `programs`.
+//! Why a play of a script ends before its end. Faults of a whole program stand in `program_fault`.
 
-use programs::RunFault;
-use recorder::RecorderFault;
 use std::alloc::{AllocError, AllocFailed};
 use std::io;
 use thiserror::Error;
-use verbs::{Fault, STORE_FAILED};
+use world::WorldFault;
 
-/// Why a play ended before its last event. A program tells it as a `RunFault`.
+/// Why a play ended before its end.
 #[derive(Debug, Drop, Error)]
 pub enum ReplayFault {
     /// Out of memory.
     #[error("out of memory")]
     Memory,
     /// The store refused a statement, for memory or for size.
-    #[error("{}", STORE_FAILED)]
+    #[error("{}", WorldFault::Store)]
     Store,
+    /// Nothing can be played with these settings: the number of their fault.
+    #[error("{}", WorldFault::Settings(*.0))]
+    Settings(u32),
+    /// The link between server and client failed.
+    #[error("{}", WorldFault::Link)]
+    Link,
     /// The writer refused a write.
     #[error("{0}")]
     Write(io::Error),
 }
 
-impl From<Fault> for ReplayFault {
+impl From<WorldFault> for ReplayFault {
     ghost use Rattle.std.specs.Prelude.{◌≡◌};
-    ghost use Rattle.scripts.specs.ReplayFaults.{replay_fault_of};
+    ghost use Rattle.scripts.specs.Plays.{replay_fault_of};
 
     ghost from_gives = { λ f e. e ≡ replay_fault_of f };
 
-    fn from(fault: Fault) -> ReplayFault {
+    fn from(fault: WorldFault) -> ReplayFault {
         match fault {
-            Fault::Memory => ReplayFault::Memory,
-            Fault::Store | Fault::Unreadable => ReplayFault::Store,
-        }
-    }
-}
-
-impl From<RecorderFault> for ReplayFault {
-    ghost use Rattle.std.specs.Prelude.{◌≡◌};
-    ghost use Rattle.scripts.specs.ReplayFaults.{recording_fault_of};
-
-    ghost from_gives = { λ f e. e ≡ recording_fault_of f };
-
-    fn from(fault: RecorderFault) -> ReplayFault {
-        match fault {
-            RecorderFault::Memory => ReplayFault::Memory,
-            RecorderFault::Store => ReplayFault::Store,
+            WorldFault::Memory => ReplayFault::Memory,
+            WorldFault::Store => ReplayFault::Store,
+            WorldFault::Settings(number) => ReplayFault::Settings(number),
+            WorldFault::Link => ReplayFault::Link,
         }
     }
 }
@@ -68,15 +60,5 @@ impl<T: Drop> From<AllocFailed<T>> for ReplayFault {
 
     fn from(_: AllocFailed<T>) -> ReplayFault {
         ReplayFault::Memory
-    }
-}
-
-impl From<ReplayFault> for RunFault {
-    fn from(fault: ReplayFault) -> RunFault {
-        match fault {
-            ReplayFault::Memory => RunFault::Memory,
-            ReplayFault::Store => RunFault::Store,
-            ReplayFault::Write(error) => RunFault::Output(error),
-        }
     }
 }

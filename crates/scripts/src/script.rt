@@ -1,50 +1,28 @@
 //! Scripts: the events of a text, one JSON object a line. They are played in `replaying`.
-ghost use Rattle.std.specs.Prelude.{◌≡◌, ℕ, IfOk, IsErrOf, map, option_and_then, option_map, string_bytes};
+ghost use Rattle.std.specs.Prelude.{◌≡◌, ℕ, IfOk, IsErrOf, Some, map, option_and_then, option_map, string_bytes};
 ghost use Rattle.std.specs.Vec.Iter.{into_iter_items};
 ghost use Rattle.serde_json.specs.View.{items_view, members_view, view};
 ghost use Rattle.serde_json.specs.Find.{as_bool, as_object, as_str};
-ghost use Rattle.scripts.specs.ApplyLine.{apply_of, event_view};
-ghost use Rattle.scripts.specs.Script.{AreEvents, IsFirstBad, apply, lines_of};
-ghost use Rattle.scripts.specs.ScriptSteps.{apply_in, comes_in, event_in, event_named, event_of, is_target, next_item, next_named, number_in, numbered, only_member, pumps_in, with_items, with_rest};
+ghost use Rattle.world.specs.Seen.{event_seen};
+ghost use Rattle.scripts.specs.Script.{AreEvents, IsFirstBad, lines_of};
+ghost use Rattle.scripts.specs.ScriptSteps.{Makes, applies, apply_in, client_named, comes_in, happens, is_target, line_in, line_named, event_named, line_of, next_item, next_named, number_in, numbered, only_member, pumps_in, with_items, with_rest};
+ghost use Rattle.scripts.specs.Seen.{apply_of, line_view};
 
+use crate::apply_line::{ApplyLine, request_of};
+use httpedge::Event;
 use json_values::{into_array, into_object};
-use programs::RunFault;
 use serde_json::{Map, Value};
 use std::alloc::{AllocError, AllocFailed, Global};
 use std::collections::btree_map::IntoIter;
 use std::vec;
 use thiserror::Error;
+use world::WorldEvent;
 
-/// One apply of a body.
+/// What a line says: an apply, whose request is still to be made, or an event as it is.
 #[derive(Debug, Drop)]
-pub struct ApplyLine {
-    /// The object's content and envelope.
-    pub body: Value,
-    /// Whether conflicts are overridden.
-    pub force: bool,
-    /// The name of who applies.
-    pub manager: String,
-    /// The object's path, as it stands in a request.
-    pub target: String,
-}
-
-/// One event of a script.
-#[derive(Debug, Drop)]
-pub enum Event {
-    /// An apply of a body.
+pub(crate) enum Line {
     Apply(ApplyLine),
-    /// A connection opens.
-    Open(u64),
-    /// The bytes of a text come on a connection.
-    In(u64, String),
-    /// Changes up to a revision may be forgotten.
-    Compact(u64),
-    /// The peer of a connection goes.
-    Gone(u64),
-    /// A watch may write so many lines.
-    Pump(u64, u64),
-    /// So many milliseconds have passed since the start.
-    Tick(u64),
+    Event(WorldEvent),
 }
 
 fn into_text(value: Value) -> Option<String>
@@ -138,8 +116,8 @@ fn next_words(items: &mut vec::IntoIter<Value>) -> Option<String>
 }
 
 /// The bytes that come on a connection.
-fn comes_in(items: Vec<Value>) -> Option<Event>
-    ensures { option_map event_view result ≡ comes_in (items_view items.items) }
+fn comes_in(items: Vec<Value>) -> Option<WorldEvent>
+    ensures { option_map event_seen result ≡ comes_in (items_view items.items) }
 {
     let mut items = items.into_iter();
     let connection = next_number(&mut items)?;
@@ -147,12 +125,12 @@ fn comes_in(items: Vec<Value>) -> Option<Event>
     if items.next().is_some() {
         return None;
     }
-    Some(Event::In(connection, text))
+    Some(WorldEvent::Other(Event::In(connection, text.into_bytes())))
 }
 
 /// A connection, and how many lines may be written on it.
-fn pumps_in(items: Vec<Value>) -> Option<Event>
-    ensures { option_map event_view result ≡ pumps_in (items_view items.items) }
+fn pumps_in(items: Vec<Value>) -> Option<WorldEvent>
+    ensures { option_map event_seen result ≡ pumps_in (items_view items.items) }
 {
     let mut items = items.into_iter();
     let connection = next_number(&mut items)?;
@@ -160,54 +138,82 @@ fn pumps_in(items: Vec<Value>) -> Option<Event>
     if items.next().is_some() {
         return None;
     }
-    Some(Event::Pump(connection, max))
+    Some(WorldEvent::Other(Event::Pump(connection, max)))
 }
 
 /// An event that is told by one number.
-fn numbered(name: &str, number: u64) -> Option<Event>
-    ensures { option_map event_view result ≡ numbered name.now number }
+fn numbered(name: &str, number: u64) -> Option<WorldEvent>
+    ensures { option_map event_seen result ≡ numbered name.now number }
 {
     match name {
-        "open" => Some(Event::Open(number)),
-        "gone" => Some(Event::Gone(number)),
-        "tick" => Some(Event::Tick(number)),
-        "compact" => Some(Event::Compact(number)),
+        "open" => Some(WorldEvent::Other(Event::Open(number))),
+        "gone" => Some(WorldEvent::Other(Event::Gone(number))),
+        "tick" => Some(WorldEvent::Other(Event::Tick(number))),
+        "compact" => Some(WorldEvent::Other(Event::Compact(number))),
+        "toServer" => Some(WorldEvent::ToServer(number as usize)),
+        "toClient" => Some(WorldEvent::ToClient(number as usize)),
         _ => None,
     }
 }
 
-fn apply_of(value: Value) -> Option<Event>
-    ensures { option_map event_view result ≡ option_map apply (option_and_then apply_in (as_object (view value))) }
-{
-    Some(Event::Apply(apply_in(into_object(value)?)?))
-}
-
-fn event_named(name: &str, value: Value) -> Option<Event>
-    ensures { option_map event_view result ≡ event_named name.now (view value) }
+/// What the client does, by its name.
+fn client_named(name: &str) -> Option<WorldEvent>
+    ensures { option_map event_seen result ≡ client_named name.now }
 {
     match name {
-        "apply" => apply_of(value),
+        "send" => Some(WorldEvent::ClientSend),
+        "cut" => Some(WorldEvent::Cut),
+        "restart" => Some(WorldEvent::Restart),
+        "reconcile" => Some(WorldEvent::Reconcile),
+        _ => None,
+    }
+}
+
+fn event_named(name: &str, value: Value) -> Option<WorldEvent>
+    ensures { option_map event_seen result ≡ event_named name.now (view value) }
+{
+    match name {
         "in" => comes_in(into_array(value)?),
         "pump" => pumps_in(into_array(value)?),
+        "client" => client_named(value.as_str()?),
         _ => numbered(name, value.as_u64()?),
     }
 }
 
-fn event_in(value: Value) -> Option<Event>
-    ensures { option_map event_view result ≡ event_in (view value) }
+fn line_named(name: &str, value: Value) -> Option<Line>
+    ensures { option_map line_view result ≡ line_named name.now (view value) }
 {
-    let (name, value) = only_member(into_object(value)?)?;
-    event_named(name.as_str(), value)
+    match name {
+        "apply" => Some(Line::Apply(apply_in(into_object(value)?)?)),
+        _ => Some(Line::Event(event_named(name, value)?)),
+    }
 }
 
-/// The event of a line, or None where the line is bad.
-fn read_line(alloc: Global, line: &str) -> Result<Option<Event>, AllocError>
-    ensures { IfOk result (λ o. option_map event_view o ≡ event_of line.now) }
+fn line_in(value: Value) -> Option<Line>
+    ensures { option_map line_view result ≡ line_in (view value) }
 {
-    match Value::from_str(alloc, line) {
-        Ok(value) => Ok(event_in(value)),
+    let (name, value) = only_member(into_object(value)?)?;
+    line_named(name.as_str(), value)
+}
+
+/// What a text says, or None where it is no event's.
+fn line_of(alloc: Global, text: &str) -> Result<Option<Line>, AllocError>
+    ensures { IfOk result (λ o. option_map line_view o ≡ line_of text.now) }
+{
+    match Value::from_str(alloc, text) {
+        Ok(value) => Ok(line_in(value)),
         Err(error) if error.is_memory() => Err(AllocError),
         Err(_) => Ok(None),
+    }
+}
+
+/// The event of a line; of an apply it is its request.
+fn event_of(alloc: Global, line: Line) -> Result<WorldEvent, AllocError>
+    ensures { IfOk result (λ e. Makes (line_view line) (event_seen e)) }
+{
+    match line {
+        Line::Apply(line) => Ok(WorldEvent::Request(request_of(alloc, &line)?)),
+        Line::Event(event) => Ok(event),
     }
 }
 
@@ -244,17 +250,8 @@ impl<T: Drop> From<AllocFailed<T>> for ScriptFault {
     }
 }
 
-impl From<ScriptFault> for RunFault {
-    fn from(fault: ScriptFault) -> RunFault {
-        match fault {
-            ScriptFault::BadEvent(line) => RunFault::Script(line),
-            ScriptFault::Memory => RunFault::Memory,
-        }
-    }
-}
-
-fn read_lines(alloc: Global, lines: &[&str]) -> Result<Vec<Event>, ScriptFault>
-    ensures ok { IfOk result (λ v. AreEvents (map (λ l. l.now) lines.now) (map event_view v.items)) }
+fn read_lines(alloc: Global, lines: &[&str]) -> Result<Vec<WorldEvent>, ScriptFault>
+    ensures ok { IfOk result (λ v. AreEvents (map (λ l. l.now) lines.now) (map event_seen v.items)) }
     ensures bad { (n : ℕ) → IsErrOf result (ScriptFault.BadEvent n) → IsFirstBad (map (λ l. l.now) lines.now) n }
 {
     let mut events = Vec::new(alloc);
@@ -262,8 +259,8 @@ fn read_lines(alloc: Global, lines: &[&str]) -> Result<Vec<Event>, ScriptFault>
         if line.is_empty() {
             continue;
         }
-        match read_line(alloc, line)? {
-            Some(event) => events.push(event)?,
+        match line_of(alloc, line)? {
+            Some(line) => events.push(event_of(alloc, line)?)?,
             None => return Err(ScriptFault::BadEvent(index + 1)),
         }
     }
@@ -271,8 +268,8 @@ fn read_lines(alloc: Global, lines: &[&str]) -> Result<Vec<Event>, ScriptFault>
 }
 
 /// Reads a script: the events of its lines in order, or its first bad line.
-pub fn read_script(alloc: Global, text: &str) -> Result<Vec<Event>, ScriptFault>
-    ensures ok { IfOk result (λ v. AreEvents (lines_of text.now) (map event_view v.items)) }
+pub fn read_script(alloc: Global, text: &str) -> Result<Vec<WorldEvent>, ScriptFault>
+    ensures ok { IfOk result (λ v. AreEvents (lines_of text.now) (map event_seen v.items)) }
     ensures bad { (n : ℕ) → IsErrOf result (ScriptFault.BadEvent n) → IsFirstBad (lines_of text.now) n }
 {
     let lines: Vec<&str> = text.split('\n').collect(alloc)?;

@@ -1,5 +1,5 @@
-//! Tests of calls on objects, of the server's side of the wire and of the programs, by public calls alone. Streams and
-//! sockets are tested in `serving_tests`.
+//! Tests of calls on objects and of the server's side of the wire, by public calls alone. Streams and sockets are tested in
+//! `serving_tests`, scripts in `script_tests`.
 //!
 //! Each call stands in a helper with no clause, so that a test carries few facts. All that is done to hubs are rows of text
 //! that one function plays (`hub_rows`): they cost the prover nothing, and each function some seconds.
@@ -13,10 +13,6 @@ mod given;
 mod hub_rows;
 #[cfg(test)]
 mod list_rows;
-#[cfg(test)]
-mod recording;
-#[cfg(test)]
-mod replays;
 #[cfg(test)]
 mod single_objects;
 #[cfg(test)]

@@ -1,5 +1,5 @@
-//! `ssa-replay --types FILE --script FILE` plays a script over the API and prints the replies. Its body stands in the
-//! crate `scripts`.
+//! `ssa-replay --types FILE --script FILE [--page N] [--selector S] [--namespace NS] [--type G/V/P] [--label L]` plays a
+//! script over a server and a client and prints what comes of it. Its body stands in the crate `scripts`.
 #![tactic(auto)]
 
 use programs::{end_with, read_arguments};

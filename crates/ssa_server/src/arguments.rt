@@ -18,7 +18,7 @@ use std::convert::AsStr;
 const ABOUT: &str = "Serves the types of a file on loopback, with objects in memory";
 
 const NOTES: &str = "Example:
-  ssa-server --types crates/ssa_replay/data/types.json --port 8001
+  ssa-server --types examples/widgets.json --port 8001
 
 Exit status:
   0  the connections that --serve asks for were served

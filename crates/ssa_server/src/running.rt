@@ -16,13 +16,20 @@ fn tell_port(rt: &HostRuntime, port: u16) -> Result<(), ServerFault> {
     Ok(println!(rt; "listening on {}:{port}", Ipv4Addr::LOCALHOST).map_err(RunFault::Output)?)
 }
 
+/// Listens on a port of loopback.
+fn listener_on(rt: &HostRuntime, port: u16) -> Result<TcpListener, RunFault> {
+    TcpListener::bind(rt, SocketAddr::from((Ipv4Addr::LOCALHOST, port))).map_err(
+        |error| RunFault::of_port(port, error),
+    )
+}
+
 /// Serves one connection after another.
 fn serve_in_turn(
     rt: &HostRuntime,
     server: &mut Server<TcpStream>,
     options: &ServerOptions<'_>,
 ) -> Result<(), ServerFault> {
-    let listener = TcpListener::bind(rt, SocketAddr::from((Ipv4Addr::LOCALHOST, options.port)))?;
+    let listener = listener_on(rt, options.port)?;
     let port = listener.local_addr()?.port();
     tell_port(rt, port)?;
     // It fails where the clock can't be read, and nowhere else.
@@ -36,6 +43,15 @@ fn run_in_turn(rt: &HostRuntime, api: Api, options: &ServerOptions<'_>) -> Resul
     };
     let mut server = Server::new(rt.alloc(), api, limits);
     serve_in_turn(rt, &mut server, options)
+}
+
+/// The fault of an error at the start of a server of many connections: the clock's, where the clock can't be read, or
+/// else the port's.
+fn fault_at_start(rt: &HostRuntime, port: u16, error: io::Error) -> ServerFault {
+    match Instant::now(rt) {
+        Ok(_) => ServerFault::from(RunFault::of_port(port, error)),
+        Err(error) => ServerFault::Clock(error),
+    }
 }
 
 /// The fault of an error while many connections are served at once: the clock's, where the clock can't be read, or else
@@ -67,8 +83,10 @@ fn run_at_once(rt: &HostRuntime, api: Api, options: &ServerOptions<'_>) -> Resul
         lines: options.pump,
         patience: options.patience,
     };
-    let mut server = polling::Server::listen(rt, api, asked).map_err(|error| fault_at_once(
-        rt, error,
+    let mut server = polling::Server::listen(rt, api, asked).map_err(|error| fault_at_start(
+        rt,
+        options.port,
+        error,
     ))?;
     serve_at_once(rt, &mut server, options.serve)
 }

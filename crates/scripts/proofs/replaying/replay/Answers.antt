@@ -1,49 +1,52 @@
-use Rattle.std.proofs.Common.{◌∙◌, ◌++◌, [], map, refl, subst, sym, take, ◌≡◌, Ok, Err, Result}
-use Rattle.std.specs.Io.KnownBytes.{Appends}
-use Rattle.std.specs.Result.{IsErrAnd, OnOk}
-use Rattle.std.proofs.KnownBytes.{Appends-nil, Appends-trans}
-use Rattle.std.proofs.lemmas.List.{take-map}
-use Rattle.std.proofs.lemmas.Result.{on_ok_weaker}
+use Rattle.std.proofs.Common.{◌≡◌, ◌∙◌, [], ◌∷◌, List, Err, ap, map, refl, inl, inr, subst, sym}
+use Rattle.std.specs.Prelude.{codes}
+use Rattle.std.proofs.KnownBytes.{Appends-nil}
+use Rattle.std.proofs.lemmas.Result.{on_err_weaker, on_ok_weaker}
 use Rattle.schema.specs.Served.{types_view}
-use Rattle.scripts.specs.ApplyLine.{event_view}
-use Rattle.scripts.specs.Replays.{Plays, connections_text, start}
-use Rattle.scripts.specs.ReplayFaults.{IsStarved}
-use Rattle.scripts.specs.declared.replay_fault.ReplayFault.{ReplayFault}
-use Rattle.scripts.proofs.FrontLemmas.{at_connection, at_event}
+use Rattle.schema.specs.TypesFile.{ServedShape}
+use Rattle.world_laws.specs.Tasks.{RunSettings, settings_fault}
+use Rattle.world_laws.specs.World.{WorldEvent}
+use Rattle.world.specs.Seen.{event_seen, settings_seen}
+use Rattle.world.specs.Traces.{IsTraceOf}
+use Rattle.world.specs.declared.trace.Trace.{Trace}
+use Rattle.scripts.specs.Plays.{Answers, IsRun, index_names, namespace_keys}
+use Rattle.scripts.specs.declared.by_namespace.ByNamespace.{ByNamespace}
+use Rattle.scripts.proofs.Endings.{answers_by_run, answers_output, output_spares_link, run_spares_link, where_it_fails}
 use Rattle.scripts.proofs.replaying.replay.Goals as goal
 
-starved_of : {T : Type 0} (r : Result T ReplayFault) (fault : ReplayFault) → IsErrAnd r (λ x. x ≡ fault) → IsErrAnd r IsStarved → IsStarved fault
-starved_of (Ok x) fault is want = absurd is
-starved_of (Err x) fault is want = subst IsStarved is want
+-- the one index is by the namespace
+run_of : (b : ByNamespace) (indexes : List ByNamespace) (types : List ServedShape) (s : RunSettings) (events : List WorldEvent) (t : Trace) → indexes ≡ b ∷ []
+    → IsTraceOf namespace_keys indexes (map (λ i. codes "namespace") indexes) types s events t → IsRun types s events t
+run_of b indexes types s events t one run = (b, subst (λ (is : List ByNamespace). IsTraceOf namespace_keys is (map (λ i. codes "namespace") is) types s events t) one run)
+
+named : (b : ByNamespace) (indexes : List ByNamespace) (types : List ServedShape) (s : RunSettings) → indexes ≡ b ∷ []
+    → settings_fault types (map (λ i. codes "namespace") indexes) s ≡ settings_fault types index_names s
+named b indexes types s one = ap (λ (is : List ByNamespace). settings_fault types (map (λ i. codes "namespace") is) s) one
+
+pub returns-in_err-trace-clause-front : goal.returns-in_err-trace-clause-front
+returns-in_err-trace-clause-front g c = where_it_fails c.from_residual-in_err-trace.result ([], inl refl, Appends-nil (g.W.Write.contents c.args.writer.now))
+
+pub returns-in_err-trace-clause-settings : goal.returns-in_err-trace-clause-settings
+returns-in_err-trace-clause-settings g c =
+    subst (λ n. Answers n c.from_residual-in_err-trace.result) (named _ _ (types_view c.args.types) (settings_seen c.args.settings) c.in_ok-indexes.ensures.items)
+    (answers_by_run Trace _ c.in_err-trace.field-0.0 _ c.from_residual-in_err-trace.ensures.1 c.in_err-trace.ensures.settings)
+
+pub returns-in_err-trace-clause-link : goal.returns-in_err-trace-clause-link
+returns-in_err-trace-clause-link g c = λ lawful. run_spares_link _ c.in_err-trace.field-0.0 c.from_residual-in_err-trace.ensures.1 (λ is. c.in_err-trace.ensures.link lawful (ap Err is))
 
 pub returns-clause-ok : goal.returns-clause-ok
 returns-clause-ok g c =
-    let all = c.in_ok-take_all.ensures.ok (start (types_view c.args.types)) c.in_ok-run.ensures in
-    let stated = connections_text all.0.hub all.0.others in
-    let written = subst (λ ids. OnOk c.write_connections.result (Appends (g.W.Write.contents c.take_all.new.writer) (g.W.Write.contents c.write_connections.new.writer) (connections_text all.0.hub ids)))
-    (c.deref.ensures.value ∙ all.3.1) (c.write_connections.ensures.ok all.0.hub all.3.0) in
-    on_ok_weaker c.write_connections.result (λ more. (all.1 ++ stated, (all.0, all.1, all.2, refl), Appends-trans _ _ _ _ _ all.4 more)) written
+    let run = run_of _ _ (types_view c.args.types) (settings_seen c.args.settings) (map event_seen c.args.events.now) c.in_ok-trace.trace c.in_ok-indexes.ensures.items c.in_ok-trace.ensures.runs in
+    on_ok_weaker c.print.result (λ told. (told.0, (c.in_ok-trace.trace, run, told.1), told.2)) c.print.ensures.ok
 
-pub returns-in_err-run-clause-starved : goal.returns-in_err-run-clause-starved
-returns-in_err-run-clause-starved g c = λ e.
-    ([], at_event (types_view c.args.types) (map event_view c.args.events.now) 0 (start (types_view c.args.types)) [] (refl, refl), Appends-nil (g.W.Write.contents c.args.writer.now))
+pub returns-clause-front : goal.returns-clause-front
+returns-clause-front g c =
+    let run = run_of _ _ (types_view c.args.types) (settings_seen c.args.settings) (map event_seen c.args.events.now) c.in_ok-trace.trace c.in_ok-indexes.ensures.items c.in_ok-trace.ensures.runs in
+    on_err_weaker c.print.result (λ told. (told.0, inr (c.in_ok-trace.trace, run, told.1), told.2)) c.print.ensures.front
 
-pub returns-in_err-take_all-clause-starved : goal.returns-in_err-take_all-clause-starved
-returns-in_err-take_all-clause-starved g c = λ e.
-    let types = types_view c.args.types in
-    let want = starved_of c.from_residual-in_err-take_all.result _ c.from_residual-in_err-take_all.ensures.1 e in
-    let all = c.in_err-take_all.ensures.starved (start types) c.in_ok-run.ensures want in
-    let ran = subst (λ es. Plays (start types) es all.2 all.1) (sym (take-map event_view all.0 c.args.events.now)) all.3 in
-    (all.2, at_event types (map event_view c.args.events.now) all.0 all.1 all.2 ran, all.4)
+pub returns-clause-settings : goal.returns-clause-settings
+returns-clause-settings g c =
+    answers_output _ _ c.print.ensures.fault (sym (named _ _ (types_view c.args.types) (settings_seen c.args.settings) c.in_ok-indexes.ensures.items) ∙ c.in_ok-trace.ensures.settings)
 
-pub returns-clause-starved : goal.returns-clause-starved
-returns-clause-starved g c = λ e.
-    let types = types_view c.args.types in
-    let all = c.in_ok-take_all.ensures.ok (start types) c.in_ok-run.ensures in
-    let some = c.write_connections.ensures.starved all.0.hub all.3.0 e in
-    let more = subst (λ ids. Appends (g.W.Write.contents c.take_all.new.writer) (g.W.Write.contents c.write_connections.new.writer) (connections_text all.0.hub (take some.0 ids)))
-    (c.deref.ensures.value ∙ all.3.1) some.1 in (
-      all.1 ++ connections_text all.0.hub (take some.0 all.0.others),
-      at_connection types (map event_view c.args.events.now) some.0 all.0 all.1 all.2,
-      Appends-trans _ _ _ _ _ all.4 more,
-    )
+pub returns-clause-link : goal.returns-clause-link
+returns-clause-link g c = λ lawful. output_spares_link _ c.print.ensures.fault

@@ -2,7 +2,7 @@ use Rattle.std.proofs.Common.{ap, subst, lit<, map, List, ℕ, Ok, IfOk, IsErrOf
 use Rattle.std.specs.Prelude.{⊤}
 use Rattle.std.proofs.lemmas.Iterator.Consumers.{map_from_collect}
 use Rattle.std.proofs.lemmas.Iterator.Splits.{YieldsList-from_str_split}
-use Rattle.scripts.specs.ApplyLine.{event_view}
+use Rattle.world.specs.Seen.{event_seen}
 use Rattle.scripts.specs.Script.{AreEvents, IsFirstBad, lines_of}
 use Rattle.scripts.specs.declared.script.ScriptFault.TheVariants.{BadEvent}
 use Rattle.scripts.proofs.ScriptLemmas.{texts}
@@ -14,7 +14,7 @@ parted c =
     (YieldsList-from_str_split 10 c.args.text.now (lit< tt) c.split.ensures.text c.split.ensures.has_more c.split.ensures.pattern)
 
 pub returns-clause-ok : goal.returns-clause-ok
-returns-clause-ok c = subst (λ (xs : List (List ℕ)). IfOk c.read_lines.result (λ v. AreEvents xs (map event_view v.items))) (parted c) c.read_lines.ensures.ok
+returns-clause-ok c = subst (λ (xs : List (List ℕ)). IfOk c.read_lines.result (λ v. AreEvents xs (map event_seen v.items))) (parted c) c.read_lines.ensures.ok
 
 pub returns-clause-bad : goal.returns-clause-bad
 returns-clause-bad c = subst (λ (xs : List (List ℕ)). (n : ℕ) → IsErrOf c.read_lines.result (BadEvent n) → IsFirstBad xs n) (parted c) c.read_lines.ensures.bad
