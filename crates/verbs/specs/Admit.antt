@@ -34,20 +34,13 @@ method_named s =
 -- the methods that are served on what a path leads to
 abbrev pub serves : Resource → Method → Bool
 serves AllNamespaces Get = true
-serves AllNamespaces Post = false
-serves AllNamespaces Put = false
-serves AllNamespaces Patch = false
-serves AllNamespaces Delete = false
 serves Collection Get = true
 serves Collection Post = true
-serves Collection Put = false
-serves Collection Patch = false
-serves Collection Delete = false
 serves Object Get = true
-serves Object Post = false
 serves Object Put = true
 serves Object Patch = true
 serves Object Delete = true
+serves r how = false
 
 -- as they stand in `Allow`
 abbrev pub allowed : Resource → List ℕ
@@ -150,10 +143,8 @@ is_apply (Some field) = str_eq_ignore_ascii_case (media_type field) apply_type
 -- whether a body of this media type is taken; a GET has none
 abbrev pub accepts_media : Method → Option (List ℕ) → Bool
 accepts_media Get field = true
-accepts_media Post field = is_json field
-accepts_media Put field = is_json field
 accepts_media Patch field = is_apply field
-accepts_media Delete field = is_json field
+accepts_media how field = is_json field
 
 -- ---- the three in turn
 

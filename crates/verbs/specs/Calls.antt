@@ -1,5 +1,5 @@
 -- Calls and their answers (Kubernetes docs, "Kubernetes API Concepts", "Resource URIs", "API Verbs").
-use Rattle.std.specs.Prelude.{ℕ, List, Option}
+use Rattle.std.specs.Prelude.{ℕ, List, Option, Some, None}
 use Rattle.serde_json.specs.Data.{Data}
 use Rattle.history.specs.History.{Change}
 use Rattle.watchline.specs.Opening.{WatchFrom}
@@ -12,6 +12,19 @@ pub record Target : Type 0 where
   pub namespace : Option (List ℕ)
   pub name : Option (List ℕ)
   pub method : Method
+
+-- which objects of its type a call is of: all, those of a namespace, or one, by its namespace and its name
+pub data Scope : Type 0 where
+  of_all : Scope
+  of_namespace : List ℕ → Scope
+  of_object : List ℕ → List ℕ → Scope
+
+-- by the namespace and the name of its target; a name alone names no object
+abbrev pub scope_of : Option (List ℕ) → Option (List ℕ) → Option Scope
+scope_of None None = Some of_all
+scope_of (Some namespace) None = Some (of_namespace namespace)
+scope_of (Some namespace) (Some name) = Some (of_object namespace name)
+scope_of None (Some name) = None
 
 -- the query as it stands in the request's target
 pub record Call : Type 0 where

@@ -3,7 +3,7 @@
 use Rattle.std.specs.Prelude.{ℕ, Bool, true, false, ◌&&◌, List, [], ◌∷◌, ◌++◌, Option, Some, None, option_and_then, if◌then◌else◌, codes}
 use Rattle.std.specs.declared.result.Result.TheVariants.{Ok}
 use Rattle.std.specs.Str.{bytes_eq}
-use Rattle.serde_json.specs.Data.{Data, null, boolean, number, string, array, object, Items, no_items, item, Members, no_members, member, put}
+use Rattle.serde_json.specs.Data.{Data, null, string, array, object, Items, no_items, item, Members, no_members, member, put}
 use Rattle.serde_json.specs.Find.{get, get_member, as_object}
 use Rattle.json_values.specs.Texts.{unless_empty}
 use Rattle.names.specs.Decimals.{version_of}
@@ -11,7 +11,7 @@ use Rattle.schema.specs.Keywords.{is_in}
 use Rattle.schema.specs.TypesFile.{ServedShape}
 use Rattle.typed.specs.Without.{Omitted}
 use Rattle.verbs.specs.declared.method.Method.{Method}
-use Rattle.verbs.specs.declared.method.Method.TheVariants.{Get, Post, Put, Patch, Delete}
+use Rattle.verbs.specs.declared.method.Method.TheVariants.{Post, Patch}
 use Rattle.verbs.specs.declared.reason.Reason.TheVariants.{BadRequest}
 use Rattle.verbs.specs.Validated.{Validated, and_then, refused_for, require}
 
@@ -31,31 +31,25 @@ pub record Envelope : Type 0 where
 abbrev pub api_version_of : ServedShape → List ℕ
 api_version_of t = t.group ++ codes "/" ++ t.version
 
-abbrev pub wrong_type : {X : Type 0} → List ℕ → Validated X
-wrong_type path = refused_for BadRequest (path ++ codes ": wrong type")
-
-abbrev pub not_an_object : {X : Type 0} → List ℕ → Validated X
-not_an_object path = refused_for BadRequest (path ++ codes ": not an object")
+-- of a member: the path above it, and its name
+abbrev pub wrong_type : {X : Type 0} → List ℕ → List ℕ → Validated X
+wrong_type path k = refused_for BadRequest (path ++ (k ++ codes ": wrong type"))
 
 -- ---- texts
-
--- the text that a value is; null and the empty text are none
-abbrev pub text_of : List ℕ → Data → Validated (Option (List ℕ))
-text_of path null = Ok None
-text_of path (string s) = Ok (unless_empty s)
-text_of path (boolean b) = wrong_type path
-text_of path (number n) = wrong_type path
-text_of path (array ds) = wrong_type path
-text_of path (object ms) = wrong_type path
-
--- the text of a member, none where it is absent
-abbrev pub text_in : List ℕ → Option Data → Validated (Option (List ℕ))
-text_in path None = Ok None
-text_in path (Some d) = text_of path d
 
 -- the member of an object that may be absent
 abbrev pub member_of : List ℕ → Option Members → Option Data
 member_of k ms = option_and_then (get_member k) ms
+
+-- the text of a member; none where it is absent, null or the empty text
+abbrev pub text_of : List ℕ → List ℕ → Option Data → Validated (Option (List ℕ))
+text_of path k None = Ok None
+text_of path k (Some null) = Ok None
+text_of path k (Some (string s)) = Ok (unless_empty s)
+text_of path k (Some d) = wrong_type path k
+
+abbrev pub text_in : List ℕ → List ℕ → Option Members → Validated (Option (List ℕ))
+text_in path k ms = text_of path k (member_of k ms)
 
 abbrev pub is_text : Option (List ℕ) → List ℕ → Bool
 is_text None s = false
@@ -68,12 +62,12 @@ is_text_or_none (Some t) s = bytes_eq t s
 -- ---- the steps
 
 abbrev pub kind_message : List ℕ → List ℕ → List ℕ
-kind_message api_version kind = codes "apiVersion and kind must be " ++ api_version ++ codes " and " ++ kind
+kind_message api_version kind = codes "apiVersion and kind must be " ++ (api_version ++ (codes " and " ++ kind))
 
 abbrev pub kind_validated : ServedShape → Members → Validated (Unit {0})
 kind_validated t top =
-    and_then (text_in (codes ".apiVersion") (get_member (codes "apiVersion") top)) (λ v.
-    and_then (text_in (codes ".kind") (get_member (codes "kind") top)) (λ k.
+    and_then (text_in (codes ".") (codes "apiVersion") (Some top)) (λ v.
+    and_then (text_in (codes ".") (codes "kind") (Some top)) (λ k.
     require (is_text v (api_version_of t) && is_text k t.kind) BadRequest (kind_message (api_version_of t) t.kind)))
 
 -- `metadata`, if it is there
@@ -81,13 +75,10 @@ abbrev pub metadata_in : Option Data → Validated (Option Members)
 metadata_in None = Ok None
 metadata_in (Some null) = Ok None
 metadata_in (Some (object ms)) = Ok (Some ms)
-metadata_in (Some (boolean b)) = not_an_object (codes ".metadata")
-metadata_in (Some (number n)) = not_an_object (codes ".metadata")
-metadata_in (Some (string s)) = not_an_object (codes ".metadata")
-metadata_in (Some (array ds)) = not_an_object (codes ".metadata")
+metadata_in (Some d) = refused_for BadRequest (codes ".metadata: not an object")
 
 abbrev pub must_be : List ℕ → List ℕ → List ℕ
-must_be k wanted = codes "metadata." ++ k ++ codes " must be " ++ wanted
+must_be k wanted = codes "metadata." ++ (k ++ (codes " must be " ++ wanted))
 
 -- what is given is that of the path, where the path has one
 abbrev pub wanted_validated : List ℕ → Option (List ℕ) → Option (List ℕ) → Validated (Unit {0})
@@ -95,7 +86,7 @@ wanted_validated k None given = Ok tt
 wanted_validated k (Some wanted) given = require (is_text_or_none given wanted) BadRequest (must_be k wanted)
 
 abbrev pub given_validated : List ℕ → Option (List ℕ) → Option Members → Validated (Unit {0})
-given_validated k wanted metadata = and_then (text_in (codes ".metadata." ++ k) (member_of k metadata)) (wanted_validated k wanted)
+given_validated k wanted metadata = and_then (text_in (codes ".metadata.") k metadata) (wanted_validated k wanted)
 
 abbrev pub version_or_fault : Option ℕ → Validated (Option ℕ)
 version_or_fault None = refused_for BadRequest (codes "metadata.resourceVersion: bad version")
@@ -106,16 +97,12 @@ version_read None = Ok None
 version_read (Some s) = version_or_fault (version_of s)
 
 abbrev pub version_validated : Option Members → Validated (Option ℕ)
-version_validated metadata = and_then (text_in (codes ".metadata.resourceVersion") (member_of (codes "resourceVersion") metadata)) version_read
+version_validated metadata = and_then (text_in (codes ".metadata.") (codes "resourceVersion") metadata) version_read
 
 -- a creation is of no version
 abbrev pub version_allowed : Method → Option ℕ → Validated (Unit {0})
 version_allowed Post (Some v) = refused_for BadRequest (codes "metadata.resourceVersion must not be set")
-version_allowed Post None = Ok tt
-version_allowed Get given = Ok tt
-version_allowed Put given = Ok tt
-version_allowed Patch given = Ok tt
-version_allowed Delete given = Ok tt
+version_allowed how given = Ok tt
 
 -- an apply doesn't say who owns what (Server-Side Apply, "Managers")
 abbrev pub entries_validated : Items → Validated (Unit {0})
@@ -126,18 +113,12 @@ abbrev pub managers_validated : Option Data → Validated (Unit {0})
 managers_validated None = Ok tt
 managers_validated (Some null) = Ok tt
 managers_validated (Some (array ds)) = entries_validated ds
-managers_validated (Some (boolean b)) = wrong_type (codes ".metadata.managedFields")
-managers_validated (Some (number n)) = wrong_type (codes ".metadata.managedFields")
-managers_validated (Some (string s)) = wrong_type (codes ".metadata.managedFields")
-managers_validated (Some (object ms)) = wrong_type (codes ".metadata.managedFields")
+managers_validated (Some d) = wrong_type (codes ".metadata.") (codes "managedFields")
 
 -- what any other write says of it is ignored
 abbrev pub managers_by : Method → Option Data → Validated (Unit {0})
 managers_by Patch given = managers_validated given
-managers_by Get given = Ok tt
-managers_by Post given = Ok tt
-managers_by Put given = Ok tt
-managers_by Delete given = Ok tt
+managers_by how given = Ok tt
 
 -- ---- the body less its envelope
 
@@ -179,7 +160,7 @@ metadata_validated of top metadata =
     Ok (record { version = version; rest = rest_of top metadata }))))))
 
 abbrev pub object_validated : Expected → Option Members → Validated Envelope
-object_validated of None = not_an_object (codes ".")
+object_validated of None = refused_for BadRequest (codes ".: not an object")
 object_validated of (Some top) =
     and_then (kind_validated of.served top) (λ u.
     and_then (metadata_in (get_member (codes "metadata") top)) (λ metadata.
@@ -193,11 +174,7 @@ envelope_of of body = object_validated of (as_object body)
 
 abbrev pub filled_text : Data → Option (List ℕ)
 filled_text (string s) = unless_empty s
-filled_text null = None
-filled_text (boolean b) = None
-filled_text (number n) = None
-filled_text (array ds) = None
-filled_text (object ms) = None
+filled_text d = None
 
 abbrev pub name_in : Data → Option (List ℕ)
 name_in body = option_and_then filled_text (option_and_then (get (codes "name")) (get (codes "metadata") body))

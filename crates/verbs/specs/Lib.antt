@@ -1,6 +1,6 @@
 pub mod Reasons
 pub mod Status
-pub mod Subject
+pub mod Planner
 pub mod Validated
 pub mod Faults
 pub mod Json

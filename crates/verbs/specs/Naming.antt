@@ -1,7 +1,7 @@
 -- Names of objects, and keys and values of their labels and annotations (Kubernetes docs, "Object Names and IDs", "Labels and Selectors", "Annotations").
 use Rattle.std.specs.Prelude.{ℕ, List, Option, Some, None, option_and_then, codes}
 use Rattle.std.specs.declared.result.Result.TheVariants.{Ok}
-use Rattle.serde_json.specs.Data.{Data, null, boolean, number, string, array, object, Members, no_members, member}
+use Rattle.serde_json.specs.Data.{Data, string, Members, no_members, member}
 use Rattle.serde_json.specs.Find.{get, as_object}
 use Rattle.names.specs.Names.{is_dns_label, is_dns_subdomain, is_label_key, is_label_value}
 use Rattle.verbs.specs.declared.reason.Reason.TheVariants.{Invalid}
@@ -12,32 +12,21 @@ path_validated namespace name =
     and_then (require (is_dns_subdomain name) Invalid (codes "metadata.name: bad name")) (λ u.
     require (is_dns_label namespace) Invalid (codes "metadata.namespace: bad namespace"))
 
-abbrev pub label_validated : List ℕ → List ℕ → Validated (Unit {0})
-label_validated k v =
-    and_then (require (is_label_key k) Invalid (codes "metadata.labels: bad key")) (λ u.
-    require (is_label_value v) Invalid (codes "metadata.labels: bad value"))
-
 -- a null member is absent; by their shape all others are texts
-abbrev pub label_member_validated : List ℕ → Data → Validated (Unit {0})
-label_member_validated k (string s) = label_validated k s
-label_member_validated k null = Ok tt
-label_member_validated k (boolean b) = Ok tt
-label_member_validated k (number n) = Ok tt
-label_member_validated k (array ds) = Ok tt
-label_member_validated k (object ms) = Ok tt
+abbrev pub label_validated : List ℕ → Data → Validated (Unit {0})
+label_validated k (string s) =
+    and_then (require (is_label_key k) Invalid (codes "metadata.labels: bad key")) (λ u.
+    require (is_label_value s) Invalid (codes "metadata.labels: bad value"))
+label_validated k d = Ok tt
 
 -- in the order of keys, each key before its value
 abbrev pub labels_validated : Members → Validated (Unit {0})
 labels_validated no_members = Ok tt
-labels_validated (member k d ms) = and_then (label_member_validated k d) (λ u. labels_validated ms)
+labels_validated (member k d ms) = and_then (label_validated k d) (λ u. labels_validated ms)
 
 abbrev pub annotation_validated : List ℕ → Data → Validated (Unit {0})
 annotation_validated k (string s) = require (is_label_key k) Invalid (codes "metadata.annotations: bad key")
-annotation_validated k null = Ok tt
-annotation_validated k (boolean b) = Ok tt
-annotation_validated k (number n) = Ok tt
-annotation_validated k (array ds) = Ok tt
-annotation_validated k (object ms) = Ok tt
+annotation_validated k d = Ok tt
 
 abbrev pub annotations_validated : Members → Validated (Unit {0})
 annotations_validated no_members = Ok tt

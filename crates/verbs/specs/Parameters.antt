@@ -3,7 +3,7 @@ use Rattle.std.specs.Prelude.{ℕ, List, ◌++◌, codes}
 use Rattle.std.specs.declared.result.Result.{Result}
 use Rattle.std.specs.declared.result.Result.TheVariants.{Ok, Err}
 use Rattle.params.specs.declared.parameter.Parameter.{Parameter}
-use Rattle.params.specs.declared.parameter.Parameter.TheVariants.{AllowWatchBookmarks, Continue, DryRun, FieldManager, FieldSelector, FieldValidation, Force, LabelSelector, Limit, ResourceVersion, ResourceVersionMatch, SendInitialEvents, TimeoutSeconds, Watch}
+use Rattle.params.specs.declared.parameter.Parameter.TheVariants.{FieldManager}
 use Rattle.params.specs.declared.params.Asked.{Asked}
 use Rattle.params.specs.Parameters.{name_of}
 use Rattle.params.specs.Query.{pairs_in}
@@ -19,19 +19,7 @@ named_bad p = call_refusal BadRequest (codes "bad parameter: " ++ name_of p)
 -- a manager's name has a refusal of its own
 abbrev pub bad_parameter : Parameter → CallRefusal
 bad_parameter FieldManager = call_refusal Invalid (codes "fieldManager: 1 to 128 printable characters")
-bad_parameter AllowWatchBookmarks = named_bad AllowWatchBookmarks
-bad_parameter Continue = named_bad Continue
-bad_parameter DryRun = named_bad DryRun
-bad_parameter FieldSelector = named_bad FieldSelector
-bad_parameter FieldValidation = named_bad FieldValidation
-bad_parameter Force = named_bad Force
-bad_parameter LabelSelector = named_bad LabelSelector
-bad_parameter Limit = named_bad Limit
-bad_parameter ResourceVersion = named_bad ResourceVersion
-bad_parameter ResourceVersionMatch = named_bad ResourceVersionMatch
-bad_parameter SendInitialEvents = named_bad SendInitialEvents
-bad_parameter TimeoutSeconds = named_bad TimeoutSeconds
-bad_parameter Watch = named_bad Watch
+bad_parameter p = named_bad p
 
 abbrev pub read_or_refused : {X : Type 0} → Result X Parameter → Validated X
 read_or_refused (Ok x) = Ok x

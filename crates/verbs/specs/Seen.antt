@@ -8,6 +8,8 @@ use Rattle.schema.specs.Served.{served}
 use Rattle.schema.specs.TypesFile.{ServedShape}
 use Rattle.typed.specs.Without.{without}
 use Rattle.verbs.specs.declared.calls.Target.{Target as TheTarget}
+use Rattle.verbs.specs.declared.calls.Scope.{Scope as TheScope}
+use Rattle.verbs.specs.declared.calls.Scope.TheVariants as scope
 use Rattle.verbs.specs.declared.calls.Call.{Call as TheCall}
 use Rattle.verbs.specs.declared.calls.Answer.{Answer as TheAnswer}
 use Rattle.verbs.specs.declared.calls.Plan.{Plan as ThePlan}
@@ -40,12 +42,17 @@ use Rattle.verbs.specs.Machine.{AreUnicode, ComesAfter, IsMachine}
 use Rattle.verbs.specs.declared.body.Body.{Body}
 use Rattle.serde_json.specs.Data.{Data, Members}
 use Rattle.watchline.specs.Views.{watch_from}
-use Rattle.verbs.specs.Calls.{Target, Call, Answer, Plan, Denied}
+use Rattle.verbs.specs.Calls.{Target, Scope, of_all, of_namespace, of_object, Call, Answer, Plan, Denied}
 
 -- ---- calls and answers
 
 abbrev pub target_of : TheTarget → Target
 target_of t = record { kind = t.kind; namespace = option_map string_bytes t.namespace; name = option_map string_bytes t.name; method = t.method }
+
+abbrev pub scope_seen : TheScope → Scope
+scope_seen scope.All = of_all
+scope_seen (scope.Namespace namespace) = of_namespace namespace.now
+scope_seen (scope.Object namespace name) = of_object namespace.now name.now
 
 abbrev pub body_seen : Body → Data
 body_seen b = view b.value

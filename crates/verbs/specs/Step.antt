@@ -40,7 +40,7 @@ use Rattle.verbs.specs.Reasons.{code_of}
 use Rattle.verbs.specs.Status.{CallRefusal, call_refusal_value}
 use Rattle.verbs.specs.Validated.{Validated, and_then, call_refusal, refused_for, require}
 use Rattle.verbs.specs.Machine.{after, identity_of, no_state, state_of_live, state_said}
-use Rattle.verbs.specs.Calls.{Call, Answer, Plan}
+use Rattle.verbs.specs.Calls.{Scope, of_all, of_namespace, of_object, scope_of, Call, Answer, Plan}
 use Rattle.verbs.specs.Envelope.{Expected, api_version_of, envelope_of, name_in}
 use Rattle.verbs.specs.Parameters.{parameters_validated}
 use Rattle.verbs.specs.Naming.{marks_validated, names_validated, required_name}
@@ -59,7 +59,7 @@ fault_reason KeyFieldMissing = Invalid
 -- a fault in the shape, with its path
 abbrev pub shape_validated : Read Content → Validated Content
 shape_validated (Ok c) = Ok c
-shape_validated (Err e) = refused_for (fault_reason e.0) (e.1 ++ codes ": " ++ cause_text e.0)
+shape_validated (Err e) = refused_for (fault_reason e.0) (e.1 ++ (codes ": " ++ cause_text e.0))
 
 -- ---- the object
 
@@ -73,10 +73,10 @@ text_at t k revision s = compact_text (printed t k revision s)
 -- ---- version
 
 abbrev pub no_object_message : ℕ → List ℕ
-no_object_message given = codes "version " ++ decimal given ++ codes " was given and there is no object"
+no_object_message given = codes "version " ++ (decimal given ++ codes " was given and there is no object")
 
 abbrev pub other_version_message : ℕ → ℕ → List ℕ
-other_version_message given stored = codes "version " ++ decimal given ++ codes " is not the stored one, " ++ decimal stored
+other_version_message given stored = codes "version " ++ (decimal given ++ (codes " is not the stored one, " ++ decimal stored))
 
 -- the version that a body names is that of the object that stands
 abbrev pub version_checked : Option ℕ → Option Object → Validated (Unit {0})
@@ -87,7 +87,7 @@ version_checked (Some given) (Some o) = require (given == o.revision) reason.Con
 -- ---- ownership (Server-Side Apply, "Conflicts")
 
 abbrev pub conflict_message : List ℕ → Manager → List ℕ
-conflict_message api_version m = codes "conflict with \"" ++ m.name ++ codes "\" using " ++ api_version
+conflict_message api_version m = codes "conflict with \"" ++ (m.name ++ (codes "\" using " ++ api_version))
 
 abbrev pub cause_of : List ℕ → Conflict → Data
 cause_of api_version c =
@@ -99,7 +99,7 @@ causes_of api_version [] = no_items
 causes_of api_version (c ∷ cs) = item (cause_of api_version c) (causes_of api_version cs)
 
 abbrev pub count_message : ℕ → List ℕ
-count_message n = codes "Apply failed with " ++ decimal n ++ codes " conflict(s)"
+count_message n = codes "Apply failed with " ++ (decimal n ++ codes " conflict(s)")
 
 abbrev pub conflict_refusal : List ℕ → List Conflict → CallRefusal
 conflict_refusal api_version cs = record {
@@ -180,22 +180,22 @@ apply_validated t current live k query body =
 
 -- ---- objects that are there, and that are not
 
--- `<plural>.<group> "<name>"`
-abbrev pub object_named : ServedShape → List ℕ → List ℕ
-object_named t name = t.plural ++ codes "." ++ t.group ++ codes " \"" ++ name ++ codes "\""
+-- `<plural>.<group> "<name>"`, and what is said of it
+abbrev pub said_of_object : ServedShape → List ℕ → List ℕ → List ℕ
+said_of_object t name what = t.plural ++ (codes "." ++ (t.group ++ (codes " \"" ++ (name ++ (codes "\"" ++ what)))))
 
 abbrev pub there : ServedShape → List ℕ → Option Object → Validated Object
-there t name None = refused_for NotFound (object_named t name ++ codes " not found")
+there t name None = refused_for NotFound (said_of_object t name (codes " not found"))
 there t name (Some o) = Ok o
 
 abbrev pub not_there : ServedShape → List ℕ → Option Object → Validated (Unit {0})
 not_there t name None = Ok tt
-not_there t name (Some o) = refused_for AlreadyExists (object_named t name ++ codes " already exists")
+not_there t name (Some o) = refused_for AlreadyExists (said_of_object t name (codes " already exists"))
 
 -- ---- get
 
 abbrev pub too_large_message : ℕ → ℕ → List ℕ
-too_large_message n current = codes "Too large resource version: " ++ decimal n ++ codes ", current: " ++ decimal current
+too_large_message n current = codes "Too large resource version: " ++ (decimal n ++ (codes ", current: " ++ decimal current))
 
 -- the version that is asked for has come
 abbrev pub version_come : Option ℕ → ℕ → Validated (Unit {0})
@@ -326,29 +326,28 @@ body_of (Some body) = Ok body
 abbrev pub not_served : Validated Plan
 not_served = refused_for MethodNotAllowed (codes "method not served here")
 
--- on an object, by the method
+-- a write of an object, by its method
+abbrev pub write_validated_by : Method → ServedShape → ℕ → Option Object → Key → List ℕ → Option Data → Validated Plan
+write_validated_by Put t current live k query body = and_then (body_of body) (update_validated t current live k query)
+write_validated_by Patch t current live k query body = and_then (body_of body) (apply_validated t current live k query)
+write_validated_by Delete t current live k query body = delete_validated t current live k query body
+write_validated_by how t current live k query body = not_served
+
+-- on an object
 abbrev pub object_validated_by : Method → ServedShape → ℕ → Option Object → Key → List ℕ → Option Data → Validated Plan
 object_validated_by Get t current live k query body = get_validated t current live k query
-object_validated_by Post t current live k query body = not_served
-object_validated_by Put t current live k query body = and_then (body_of body) (update_validated t current live k query)
-object_validated_by Patch t current live k query body = and_then (body_of body) (apply_validated t current live k query)
-object_validated_by Delete t current live k query body = delete_validated t current live k query body
+object_validated_by how t current live k query body = write_validated_by how t current live k query body
 
 -- on all objects of a namespace
 abbrev pub collection_validated_by : Method → ServedShape → ℕ → Objects → Lists → ℕ → List ℕ → List ℕ → Option Data → Validated Plan
 collection_validated_by Post t current objects lists kind namespace query body = and_then (body_of body) (create_validated t current objects kind namespace query)
 collection_validated_by Get t current objects lists kind namespace query body = list_validated t lists kind (Some namespace) query
-collection_validated_by Put t current objects lists kind namespace query body = not_served
-collection_validated_by Patch t current objects lists kind namespace query body = not_served
-collection_validated_by Delete t current objects lists kind namespace query body = not_served
+collection_validated_by how t current objects lists kind namespace query body = not_served
 
 -- on all objects of a type
 abbrev pub all_validated_by : Method → ServedShape → Lists → ℕ → List ℕ → Validated Plan
 all_validated_by Get t lists kind query = list_validated t lists kind None query
-all_validated_by Post t lists kind query = not_served
-all_validated_by Put t lists kind query = not_served
-all_validated_by Patch t lists kind query = not_served
-all_validated_by Delete t lists kind query = not_served
+all_validated_by how t lists kind query = not_served
 
 abbrev pub no_path : Validated Plan
 no_path = refused_for NotFound (codes "no such path")
@@ -356,14 +355,20 @@ no_path = refused_for NotFound (codes "no such path")
 abbrev pub key_at : Call → List ℕ → List ℕ → Key
 key_at call namespace name = record { kind = call.target.kind; namespace = namespace; name = name }
 
--- by namespace and name: an object's path has both, a collection's no name, that of all namespaces neither
-abbrev pub validated_in : ServedShape → ℕ → Objects → Lists → Call → Option (List ℕ) → Option (List ℕ) → Validated Plan
-validated_in t current objects lists call None None = all_validated_by call.target.method t lists call.target.kind call.query
-validated_in t current objects lists call None (Some name) = no_path
-validated_in t current objects lists call (Some namespace) None =
+abbrev pub validated_on : ServedShape → ℕ → Objects → Lists → Call → Scope → Validated Plan
+validated_on t current objects lists call of_all = all_validated_by call.target.method t lists call.target.kind call.query
+validated_on t current objects lists call (of_namespace namespace) =
     collection_validated_by call.target.method t current objects lists call.target.kind namespace call.query call.body
-validated_in t current objects lists call (Some namespace) (Some name) =
+validated_on t current objects lists call (of_object namespace name) =
     object_validated_by call.target.method t current (fin.get objects (key_at call namespace name)) (key_at call namespace name) call.query call.body
+
+abbrev pub validated_scope : ServedShape → ℕ → Objects → Lists → Call → Option Scope → Validated Plan
+validated_scope t current objects lists call None = no_path
+validated_scope t current objects lists call (Some scope) = validated_on t current objects lists call scope
+
+-- by namespace and name
+abbrev pub validated_in : ServedShape → ℕ → Objects → Lists → Call → Option (List ℕ) → Option (List ℕ) → Validated Plan
+validated_in t current objects lists call namespace name = validated_scope t current objects lists call (scope_of namespace name)
 
 abbrev pub validated_at : Option ServedShape → ℕ → Objects → Lists → Call → Validated Plan
 validated_at None current objects lists call = no_path

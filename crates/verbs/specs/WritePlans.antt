@@ -4,7 +4,7 @@ use Rattle.schema.specs.TypesFile.{ServedShape}
 use Rattle.verbs.specs.Calls.{Plan}
 use Rattle.verbs.specs.Remembered.{IsRight}
 use Rattle.verbs.specs.Seen.{plan_of}
-use Rattle.verbs.specs.declared.write_plan.WritePlan.{WritePlan}
+use Rattle.verbs.specs.declared.remembered.WritePlan.{WritePlan}
 
 abbrev pub written_plan : WritePlan → Plan
 written_plan w = plan_of w.plan

@@ -26,6 +26,37 @@ pub struct Target {
     pub method: Method,
 }
 
+/// Which objects of its type a call is of.
+#[derive(Clone, Copy, Debug)]
+pub(crate) enum Scope<'a> {
+    /// All, in all namespaces.
+    All,
+    /// All in a namespace.
+    Namespace(&'a str),
+    /// One, by its namespace and its name.
+    Object(&'a str, &'a str),
+}
+
+impl Target {
+    ghost use Rattle.std.specs.Prelude.{◌≡◌, option_map};
+    ghost use Rattle.verbs.specs.Calls.{scope_of};
+    ghost use Rattle.verbs.specs.Seen.{scope_seen, target_of};
+
+    /// Which objects it is of; none for a name without a namespace, to which no path leads.
+    pub(crate) fn scope(&self) -> Option<Scope<'_>>
+        ensures { option_map scope_seen result ≡ scope_of (target_of self.now).namespace (target_of self.now).name }
+    {
+        match (&self.namespace, &self.name) {
+            (None, None) => Some(Scope::All),
+            (Some(namespace), None) => Some(Scope::Namespace(namespace.as_str())),
+            (Some(namespace), Some(name)) => {
+                Some(Scope::Object(namespace.as_str(), name.as_str()))
+            }
+            (None, Some(_)) => None,
+        }
+    }
+}
+
 /// What a request asks, once it is read.
 #[derive(Debug, Drop)]
 pub struct Call {

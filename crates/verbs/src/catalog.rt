@@ -1,7 +1,7 @@
 //! The types that are served, and of some of their objects the states that their texts say. These states only save time:
 //! a write that finds none reads the object's text, with the same result. They are kept in the slots of `slot`.
 
-use crate::calls::{Plan, Target};
+use crate::calls::{Plan, Scope, Target};
 use crate::remembered::Remembered;
 use crate::slot::{Slot, empty_slots, put_in, slot_of, taken_from};
 use schema::Types;
@@ -35,24 +35,19 @@ impl Model for Catalog {
 
 /// The slot of the object that a call changes, or else of the one that it names: a POST names none, and its change does.
 fn slot_in(target: &Target, plan: &Plan) -> Option<usize> {
-    match &plan.change {
-        Some(change) => {
-            let key = &change.key;
-            Some(slot_of(key.kind, key.namespace.as_str(), key.name.as_str()))
-        }
-        None => slot_at(target),
-    }
+    let Some(change) = &plan.change else {
+        return slot_at(target);
+    };
+    let key = &change.key;
+    Some(slot_of(key.kind, key.namespace.as_str(), key.name.as_str()))
 }
 
 /// The slot of the object that a call is of, if it names one.
 fn slot_at(target: &Target) -> Option<usize> {
-    let Some(namespace) = &target.namespace else {
-        return None;
-    };
-    let Some(name) = &target.name else {
-        return None;
-    };
-    Some(slot_of(target.kind, namespace.as_str(), name.as_str()))
+    match target.scope() {
+        Some(Scope::Object(namespace, name)) => Some(slot_of(target.kind, namespace, name)),
+        _ => None,
+    }
 }
 
 impl Catalog {

@@ -5,9 +5,8 @@ ghost use Rattle.std.specs.Prelude.{◌≡◌, ◌++◌, IfOk, Some, codes, stri
 ghost use Rattle.serde_json.specs.Data.{Members};
 ghost use Rattle.serde_json.specs.View.{items_view, members_view, view};
 ghost use Rattle.schema.specs.Served as types;
-ghost use Rattle.verbs.specs.Envelope.{api_version_of, entries_validated, envelope_of, given_validated, is_text, is_text_or_none, kind_validated, kind_message, left_out, managers_by, managers_validated, must_be, filled_text, member_of, name_in, metadata_in, metadata_validated, object_validated, text_in, text_of, version_allowed, version_validated, version_or_fault, version_read, wanted_validated};
+ghost use Rattle.verbs.specs.Envelope.{api_version_of, entries_validated, envelope_of, given_validated, is_text, is_text_or_none, kind_message, kind_validated, left_out, managers_by, member_of, must_be, name_in, metadata_in, metadata_validated, object_validated, text_in, version_allowed, version_validated, wanted_validated};
 ghost use Rattle.verbs.specs.declared.reason.Reason.TheVariants.{BadRequest};
-ghost use Rattle.verbs.specs.Validated.{call_refusal, require};
 ghost use Rattle.typed.specs.Without.{omitted_of};
 ghost use Rattle.verbs.specs.Json.{IsJson};
 ghost use Rattle.verbs.specs.Seen.{RefusesFor, Gives, envelope_seen, envelope_with, expected_of, metadata_there};
@@ -15,7 +14,6 @@ ghost use Rattle.verbs.specs.Seen.{RefusesFor, Gives, envelope_seen, envelope_wi
 use crate::fault::CallError;
 use crate::method::Method;
 use crate::reason::Reason;
-use crate::texts::joined;
 use json_values::{member, unless_empty};
 use names::version_of;
 use schema::Served;
@@ -33,9 +31,6 @@ pub struct Expected<'a> {
     /// What the body is sent by.
     pub method: Method,
 }
-
-/// What is wrong where an object is due, behind the path.
-const NOT_AN_OBJECT: &str = ": not an object";
 
 /// The path of `metadata`, before a member's name.
 const IN_METADATA: &str = ".metadata.";
@@ -66,44 +61,43 @@ pub fn left_out() -> Omitted<'static>
     }
 }
 
-/// A refusal whose message is a path and what is wrong there.
-fn fault_at(alloc: Global, path: &str, what: &str) -> CallError
-    ensures { RefusesFor result BadRequest (path.now ++ what.now) }
-{
-    match joined(alloc, path, what) {
-        Ok(message) => CallError::refused_with(alloc, Reason::BadRequest, message),
-        Err(_) => CallError::Memory,
-    }
-}
-
 /// `group/version`.
 pub fn api_version_of(alloc: Global, served: &Served) -> Result<String, AllocError>
     ensures { IfOk result (λ s. string_bytes s ≡ api_version_of (types.served served.now)) }
 {
-    let mut text = joined(alloc, served.group.as_str(), "/")?;
+    let mut text = String::from_str(alloc, served.group.as_str())?;
+    text.push_str("/")?;
     text.push_str(served.version.as_str())?;
     Ok(text)
 }
 
 /// The refusal of a member of a wrong type: the path above it, and its name.
 fn wrong_type(alloc: Global, path: &str, name: &str) -> CallError
-    ensures { RefusesFor result BadRequest ((path.now ++ name.now) ++ codes ": wrong type") }
+    ensures { RefusesFor result BadRequest (path.now ++ (name.now ++ codes ": wrong type")) }
 {
-    match joined(alloc, path, name) {
-        Ok(path) => fault_at(alloc, path.as_str(), ": wrong type"),
-        Err(_) => CallError::Memory,
-    }
+    let message = format!(in alloc; "{path}{name}: wrong type");
+    CallError::told(alloc, Reason::BadRequest, message)
 }
 
-/// The text that a member's value is; null and the empty text are none.
-fn text_of<'a>(
+/// The member of an object that may be absent.
+fn member_of<'a>(members: Option<&'a Map<String, Value>>, name: &str) -> Option<&'a Value>
+    ensures { option_map (λ v. view v.now) result ≡ member_of name.now (option_map (λ m. members_view m.now.entries) members.entry) }
+{
+    member(members?, name)
+}
+
+/// The text of a member; none where it is absent, null or the empty text.
+fn text_in<'a>(
     alloc: Global,
-    value: &'a Value,
+    members: Option<&'a Map<String, Value>>,
     path: &str,
     name: &str,
 ) -> Result<Option<&'a str>, CallError>
-    ensures { Gives (option_map (λ s. s.now)) result (text_of (path.now ++ name.now) (view value.now)) }
+    ensures { Gives (option_map (λ s. s.now)) result (text_in path.now name.now (option_map (λ m. members_view m.now.entries) members.entry)) }
 {
+    let Some(value) = member_of(members, name) else {
+        return Ok(None);
+    };
     match value {
         Value::Null => Ok(None),
         Value::String(text) => Ok(unless_empty(text.as_str())),
@@ -111,28 +105,10 @@ fn text_of<'a>(
     }
 }
 
-/// The text of a member, none where it is absent.
-fn text_in<'a>(
-    alloc: Global,
-    member: Option<&'a Value>,
-    path: &str,
-    name: &str,
-) -> Result<Option<&'a str>, CallError>
-    ensures { Gives (option_map (λ s. s.now)) result (text_in (path.now ++ name.now) (option_map (λ v. view v.now) member.entry)) }
-{
-    match member {
-        Some(value) => text_of(alloc, value, path, name),
-        None => Ok(None),
-    }
-}
-
 fn is_text(given: Option<&str>, wanted: &str) -> bool
     ensures { result ≡ is_text (option_map (λ s. s.now) given.entry) wanted.now }
 {
-    match given {
-        Some(text) => text == wanted,
-        None => false,
-    }
+    given == Some(wanted)
 }
 
 fn is_text_or_none(given: Option<&str>, wanted: &str) -> bool
@@ -144,26 +120,25 @@ fn is_text_or_none(given: Option<&str>, wanted: &str) -> bool
     }
 }
 
-fn kind_message(alloc: Global, api_version: &str, kind: &str) -> Result<String, AllocError>
-    ensures { IfOk result (λ s. string_bytes s ≡ kind_message api_version.now kind.now) }
+fn other_kind(alloc: Global, api_version: &str, kind: &str) -> CallError
+    ensures { RefusesFor result BadRequest (kind_message api_version.now kind.now) }
 {
-    let mut message = joined(alloc, "apiVersion and kind must be ", api_version)?;
-    message.push_str(" and ")?;
-    message.push_str(kind)?;
-    Ok(message)
+    let message = format!(in alloc; "apiVersion and kind must be {api_version} and {kind}");
+    CallError::told(alloc, Reason::BadRequest, message)
 }
 
 fn validate_kind(alloc: Global, served: &Served, top: &Map<String, Value>) -> Result<(), CallError>
     ensures { Gives (λ u. u) result (kind_validated (types.served served.now) (members_view top.now.entries)) }
 {
-    let given_version = text_in(alloc, member(top, "apiVersion"), ".", "apiVersion")?;
-    let given_kind = text_in(alloc, member(top, "kind"), ".", "kind")?;
-    let wanted = api_version_of(alloc, served)?;
-    if is_text(given_version, wanted.as_str()) && is_text(given_kind, served.kind.as_str()) {
+    let given_version = text_in(alloc, Some(top), ".", "apiVersion")?;
+    let given_kind = text_in(alloc, Some(top), ".", "kind")?;
+    let api_version = api_version_of(alloc, served)?;
+    let wanted = api_version.as_str();
+    let kind = served.kind.as_str();
+    if is_text(given_version, wanted) && is_text(given_kind, kind) {
         return Ok(());
     }
-    let message = kind_message(alloc, wanted.as_str(), served.kind.as_str())?;
-    Err(CallError::refused_with(alloc, Reason::BadRequest, message))
+    Err(other_kind(alloc, wanted, kind))
 }
 
 /// `metadata`, if it is there.
@@ -179,27 +154,18 @@ fn metadata_in<'a>(
     match value {
         Value::Null => Ok(None),
         Value::Object(members) => Ok(Some(members)),
-        _ => Err(fault_at(alloc, ".metadata", NOT_AN_OBJECT)),
+        _ => {
+            let message = ".metadata: not an object";
+            Err(CallError::refused_for(alloc, Reason::BadRequest, message))
+        }
     }
 }
 
-/// The member of an object that may be absent.
-fn member_of<'a>(metadata: Option<&'a Map<String, Value>>, name: &str) -> Option<&'a Value>
-    ensures { option_map (λ v. view v.now) result ≡ member_of name.now (option_map (λ m. members_view m.now.entries) metadata.entry) }
+fn must_be(alloc: Global, name: &str, wanted: &str) -> CallError
+    ensures { RefusesFor result BadRequest (must_be name.now wanted.now) }
 {
-    match metadata {
-        Some(members) => member(members, name),
-        None => None,
-    }
-}
-
-fn must_be(alloc: Global, name: &str, wanted: &str) -> Result<String, AllocError>
-    ensures { IfOk result (λ s. string_bytes s ≡ must_be name.now wanted.now) }
-{
-    let mut message = joined(alloc, "metadata.", name)?;
-    message.push_str(" must be ")?;
-    message.push_str(wanted)?;
-    Ok(message)
+    let message = format!(in alloc; "metadata.{name} must be {wanted}");
+    CallError::told(alloc, Reason::BadRequest, message)
 }
 
 /// What is given is that of the path, where the path has one.
@@ -217,8 +183,7 @@ fn validate_wanted(
     if is_text_or_none(given, wanted) {
         return Ok(());
     }
-    let message = must_be(alloc, name, wanted)?;
-    Err(CallError::refused_with(alloc, Reason::BadRequest, message))
+    Err(must_be(alloc, name, wanted))
 }
 
 /// A name that the body gives is that of the path.
@@ -230,24 +195,8 @@ fn validate_given(
 ) -> Result<(), CallError>
     ensures { Gives (λ u. u) result (given_validated name.now (option_map (λ s. s.now) wanted.entry) (option_map (λ m. members_view m.now.entries) metadata.entry)) }
 {
-    let given = text_in(alloc, member_of(metadata, name), IN_METADATA, name)?;
+    let given = text_in(alloc, metadata, IN_METADATA, name)?;
     validate_wanted(alloc, name, wanted, given)
-}
-
-fn read_version(alloc: Global, given: Option<&str>) -> Result<Option<u64>, CallError>
-    ensures { Gives (λ v. v) result (version_read (option_map (λ s. s.now) given.entry)) }
-{
-    let Some(text) = given else {
-        return Ok(None);
-    };
-    match version_of(text) {
-        Some(version) => Ok(Some(version)),
-        None => Err(CallError::refused_for(
-            alloc,
-            Reason::BadRequest,
-            "metadata.resourceVersion: bad version",
-        )),
-    }
 }
 
 fn validate_version(
@@ -256,13 +205,14 @@ fn validate_version(
 ) -> Result<Option<u64>, CallError>
     ensures { Gives (λ v. v) result (version_validated (option_map (λ m. members_view m.now.entries) metadata.entry)) }
 {
-    let given = text_in(
-        alloc,
-        member_of(metadata, "resourceVersion"),
-        IN_METADATA,
-        "resourceVersion",
-    )?;
-    read_version(alloc, given)
+    let Some(text) = text_in(alloc, metadata, IN_METADATA, "resourceVersion")? else {
+        return Ok(None);
+    };
+    if let Some(version) = version_of(text) {
+        return Ok(Some(version));
+    }
+    let message = "metadata.resourceVersion: bad version";
+    Err(CallError::refused_for(alloc, Reason::BadRequest, message))
 }
 
 /// A creation is of no version.
@@ -272,11 +222,8 @@ fn allow_version(alloc: Global, method: Method, version: Option<u64>) -> Result<
     if method != Method::Post || version.is_none() {
         return Ok(());
     }
-    Err(CallError::refused_for(
-        alloc,
-        Reason::BadRequest,
-        "metadata.resourceVersion must not be set",
-    ))
+    let message = "metadata.resourceVersion must not be set";
+    Err(CallError::refused_for(alloc, Reason::BadRequest, message))
 }
 
 fn validate_entries(alloc: Global, entries: &[Value]) -> Result<(), CallError>
@@ -285,17 +232,17 @@ fn validate_entries(alloc: Global, entries: &[Value]) -> Result<(), CallError>
     if entries.is_empty() {
         return Ok(());
     }
-    Err(CallError::refused_for(
-        alloc,
-        Reason::BadRequest,
-        "metadata.managedFields must be empty",
-    ))
+    let message = "metadata.managedFields must be empty";
+    Err(CallError::refused_for(alloc, Reason::BadRequest, message))
 }
 
-/// An apply's body may not say who owns what.
-fn validate_managers(alloc: Global, member: Option<&Value>) -> Result<(), CallError>
-    ensures { Gives (λ u. u) result (managers_validated (option_map (λ v. view v.now) member.entry)) }
+/// An apply's body may not say who owns what; what any other write says of it is ignored.
+fn validate_managers(alloc: Global, method: Method, member: Option<&Value>) -> Result<(), CallError>
+    ensures { Gives (λ u. u) result (managers_by method (option_map (λ v. view v.now) member.entry)) }
 {
+    if method != Method::Patch {
+        return Ok(());
+    }
     let Some(value) = member else {
         return Ok(());
     };
@@ -304,20 +251,6 @@ fn validate_managers(alloc: Global, member: Option<&Value>) -> Result<(), CallEr
         Value::Array(entries) => validate_entries(alloc, entries),
         _ => Err(wrong_type(alloc, IN_METADATA, "managedFields")),
     }
-}
-
-/// What any other write says of who owns what is ignored.
-fn validate_managers_by(
-    alloc: Global,
-    method: Method,
-    member: Option<&Value>,
-) -> Result<(), CallError>
-    ensures { Gives (λ u. u) result (managers_by method (option_map (λ v. view v.now) member.entry)) }
-{
-    if method != Method::Patch {
-        return Ok(());
-    }
-    validate_managers(alloc, member)
 }
 
 /// Checks the key, the version and the managers that `metadata` names, and answers that version, if there is one.
@@ -334,7 +267,7 @@ fn validate_metadata(
     let version = validate_version(alloc, metadata)?;
     allow_version(alloc, expected.method, version)?;
     let managers = member_of(metadata, "managedFields");
-    validate_managers_by(alloc, expected.method, managers)?;
+    validate_managers(alloc, expected.method, managers)?;
     Ok(version)
 }
 
@@ -370,6 +303,9 @@ pub fn validate(
 {
     match body {
         Value::Object(top) => validate_object(alloc, expected, top),
-        _ => Err(fault_at(alloc, ".", NOT_AN_OBJECT)),
+        _ => {
+            let message = ".: not an object";
+            Err(CallError::refused_for(alloc, Reason::BadRequest, message))
+        }
     }
 }

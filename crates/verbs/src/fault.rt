@@ -1,12 +1,12 @@
 //! The errors of calls: of a check, which refuses the call or is out of memory, and of a whole call, which is no
 //! refusal: memory, the store, or a stored text that is no object's. A refusal itself stands in `call_refusal`.
 
-ghost use Rattle.std.specs.Prelude.{string_bytes};
+ghost use Rattle.std.specs.Prelude.{◌≡◌, ℕ, IfOk, List, string_bytes};
 ghost use Rattle.verbs.specs.Seen.{RefusesFor};
 
 use crate::call_refusal::CallRefusal;
 use crate::reason::Reason;
-use std::alloc::{AllocError, AllocFailed, Global};
+use std::alloc::{AllocError, Global};
 use thiserror::Error;
 
 /// Why a check doesn't pass.
@@ -17,21 +17,21 @@ pub enum CallError {
 }
 
 impl CallError {
-    /// A refusal with this message, which was put together for it.
-    pub fn refused_with(alloc: Global, reason: Reason, message: String) -> CallError
-        ensures { RefusesFor result reason (string_bytes message) }
+    /// A refusal with this message, which was put together for it, unless there was no room in memory.
+    pub fn told(alloc: Global, reason: Reason, message: Result<String, AllocError>) -> CallError
+        ensures { (text : List ℕ) → IfOk message (λ s. string_bytes s ≡ text) → RefusesFor result reason text }
     {
-        CallError::Refused(CallRefusal::new(alloc, reason, message))
+        match message {
+            Ok(message) => CallError::Refused(CallRefusal::new(alloc, reason, message)),
+            Err(_) => CallError::Memory,
+        }
     }
 
     /// A refusal with a copy of this message.
     pub fn refused_for(alloc: Global, reason: Reason, message: &str) -> CallError
         ensures { RefusesFor result reason message.now }
     {
-        match String::from_str(alloc, message) {
-            Ok(message) => CallError::refused_with(alloc, reason, message),
-            Err(_) => CallError::Memory,
-        }
+        CallError::told(alloc, reason, String::from_str(alloc, message))
     }
 }
 
@@ -42,17 +42,6 @@ impl From<AllocError> for CallError {
     ghost from_gives = { λ _ e. e ≡ Memory };
 
     fn from(_: AllocError) -> CallError {
-        CallError::Memory
-    }
-}
-
-impl<T: Drop> From<AllocFailed<T>> for CallError {
-    ghost use Rattle.std.specs.Prelude.{◌≡◌};
-    ghost use Rattle.verbs.specs.declared.fault.CallError.TheVariants.{Memory};
-
-    ghost from_gives = { λ _ e. e ≡ Memory };
-
-    fn from(_: AllocFailed<T>) -> CallError {
         CallError::Memory
     }
 }
@@ -80,17 +69,6 @@ impl From<AllocError> for Fault {
     ghost from_gives = { λ _ e. e ≡ Memory };
 
     fn from(_: AllocError) -> Fault {
-        Fault::Memory
-    }
-}
-
-impl<T: Drop> From<AllocFailed<T>> for Fault {
-    ghost use Rattle.std.specs.Prelude.{◌≡◌};
-    ghost use Rattle.verbs.specs.declared.fault.Fault.TheVariants.{Memory};
-
-    ghost from_gives = { λ _ e. e ≡ Memory };
-
-    fn from(_: AllocFailed<T>) -> Fault {
         Fault::Memory
     }
 }

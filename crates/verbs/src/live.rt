@@ -8,7 +8,7 @@ ghost use Rattle.objects.specs.Views.{state_of};
 ghost use Rattle.schema.specs.ObjectShape.{IsObjectShape};
 ghost use Rattle.schema.specs.TypesFile.{ServedShape};
 ghost use Rattle.history.specs.Read.{key_of};
-ghost use Rattle.verbs.specs.Live.{IsLive};
+ghost use Rattle.verbs.specs.Live.{IsLive, object_in};
 ghost use Rattle.verbs.specs.Machine.{IsReadable, state_of_live, state_said};
 ghost use Rattle.verbs.specs.Remembered.{IsRight};
 ghost use Rattle.verbs.specs.Seen.{object_of};
@@ -69,30 +69,7 @@ fn read_stored(alloc: Global, served: &Served, key: &Key, stored: &Object) -> Re
     }
 }
 
-/// The same, with no reading where it is remembered of this very text.
-fn remembered_or_read(
-    alloc: Global,
-    served: &Served,
-    key: &Key,
-    stored: &Object,
-    remembered: Option<Remembered>,
-) -> Result<Owned, Fault>
-    requires shaped { IsObjectShape (types.served served.now).shape }
-    requires right { IfSome remembered (IsRight (types.served served.now)) }
-    ensures state { IfOk result (λ o. state_of o ≡ state_said (types.served served.now).shape (object_of stored.now).body) }
-    ensures placed { IfOk result (λ o. IsPlacedState (types.served served.now).shape (state_of o)) }
-    ensures readable { IsReadable (types.served served.now) (key_of key.now) (Some (object_of stored.now)) → result ≢ Err Fault.Unreadable }
-{
-    let Some(known) = remembered else {
-        return read_stored(alloc, served, key, stored);
-    };
-    if known.text == stored.body {
-        return Ok(known.state);
-    }
-    read_stored(alloc, served, key, stored)
-}
-
-/// The state of the object that stands, or nothing.
+/// The state of the object that stands, or nothing: the one that is remembered of its very text, or else as it is read.
 fn state_before(
     alloc: Global,
     served: &Served,
@@ -106,13 +83,16 @@ fn state_before(
     ensures placed { IfOk result (λ o. IsPlacedState (types.served served.now).shape (state_of o)) }
     ensures readable { IsReadable (types.served served.now) (key_of key.now) (option_map (λ o. object_of o.now) object.entry) → result ≢ Err Fault.Unreadable }
 {
-    match object {
-        Some(stored) => remembered_or_read(alloc, served, key, stored, remembered),
-        None => Ok(Owned::empty(alloc)),
+    let Some(stored) = object else {
+        return Ok(Owned::empty(alloc));
+    };
+    match remembered {
+        Some(known) if known.text == stored.body => Ok(known.state),
+        _ => read_stored(alloc, served, key, stored),
     }
 }
 
-/// What stands under the key, with its state: the one that is remembered of its text, or else as it is read.
+/// What stands under the key, with its state.
 pub(crate) fn live_at(
     alloc: Global,
     served: &Served,
@@ -122,9 +102,8 @@ pub(crate) fn live_at(
 ) -> Result<Live, Fault>
     requires shaped { IsObjectShape (types.served served.now).shape }
     requires right { IfSome remembered (IsRight (types.served served.now)) }
-    ensures object { IfOk result (λ l. option_map object_of l.object ≡ option_map object_of object) }
-    ensures state { IfOk result (λ l. state_of l.state ≡ state_of_live (types.served served.now) (option_map object_of object)) }
-    ensures placed { IfOk result (λ l. IsPlacedState (types.served served.now).shape (state_of l.state)) }
+    ensures object { IfOk result (λ l. object_in l ≡ option_map object_of object) }
+    ensures live { IfOk result (IsLive (types.served served.now)) }
     ensures readable { IsReadable (types.served served.now) (key_of key.now) (option_map object_of object) → result ≢ Err Fault.Unreadable }
 {
     let state = state_before(alloc, served, key, object.as_ref(), remembered)?;

@@ -2,13 +2,15 @@
 
 ghost use Rattle.std.specs.Prelude.{◌≡◌, codes, option_map};
 ghost use Rattle.serde_json.specs.View.{members_view, view};
+ghost use Rattle.history.specs.Read.{key_of};
 ghost use Rattle.verbs.specs.declared.reason.Reason.TheVariants.{Invalid};
 ghost use Rattle.verbs.specs.Validated.{require};
-ghost use Rattle.verbs.specs.Naming.{annotation_validated, annotations_validated, label_validated, if_there, label_member_validated, labels_validated, marks_validated, metadata_object, names_validated, path_validated, required_name};
+ghost use Rattle.verbs.specs.Naming.{annotation_validated, annotations_validated, if_there, label_validated, labels_validated, marks_validated, metadata_object, names_validated, path_validated, required_name};
 ghost use Rattle.verbs.specs.Seen.{Gives, rest_seen};
 
 use crate::fault::CallError;
 use crate::reason::Reason;
+use history::Key;
 use names::{is_dns_label, is_dns_subdomain, is_label_key, is_label_value};
 use serde_json::{Map, Value};
 use std::alloc::Global;
@@ -34,18 +36,18 @@ fn validate_path(alloc: Global, namespace: &str, name: &str) -> Result<(), CallE
     )
 }
 
-fn validate_label(alloc: Global, key: &str, value: &str) -> Result<(), CallError>
-    ensures { Gives (λ u. u) result (label_validated key.now value.now) }
-{
-    require(alloc, is_label_key(key), "metadata.labels: bad key")?;
-    require(alloc, is_label_value(value), "metadata.labels: bad value")
-}
-
-fn validate_label_member(alloc: Global, key: &str, member: &Value) -> Result<(), CallError>
-    ensures { Gives (λ u. u) result (label_member_validated key.now (view member.now)) }
+fn validate_label(alloc: Global, key: &str, member: &Value) -> Result<(), CallError>
+    ensures { Gives (λ u. u) result (label_validated key.now (view member.now)) }
 {
     match member {
-        Value::String(value) => validate_label(alloc, key, value.as_str()),
+        Value::String(value) => {
+            require(alloc, is_label_key(key), "metadata.labels: bad key")?;
+            require(
+                alloc,
+                is_label_value(value.as_str()),
+                "metadata.labels: bad value",
+            )
+        }
         _ => Ok(()),
     }
 }
@@ -64,7 +66,7 @@ fn validate_labels(alloc: Global, labels: &Map<String, Value>) -> Result<(), Cal
     ensures { Gives (λ u. u) result (labels_validated (members_view labels.now.entries)) }
 {
     for (key, member) in labels.iter() {
-        validate_label_member(alloc, key.as_str(), member)?;
+        validate_label(alloc, key.as_str(), member)?;
     }
     Ok(())
 }
@@ -123,14 +125,9 @@ pub fn require_name<'a>(alloc: Global, name: Option<&'a str>) -> Result<&'a str,
 }
 
 /// The object's name and namespace, then the body's labels and annotations.
-pub fn validate_names(
-    alloc: Global,
-    namespace: &str,
-    name: &str,
-    body: &Value,
-) -> Result<(), CallError>
-    ensures { Gives (λ u. u) result (names_validated namespace.now name.now (rest_seen (view body.now))) }
+pub fn validate_names(alloc: Global, key: &Key, body: &Value) -> Result<(), CallError>
+    ensures { Gives (λ u. u) result (names_validated (key_of key.now).namespace (key_of key.now).name (rest_seen (view body.now))) }
 {
-    validate_path(alloc, namespace, name)?;
+    validate_path(alloc, key.namespace.as_str(), key.name.as_str())?;
     validate_marks(alloc, body)
 }

@@ -4,13 +4,13 @@
 ghost use Rattle.std.specs.Prelude.{◌≡◌, codes, option_map};
 ghost use Rattle.serde_json.specs.View.{items_view, members_view, view};
 ghost use Rattle.verbs.specs.declared.reason.Reason.TheVariants.{BadRequest};
-ghost use Rattle.verbs.specs.Options.{is_blank, is_blank_text, is_blank_value, is_no_list, options_in, options_validated, preconditions_in, preconditions_read, version_asked, version_by};
+ghost use Rattle.verbs.specs.Options.{is_blank, is_no_list, options_in, options_validated, preconditions_in, preconditions_read, text_in};
 ghost use Rattle.verbs.specs.Seen.{RefusesFor, Gives, body_seen};
 
 use crate::body::Body;
 use crate::fault::CallError;
 use crate::reason::Reason;
-use json_values::member;
+use json_values::{member, unless_empty};
 use names::version_of;
 use serde_json::{Map, Value};
 use std::alloc::Global;
@@ -27,10 +27,13 @@ fn is_no_list(items: &[Value]) -> bool
     items.is_empty()
 }
 
-/// Whether it is null, the empty text or the empty list.
-fn is_blank_value(value: &Value) -> bool
-    ensures { result ≡ is_blank_value (view value.now) }
+/// Whether it is absent, null, the empty text or the empty list.
+fn is_blank(member: Option<&Value>) -> bool
+    ensures { result ≡ is_blank (option_map (λ v. view v.now) member.entry) }
 {
+    let Some(value) = member else {
+        return true;
+    };
     match value {
         Value::Null => true,
         Value::String(text) => text.is_empty(),
@@ -39,63 +42,35 @@ fn is_blank_value(value: &Value) -> bool
     }
 }
 
-/// Whether it is absent, or blank.
-fn is_blank(member: Option<&Value>) -> bool
-    ensures { result ≡ is_blank (option_map (λ v. view v.now) member.entry) }
-{
-    match member {
-        Some(value) => is_blank_value(value),
-        None => true,
-    }
-}
-
-/// Whether it is absent, null or the empty text.
-fn is_blank_text(member: Option<&Value>) -> bool
-    ensures { result ≡ is_blank_text (option_map (λ v. view v.now) member.entry) }
-{
-    let Some(value) = member else {
-        return true;
-    };
-    match value {
-        Value::Null => true,
-        Value::String(text) => text.is_empty(),
-        _ => false,
-    }
-}
-
-fn version_by(alloc: Global, text: &str) -> Result<Option<u64>, CallError>
-    ensures { Gives (λ v. v) result (version_by text.now) }
-{
-    if text.is_empty() {
-        return Ok(None);
-    }
-    match version_of(text) {
-        Some(version) => Ok(Some(version)),
-        None => Err(bad_options(alloc)),
-    }
-}
-
-/// The version that the object has to have.
-fn version_asked(alloc: Global, member: Option<&Value>) -> Result<Option<u64>, CallError>
-    ensures { Gives (λ v. v) result (version_asked (option_map (λ v. view v.now) member.entry)) }
+/// The text of a member; none where it is absent, null or the empty text.
+fn text_in<'a>(alloc: Global, member: Option<&'a Value>) -> Result<Option<&'a str>, CallError>
+    ensures { Gives (option_map (λ s. s.now)) result (text_in (option_map (λ v. view v.now) member.entry)) }
 {
     let Some(value) = member else {
         return Ok(None);
     };
     match value {
         Value::Null => Ok(None),
-        Value::String(text) => version_by(alloc, text.as_str()),
+        Value::String(text) => Ok(unless_empty(text.as_str())),
         _ => Err(bad_options(alloc)),
     }
 }
 
+/// The version that the object has to have.
 fn read_preconditions(alloc: Global, members: &Map<String, Value>) -> Result<Option<u64>, CallError>
     ensures { Gives (λ v. v) result (preconditions_read (members_view members.now.entries)) }
 {
-    if !is_blank_text(member(members, "uid")) {
+    let uid = text_in(alloc, member(members, "uid"))?;
+    if uid.is_some() {
         return Err(bad_options(alloc));
     }
-    version_asked(alloc, member(members, "resourceVersion"))
+    let Some(text) = text_in(alloc, member(members, "resourceVersion"))? else {
+        return Ok(None);
+    };
+    match version_of(text) {
+        Some(version) => Ok(Some(version)),
+        None => Err(bad_options(alloc)),
+    }
 }
 
 fn preconditions_in(alloc: Global, member: Option<&Value>) -> Result<Option<u64>, CallError>

@@ -15,10 +15,10 @@ fn bad_parameter(alloc: Global, parameter: Parameter) -> CallError
 {
     match parameter {
         Parameter::FieldManager => CallError::refused_for(alloc, Reason::Invalid, BAD_MANAGER),
-        other => match ParamsFault::Bad(other).to_string(alloc) {
-            Ok(message) => CallError::refused_with(alloc, Reason::BadRequest, message),
-            Err(_) => CallError::Memory,
-        },
+        other => {
+            let message = ParamsFault::Bad(other).to_string(alloc);
+            CallError::told(alloc, Reason::BadRequest, message)
+        }
     }
 }
 

@@ -1,233 +1,174 @@
-//! The plan of a call, by its method and what stands in the store. Writes of one object are planned in `object_writes`, lists in
-//! `listing`.
+//! The plan of a call, by its method, which objects it is of, and what stands in the store. The checks of a call on an object
+//! stand in `validating`, lists in `listing`.
 
-ghost use Rattle.std.specs.Prelude.{◌≡◌, ◌≢◌, Err, IfOk, IfSome, List, None, Some, option_map, slice_get};
+ghost use Rattle.std.specs.Prelude.{◌≡◌, ◌≢◌, Err, IfOk, IfSome, List, Some, slice_get};
 ghost use Rattle.std.specs.FinMap as fin;
-ghost use Rattle.schema.specs.ObjectShape.{IsObjectShape};
-ghost use Rattle.schema.specs.Served as types;
 ghost use Rattle.schema.specs.Served.{types_view};
 ghost use Rattle.schema.specs.TypesFile.{ServedShape};
-ghost use Rattle.typed.specs.Fitting.{IsContent};
 ghost use Rattle.history.specs.Read.{key_of};
-ghost use Rattle.verbs.specs.Validated.{and_then};
+ghost use Rattle.verbs.specs.Calls as calls;
+ghost use Rattle.verbs.specs.Live.{IsLive, object_in};
 ghost use Rattle.verbs.specs.Machine.{AreTexts, IsReadable};
+ghost use Rattle.verbs.specs.Planner.{IsPlanner, asked_of, type_of};
 ghost use Rattle.verbs.specs.Remembered.{IsRight, IsRightAt};
-ghost use Rattle.verbs.specs.Seen.{call_of, creation_seen, object_of, objects_in, plan_of};
-ghost use Rattle.verbs.specs.Step.{all_validated_by, body_of, collection_validated_by, create_validated, created_as, lists_in, object_validated_by, plan_for, planned_over, validated_in};
-ghost use Rattle.verbs.specs.Subject.{IsSubject, type_of};
+ghost use Rattle.verbs.specs.Seen.{Gives, call_of, objects_in, plan_of, scope_seen};
+ghost use Rattle.verbs.specs.Step.{body_of, create_validated, get_validated, key_at, lists_in, plan_for, planned_over, validated_on, write_validated_by};
+ghost use Rattle.verbs.specs.Validated.{Validated, and_then};
+ghost use Rattle.verbs.specs.WritePlans.{RemembersRight, written_plan};
 
-use crate::answering::{no_path, not_served, plan_for};
-use crate::calls::{Call, Plan};
+use crate::admitting::{NO_PATH, NOT_SERVED};
+use crate::answering::{plan_for, refused_for};
+use crate::calls::{Call, Plan, Scope};
 use crate::catalog::Catalog;
-use crate::fault::Fault;
-use crate::listing::planned_list;
+use crate::fault::{CallError, Fault};
+use crate::live::{Live, live_at};
 use crate::method::Method;
-use crate::object_writes::{plan_written, planned_deletion, planned_patch, planned_put};
-use crate::remembered::Remembered;
-use crate::subject::Subject;
-use crate::validating::{Creation, created_as, validate_creation, validate_get};
+use crate::planner::Planner;
+use crate::reason::Reason;
+use crate::remembered::{Remembered, WritePlan};
+use crate::validating::Creation;
 use history::Key;
 use revstore::Store;
-use revtable::Object;
-use schema::{Served, Types};
+use schema::Types;
 use std::alloc::Global;
 
-/// By the method, over the object under the key.
-fn planned_by(
+/// The plan of a write, or of its refusal. After a change the state that it stored is what is known, and nothing of an object that
+/// it deleted; where nothing is changed, what was known stays.
+fn plan_written(
     alloc: Global,
-    of: Subject<'_>,
-    object: Option<Object>,
-    call: &Call,
+    written: Result<WritePlan, CallError>,
     known: &mut Option<Remembered>,
 ) -> Result<Plan, Fault>
-    requires subject { IsSubject of }
-    requires right { IfSome known.old (IsRight (type_of of)) }
-    ensures planned { let c = call_of call.now in
-        IfOk result (λ p. plan_of p ≡ plan_for (object_validated_by c.target.method (type_of of.entry) of.entry.current (option_map object_of object) (key_of of.entry.key) c.query c.body)) }
-    ensures readable { IsReadable (type_of of.entry) (key_of of.entry.key) (option_map object_of object) → result ≢ Err Fault.Unreadable }
-    ensures right { IfSome known.new (IsRight (type_of of.entry)) }
+    ensures plan_for { (answer : Validated calls.Plan) → Gives written_plan written answer → IfOk result (λ p. plan_of p ≡ plan_for answer) }
+    ensures readable { result ≢ Err Fault.Unreadable }
+    ensures right { (t : ServedShape) → IfOk written (RemembersRight t) → IfSome known.old (IsRight t) → IfSome known.new (IsRight t) }
 {
-    match call.target.method {
-        Method::Get => {
-            let read = validate_get(alloc, &of, object, &call.query);
-            plan_for(alloc, read)
+    match written {
+        Ok(WritePlan { plan, remembered }) => {
+            if plan.change.is_some() {
+                *known = remembered;
+            }
+            Ok(plan)
         }
-        Method::Post => plan_for(alloc, Err(not_served(alloc))),
-        Method::Put => planned_put(alloc, of, object, call, known),
-        Method::Patch => planned_patch(alloc, of, object, call, known),
-        Method::Delete => planned_deletion(alloc, of, object, call, known),
-    }
-}
-
-fn planned_object(
-    alloc: Global,
-    served: &Served,
-    store: &mut Store,
-    key: Key,
-    call: &Call,
-    known: &mut Option<Remembered>,
-) -> Result<Plan, Fault>
-    requires shaped { IsObjectShape (types.served served.now).shape }
-    requires right { IfSome known.old (IsRight (types.served served.now)) }
-    ensures planned { let c = call_of call.now in
-        IfOk result (λ p. plan_of p ≡ plan_for (object_validated_by c.target.method (types.served served.now) store.old.current (fin.get (objects_in store.old) (key_of key)) (key_of key) c.query c.body)) }
-    ensures readable { IsReadable (types.served served.now) (key_of key) (fin.get (objects_in store.old) (key_of key)) → result ≢ Err Fault.Unreadable }
-    ensures right { IfSome known.new (IsRight (types.served served.now)) }
-    ensures same { store.new ≡ store.old }
-{
-    let object = store.get(&key)?;
-    let of = Subject {
-        served,
-        key,
-        current: store.current(),
-    };
-    planned_by(alloc, of, object, call, known)
-}
-
-fn planned_creation(
-    alloc: Global,
-    served: &Served,
-    store: &mut Store,
-    creation: Creation<'_>,
-    known: &mut Option<Remembered>,
-) -> Result<Plan, Fault>
-    requires shaped { IsObjectShape (types.served served.now).shape }
-    requires content { IsContent (types.served served.now).shape creation.intent.content }
-    requires right { IfSome known.old (IsRight (types.served served.now)) }
-    ensures planned { let c = creation_seen creation.entry in
-        IfOk result (λ p. plan_of p ≡ plan_for (created_as (types.served served.now) store.old.current (fin.get (objects_in store.old) c.key) c.key c.intent)) }
-    ensures readable { result ≢ Err Fault.Unreadable }
-    ensures right { IfSome known.new (IsRight (types.served served.now)) }
-    ensures same { store.new ≡ store.old }
-{
-    let Creation { key, intent } = creation;
-    let standing = store.get(&key)?;
-    let of = Subject {
-        served,
-        key,
-        current: store.current(),
-    };
-    let created = created_as(alloc, of, standing.as_ref(), intent);
-    plan_written(alloc, created, known)
-}
-
-/// A creation in a namespace.
-fn planned_post(
-    alloc: Global,
-    served: &Served,
-    store: &mut Store,
-    namespace: &str,
-    call: &Call,
-    known: &mut Option<Remembered>,
-) -> Result<Plan, Fault>
-    requires shaped { IsObjectShape (types.served served.now).shape }
-    requires right { IfSome known.old (IsRight (types.served served.now)) }
-    ensures planned { let c = call_of call.now in
-        IfOk result (λ p. plan_of p ≡ plan_for (and_then (body_of c.body) (create_validated (types.served served.now) store.old.current (objects_in store.old) c.target.kind namespace.now c.query))) }
-    ensures readable { result ≢ Err Fault.Unreadable }
-    ensures right { IfSome known.new (IsRight (types.served served.now)) }
-    ensures same { store.new ≡ store.old }
-{
-    match validate_creation(alloc, served, namespace, call) {
-        Ok(creation) => planned_creation(alloc, served, store, creation, known),
         Err(call_error) => plan_for(alloc, Err(call_error)),
     }
 }
 
-/// By the method, over the objects of a namespace.
-fn planned_collection(
-    alloc: Global,
-    served: &Served,
-    store: &mut Store,
-    namespace: &str,
-    call: &Call,
-    known: &mut Option<Remembered>,
-) -> Result<Plan, Fault>
-    requires shaped { IsObjectShape (types.served served.now).shape }
-    requires right { IfSome known.old (IsRight (types.served served.now)) }
-    ensures planned { let c = call_of call.now in
-        IfOk result (λ p. plan_of p ≡ plan_for (collection_validated_by c.target.method (types.served served.now) store.old.current (objects_in store.old) (lists_in store.old) c.target.kind namespace.now c.query c.body)) }
-    ensures readable { result ≢ Err Fault.Unreadable }
-    ensures right { IfSome known.new (IsRight (types.served served.now)) }
-    ensures same { store.new ≡ store.old }
-{
-    let kind = call.target.kind;
-    let query = call.query.as_slice();
-    match call.target.method {
-        Method::Get => planned_list(alloc, served, store, kind, Some(namespace), query),
-        Method::Post => planned_post(alloc, served, store, namespace, call, known),
-        Method::Put | Method::Patch | Method::Delete => plan_for(alloc, Err(not_served(alloc))),
+impl Planner<'_> {
+    /// A get of an object.
+    fn got(self, store: &mut Store, namespace: &str, name: &str) -> Result<Plan, Fault>
+        requires { self.current ≡ store.old.current }
+        ensures planned { let c = asked_of self.entry in let k = key_at c namespace.now name.now in
+            IfOk result (λ p. plan_of p ≡ plan_for (get_validated (type_of self.entry) store.old.current (fin.get (objects_in store.old) k) k c.query)) }
+        ensures readable { result ≢ Err Fault.Unreadable }
+        ensures same { store.new ≡ store.old }
+    {
+        let key = self.key(namespace, name)?;
+        let object = store.get(&key)?;
+        plan_for(self.alloc, self.validate_get(&key, object))
     }
-}
 
-/// By the method, over the objects of all namespaces.
-fn planned_all(
-    alloc: Global,
-    served: &Served,
-    store: &mut Store,
-    call: &Call,
-) -> Result<Plan, Fault>
-    ensures planned { let c = call_of call.now in
-        IfOk result (λ p. plan_of p ≡ plan_for (all_validated_by c.target.method (types.served served.now) (lists_in store.old) c.target.kind c.query)) }
-    ensures readable { result ≢ Err Fault.Unreadable }
-    ensures same { store.new ≡ store.old }
-{
-    let kind = call.target.kind;
-    let query = call.query.as_slice();
-    match call.target.method {
-        Method::Get => planned_list(alloc, served, store, kind, None, query),
-        Method::Post | Method::Put | Method::Patch | Method::Delete => {
-            plan_for(alloc, Err(not_served(alloc)))
+    /// The checks of a write of one object, by its method.
+    fn validate_write(self, key: Key, live: &Live) -> Result<WritePlan, CallError>
+        requires planner { IsPlanner self }
+        requires live { IsLive (type_of self) live.now }
+        ensures plan { let c = asked_of self.entry in
+            Gives written_plan result (write_validated_by c.target.method (type_of self.entry) self.entry.current (object_in live.now) (key_of key) c.query c.body) }
+        ensures right { IfOk result (RemembersRight (type_of self.entry)) }
+    {
+        match self.call.target.method {
+            Method::Put => self.validate_update(key, live),
+            Method::Patch => self.validate_apply(key, live),
+            Method::Delete => self.validate_delete(key, live),
+            Method::Get | Method::Post => {
+                Err(CallError::refused_for(self.alloc, Reason::MethodNotAllowed, NOT_SERVED))
+            }
         }
     }
-}
 
-/// A call on a path without a namespace, which has no name either.
-fn planned_without(
-    alloc: Global,
-    served: &Served,
-    store: &mut Store,
-    call: &Call,
-) -> Result<Plan, Fault>
-    ensures planned { let c = call_of call.now in
-        IfOk result (λ p. plan_of p ≡ plan_for (validated_in (types.served served.now) store.old.current (objects_in store.old) (lists_in store.old) c None c.target.name)) }
-    ensures readable { result ≢ Err Fault.Unreadable }
-    ensures same { store.new ≡ store.old }
-{
-    match &call.target.name {
-        Some(_) => plan_for(alloc, Err(no_path(alloc))),
-        None => planned_all(alloc, served, store, call),
+    /// A write of an object: it begins from the state that is remembered of the text that stands, or else from that text.
+    fn written(
+        self,
+        store: &mut Store,
+        namespace: &str,
+        name: &str,
+        known: &mut Option<Remembered>,
+    ) -> Result<Plan, Fault>
+        requires planner { IsPlanner self }
+        requires current { self.current ≡ store.old.current }
+        requires right { IfSome known.old (IsRight (type_of self)) }
+        ensures planned { let c = asked_of self.entry in let k = key_at c namespace.now name.now in
+            IfOk result (λ p. plan_of p ≡ plan_for (write_validated_by c.target.method (type_of self.entry) store.old.current (fin.get (objects_in store.old) k) k c.query c.body)) }
+        ensures readable { let k = key_at (asked_of self.entry) namespace.now name.now in
+            IsReadable (type_of self.entry) k (fin.get (objects_in store.old) k) → result ≢ Err Fault.Unreadable }
+        ensures right { IfSome known.new (IsRight (type_of self.entry)) }
+        ensures same { store.new ≡ store.old }
+    {
+        let key = self.key(namespace, name)?;
+        let object = store.get(&key)?;
+        let live = live_at(self.alloc, self.served, &key, object, known.take())?;
+        let written = self.validate_write(key, &live);
+        *known = live.into_remembered();
+        plan_written(self.alloc, written, known)
     }
-}
 
-/// A call on objects of a type that is served: by its path it is of one object, of a namespace, or of all.
-fn planned_of_type(
-    alloc: Global,
-    served: &Served,
-    store: &mut Store,
-    call: &Call,
-    known: &mut Option<Remembered>,
-) -> Result<Plan, Fault>
-    requires shaped { IsObjectShape (types.served served.now).shape }
-    requires right { IfSome known.old (IsRight (types.served served.now)) }
-    ensures planned { let c = call_of call.now in
-        IfOk result (λ p. plan_of p ≡ plan_for (validated_in (types.served served.now) store.old.current (objects_in store.old) (lists_in store.old) c c.target.namespace c.target.name)) }
-    ensures readable { (all : List ServedShape) → slice_get all call.now.target.kind ≡ Some (types.served served.now) → AreTexts all (objects_in store.old) → result ≢ Err Fault.Unreadable }
-    ensures right { IfSome known.new (IsRight (types.served served.now)) }
-    ensures same { store.new ≡ store.old }
-{
-    let Some(namespace) = &call.target.namespace else {
-        return planned_without(alloc, served, store, call);
-    };
-    let Some(name) = &call.target.name else {
-        return planned_collection(alloc, served, store, namespace.as_str(), call, known);
-    };
-    let key = Key {
-        kind: call.target.kind,
-        namespace: namespace.clone()?,
-        name: name.clone()?,
-    };
-    planned_object(alloc, served, store, key, call, known)
+    /// A creation in a namespace: the body names the object.
+    fn created(
+        self,
+        store: &mut Store,
+        namespace: &str,
+        known: &mut Option<Remembered>,
+    ) -> Result<Plan, Fault>
+        requires planner { IsPlanner self }
+        requires current { self.current ≡ store.old.current }
+        requires right { IfSome known.old (IsRight (type_of self)) }
+        ensures planned { let c = asked_of self.entry in
+            IfOk result (λ p. plan_of p ≡ plan_for (and_then (body_of c.body) (create_validated (type_of self.entry) store.old.current (objects_in store.old) c.target.kind namespace.now c.query))) }
+        ensures readable { result ≢ Err Fault.Unreadable }
+        ensures right { IfSome known.new (IsRight (type_of self.entry)) }
+        ensures same { store.new ≡ store.old }
+    {
+        let Creation { key, intent } = match self.validate_creation(namespace) {
+            Ok(creation) => creation,
+            Err(call_error) => return plan_for(self.alloc, Err(call_error)),
+        };
+        let standing = store.get(&key)?;
+        let created = self.validate_created(key, standing.as_ref(), intent);
+        plan_written(self.alloc, created, known)
+    }
+
+    /// By the method and the objects that the call is of.
+    fn planned(
+        self,
+        store: &mut Store,
+        scope: Scope<'_>,
+        known: &mut Option<Remembered>,
+    ) -> Result<Plan, Fault>
+        requires planner { IsPlanner self }
+        requires current { self.current ≡ store.old.current }
+        requires right { IfSome known.old (IsRight (type_of self)) }
+        ensures planned { IfOk result (λ p. plan_of p ≡ plan_for (validated_on (type_of self.entry) store.old.current (objects_in store.old) (lists_in store.old) (asked_of self.entry) (scope_seen scope.entry))) }
+        ensures readable { (all : List ServedShape) → slice_get all self.entry.call.now.target.kind ≡ Some (type_of self.entry) → AreTexts all (objects_in store.old) → result ≢ Err Fault.Unreadable }
+        ensures right { IfSome known.new (IsRight (type_of self.entry)) }
+        ensures same { store.new ≡ store.old }
+    {
+        match (scope, self.call.target.method) {
+            (Scope::All, Method::Get) => self.listed(store, None),
+            (Scope::Namespace(namespace), Method::Get) => self.listed(store, Some(namespace)),
+            (Scope::Namespace(namespace), Method::Post) => self.created(store, namespace, known),
+            (Scope::Object(namespace, name), Method::Get) => self.got(store, namespace, name),
+            (Scope::Object(namespace, name), Method::Put) => self.written(
+                store, namespace, name, known,
+            ),
+            (Scope::Object(namespace, name), Method::Patch) => {
+                self.written(store, namespace, name, known)
+            }
+            (Scope::Object(namespace, name), Method::Delete) => {
+                self.written(store, namespace, name, known)
+            }
+            _ => refused_for(self.alloc, Reason::MethodNotAllowed, NOT_SERVED),
+        }
+    }
 }
 
 /// The plan of a call, where this is remembered of the object that it is of.
@@ -245,9 +186,18 @@ fn planned_over(
     ensures same { store.new ≡ store.old }
 {
     let Some(served) = all.get(call.target.kind) else {
-        return plan_for(alloc, Err(no_path(alloc)));
+        return refused_for(alloc, Reason::NotFound, NO_PATH);
     };
-    planned_of_type(alloc, served, store, call, known)
+    let Some(scope) = call.target.scope() else {
+        return refused_for(alloc, Reason::NotFound, NO_PATH);
+    };
+    let planner = Planner {
+        alloc,
+        served,
+        call,
+        current: store.current(),
+    };
+    planner.planned(store, scope, known)
 }
 
 /// The plan of a call.

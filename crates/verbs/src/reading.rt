@@ -1,20 +1,19 @@
 //! A body as an object's content, and the refusal of one that is none. The envelope is checked in `envelope`.
 
-ghost use Rattle.std.specs.Prelude.{◌≡◌, ◌++◌, IfOk, codes, string_bytes};
+ghost use Rattle.std.specs.Prelude.{◌≡◌, ◌++◌, codes};
 ghost use Rattle.serde_json.specs.View.{view};
 ghost use Rattle.schema.specs.Served as types;
 ghost use Rattle.typed.specs.Faults.{cause_text};
 ghost use Rattle.typed.specs.Reading.{content_of};
-ghost use Rattle.verbs.specs.Seen.{RefusesFor, Gives, rest_seen};
+ghost use Rattle.verbs.specs.Seen.{Gives, RefusesFor, rest_seen};
 ghost use Rattle.verbs.specs.Step.{fault_reason, shape_validated};
 
 use crate::envelope::left_out;
 use crate::fault::CallError;
 use crate::reason::Reason;
-use crate::texts::joined;
 use schema::Served;
 use serde_json::Value;
-use std::alloc::{AllocError, Global};
+use std::alloc::Global;
 use typed::{Cause, ReadFault, Tree};
 
 fn fault_reason(cause: Cause) -> Reason
@@ -26,21 +25,14 @@ fn fault_reason(cause: Cause) -> Reason
     }
 }
 
-fn fault_message(alloc: Global, cause: Cause, path: &str) -> Result<String, AllocError>
-    ensures { IfOk result (λ s. string_bytes s ≡ path.now ++ codes ": " ++ cause_text cause) }
-{
-    let mut message = joined(alloc, path, ": ")?;
-    message.push_str(cause.to_string(alloc)?.as_str())?;
-    Ok(message)
-}
-
 fn shape_fault(alloc: Global, cause: Cause, path: &str) -> CallError
-    ensures { RefusesFor result (fault_reason cause) (path.now ++ codes ": " ++ cause_text cause) }
+    ensures { RefusesFor result (fault_reason cause) (path.now ++ (codes ": " ++ cause_text cause)) }
 {
-    match fault_message(alloc, cause, path) {
-        Ok(message) => CallError::refused_with(alloc, fault_reason(cause), message),
-        Err(_) => CallError::Memory,
-    }
+    CallError::told(
+        alloc,
+        fault_reason(cause),
+        format!(in alloc; "{path}: {cause}"),
+    )
 }
 
 /// The content of a body without its envelope, under the type's schema, or the first fault in its shape.

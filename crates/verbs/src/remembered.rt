@@ -5,6 +5,7 @@ ghost use Rattle.schema.specs.TypesFile.{ServedShape};
 ghost use Rattle.objects.specs.Views.{state_of};
 ghost use Rattle.verbs.specs.Remembered.{IsRight, IsSaidBy};
 
+use crate::calls::Plan;
 use ownership::Owned;
 
 /// An object's text, and the state that it says.
@@ -12,6 +13,13 @@ use ownership::Owned;
 pub struct Remembered {
     pub text: String,
     pub state: Owned,
+}
+
+/// The plan of a write, and the state that its text says: none where it changes nothing, or deletes.
+#[derive(Drop)]
+pub struct WritePlan {
+    pub plan: Plan,
+    pub remembered: Option<Remembered>,
 }
 
 /// The state under the text that says it; nothing if there is no room in memory for the text's copy.

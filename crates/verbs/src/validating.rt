@@ -20,18 +20,17 @@ ghost use Rattle.verbs.specs.Json.{IsJson};
 ghost use Rattle.verbs.specs.Live.{IsLive, IsSaid, object_in};
 ghost use Rattle.verbs.specs.Machine.{state_said};
 ghost use Rattle.verbs.specs.Naming.{metadata_object};
+ghost use Rattle.verbs.specs.Planner.{IsPlanner, asked_of, type_of};
 ghost use Rattle.verbs.specs.Remembered.{IsSaidBy};
-ghost use Rattle.verbs.specs.Seen.{Gives, call_of, creation_seen, expected_of, intent_seen, object_of, plan_of};
+ghost use Rattle.verbs.specs.Seen.{Gives, creation_seen, expected_of, intent_seen, object_of, plan_of};
 ghost use Rattle.verbs.specs.Size.{count_if_there};
-ghost use Rattle.verbs.specs.Step.{applied_over, apply_validated, as_it_stands, at_path, body_of, created_as, creation_validated, delete_validated, deleted, deleted_over, get_validated, intent_of, store_state, store_text, store_unless_same, update_validated, updated_by, updated_over, version_come};
-ghost use Rattle.verbs.specs.Subject.{IsSubject, type_of};
+ghost use Rattle.verbs.specs.Step.{applied_over, apply_validated, as_it_stands, at_path, body_of, created_as, creation_validated, delete_validated, deleted, get_validated, intent_of, store_state, store_text, store_unless_same, update_validated, updated_by, version_come};
 ghost use Rattle.verbs.specs.Validated.{and_then};
 ghost use Rattle.verbs.specs.WritePlans.{RemembersRight, written_plan};
 
 use crate::answering::{body_of, shown};
-use crate::calls::{Answer, CREATED, Call, OK, Plan};
+use crate::calls::{Answer, CREATED, OK, Plan};
 use crate::change::Change;
-use crate::conflicts::applied;
 use crate::envelope::{Expected, name_in, validate};
 use crate::fault::CallError;
 use crate::listing::too_large;
@@ -40,13 +39,11 @@ use crate::method::Method;
 use crate::naming::{require_name, validate_marks, validate_names};
 use crate::options::validate_options;
 use crate::parameters::read_parameters;
-use crate::presence::{not_there, there};
+use crate::planner::Planner;
 use crate::reading::read_config;
-use crate::remembered::remember;
+use crate::remembered::{WritePlan, remember};
 use crate::size::validate_size;
-use crate::storing::{check_revisions, check_version, printed_text, printed_with_labels};
-use crate::subject::Subject;
-use crate::write_plan::WritePlan;
+use crate::storing::check_version;
 use history::Key;
 use ownership::{Outcome, Owned, update, written_over};
 use params::Asked;
@@ -87,92 +84,264 @@ fn at_path<'a>(served: &'a Served, key: &'a Key, method: Method) -> Expected<'a>
     }
 }
 
-/// What a write intends. Checks, in order: envelope, shape, parameters.
-fn intent_of<'a>(
-    alloc: Global,
-    expected: Expected<'_>,
-    asked: Asked,
-    query: &[u8],
-    body: &'a Value,
-) -> Result<Intent<'a>, CallError>
-    requires json { IsJson (view body.now) }
-    ensures { Gives intent_seen result (intent_of (expected_of expected.entry) asked query.now (view body.now)) }
-{
-    let version = validate(alloc, body, expected)?;
-    let content = read_config(alloc, expected.served, body)?;
-    let params = read_parameters(alloc, asked, query)?;
-    Ok(Intent {
-        version,
-        content,
-        manager: params.manager,
-        is_forced: params.is_forced,
-        body,
-    })
-}
+impl<'a> Planner<'a> {
+    /// What a write intends. Checks, in order: envelope, shape, parameters.
+    fn intent_of(
+        self,
+        expected: Expected<'_>,
+        asked: Asked,
+        body: &'a Value,
+    ) -> Result<Intent<'a>, CallError>
+        requires { IsJson (view body.now) }
+        ensures { Gives intent_seen result (intent_of (expected_of expected.entry) asked (asked_of self.entry).query (view body.now)) }
+    {
+        let version = validate(self.alloc, body, expected)?;
+        let content = read_config(self.alloc, expected.served, body)?;
+        let params = read_parameters(self.alloc, asked, &self.call.query)?;
+        Ok(Intent {
+            version,
+            content,
+            manager: params.manager,
+            is_forced: params.is_forced,
+            body,
+        })
+    }
 
-/// The plan that stores the object of this text, which has so many labels. Checks, in order: number of labels, size, revisions
-/// left.
-fn store_text(
-    alloc: Global,
-    of: Subject<'_>,
-    status: u16,
-    text: String,
-    labels: usize,
-) -> Result<Plan, CallError>
-    requires numbered { of.current ≤ last_revision }
-    ensures plan { (object : Data) → string_bytes text ≡ compact_text object → labels ≡ count_if_there (metadata_object (codes "labels") object)
-        → Gives plan_of result (store_text object of.entry.current (key_of of.entry.key) status) }
-    ensures text { IfOk result (λ p. string_bytes p.answer.body ≡ string_bytes text) }
-    ensures left { OnOk result (of.entry.current < last_revision) }
-{
-    validate_size(alloc, labels, text.as_str())?;
-    check_revisions(alloc, of.current)?;
-    let change = Change {
-        revision: of.current + 1,
-        key: of.key,
-        text: Some(Snapshot::of(&text)),
-    };
-    Ok(Plan {
-        answer: Answer {
-            status,
-            body: text,
-            watch: None,
-        },
-        change: Some(change),
-    })
-}
+    /// The plan that stores the object of this text, which has so many labels. Checks, in order: number of labels, size, revisions
+    /// left.
+    fn store_text(
+        self,
+        key: Key,
+        status: u16,
+        text: String,
+        labels: usize,
+    ) -> Result<Plan, CallError>
+        requires numbered { self.current ≤ last_revision }
+        ensures plan { (object : Data) → string_bytes text ≡ compact_text object → labels ≡ count_if_there (metadata_object (codes "labels") object)
+            → Gives plan_of result (store_text object self.entry.current (key_of key) status) }
+        ensures text { IfOk result (λ p. string_bytes p.answer.body ≡ string_bytes text) }
+        ensures left { OnOk result (self.entry.current < last_revision) }
+    {
+        validate_size(self.alloc, labels, text.as_str())?;
+        self.check_revisions()?;
+        let change = Change {
+            revision: self.current + 1,
+            key,
+            text: Some(Snapshot::of(&text)),
+        };
+        Ok(Plan {
+            answer: Answer {
+                status,
+                body: text,
+                watch: None,
+            },
+            change: Some(change),
+        })
+    }
 
-/// The plan that stores a state, with the next revision.
-fn store_state(
-    alloc: Global,
-    of: Subject<'_>,
-    status: u16,
-    owned: &Owned,
-) -> Result<Plan, CallError>
-    requires subject { IsSubject of }
-    requires placed { IsPlacedState (type_of of).shape (state_of owned.now) }
-    ensures plan { Gives plan_of result (store_state (type_of of.entry) of.entry.current (key_of of.entry.key) status (state_of owned.now)) }
-    ensures says { IfOk result (λ p. IsSaidBy (type_of of.entry) (string_bytes p.answer.body) (state_of owned.now)) }
-{
-    let (text, labels) = printed_with_labels(alloc, of.served, &of.key, of.current + 1, owned)?;
-    store_text(alloc, of, status, text, labels)
-}
+    /// The plan that stores a state, with the next revision.
+    fn store_state(self, key: Key, status: u16, owned: &Owned) -> Result<Plan, CallError>
+        requires planner { IsPlanner self }
+        requires placed { IsPlacedState (type_of self).shape (state_of owned.now) }
+        ensures plan { Gives plan_of result (store_state (type_of self.entry) self.entry.current (key_of key) status (state_of owned.now)) }
+        ensures says { IfOk result (λ p. IsSaidBy (type_of self.entry) (string_bytes p.answer.body) (state_of owned.now)) }
+    {
+        let (text, labels) = self.printed(&key, self.current + 1, owned)?;
+        self.store_text(key, status, text, labels)
+    }
 
-/// The plan that stores a state, and the state under the text that is stored, which is remembered.
-fn store_and_remember(
-    alloc: Global,
-    of: Subject<'_>,
-    status: u16,
-    owned: Owned,
-) -> Result<WritePlan, CallError>
-    requires subject { IsSubject of }
-    requires placed { IsPlacedState (type_of of).shape (state_of owned) }
-    ensures plan { Gives written_plan result (store_state (type_of of.entry) of.entry.current (key_of of.entry.key) status (state_of owned)) }
-    ensures right { IfOk result (RemembersRight (type_of of.entry)) }
-{
-    let plan = store_state(alloc, of, status, &owned)?;
-    let remembered = remember(&plan.answer.body, owned);
-    Ok(WritePlan { plan, remembered })
+    /// The plan that stores a state, and the state under the text that is stored, which is remembered.
+    fn store(self, key: Key, status: u16, owned: Owned) -> Result<WritePlan, CallError>
+        requires planner { IsPlanner self }
+        requires placed { IsPlacedState (type_of self).shape (state_of owned) }
+        ensures plan { Gives written_plan result (store_state (type_of self.entry) self.entry.current (key_of key) status (state_of owned)) }
+        ensures right { IfOk result (RemembersRight (type_of self.entry)) }
+    {
+        let plan = self.store_state(key, status, &owned)?;
+        let remembered = remember(&plan.answer.body, owned);
+        Ok(WritePlan { plan, remembered })
+    }
+
+    /// The plan of a creation, or of a change of what stands. Checks, in order: whether anything changes of the state before (where
+    /// nothing does, what stands is answered), number of labels and size, revisions left.
+    fn store_unless_same(self, key: Key, live: &Live, owned: Owned) -> Result<WritePlan, CallError>
+        requires planner { IsPlanner self }
+        requires placed { IsPlacedState (type_of self).shape (state_of owned) }
+        requires said { IsSaid (type_of self) live.now }
+        ensures plan { Gives written_plan result (store_unless_same (type_of self.entry) self.entry.current (key_of key) (object_in live.now) (state_of owned)) }
+        ensures right { IfOk result (RemembersRight (type_of self.entry)) }
+    {
+        match written_over(&owned, live.before()) {
+            Outcome::Created => self.store(key, CREATED, owned),
+            Outcome::Configured => self.store(key, OK, owned),
+            Outcome::Unchanged => match &live.object {
+                Some(object) => Ok(unchanged(object)?),
+                None => unreachable!(),
+            },
+        }
+    }
+
+    /// Checks, in order: version, conflicts, those of `store_unless_same`.
+    fn applied_over(self, key: Key, live: &Live, intent: Intent<'_>) -> Result<WritePlan, CallError>
+        requires planner { IsPlanner self }
+        requires content { IsContent (type_of self).shape intent.content }
+        requires live { IsLive (type_of self) live.now }
+        ensures plan { Gives written_plan result (applied_over (type_of self.entry) self.entry.current (key_of key) (object_in live.now) (intent_seen intent.entry)) }
+        ensures right { IfOk result (RemembersRight (type_of self.entry)) }
+    {
+        check_version(self.alloc, intent.version, live.object.as_ref())?;
+        let owned = self.applied(&live.state, intent)?;
+        self.store_unless_same(key, live, owned)
+    }
+
+    /// An apply over what stands. Checks, in order: that there is a body, those of `intent_of`, names with labels and annotations,
+    /// those of `applied_over`.
+    pub(crate) fn validate_apply(self, key: Key, live: &Live) -> Result<WritePlan, CallError>
+        requires planner { IsPlanner self }
+        requires live { IsLive (type_of self) live.now }
+        ensures plan { let c = asked_of self.entry in
+            Gives written_plan result (and_then (body_of c.body) (apply_validated (type_of self.entry) self.entry.current (object_in live.now) (key_of key) c.query)) }
+        ensures right { IfOk result (RemembersRight (type_of self.entry)) }
+    {
+        let body = body_of(self.alloc, self.call)?;
+        let expected = at_path(self.served, &key, Method::Patch);
+        let intent = self.intent_of(expected, Asked::Apply, body)?;
+        validate_names(self.alloc, &key, intent.body)?;
+        self.applied_over(key, live, intent)
+    }
+
+    /// An update of an object that is there. Checks, in order: that there is a body, those of `intent_of`, labels and annotations,
+    /// whether the object is there, version, those of `store_unless_same`.
+    pub(crate) fn validate_update(self, key: Key, live: &Live) -> Result<WritePlan, CallError>
+        requires planner { IsPlanner self }
+        requires live { IsLive (type_of self) live.now }
+        ensures plan { let c = asked_of self.entry in
+            Gives written_plan result (and_then (body_of c.body) (update_validated (type_of self.entry) self.entry.current (object_in live.now) (key_of key) c.query)) }
+        ensures right { IfOk result (RemembersRight (type_of self.entry)) }
+    {
+        let body = body_of(self.alloc, self.call)?;
+        let expected = at_path(self.served, &key, Method::Put);
+        let intent = self.intent_of(expected, Asked::Put, body)?;
+        validate_marks(self.alloc, intent.body)?;
+        let Some(object) = &live.object else {
+            return Err(self.not_found(&key));
+        };
+        check_version(self.alloc, intent.version, Some(object))?;
+        let owned = updated_by(self.alloc, intent, &live.state)?;
+        self.store_unless_same(key, live, owned)
+    }
+
+    /// The object that a creation is of, and what it intends: the call's body names the object. Checks, in order: that there is a
+    /// body, those of `intent_of`, that there is a name. `validate_created` goes on.
+    pub(crate) fn validate_creation(self, namespace: &str) -> Result<Creation<'a>, CallError>
+        requires planner { IsPlanner self }
+        ensures validated { let c = asked_of self.entry in
+            Gives creation_seen result (and_then (body_of c.body) (creation_validated (type_of self.entry) c.target.kind namespace.now c.query)) }
+        ensures content { IfOk result (λ c. IsContent (type_of self.entry).shape c.intent.content) }
+    {
+        let body = body_of(self.alloc, self.call)?;
+        let expected = Expected {
+            served: self.served,
+            namespace,
+            name: None,
+            method: Method::Post,
+        };
+        let intent = self.intent_of(expected, Asked::Post, body)?;
+        let name = require_name(self.alloc, name_in(body))?;
+        let key = self.key(namespace, name)?;
+        Ok(Creation { key, intent })
+    }
+
+    /// A creation, of an object that isn't there. Checks, in order: names with labels and annotations, that no object is there,
+    /// number of labels and size, revisions left.
+    pub(crate) fn validate_created(
+        self,
+        key: Key,
+        live: Option<&Object>,
+        intent: Intent<'_>,
+    ) -> Result<WritePlan, CallError>
+        requires planner { IsPlanner self }
+        requires content { IsContent (type_of self).shape intent.content }
+        ensures plan { Gives written_plan result (created_as (type_of self.entry) self.entry.current (option_map (λ o. object_of o.now) live.entry) (key_of key) (intent_seen intent.entry)) }
+        ensures right { IfOk result (RemembersRight (type_of self.entry)) }
+    {
+        validate_names(self.alloc, &key, intent.body)?;
+        if live.is_some() {
+            return Err(self.already_exists(&key));
+        }
+        let owned = updated_by(self.alloc, intent, &Owned::empty(self.alloc))?;
+        self.store(key, CREATED, owned)
+    }
+
+    /// The object's last state, with the deletion's revision.
+    fn deleted(self, key: Key, live: &Object, state: &Owned) -> Result<WritePlan, AllocError>
+        requires numbered { self.current < last_revision }
+        requires shaped { IsObjectShape (type_of self).shape }
+        requires content { IsContent (type_of self).shape state.now.tree }
+        requires said { state_of state.now ≡ state_said (type_of self).shape (object_of live.now).body }
+        ensures plan { IfOk result (λ w. written_plan w ≡ deleted (type_of self.entry) self.entry.current (key_of key) (object_of live.now)) }
+        ensures right { (t : ServedShape) → IfOk result (RemembersRight t) }
+    {
+        let revision = self.current + 1;
+        let (body, _) = self.printed(&key, revision, state)?;
+        let change = Change {
+            revision,
+            key,
+            text: None,
+        };
+        Ok(WritePlan {
+            plan: Plan {
+                answer: shown(body, None),
+                change: Some(change),
+            },
+            remembered: None,
+        })
+    }
+
+    /// A deletion. Checks, in order: the body's options, parameters, whether the object is there, version, revisions left. Nothing is
+    /// stored, so no size is validated.
+    pub(crate) fn validate_delete(self, key: Key, live: &Live) -> Result<WritePlan, CallError>
+        requires planner { IsPlanner self }
+        requires live { IsLive (type_of self) live.now }
+        ensures plan { let c = asked_of self.entry in
+            Gives written_plan result (delete_validated (type_of self.entry) self.entry.current (object_in live.now) (key_of key) c.query c.body) }
+        ensures right { IfOk result (RemembersRight (type_of self.entry)) }
+    {
+        let version = validate_options(self.alloc, self.call.body.as_ref())?;
+        read_parameters(self.alloc, Asked::Delete, &self.call.query)?;
+        let Some(object) = &live.object else {
+            return Err(self.not_found(&key));
+        };
+        check_version(self.alloc, version, Some(object))?;
+        self.check_revisions()?;
+        Ok(self.deleted(key, object, &live.state)?)
+    }
+
+    /// The version that is asked for has come.
+    fn check_come(self, version: Option<u64>) -> Result<(), CallError>
+        ensures { Gives (λ u. u) result (version_come version self.entry.current) }
+    {
+        match version {
+            None => Ok(()),
+            Some(asked) if asked <= self.current => Ok(()),
+            Some(asked) => Err(too_large(self.alloc, asked, self.current)),
+        }
+    }
+
+    /// A get: the object as it stands. Checks, in order: parameters, whether the object is there, version.
+    pub(crate) fn validate_get(self, key: &Key, object: Option<Object>) -> Result<Plan, CallError>
+        ensures { Gives plan_of result (get_validated (type_of self.entry) self.entry.current (option_map object_of object) (key_of key.now) (asked_of self.entry).query) }
+    {
+        let params = read_parameters(self.alloc, Asked::Get, &self.call.query)?;
+        let Some(object) = object else {
+            return Err(self.not_found(key));
+        };
+        self.check_come(params.version)?;
+        Ok(Plan {
+            answer: shown(object.body, None),
+            change: None,
+        })
+    }
 }
 
 /// The plan that answers what stands and changes nothing. The text is copied, since what stands is remembered.
@@ -182,90 +351,12 @@ fn unchanged(live: &Object) -> Result<WritePlan, AllocError>
 {
     let body = live.body.clone()?;
     Ok(WritePlan {
-        plan: shown(body, None),
+        plan: Plan {
+            answer: shown(body, None),
+            change: None,
+        },
         remembered: None,
     })
-}
-
-/// The plan of a creation, or of a change of what stands. Checks, in order: whether anything changes of the state before (where
-/// nothing does, what stands is answered), number of labels and size, revisions left.
-fn store_unless_same(
-    alloc: Global,
-    of: Subject<'_>,
-    live: &Live,
-    owned: Owned,
-) -> Result<WritePlan, CallError>
-    requires subject { IsSubject of }
-    requires placed { IsPlacedState (type_of of).shape (state_of owned) }
-    requires said { IsSaid (type_of of) live.now }
-    ensures plan { Gives written_plan result (store_unless_same (type_of of.entry) of.entry.current (key_of of.entry.key) (object_in live.now) (state_of owned)) }
-    ensures right { IfOk result (RemembersRight (type_of of.entry)) }
-{
-    match written_over(&owned, live.before()) {
-        Outcome::Created => store_and_remember(alloc, of, CREATED, owned),
-        Outcome::Configured => store_and_remember(alloc, of, OK, owned),
-        Outcome::Unchanged => match &live.object {
-            Some(object) => Ok(unchanged(object)?),
-            None => unreachable!(),
-        },
-    }
-}
-
-/// Checks, in order: version, conflicts, whether anything changes, number of labels and size, revisions left.
-fn applied_over(
-    alloc: Global,
-    of: Subject<'_>,
-    live: &Live,
-    intent: Intent<'_>,
-) -> Result<WritePlan, CallError>
-    requires subject { IsSubject of }
-    requires content { IsContent (type_of of).shape intent.content }
-    requires live { IsLive (type_of of) live.now }
-    ensures plan { Gives written_plan result (applied_over (type_of of.entry) of.entry.current (key_of of.entry.key) (object_in live.now) (intent_seen intent.entry)) }
-    ensures right { IfOk result (RemembersRight (type_of of.entry)) }
-{
-    check_version(alloc, intent.version, live.object.as_ref())?;
-    let Intent {
-        content,
-        manager,
-        is_forced,
-        ..
-    } = intent;
-    let owned = applied(
-        alloc,
-        of.served,
-        &live.state,
-        content,
-        manager.as_str(),
-        is_forced,
-    )?;
-    store_unless_same(alloc, of, live, owned)
-}
-
-/// An apply by a call's body, over what stands. Checks, in order: that there is a body, those of `intent_of`, names with labels
-/// and annotations, those of `applied_over`.
-pub(crate) fn validate_apply(
-    alloc: Global,
-    of: Subject<'_>,
-    live: &Live,
-    call: &Call,
-) -> Result<WritePlan, CallError>
-    requires subject { IsSubject of }
-    requires live { IsLive (type_of of) live.now }
-    ensures plan { let c = call_of call.now in
-        Gives written_plan result (and_then (body_of c.body) (apply_validated (type_of of.entry) of.entry.current (object_in live.now) (key_of of.entry.key) c.query)) }
-    ensures right { IfOk result (RemembersRight (type_of of.entry)) }
-{
-    let body = body_of(alloc, call)?;
-    let expected = at_path(of.served, &of.key, Method::Patch);
-    let intent = intent_of(alloc, expected, Asked::Apply, &call.query, body)?;
-    validate_names(
-        alloc,
-        of.key.namespace.as_str(),
-        of.key.name.as_str(),
-        intent.body,
-    )?;
-    applied_over(alloc, of, live, intent)
 }
 
 /// What stands after the write, over what stood: its manager owns what it changed.
@@ -279,196 +370,4 @@ fn updated_by(alloc: Global, intent: Intent<'_>, live: &Owned) -> Result<Owned, 
         ..
     } = intent;
     update(alloc, live, manager.as_str(), content)
-}
-
-/// Checks, in order: whether the object is there, version, whether anything changes, number of labels and size, revisions left.
-fn updated_over(
-    alloc: Global,
-    of: Subject<'_>,
-    live: &Live,
-    intent: Intent<'_>,
-) -> Result<WritePlan, CallError>
-    requires subject { IsSubject of }
-    requires content { IsContent (type_of of).shape intent.content }
-    requires live { IsLive (type_of of) live.now }
-    ensures plan { Gives written_plan result (updated_over (type_of of.entry) of.entry.current (key_of of.entry.key) (object_in live.now) (intent_seen intent.entry)) }
-    ensures right { IfOk result (RemembersRight (type_of of.entry)) }
-{
-    let object = live.object.as_ref();
-    there(alloc, of.served, of.key.name.as_str(), object)?;
-    check_version(alloc, intent.version, object)?;
-    let owned = updated_by(alloc, intent, &live.state)?;
-    store_unless_same(alloc, of, live, owned)
-}
-
-/// An update by a call's body, of an object that is there. Checks, in order: that there is a body, those of `intent_of`, labels
-/// and annotations, those of `updated_over`.
-pub(crate) fn validate_update(
-    alloc: Global,
-    of: Subject<'_>,
-    live: &Live,
-    call: &Call,
-) -> Result<WritePlan, CallError>
-    requires subject { IsSubject of }
-    requires live { IsLive (type_of of) live.now }
-    ensures plan { let c = call_of call.now in
-        Gives written_plan result (and_then (body_of c.body) (update_validated (type_of of.entry) of.entry.current (object_in live.now) (key_of of.entry.key) c.query)) }
-    ensures right { IfOk result (RemembersRight (type_of of.entry)) }
-{
-    let body = body_of(alloc, call)?;
-    let expected = at_path(of.served, &of.key, Method::Put);
-    let intent = intent_of(alloc, expected, Asked::Put, &call.query, body)?;
-    validate_marks(alloc, intent.body)?;
-    updated_over(alloc, of, live, intent)
-}
-
-/// The key of an object that its body names.
-fn key_in(kind: u32, namespace: &str, name: &str, alloc: Global) -> Result<Key, AllocError>
-    ensures { IfOk result (λ k. key_of k ≡ record { kind = kind; namespace = namespace.now; name = name.now }) }
-{
-    Ok(Key {
-        kind,
-        namespace: String::from_str(alloc, namespace)?,
-        name: String::from_str(alloc, name)?,
-    })
-}
-
-/// The object that a creation is of, and what it intends: the call's body names the object. Checks, in order: that there is a
-/// body, those of `intent_of`, that there is a name. `created_as` goes on.
-pub(crate) fn validate_creation<'a>(
-    alloc: Global,
-    served: &Served,
-    namespace: &str,
-    call: &'a Call,
-) -> Result<Creation<'a>, CallError>
-    requires shaped { IsObjectShape (types.served served.now).shape }
-    ensures validated { let c = call_of call.now in
-        Gives creation_seen result (and_then (body_of c.body) (creation_validated (types.served served.now) c.target.kind namespace.now c.query)) }
-    ensures content { IfOk result (λ c. IsContent (types.served served.now).shape c.intent.content) }
-{
-    let body = body_of(alloc, call)?;
-    let expected = Expected {
-        served,
-        namespace,
-        name: None,
-        method: Method::Post,
-    };
-    let intent = intent_of(alloc, expected, Asked::Post, &call.query, body)?;
-    let name = require_name(alloc, name_in(body))?;
-    let key = key_in(call.target.kind, namespace, name, alloc)?;
-    Ok(Creation { key, intent })
-}
-
-/// A creation, of an object that isn't there. Checks, in order: names with labels and annotations, that no object is there,
-/// number of labels and size, revisions left.
-pub(crate) fn created_as(
-    alloc: Global,
-    of: Subject<'_>,
-    live: Option<&Object>,
-    intent: Intent<'_>,
-) -> Result<WritePlan, CallError>
-    requires subject { IsSubject of }
-    requires content { IsContent (type_of of).shape intent.content }
-    ensures plan { Gives written_plan result (created_as (type_of of.entry) of.entry.current (option_map (λ o. object_of o.now) live.entry) (key_of of.entry.key) (intent_seen intent.entry)) }
-    ensures right { IfOk result (RemembersRight (type_of of.entry)) }
-{
-    validate_names(
-        alloc,
-        of.key.namespace.as_str(),
-        of.key.name.as_str(),
-        intent.body,
-    )?;
-    not_there(alloc, of.served, of.key.name.as_str(), live)?;
-    let owned = updated_by(alloc, intent, &Owned::empty(alloc))?;
-    store_and_remember(alloc, of, CREATED, owned)
-}
-
-/// The object's last state, with the deletion's revision.
-fn deleted(alloc: Global, of: Subject<'_>, live: &Object, state: &Owned) -> Result<Plan, AllocError>
-    requires numbered { of.current < last_revision }
-    requires shaped { IsObjectShape (type_of of).shape }
-    requires content { IsContent (type_of of).shape state.now.tree }
-    requires said { state_of state.now ≡ state_said (type_of of).shape (object_of live.now).body }
-    ensures { IfOk result (λ p. plan_of p ≡ deleted (type_of of.entry) of.entry.current (key_of of.entry.key) (object_of live.now)) }
-{
-    let revision = of.current + 1;
-    let body = printed_text(alloc, of.served, &of.key, revision, state)?;
-    Ok(Plan {
-        answer: Answer {
-            status: OK,
-            body,
-            watch: None,
-        },
-        change: Some(Change {
-            revision,
-            key: of.key,
-            text: None,
-        }),
-    })
-}
-
-/// Checks, in order: whether the object is there, version, revisions left. Nothing is stored, so no size is validated.
-fn deleted_over(
-    alloc: Global,
-    of: Subject<'_>,
-    live: &Live,
-    version: Option<u64>,
-) -> Result<Plan, CallError>
-    requires subject { IsSubject of }
-    requires live { IsLive (type_of of) live.now }
-    ensures { Gives plan_of result (deleted_over (type_of of.entry) of.entry.current (key_of of.entry.key) (object_in live.now) version) }
-{
-    let object = live.object.as_ref();
-    let stored = there(alloc, of.served, of.key.name.as_str(), object)?;
-    check_version(alloc, version, object)?;
-    check_revisions(alloc, of.current)?;
-    Ok(deleted(alloc, of, stored, &live.state)?)
-}
-
-/// A deletion. Checks, in order: the body's options, parameters, those of `deleted_over`.
-pub(crate) fn validate_delete(
-    alloc: Global,
-    of: Subject<'_>,
-    live: &Live,
-    call: &Call,
-) -> Result<Plan, CallError>
-    requires subject { IsSubject of }
-    requires live { IsLive (type_of of) live.now }
-    ensures { let c = call_of call.now in
-        Gives plan_of result (delete_validated (type_of of.entry) of.entry.current (object_in live.now) (key_of of.entry.key) c.query c.body) }
-{
-    let version = validate_options(alloc, call.body.as_ref())?;
-    read_parameters(alloc, Asked::Delete, &call.query)?;
-    deleted_over(alloc, of, live, version)
-}
-
-/// The version that is asked for has come.
-fn check_come(alloc: Global, version: Option<u64>, current: u64) -> Result<(), CallError>
-    ensures { Gives (λ u. u) result (version_come version current) }
-{
-    let Some(asked) = version else {
-        return Ok(());
-    };
-    if asked <= current {
-        return Ok(());
-    }
-    Err(too_large(alloc, asked, current))
-}
-
-/// A get: the object as it stands. Checks, in order: parameters, whether the object is there, version.
-pub(crate) fn validate_get(
-    alloc: Global,
-    of: &Subject<'_>,
-    object: Option<Object>,
-    query: &[u8],
-) -> Result<Plan, CallError>
-    ensures { Gives plan_of result (get_validated (type_of of.now) of.now.current (option_map object_of object) (key_of of.now.key) query.now) }
-{
-    let params = read_parameters(alloc, Asked::Get, query)?;
-    there(alloc, of.served, of.key.name.as_str(), object.as_ref())?;
-    check_come(alloc, params.version, of.current)?;
-    match object {
-        Some(object) => Ok(shown(object.body, None)),
-        None => unreachable!(),
-    }
 }

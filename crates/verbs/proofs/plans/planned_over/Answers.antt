@@ -3,5 +3,5 @@ use Rattle.schema.specs.Served.{types_view}
 use Rattle.verbs.proofs.Recalling.{right_of}
 use Rattle.verbs.proofs.plans.planned_over.Goals as goal
 
-pub planned_of_type-requires-clause-right : goal.planned_of_type-requires-clause-right
-planned_of_type-requires-clause-right c = right_of (types_view c.args.all.now) c.args.call.now.target.kind _ c.args.known.now (sym c.in-Some.ensures.found) c.requires
+pub planned-requires-clause-right : goal.planned-requires-clause-right
+planned-requires-clause-right c = right_of (types_view c.args.all.now) c.args.call.now.target.kind _ c.args.known.now (sym c.in-Some.ensures.found) c.requires

@@ -1,0 +1,20 @@
+use Rattle.std.proofs.Common.{◌≡◌, Ok, subst}
+use Rattle.params.specs.declared.params.Asked.TheVariants as asked
+use Rattle.serde_json.specs.View.{view}
+use Rattle.verbs.specs.declared.method.Method.TheVariants.{Put}
+use Rattle.history.specs.Read.{key_of}
+use Rattle.verbs.specs.Planner.{asked_of, type_of}
+use Rattle.verbs.specs.Seen.{intent_seen}
+use Rattle.verbs.specs.Step.{at_path, intent_of}
+use Rattle.verbs.proofs.Contents.{intended_content}
+use Rattle.verbs.proofs.planner.Planner.validate_update.Goals as goal
+
+pub store_unless_same-requires-clause-placed : goal.store_unless_same-requires-clause-placed
+store_unless_same-requires-clause-placed c =
+    let t = type_of c.args.self in
+    let q = (asked_of c.args.self).query in
+    let d = view c.in_ok-body.body.now in
+    let i = intent_seen c.in_ok-intent.intent in
+    c.in_ok-owned.ensures.placed t.shape
+    (intended_content (at_path t (key_of c.args.key) Put) asked.Put q d i c.requires.planner.1 c.in_ok-body.ensures.json
+    (subst (λ of. intent_of of asked.Put q d ≡ Ok i) c.at_path-expected.ensures c.in_ok-intent.ensures)) c.requires.live.1

@@ -1,5 +1,0 @@
-use Rattle.verbs.specs.Subject.{type_of}
-use Rattle.verbs.proofs.validating.updated_over.Goals as goal
-
-pub store_unless_same-requires-clause-placed : goal.store_unless_same-requires-clause-placed
-store_unless_same-requires-clause-placed c = c.in_ok-owned.ensures.placed (type_of c.args.of).shape c.requires.content c.requires.live.1

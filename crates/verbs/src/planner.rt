@@ -1,0 +1,33 @@
+//! What the plans of calls on a served type share. What a write starts from stands in `live`.
+
+ghost use Rattle.std.specs.Prelude.{◌≡◌, IfOk};
+ghost use Rattle.history.specs.Read.{key_of};
+ghost use Rattle.verbs.specs.Planner.{asked_of};
+ghost use Rattle.verbs.specs.Step.{key_at};
+
+use crate::calls::Call;
+use history::Key;
+use schema::Served;
+use std::alloc::{AllocError, Global};
+
+/// The call, the type of the objects that it is of, and the revision at which the store stands.
+#[derive(Clone, Copy)]
+pub(crate) struct Planner<'a> {
+    pub(crate) alloc: Global,
+    pub(crate) served: &'a Served,
+    pub(crate) call: &'a Call,
+    pub(crate) current: u64,
+}
+
+impl Planner<'_> {
+    /// The key of an object of the type.
+    pub(crate) fn key(self, namespace: &str, name: &str) -> Result<Key, AllocError>
+        ensures { IfOk result (λ k. key_of k ≡ key_at (asked_of self.entry) namespace.now name.now) }
+    {
+        Ok(Key {
+            kind: self.call.target.kind,
+            namespace: String::from_str(self.alloc, namespace)?,
+            name: String::from_str(self.alloc, name)?,
+        })
+    }
+}
