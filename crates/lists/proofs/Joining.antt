@@ -2,8 +2,8 @@
 use Rattle.std.proofs.Common.{◌≡◌, ℕ, List, ◌∷◌, ◌++◌, map, flat_map, ap, ap₂, ◌∙◌, codes}
 use Rattle.serde_json.specs.Data.{Data, string}
 use Rattle.serde_json.specs.Written.{compact_text}
-use Rattle.revtable.specs.declared.row.Entry.{Entry}
-use Rattle.revtable.specs.Read.{entry_of}
+use Rattle.history.specs.declared.object.Entry.{Entry}
+use Rattle.history.specs.Read.{entry_of}
 use Rattle.lists.specs.Body.{Collection, joined_text, list_kind, with_commas}
 
 abbrev pub texts_in : List Entry → List (List ℕ)

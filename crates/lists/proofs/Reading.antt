@@ -5,13 +5,12 @@ use Rattle.std.specs.Prelude.{nat_lt, slice_get}
 use Rattle.std.proofs.lemmas.List.{length-map, length-take, map-append, take-map}
 use Rattle.std.proofs.lemmas.List.Elements.{filter-append}
 use Rattle.history.specs.History.{Key, Object, Objects, last_revision}
-use Rattle.history.specs.Read.{key_of}
+use Rattle.history.specs.Read.{entry_of, key_of}
 use Rattle.history.specs.Page.{listed, page}
 use Rattle.history.specs.Seen.{SeenPage, limited, seen_page, last_key}
 use Rattle.history.proofs.Leading.{ended, more}
 use Rattle.history.proofs.Paging.{wanted_first, wanted_past}
-use Rattle.revtable.specs.declared.row.Entry.{Entry}
-use Rattle.revtable.specs.Read.{entry_of}
+use Rattle.history.specs.declared.object.Entry.{Entry}
 use Rattle.selector.specs.Requirement.{Requirement, selects}
 use Rattle.params.specs.Values.{Token}
 use Rattle.lists.specs.Labels.{labels_of, selection_of}

@@ -3,7 +3,7 @@ use Rattle.std.specs.Prelude.{◌≡◌, map, Some, None, if◌then◌else◌, o
 use Rattle.std.specs.declared.result.Result.{Result}
 use Rattle.std.specs.declared.result.Result.TheVariants.{Ok, Err}
 use Rattle.history.specs.Seen.{SeenPage, last_key}
-use Rattle.revtable.specs.Read.{entry_of}
+use Rattle.history.specs.Read.{entry_of}
 use Rattle.lists.specs.declared.collection.Collection.{Collection as TheCollection}
 use Rattle.lists.specs.declared.page.Page.{Page as ThePage}
 use Rattle.lists.specs.declared.refusal.Refusal.{Refusal}

@@ -7,7 +7,7 @@ ghost use Rattle.history.specs.Page.{listed};
 ghost use Rattle.history.specs.Seen.{IsLimit, limited};
 ghost use Rattle.history.specs.View.{state_in};
 ghost use Rattle.params.specs.Views.{token_view, values_of};
-ghost use Rattle.revtable.specs.Read.{entry_of};
+ghost use Rattle.history.specs.Read.{entry_of};
 ghost use Rattle.lists.specs.Lists.{page_limit, page_of};
 ghost use Rattle.lists.specs.Rows.{asked_for, is_over, matching, place_of};
 ghost use Rattle.lists.specs.Views.{collection_of, page_seen, start_of};
@@ -16,10 +16,10 @@ use crate::collection::{Collection, Selected};
 use crate::labels::Labelled;
 use crate::rows::{Start, after, matching, next_rows};
 use crate::text::next_of;
-use history::LAST_REVISION;
+use history::{Entry, LAST_REVISION};
 use params::{Params, Token};
 use revstore::{ListFault, Store};
-use revtable::{Entry, Fault};
+use revtable::Fault;
 use std::alloc::{AllocError, Global};
 
 /// How many items a page has at most.

@@ -4,17 +4,16 @@ ghost use Rattle.std.specs.Prelude.{◌≡◌, ◌<◌, ◌≤◌, ◌++◌, [],
 ghost use Rattle.history.specs.Page.{listed, page};
 ghost use Rattle.history.specs.Seen.{last_key};
 ghost use Rattle.history.specs.View.{state_in};
-ghost use Rattle.revtable.specs.Read.{entry_of};
-ghost use Rattle.history.specs.Read.{key_of};
+ghost use Rattle.history.specs.Read.{entry_of, key_of};
 ghost use Rattle.lists.specs.Rows.{matching, place_of, rows_left, to_read};
 ghost use Rattle.lists.specs.Views.{collection_of, start_of};
 ghost use Rattle.std.specs.Prelude as prelude;
 
 use crate::collection::Collection;
 use crate::labels::is_selected;
-use history::Key;
+use history::{Entry, Key};
 use revstore::{ListFault, Store};
-use revtable::{Entry, Fault};
+use revtable::Fault;
 use selector::Selector;
 use std::alloc::{AllocError, Global};
 

@@ -5,17 +5,15 @@ ghost use Rattle.serde_json.specs.Data.{string};
 ghost use Rattle.serde_json.specs.View.{view};
 ghost use Rattle.serde_json.specs.Written.{compact_text};
 ghost use Rattle.history.specs.Seen.{last_key};
-ghost use Rattle.history.specs.Read.{key_of};
-ghost use Rattle.revtable.specs.Read.{entry_of};
+ghost use Rattle.history.specs.Read.{entry_of, key_of};
 ghost use Rattle.lists.specs.Body.{continued_at, joined_text, list_kind, list_text, metadata_by, metadata_of, with_commas};
 ghost use Rattle.lists.specs.Views.{collection_of, page_seen};
 
 use crate::collection::Collection;
 use crate::page::Page;
 use crate::rows::last_key;
-use history::Key;
+use history::{Entry, Key};
 use params::Token;
-use revtable::Entry;
 use serde_json::{Value, json};
 use std::alloc::{AllocError, Global};
 

@@ -3,14 +3,13 @@ ghost use Rattle.std.specs.Prelude.{◌≡◌, ◌↔◌, suc, ◌-◌, ◌<◌,
 ghost use Rattle.std.specs.FinMap as fin;
 ghost use Rattle.history.specs.History.{last_revision, later};
 ghost use Rattle.history.specs.Page.{changes_within, listed, page, picked};
-ghost use Rattle.history.specs.Read.{key_of};
+ghost use Rattle.history.specs.Read.{change_of, entry_of, key_of, object_of};
 ghost use Rattle.revtable.specs.Kept.{first_kept, kept_among};
-ghost use Rattle.revtable.specs.Read.{change_of, entry_of, object_of};
 ghost use Rattle.history.specs.View.{IsView, compacted_in, state_in, view, written_in};
 
 use crate::fault::{ChangesFault, CompactFault, ListFault, WriteFault};
-use history::{Key, LAST_REVISION};
-use revtable::{Change, Entry, Fault, Keep, Object, Table};
+use history::{Change, Entry, Key, LAST_REVISION, Object};
+use revtable::{Fault, Keep, Table};
 use std::marker::Model;
 
 /// The objects of all types, by key, and their changes.

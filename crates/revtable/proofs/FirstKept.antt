@@ -24,11 +24,11 @@ use Rattle.sqlite_keyed.proofs.ListLemmas.{map_back}
 use Rattle.history.specs.History.{History, IsHistory, Key, Object, Objects, last_revision, state_at}
 use Rattle.history.specs.Page.{is_past, is_within, listed}
 use Rattle.history.proofs.Lists.{filter_both}
-use Rattle.revtable.specs.declared.row.Entry.{Entry}
+use Rattle.history.specs.declared.object.Entry.{Entry}
 use Rattle.revtable.specs.Asked.{as_change, begins, in_later, in_one}
 use Rattle.revtable.specs.Decoded.{entry_shown}
 use Rattle.revtable.specs.Kept.{first_kept, kept_among, AreFirstKept, IsBare}
-use Rattle.revtable.specs.Read.{entry_of}
+use Rattle.history.specs.Read.{entry_of}
 use Rattle.revtable.specs.Rows.{the_schema, command_in, shown, HasRows, IsAnswer, Keeps}
 use Rattle.revtable.specs.Spans.{Stored}
 use Rattle.revtable.proofs.Halves.{begins_all, begins_none, begins_one, take_both}

@@ -17,10 +17,10 @@ use Rattle.history.specs.History.{Change, IsRising, up_to}
 use Rattle.history.specs.Kept.{with_body}
 use Rattle.history.specs.Page.{changes_within, picked}
 use Rattle.history.proofs.Revisions.{all_within, up_to-all}
-use Rattle.revtable.specs.declared.row.Change.{Change as TheChange}
+use Rattle.history.specs.declared.change.Change.{Change as TheChange}
 use Rattle.revtable.specs.Asked.{deletions}
 use Rattle.revtable.specs.Decoded.{change_shown}
-use Rattle.revtable.specs.Read.{change_of}
+use Rattle.history.specs.Read.{change_of}
 use Rattle.revtable.specs.Rows.{body_in, body_value, number_in, shown}
 use Rattle.revtable.specs.Spans.{by_revision}
 use Rattle.revtable.proofs.Made.{take-map}

@@ -2,6 +2,5 @@ pub mod Asked
 pub mod Decoded
 pub mod Faults
 pub mod Kept
-pub mod Read
 pub mod Rows
 pub mod Spans

@@ -3,9 +3,8 @@
 
 ghost use Rattle.std.specs.Prelude.{◌≡◌, [], ℕ, ◌^◌, ◌<◌, IfOk, OnOk, OnErr, map, option_map, false};
 ghost use Rattle.history.specs.History.{IsRising};
-ghost use Rattle.history.specs.Read.{key_of};
+ghost use Rattle.history.specs.Read.{entry_of, key_of};
 ghost use Rattle.revtable.specs.Kept.{AreFirstKept, IsBare};
-ghost use Rattle.revtable.specs.Read.{entry_of};
 ghost use Rattle.revtable.specs.Rows.{the_schema, command_in, IsAlwaysClean, IsAnswer, IsOrdered};
 ghost use Rattle.revtable.specs.Spans.{changes_in, pruned_in, put_in, spans_of};
 ghost use Rattle.sqlite.specs.Given.{IsPlain};
@@ -17,10 +16,9 @@ ghost use Rattle.sqlite.specs.Values.{bound};
 use crate::fault::Fault;
 use crate::keep::Keep;
 use crate::reading::read_marks;
-use crate::row::{Entry, Marks};
 use crate::tables::{begin_marks, make_index, make_marks, make_objects};
 use crate::{compaction, first_kept, writing};
-use history::Key;
+use history::{Entry, Key, Marks};
 use sqlite::types::ValueRef;
 use sqlite::{Alter, Connection, Error, Row};
 use std::alloc::Global;

@@ -7,8 +7,8 @@ ghost use Rattle.revtable.specs.Rows.{stored_in, Amid, IsAlwaysClean, IsOrdered,
 ghost use Rattle.revtable.specs.Spans.{Stored, pruned_in, without_ended};
 ghost use Rattle.sqlite.specs.Held.{state};
 
-use crate::row::Marks;
 use crate::writing::set_marks;
+use history::Marks;
 use sqlite::{Alter, Connection, Error, Transaction, params};
 
 /// Deletes the rows that ended up to a revision. Without a lower bound the index would be read from its front, where the

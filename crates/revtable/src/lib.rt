@@ -17,7 +17,6 @@ mod memory;
 mod merging;
 mod paging;
 mod reading;
-mod row;
 mod statements;
 mod table;
 mod tables;
@@ -25,5 +24,4 @@ mod writing;
 
 pub use fault::Fault;
 pub use keep::Keep;
-pub use row::{Change, Entry, Marks, Object};
 pub use table::Table;

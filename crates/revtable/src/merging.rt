@@ -5,12 +5,12 @@ ghost use Rattle.std.specs.Prelude.{◌≡◌, ◌≤◌, ℕ, List, map, take, 
 ghost use Rattle.history.specs.History.{Change as TheChange, IsRising, up_to};
 ghost use Rattle.history.specs.Kept.{with_body};
 ghost use Rattle.revtable.specs.Asked.{deletions};
-ghost use Rattle.revtable.specs.Read.{change_of};
+ghost use Rattle.history.specs.Read.{change_of};
 ghost use Rattle.revtable.specs.Rows.{shown};
 
 use crate::fault::Fault;
 use crate::reading::read_changes;
-use crate::row::Change;
+use history::Change;
 use sqlite::{Error, Row};
 use std::alloc::Global;
 

@@ -2,12 +2,10 @@
 
 ghost use Rattle.std.specs.Prelude.{◌≡◌, IfOk, map};
 ghost use Rattle.revtable.specs.Decoded.{key_shown, change_shown, entry_shown, marks_shown, object_shown};
-ghost use Rattle.history.specs.Read.{key_of};
-ghost use Rattle.revtable.specs.Read.{change_of, entry_of, object_of};
+ghost use Rattle.history.specs.Read.{change_of, entry_of, key_of, object_of};
 
 use crate::fault::Fault;
-use crate::row::{Change, Entry, Marks, Object};
-use history::Key;
+use history::{Change, Entry, Key, Marks, Object};
 use sqlite::{Error, Row};
 use std::alloc::Global;
 

@@ -13,8 +13,7 @@ ghost use Rattle.sqlite.specs.Held.{state};
 ghost use Rattle.sqlite.specs.declared.types.Value.TheVariants.{Int};
 
 use crate::fault::Fault;
-use crate::row::Marks;
-use history::Key;
+use history::{Key, Marks};
 use sqlite::{Alter, Connection, Error, Row, Transaction, params};
 
 /// The revision that the last row of a key began at, if there is one: the index by key and revision ends with it.

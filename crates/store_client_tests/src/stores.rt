@@ -14,9 +14,9 @@
 
 use crate::rows::{Answers, done, play};
 use crate::tables::{first_of, key, push_changes, push_page, table_at};
-use history::Key;
+use history::{Entry, Key, Object};
 use revstore::{ChangesFault, CompactFault, ListFault, Store, WriteFault};
-use revtable::{Entry, Fault, Keep, Object};
+use revtable::{Fault, Keep};
 use std::alloc::{AllocError, Global};
 use std::cell::Cell;
 use std::mem;

@@ -13,8 +13,8 @@
 //! | `marks`, `rows`, `stored-rows`, `seen` | the current and the compacted revision; how many rows hold an object, and how many there are in all; all that there is to be seen |
 
 use crate::rows::{Answers, done, play};
-use history::Key;
-use revtable::{Change, Entry, Fault, Marks, Object, Table};
+use history::{Change, Entry, Key, Marks, Object};
+use revtable::{Fault, Table};
 use std::alloc::{AllocError, Global};
 use std::mem;
 use std::test::Fail;

@@ -14,8 +14,7 @@ use Rattle.verbs.specs.declared.calls.Call.{Call as TheCall}
 use Rattle.verbs.specs.declared.calls.Answer.{Answer as TheAnswer}
 use Rattle.verbs.specs.declared.calls.Plan.{Plan as ThePlan}
 use Rattle.verbs.specs.declared.change.Change.{Change as TheChange}
-use Rattle.revtable.specs.Read.{object_of as stored_object}
-use Rattle.revtable.specs.declared.row.Object.{Object as TheObject}
+use Rattle.history.specs.declared.object.Object.{Object as TheObject}
 use Rattle.verbs.specs.declared.admitting.Denied.{Denied as TheDenied}
 use Rattle.verbs.specs.declared.admitting.AdmitFault.{AdmitFault}
 use Rattle.verbs.specs.declared.admitting.AdmitFault.TheVariants as refusal
@@ -36,7 +35,7 @@ use Rattle.verbs.specs.Status.{CallRefusal}
 use Rattle.verbs.specs.Validated.{Validated, call_refusal}
 use Rattle.verbs.specs.declared.reason.Reason.{Reason}
 use Rattle.history.specs.History.{Change, Object, Objects, History}
-use Rattle.history.specs.Read.{key_of}
+use Rattle.history.specs.Read.{key_of, object_of as stored_object}
 use Rattle.history.specs.View.{View, state_in, view as view_of}
 use Rattle.verbs.specs.Machine.{AreUnicode, ComesAfter, IsMachine}
 use Rattle.verbs.specs.declared.body.Body.{Body}

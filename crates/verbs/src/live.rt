@@ -17,9 +17,8 @@ use crate::envelope::api_version_of;
 use crate::fault::Fault;
 use crate::identity::identity_of;
 use crate::remembered::Remembered;
-use history::Key;
+use history::{Key, Object};
 use ownership::{ObjectFault, Owned};
-use revtable::Object;
 use schema::Served;
 use std::alloc::Global;
 

@@ -18,10 +18,9 @@ use crate::fault::CallError;
 use crate::identity::identity_of;
 use crate::planner::Planner;
 use crate::reason::Reason;
-use history::{Key, LAST_REVISION};
+use history::{Key, LAST_REVISION, Object};
 use ownership::Owned;
 use revstore::REVISIONS_USED_UP;
-use revtable::Object;
 use std::alloc::{AllocError, Global};
 
 fn no_object(alloc: Global, given: u64) -> CallError

@@ -13,8 +13,8 @@ use Rattle.history.specs.View.{IsView, View, state_in}
 use Rattle.history.proofs.Lists.{filter_turned}
 use Rattle.history.proofs.Revisions.{later-below, later-drops, later-later, rising-filter, rising_ends, up_to-all}
 use Rattle.history.proofs.Befores.{view_one_by_one}
-use Rattle.revtable.specs.declared.row.Change.{Change as TheChange}
-use Rattle.revtable.specs.Read.{change_of}
+use Rattle.history.specs.declared.change.Change.{Change as TheChange}
+use Rattle.history.specs.Read.{change_of}
 use Rattle.lists.specs.Labels.{labels_of, selection_of}
 use Rattle.watchline.specs.declared.seen.Seen.{Seen as TheSeen}
 use Rattle.watchline.specs.Views.{change_seen}

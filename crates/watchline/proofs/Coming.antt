@@ -13,8 +13,8 @@ use Rattle.history.proofs.Following.{seen_in_view}
 use Rattle.history.proofs.Paging.{wanted_first, wanted_past}
 use Rattle.history.proofs.Revisions.{rising_ends, up_to-all}
 use Rattle.history.proofs.Views.{view_states}
-use Rattle.revtable.specs.declared.row.Entry.{Entry}
-use Rattle.revtable.specs.Read.{entry_of}
+use Rattle.history.specs.declared.object.Entry.{Entry}
+use Rattle.history.specs.Read.{entry_of}
 use Rattle.lists.specs.declared.rows.Start.{Start as TheStart}
 use Rattle.lists.specs.Labels.{labels_of, selection_of}
 use Rattle.lists.specs.Rows.{Start, matching, place_of}

@@ -3,11 +3,10 @@ use Rattle.std.specs.Prelude.{ℕ, List, [], ◌∷◌, map, Option, Some, None,
 use Rattle.std.specs.declared.alloc.Global.{Global}
 use Rattle.std.specs.FinMap as fin
 use Rattle.history.specs.History.{Key, Object}
-use Rattle.history.specs.Read.{key_of}
+use Rattle.history.specs.Read.{key_of, object_of}
 use Rattle.history.specs.Seen.{SeenKind, SeenChange, selected}
 use Rattle.history.specs.Seen as history
 use Rattle.history.specs.View.{View, state_in}
-use Rattle.revtable.specs.Read.{object_of}
 use Rattle.lists.specs.Labels.{selection_of}
 use Rattle.lists.specs.declared.rows.Start.{Start}
 use Rattle.lists.specs.Views.{start_of}

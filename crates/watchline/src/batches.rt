@@ -7,14 +7,15 @@ ghost use Rattle.history.specs.Page.{changes_within};
 ghost use Rattle.history.specs.Seen.{seen_in};
 ghost use Rattle.history.specs.View.{IsView};
 ghost use Rattle.lists.specs.Labels.{selection_of};
-ghost use Rattle.revtable.specs.Read.{change_of};
+ghost use Rattle.history.specs.Read.{change_of};
 ghost use Rattle.watchline.specs.Batches.{AreBetween, IsLow, changes_past, last_revision, to_read};
 ghost use Rattle.watchline.specs.Views.{change_seen};
 
 use crate::cursor::Scope;
 use crate::seen::{Seen, seen_each};
+use history::Change;
 use revstore::{ChangesFault, Store};
-use revtable::{Change, Fault};
+use revtable::Fault;
 use std::alloc::Global;
 
 /// How many changes are read at once at most.

@@ -4,7 +4,7 @@ ghost use Rattle.std.specs.Prelude.{◌≡◌, IfOk, string_bytes};
 ghost use Rattle.serde_json.specs.View.{view};
 ghost use Rattle.serde_json.specs.Written.{compact_text};
 ghost use Rattle.std.specs.Fmt.{decimal};
-ghost use Rattle.revtable.specs.Read.{entry_of};
+ghost use Rattle.history.specs.Read.{entry_of};
 ghost use Rattle.watchline.specs.Lines.{added, bookmark_line, bookmark_value, deleted_line, error_line, line, line_of};
 ghost use Rattle.watchline.specs.Views.{change_seen};
 
@@ -12,7 +12,8 @@ use crate::event::EventType;
 use crate::seen::{Seen, SeenKind};
 use crate::status::expired_text;
 use crate::version::text_at_version;
-use revtable::{Entry, Fault};
+use history::Entry;
+use revtable::Fault;
 use serde_json::{Value, json};
 use std::alloc::{AllocError, Global};
 

@@ -2,14 +2,15 @@
 
 ghost use Rattle.std.specs.Prelude.{◌≡◌, ◌≤◌, IfOk, Some, map, take};
 ghost use Rattle.history.specs.View.{IsView};
-ghost use Rattle.revtable.specs.Read.{entry_of};
+ghost use Rattle.history.specs.Read.{entry_of};
 ghost use Rattle.watchline.specs.Watches.{from_view, left_past, objects_left};
 ghost use Rattle.watchline.specs.Views.{cursor_of, left_at, objects_at};
 
 use crate::cursor::{Scope, Standing};
+use history::Entry;
 use lists::{Selected, Start, next_start, selected_page};
 use revstore::Store;
-use revtable::{Entry, Fault};
+use revtable::Fault;
 use std::alloc::Global;
 
 /// The first from a start on, at most so many, and where the others begin.

@@ -1,17 +1,16 @@
 //! What a watch sees of a change: an object added, modified or deleted, or nothing. Changes are read in `batches`.
 
 ghost use Rattle.std.specs.Prelude.{◌≡◌, ◌-◌, ◌<◌, ◌≤◌, ◌++◌, IfOk, OnOk, map, option_map, string_bytes};
-ghost use Rattle.history.specs.Read.{key_of};
+ghost use Rattle.history.specs.Read.{change_of, key_of, object_of};
 ghost use Rattle.history.specs.Seen.{reached, seen_by};
 ghost use Rattle.history.specs.View.{state_in};
-ghost use Rattle.revtable.specs.Read.{change_of, object_of};
 ghost use Rattle.watchline.specs.Batches.{AreBetween, if_labelled, seen_each, seen_labelled};
 ghost use Rattle.watchline.specs.Views.{change_seen, kind_seen, seen_list};
 
-use history::Key;
+use history::{Change, Key, Object};
 use lists::is_selected;
 use revstore::Store;
-use revtable::{Change, Fault, Object};
+use revtable::Fault;
 use selector::Selector;
 use std::alloc::Global;
 

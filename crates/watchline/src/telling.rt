@@ -2,7 +2,7 @@
 
 ghost use Rattle.std.specs.Prelude.{◌≡◌, ◌≤◌, ◌++◌, [], ◌∷◌, true, IfOk, OnOk, map};
 ghost use Rattle.history.specs.Seen.{reached};
-ghost use Rattle.revtable.specs.Read.{entry_of};
+ghost use Rattle.history.specs.Read.{entry_of};
 ghost use Rattle.watchline.specs.Lines.{added, error_line, line_of};
 ghost use Rattle.watchline.specs.Watches.{from_view, position_by, telling};
 ghost use Rattle.watchline.specs.Views.{change_seen, cursor_of, lines_in, turn_of};
@@ -12,9 +12,10 @@ use crate::cursor::{Pumped, Scope, Standing};
 use crate::lines::{change_line, error_line, object_line};
 use crate::objects::objects_told;
 use crate::seen::{Seen, reached};
+use history::Entry;
 use lists::Start;
 use revstore::Store;
-use revtable::{Entry, Fault};
+use revtable::Fault;
 use std::alloc::{AllocError, Global};
 
 /// The lines of objects.

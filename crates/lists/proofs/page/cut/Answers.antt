@@ -1,6 +1,6 @@
 use Rattle.std.proofs.Common.{◌∙◌, ap, map, sym}
 use Rattle.history.specs.Seen.{limited}
-use Rattle.revtable.specs.Read.{entry_of}
+use Rattle.history.specs.Read.{entry_of}
 use Rattle.lists.proofs.Reading.{cut_at}
 use Rattle.lists.proofs.page.cut.Goals as goal
 

@@ -4,7 +4,7 @@ use Rattle.std.proofs.lemmas.List.{length-map, map-append}
 use Rattle.history.specs.Page.{listed}
 use Rattle.history.specs.Seen.{limited}
 use Rattle.history.specs.View.{state_in}
-use Rattle.revtable.specs.Read.{entry_of}
+use Rattle.history.specs.Read.{entry_of}
 use Rattle.lists.specs.Rows.{matching, rows_left}
 use Rattle.lists.specs.Views.{collection_of, start_of}
 use Rattle.lists.proofs.Reading.{IsFoundSoFar, enough_found, found_more}

@@ -2,7 +2,7 @@ use Rattle.std.proofs.Common.{◌≡◌, ◌<◌, map}
 use Rattle.std.specs.Option.{option_map}
 use Rattle.history.specs.Page.{listed}
 use Rattle.history.specs.View.{state_in}
-use Rattle.revtable.specs.Read.{entry_of}
+use Rattle.history.specs.Read.{entry_of}
 use Rattle.lists.specs.Rows.{rows_left, to_read}
 use Rattle.lists.specs.Views.{collection_of, start_of}
 use Rattle.lists.proofs.Reading.{IsFoundSoFar}

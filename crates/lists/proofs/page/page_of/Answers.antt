@@ -4,7 +4,7 @@ use Rattle.history.specs.Page.{listed}
 use Rattle.history.specs.Seen.{limited}
 use Rattle.history.specs.View.{state_in}
 use Rattle.params.specs.Views.{values_of}
-use Rattle.revtable.specs.Read.{entry_of}
+use Rattle.history.specs.Read.{entry_of}
 use Rattle.lists.specs.Lists.{page_limit}
 use Rattle.lists.specs.Rows.{asked_for, matching}
 use Rattle.lists.specs.Views.{collection_of, start_of}

@@ -3,7 +3,7 @@ use Rattle.std.specs.Option.{option_map}
 use Rattle.std.proofs.lemmas.List.{length-map}
 use Rattle.history.specs.Seen.{last_key}
 use Rattle.history.specs.View.{state_in}
-use Rattle.revtable.specs.Read.{entry_of}
+use Rattle.history.specs.Read.{entry_of}
 use Rattle.lists.specs.Rows.{place_of}
 use Rattle.lists.specs.Views.{collection_of, start_of}
 use Rattle.lists.proofs.Reading.{leads_lower, leads_on}

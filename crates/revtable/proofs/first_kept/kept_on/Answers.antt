@@ -3,7 +3,7 @@ use Rattle.std.proofs.lemmas.List.{length-map, map-append}
 use Rattle.history.specs.History.{History, state_at}
 use Rattle.revtable.specs.Asked.{in_from, in_one, in_later}
 use Rattle.revtable.specs.Kept.{first_kept}
-use Rattle.revtable.specs.Read.{entry_of}
+use Rattle.history.specs.Read.{entry_of}
 use Rattle.revtable.proofs.FirstKept.{kept_both, kept_full}
 use Rattle.revtable.proofs.Halves.{from_next}
 use Rattle.revtable.proofs.first_kept.kept_on.Goals as goal

@@ -1,7 +1,7 @@
 use Rattle.std.proofs.Common.{◌∙◌, ap, sym, map, option_map, List, ℕ, Option}
 use Rattle.history.specs.History.{state_at}
 use Rattle.revtable.specs.Kept.{first_kept}
-use Rattle.revtable.specs.Read.{entry_of}
+use Rattle.history.specs.Read.{entry_of}
 use Rattle.revtable.proofs.FirstKept.{all_listed, none_listed, one_listed}
 use Rattle.revtable.proofs.Halves.{still_some}
 use Rattle.revtable.proofs.Outcomes.{when_ok}

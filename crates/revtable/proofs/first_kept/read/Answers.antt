@@ -2,7 +2,7 @@ use Rattle.std.proofs.Common.{◌≡◌, ◌<◌, ◌≤◌, ◌+◌, inl, inr, 
 use Rattle.sqlite.specs.Held.{state}
 use Rattle.sqlite.specs.Values.{bound}
 use Rattle.history.specs.History.{last_revision}
-use Rattle.revtable.specs.Read.{entry_of}
+use Rattle.history.specs.Read.{entry_of}
 use Rattle.revtable.specs.Rows.{Keeps}
 use Rattle.revtable.proofs.FirstKept.{begun, ended, failed_keeps, found_next, still_fits, stopped, unchanged_keeps}
 use Rattle.revtable.proofs.first_kept.read.Goals as goal

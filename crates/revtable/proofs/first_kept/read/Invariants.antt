@@ -3,7 +3,7 @@ use Rattle.sqlite.specs.Given.{HasGiven}
 use Rattle.sqlite.specs.Held.{state}
 use Rattle.sqlite.specs.Order.{Row}
 use Rattle.sqlite.specs.Values.{bound}
-use Rattle.revtable.specs.Read.{entry_of}
+use Rattle.history.specs.Read.{entry_of}
 use Rattle.revtable.specs.Rows.{Keeps}
 use Rattle.revtable.specs.Spans.{Stored}
 use Rattle.revtable.proofs.FirstKept.{found_in}

@@ -1,6 +1,6 @@
 use Rattle.std.proofs.Common.{◌≡◌, map, take}
 use Rattle.revtable.specs.Decoded.{change_shown}
-use Rattle.revtable.specs.Read.{change_of}
+use Rattle.history.specs.Read.{change_of}
 use Rattle.revtable.proofs.reading.read_changes.Given as goal
 
 -- the rows so far are read

@@ -1,6 +1,6 @@
 use Rattle.std.proofs.Common.{◌≡◌, map, take}
 use Rattle.revtable.specs.Decoded.{entry_shown}
-use Rattle.revtable.specs.Read.{entry_of}
+use Rattle.history.specs.Read.{entry_of}
 use Rattle.revtable.proofs.reading.read_entries.Given as goal
 
 -- the rows so far are read

@@ -1,7 +1,7 @@
 use Rattle.std.proofs.Common.{◌∙◌, ◌≤◌, ◌<◌, ap, sym, subst, map, string_bytes}
 use Rattle.std.specs.Option.{option_map}
 use Rattle.std.proofs.lemmas.List.{length-map}
-use Rattle.revtable.specs.Read.{change_of}
+use Rattle.history.specs.Read.{change_of}
 use Rattle.watchline.specs.Batches.{last_revision}
 use Rattle.watchline.proofs.Batched.{all_between, ends_here, leads_low, leads_lower, leads_on}
 use Rattle.watchline.proofs.batches.next_changes.Goals as goal

@@ -1,6 +1,6 @@
 use Rattle.std.proofs.Common.{◌≡◌, ◌++◌, map}
 use Rattle.std.specs.Vec.Iter.{into_iter_items}
-use Rattle.revtable.specs.Read.{change_of}
+use Rattle.history.specs.Read.{change_of}
 use Rattle.watchline.specs.Batches.{AreBetween, seen_each}
 use Rattle.watchline.specs.Views.{change_seen}
 use Rattle.watchline.proofs.seen.seen_each.Given as goal

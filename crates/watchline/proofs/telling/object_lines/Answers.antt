@@ -1,6 +1,6 @@
 use Rattle.std.proofs.Common.{◌∙◌, [], ap, map, string_bytes}
 use Rattle.std.proofs.lemmas.List.{take_all}
-use Rattle.revtable.specs.Read.{entry_of}
+use Rattle.history.specs.Read.{entry_of}
 use Rattle.watchline.specs.Lines.{added, line_of}
 use Rattle.watchline.specs.Views.{lines_in}
 use Rattle.watchline.proofs.Putting.{map_twice, one_more}

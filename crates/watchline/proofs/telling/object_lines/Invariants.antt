@@ -1,5 +1,5 @@
 use Rattle.std.proofs.Common.{◌≡◌, map, take}
-use Rattle.revtable.specs.Read.{entry_of}
+use Rattle.history.specs.Read.{entry_of}
 use Rattle.watchline.specs.Lines.{added, line_of}
 use Rattle.watchline.specs.Views.{lines_in}
 use Rattle.watchline.proofs.telling.object_lines.Given as goal

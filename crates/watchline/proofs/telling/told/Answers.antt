@@ -3,7 +3,7 @@ use Rattle.std.specs.Prelude.{nat_lt}
 use Rattle.std.proofs.lemmas.List.{length-map}
 use Rattle.history.specs.Seen.{reached, seen_in}
 use Rattle.lists.specs.Labels.{selection_of}
-use Rattle.revtable.specs.Read.{entry_of}
+use Rattle.history.specs.Read.{entry_of}
 use Rattle.watchline.specs.Lines.{added, line_of}
 use Rattle.watchline.specs.Views.{change_seen, cursor_of, left_at, lines_in}
 use Rattle.watchline.specs.Watches.{changes_left, from_view, left_past, objects_left, position_by}

@@ -1,7 +1,7 @@
 use Rattle.std.proofs.Common.{◌∙◌, sym, ap, map, subst}
 use Rattle.history.specs.Kept.{IsPruned}
 use Rattle.revtable.specs.Kept.{AreFirstKept}
-use Rattle.revtable.specs.Read.{entry_of}
+use Rattle.history.specs.Read.{entry_of}
 use Rattle.revtable.specs.Spans.{stored_of}
 use Rattle.sqlite.specs.Values.{bound}
 use Rattle.revtable.proofs.Fields.{stored_back}

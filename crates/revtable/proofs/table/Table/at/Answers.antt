@@ -3,7 +3,7 @@ use Rattle.revtable.specs.Decoded.{entry_shown}
 use Rattle.history.specs.History.{History, state_at}
 use Rattle.history.specs.Kept.{IsPruned}
 use Rattle.history.specs.Page.{page}
-use Rattle.revtable.specs.Read.{entry_of}
+use Rattle.history.specs.Read.{entry_of}
 use Rattle.revtable.proofs.Numbers.{at_is, at_whole}
 use Rattle.revtable.proofs.Outcomes.{when_ok}
 use Rattle.revtable.proofs.table.Table.at.Goals as goal

@@ -3,7 +3,7 @@ use Rattle.history.specs.History.{History, state_at}
 use Rattle.history.specs.Kept.{IsPruned}
 use Rattle.history.specs.Page.{listed}
 use Rattle.revtable.specs.Kept.{first_kept, kept_among}
-use Rattle.revtable.specs.Read.{entry_of}
+use Rattle.history.specs.Read.{entry_of}
 use Rattle.revtable.proofs.FirstKept.{kept_few}
 use Rattle.revtable.proofs.Numbers.{state_min, take_most}
 use Rattle.revtable.proofs.Outcomes.{when_ok}

@@ -4,7 +4,7 @@ use Rattle.sqlite.specs.declared.types.Value.TheVariants.{Int, Text as Words}
 use Rattle.history.specs.History.{last_revision, state_at}
 use Rattle.revtable.specs.Asked.{in_from}
 use Rattle.revtable.specs.Kept.{AreFirstKept}
-use Rattle.revtable.specs.Read.{entry_of}
+use Rattle.history.specs.Read.{entry_of}
 use Rattle.revtable.specs.Spans.{stored_of}
 use Rattle.revtable.proofs.Numbers.{objects_few}
 use Rattle.revtable.proofs.Pages.{finds_from}

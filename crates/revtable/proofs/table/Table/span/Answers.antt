@@ -3,7 +3,7 @@ use Rattle.history.specs.History.{Change, History, later, up_to}
 use Rattle.history.specs.Kept.{IsPruned}
 use Rattle.history.specs.Page.{changes_within, picked}
 use Rattle.revtable.specs.Asked.{deletions}
-use Rattle.revtable.specs.Read.{change_of}
+use Rattle.history.specs.Read.{change_of}
 use Rattle.revtable.specs.Rows.{shown}
 use Rattle.revtable.proofs.Fronts.{part_deleted, part_made}
 use Rattle.revtable.proofs.Numbers.{span_is, span_rises, span_whole, up_rises}
