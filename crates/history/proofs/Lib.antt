@@ -13,3 +13,4 @@ pub mod Selecting
 pub mod Standing
 pub mod Views
 pub mod Wholes
+pub mod Writes

@@ -18,10 +18,12 @@ later-push c (e ∷ cs) d h = go (nat_lt c e.revision) (later-push c cs d h)
     go true more = ap (λ l. e ∷ l) more
     go false more = more
 
-pub view_writes : (h : History) (k : Key) (body : Option (List ℕ)) → IsHistory h → view (written h k body) ≡ written_in (view h) k body
-view_writes h k body is =
-    let low : h.compacted ≤ h.current = is.low in
+pub view_writes_low : (h : History) (k : Key) (body : Option (List ℕ)) → h.compacted ≤ h.current → view (written h k body) ≡ written_in (view h) k body
+view_writes_low h k body low =
     rw (state_at-push h.changes h.compacted (record { revision = suc h.current; key = k; body = body }) (omega arith), later-push h.compacted h.changes (record { revision = suc h.current; key = k; body = body }) (omega arith)) refl
+
+pub view_writes : (h : History) (k : Key) (body : Option (List ℕ)) → IsHistory h → view (written h k body) ≡ written_in (view h) k body
+view_writes h k body is = view_writes_low h k body is.low
 
 pub view_compacts : (h : History) (c : ℕ) → IsHistory h → h.compacted ≤ c → view (compacted_to c h) ≡ compacted_in c (view h)
 view_compacts h c is le = rw (view_states h c is le, later-later h.compacted c h.changes le) refl

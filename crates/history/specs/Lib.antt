@@ -6,3 +6,4 @@ pub mod Read
 pub mod Seen
 pub mod View
 pub mod Whole
+pub mod Writes

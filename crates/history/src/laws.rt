@@ -1,12 +1,13 @@
 //! Laws of histories, which crates above build on; those of pages stand in `page_laws`, those of lists and watches in
 //! `seen_laws`. Each function does nothing; what it promises is the law.
 
-ghost use Rattle.std.specs.Prelude.{◌≡◌, ℕ, suc, ◌≤◌, true, List, Option, None};
+ghost use Rattle.std.specs.Prelude.{◌≡◌, ℕ, suc, ◌+◌, ◌≤◌, true, List, ◌++◌, length, Option, None};
 ghost use Rattle.std.specs.FinMap as fin;
 ghost use Rattle.history.specs.History.{History, IsHistory, Key, compacted_to, fresh, last_revision, later, standing, state_at, written};
 ghost use Rattle.history.specs.Kept.{IsPruned, pruned};
 ghost use Rattle.history.specs.View.{IsView, compacted_in, state_in, view, written_in};
-ghost use Rattle.history.specs.Whole.{IsWhole};
+ghost use Rattle.history.specs.Whole.{AreThere, IsWhole};
+ghost use Rattle.history.specs.Writes.{changes_by, written_all, written_all_in};
 
 /// From the compacted number on, the kept changes have the same states and the same later changes, so the view
 /// depends on them and on the two numbers alone; and the view gives each of these states.
@@ -39,4 +40,15 @@ pub fn histories_stay_whole()
     ensures writes { (first : ℕ) (h : History) (k : Key) (body : Option (List ℕ)) → IsWhole first h → suc h.current ≤ last_revision
         → (body ≡ None → fin.contains_key (standing h) k ≡ true) → IsWhole first (written h k body) }
     ensures compacts { (first : ℕ) (h : History) (c : ℕ) → IsWhole first h → h.compacted ≤ c → c ≤ h.current → IsWhole first (compacted_to c h) }
+{}
+
+/// Several writes make their changes one after the other. They are seen as several writes of the view, what a compaction forgets
+/// isn't missed, and a whole history stays whole, where each deletion is of an object that is there in its turn.
+pub fn several_writes_at_once()
+    ensures changes { (h : History) (ws : List (Key × Option (List ℕ))) → (written_all h ws).changes ≡ h.changes ++ changes_by h.current ws }
+    ensures current { (h : History) (ws : List (Key × Option (List ℕ))) → (written_all h ws).current ≡ h.current + length ws }
+    ensures seen { (h : History) (ws : List (Key × Option (List ℕ))) → IsHistory h → view (written_all h ws) ≡ written_all_in (view h) ws }
+    ensures kept { (h : History) (ws : List (Key × Option (List ℕ))) → IsHistory h → pruned h.compacted (written_all h ws) ≡ written_all (pruned h.compacted h) ws }
+    ensures whole { (first : ℕ) (h : History) (ws : List (Key × Option (List ℕ))) → IsWhole first h → h.current + length ws ≤ last_revision
+        → AreThere (standing h) (changes_by h.current ws) → IsWhole first (written_all h ws) }
 {}

@@ -16,12 +16,16 @@ mod object;
 mod page_laws;
 mod revision;
 mod seen_laws;
+mod write;
 
 pub use change::Change;
 pub use key::Key;
-pub use laws::{histories_stay_whole, kept_is_enough, view_of_calls, view_of_kept};
+pub use laws::{
+    histories_stay_whole, kept_is_enough, several_writes_at_once, view_of_calls, view_of_kept,
+};
 pub use marks::Marks;
 pub use object::{Entry, Object};
 pub use page_laws::{lists_come_in_pages, pages_make_the_list, rows_lead_on};
 pub use revision::LAST_REVISION;
 pub use seen_laws::{seen_changes_lead_on, seen_changes_one_by_one, seen_stays, types_stand_apart};
+pub use write::Write;

@@ -1,14 +1,16 @@
 //! The store and its calls. How changes are kept stands in `revtable`.
-ghost use Rattle.std.specs.Prelude.{◌≡◌, ◌↔◌, suc, ◌-◌, ◌<◌, ◌≤◌, true, map, Err, IfOk, OnOk, OnErr, None, option_map};
+ghost use Rattle.std.specs.Prelude.{◌≡◌, ◌↔◌, suc, ◌+◌, ◌-◌, ◌<◌, ◌≤◌, true, length, map, Err, IfOk, OnOk, OnErr, None, option_map};
 ghost use Rattle.std.specs.FinMap as fin;
 ghost use Rattle.history.specs.History.{last_revision, later};
 ghost use Rattle.history.specs.Page.{changes_within, listed, page, picked};
-ghost use Rattle.history.specs.Read.{change_of, entry_of, key_of, object_of};
+ghost use Rattle.history.specs.Read.{change_of, entry_of, key_of, object_of, write_of};
 ghost use Rattle.revtable.specs.Kept.{first_kept, kept_among};
 ghost use Rattle.history.specs.View.{IsView, compacted_in, state_in, view, written_in};
+ghost use Rattle.history.specs.Whole.{AreThere};
+ghost use Rattle.history.specs.Writes.{changes_by, written_all_in};
 
 use crate::fault::{ChangesFault, CompactFault, ListFault, WriteFault};
-use history::{Change, Entry, Key, LAST_REVISION, Object};
+use history::{Change, Entry, Key, LAST_REVISION, Object, Write};
 use revtable::{Fault, Keep, Table};
 use std::marker::Model;
 
@@ -77,6 +79,23 @@ impl Store {
         let revision = current + 1;
         self.table.put(revision, key, body)?;
         Ok(revision)
+    }
+
+    /// Adds several changes, as `write` of each in turn, and answers the revision that is current then: all of them, or none.
+    pub fn write_all(&mut self, writes: &[Write]) -> Result<u64, WriteFault>
+        requires there { AreThere (state_in self.old self.old.current) (changes_by self.old.current (map write_of writes.now)) }
+        ensures ok { OnOk result (self.new ≡ written_all_in self.old (map write_of writes.now)) }
+        ensures revision { IfOk result (λ r. r ≡ self.old.current + length writes.now) }
+        ensures exhausted { (result ≡ Err WriteFault.Exhausted) ↔ (last_revision < self.old.current + length writes.now) }
+        ensures err { OnErr result (self.new ≡ self.old) }
+    {
+        let current = self.table.marks().current;
+        let count = writes.len() as u64;
+        if count > LAST_REVISION - current {
+            return Err(WriteFault::Exhausted);
+        }
+        self.table.put_all(writes)?;
+        Ok(current + count)
     }
 
     /// What stands under a key.

@@ -1,19 +1,21 @@
 -- What stands in the tables after a call: the history that it is.
-use Rattle.std.proofs.Common.{◌≡◌, ℕ, suc, ◌≤◌, ◌<◌, List, [], ◌∷◌, ◌++◌, min, max, None, refl, sym, ap, ap₂, subst, ◌∙◌, Option, Bor, option_map, arith, Some, Bool, true, false, cond, not, ◌&&◌, is_some, true≢false}
+use Rattle.std.proofs.Common.{◌≡◌, ℕ, suc, ◌+◌, ◌≤◌, ◌<◌, List, [], ◌∷◌, ◌++◌, length, min, max, None, refl, sym, ap, ap₂, subst, ◌∙◌, Option, Bor, option_map, arith, Some, Bool, true, false, cond, not, ◌&&◌, is_some, true≢false}
 use Rattle.std.specs.Prelude.{is_none}
 use Rattle.std.specs.FinMap as fin
 use Rattle.std.specs.List.{AllByRecursion}
-use Rattle.history.specs.History.{Key, Change, History, IsRising, changed, is_same_key, last_revision, standing, written}
+use Rattle.history.specs.History.{Key, Change, History, IsRising, is_same_key, last_revision, standing, written}
 use Rattle.history.specs.Kept.{IsPruned, between_marks, kept, pruned}
 use Rattle.history.specs.Whole.{AreThere}
-use Rattle.history.proofs.Kept.{kept-push, pruned_is}
-use Rattle.history.proofs.Revisions.{rising-filter, rising-push, up_to-all}
+use Rattle.history.specs.Writes.{changes_by, written_all}
+use Rattle.history.proofs.Kept.{pruned_is}
+use Rattle.history.proofs.Revisions.{rising-filter}
+use Rattle.history.proofs.Writes.{kept_all, there_all}
 use Rattle.revtable.specs.Rows.{IsOrdered, AreBelow}
 use Rattle.revtable.specs.Spans.{Span, Stored, changes_in, end_at, ended_by, history_of, next_of, pruned_in, put_in, spans_of, spans_until, stored_of, without_ended, IsWritten}
 use Rattle.revtable.proofs.Forgets.{kept_there, without_is}
 use Rattle.revtable.proofs.Merged.{changes_back}
 use Rattle.revtable.proofs.Nexts.{all_begin}
-use Rattle.revtable.proofs.Puts.{spans_push, there_push}
+use Rattle.revtable.proofs.Puts.{spans_push}
 use Rattle.history.proofs.Revisions.{all_above, all_within}
 use Rattle.sqlite_keyed.proofs.ListLemmas.{all_weaker}
 
@@ -54,28 +56,35 @@ below_ended cs top n k r g spans rise lt is = go spans (below_rows cs top n span
 
 -- ---- once a change is written
 
+-- what stands is a history whose changes are all kept ones, where each deletion is of an object that is there
+pub written_rows : (h : History) → IsPruned h → AreThere fin.empty h.changes → IsWritten (stored_of h) × (history_of (stored_of h) ≡ h)
+written_rows h p there =
+    let back : changes_in (spans_of h.changes) ≡ h.changes = changes_back 0 h.current h.changes p.is.rising there in
+    let same : history_of (stored_of h) ≡ h = ap (λ l. record { changes = l; current = h.current; compacted = h.compacted }) back in
+    (record { pruned = subst IsPruned (sym same) p; there = subst (AreThere fin.empty) (sym back) there; rows = ap spans_of (sym back) }, same)
+
+pub stored_back : (st : Stored) → IsWritten st → stored_of (history_of st) ≡ st
+stored_back st w = ap (λ l. record { spans = l; current = st.current; compacted = st.compacted }) (sym w.rows)
+
+pub put_is : (n c : ℕ) (h : History) (k : Key) (body : Option (List ℕ)) → n ≡ suc h.current → c ≡ h.compacted → put_in n c k body (stored_of h) ≡ stored_of (written h k body)
+put_is n c h k body next low =
+    ap₂ (λ p q. put_in p q k body (stored_of h)) next low
+    ∙ ap (λ l. record { spans = l; current = suc h.current; compacted = h.compacted }) (sym (spans_push h.changes (next_change (suc h.current) k body)))
+
+-- of several writes
+pub after_puts : (st : Stored) (ws : List (Key × Option (List ℕ))) → IsWritten st → st.current + length ws ≤ last_revision → AreThere (standing (history_of st)) (changes_by st.current ws)
+    → IsWritten (stored_of (written_all (history_of st) ws)) × (history_of (stored_of (written_all (history_of st) ws)) ≡ written_all (history_of st) ws)
+after_puts st ws w fits there =
+    let h = history_of st in
+    written_rows (written_all h ws) (kept_all h ws w.pruned fits) (there_all h ws w.pruned.is.rising w.there there)
+
 pub after_put : (n : ℕ) (st : Stored) (k : Key) (body : Option (List ℕ)) → IsWritten st → n ≡ suc st.current → n ≤ last_revision → (body ≡ None → fin.contains_key (standing (history_of st)) k ≡ true)
     → IsWritten (put_in n st.compacted k body st) × (history_of (put_in n st.compacted k body st) ≡ written (history_of st) k body)
 after_put n st k body w next fits there =
     let h = history_of st in
-    let cs = changes_in st.spans in
-    let d = next_change n k body in
-    let new = put_in n st.compacted k body st in
-    let rising : IsRising 0 cs st.current = w.pruned.is.rising in
-    let low : st.compacted ≤ st.current = w.pruned.is.low in
-    let up : IsRising 0 (cs ++ d ∷ []) n = subst (IsRising 0 (cs ++ d ∷ [])) (sym next) (rising-push 0 st.current cs d next rising) in
-    let all : AreThere fin.empty (cs ++ d ∷ []) = there_push fin.empty cs d (λ none. ap (λ s. fin.contains_key (changed fin.empty s) k) (sym (up_to-all 0 st.current st.current cs (omega arith) rising)) ∙ there none) w.there in
-    let rows : new.spans ≡ spans_of (cs ++ d ∷ []) = ap (λ l. ended_by k n (is_none body) l ++ spans_until k n body None) w.rows ∙ sym (spans_push cs d) in
-    let back : changes_in new.spans ≡ cs ++ d ∷ [] = ap changes_in rows ∙ changes_back 0 n (cs ++ d ∷ []) up all in
-    let whole : kept st.compacted (cs ++ d ∷ []) ≡ cs ++ d ∷ [] = kept-push st.compacted st.current cs d rising next low ∙ ap (λ l. l ++ d ∷ []) w.pruned.whole in
-    let sound : IsPruned (record { changes = cs ++ d ∷ []; current = n; compacted = st.compacted }) = record { is = record { rising = up; low = omega arith; high = fits }; whole = whole } in (
-      record {
-        pruned = subst (λ l. IsPruned (record { changes = l; current = n; compacted = st.compacted })) (sym back) sound;
-        there = subst (AreThere fin.empty) (sym back) all;
-        rows = rows ∙ ap spans_of (sym back);
-      },
-      ap (λ l. record { changes = l; current = n; compacted = st.compacted }) back ∙ ap (λ (m : ℕ). record { changes = cs ++ next_change m k body ∷ []; current = m; compacted = st.compacted }) next,
-    )
+    let all = after_puts st ((k, body) ∷ []) w (omega arith) (there, tt) in
+    let same : put_in n st.compacted k body st ≡ stored_of (written h k body) = ap (put_in n st.compacted k body) (sym (stored_back st w)) ∙ put_is n st.compacted h k body next refl in
+    (subst IsWritten (sym same) all.0, ap history_of same ∙ all.1)
 
 pub still_none : {X Y : Type 0} (f : X → Y) (o : Option X) → is_none o ≡ is_none (option_map f o)
 still_none f None = refl
@@ -128,6 +137,3 @@ prune_stands r low to current compacted log new self w top bottom is low_is to_i
     let all = after_prune to log w (omega arith) in
     let between : to ≡ between_marks (history_of log) r = to_is ∙ ap₂ max (low_is ∙ ap (min r) top) bottom in
     ((subst IsWritten (sym e) all.0, top ∙ sym (ap (λ (st : Stored). st.current) e), sym (ap (λ (st : Stored). st.compacted) e)), ap history_of e ∙ all.1 ∙ ap (λ n. pruned n (history_of log)) between ∙ ap (λ h. pruned (between_marks h r) h) is)
-
-pub stored_back : (st : Stored) → IsWritten st → stored_of (history_of st) ≡ st
-stored_back st w = ap (λ l. record { spans = l; current = st.current; compacted = st.compacted }) (sym w.rows)

@@ -19,6 +19,7 @@ pub mod Numbers
 pub mod Outcomes
 pub mod Pages
 pub mod Puts
+pub mod Several
 pub mod Texts
 pub mod Where
 pub mod Within

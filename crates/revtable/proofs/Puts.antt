@@ -7,10 +7,8 @@ use Rattle.std.specs.Option.{option_to_list}
 use Rattle.sqlite.specs.declared.types.Value.TheVariants.{Int}
 use Rattle.sqlite.specs.Order.{Row, column}
 use Rattle.std.specs.List.{AllByRecursion}
-use Rattle.std.specs.FinMap as fin
 use Rattle.sqlite_keyed.proofs.ListLemmas.{all-filter, all-slice_get}
-use Rattle.history.specs.History.{Key, Objects, Change, IsRising, changed, is_same_key, left_by, put_or_remove}
-use Rattle.history.specs.Whole.{AreThere}
+use Rattle.history.specs.History.{Key, Change, IsRising, is_same_key}
 use Rattle.history.proofs.Keys.{tied}
 use Rattle.history.proofs.Revisions.{all_above}
 use Rattle.revtable.specs.Spans.{Span, end_at, ended_by, ended_from, last_span, next_of, span_until, spans_of, spans_until}
@@ -64,10 +62,6 @@ spans_push (c ∷ cs) d =
     ap₂ (λ a b. a ++ b) (one_push c.key c.revision c.body cs d) (spans_push cs d)
     ∙ sym (Rattle.std.proofs.Common.append_assoc (ended_by d.key d.revision (is_none d.body) (spans_until c.key c.revision c.body (next_of c.key cs))) (ended_by d.key d.revision (is_none d.body) (spans_of cs)) (spans_until d.key d.revision d.body None))
     ∙ ap (λ l. l ++ spans_until d.key d.revision d.body None) (sym (map-append _ (spans_until c.key c.revision c.body (next_of c.key cs)) (spans_of cs)))
-
-pub there_push : (s : Objects) (cs : List Change) (c : Change) → (c.body ≡ None → fin.contains_key (changed s cs) c.key ≡ true) → AreThere s cs → AreThere s (cs ++ c ∷ [])
-there_push s [] c last is = (last, tt)
-there_push s (d ∷ cs) c last is = (is.0, there_push (put_or_remove s d.key (left_by d)) cs c last is.1)
 
 -- ---- the row that stands is the last of its key
 

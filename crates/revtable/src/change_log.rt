@@ -1,12 +1,13 @@
 //! What stands in the two tables of a database. Its store is any that never lost a page (`IsAlwaysClean`): the proofs say what
 //! they need of it, and the prover is faster than where the store is named. `memory` has the one that a table stands on.
 
-ghost use Rattle.std.specs.Prelude.{◌≡◌, [], ℕ, ◌^◌, ◌<◌, IfOk, OnOk, OnErr, map, option_map, false};
+ghost use Rattle.std.specs.Prelude.{◌≡◌, [], ℕ, ◌+◌, ◌^◌, ◌<◌, IfOk, OnOk, OnErr, length, map, option_map, false};
 ghost use Rattle.history.specs.History.{IsRising};
-ghost use Rattle.history.specs.Read.{entry_of, key_of};
+ghost use Rattle.history.specs.Read.{entry_of, key_of, write_of};
+ghost use Rattle.history.specs.Writes.{written_all};
 ghost use Rattle.revtable.specs.Kept.{AreFirstKept, IsBare};
 ghost use Rattle.revtable.specs.Rows.{the_schema, command_in, IsAlwaysClean, IsAnswer, IsOrdered};
-ghost use Rattle.revtable.specs.Spans.{changes_in, pruned_in, put_in, spans_of};
+ghost use Rattle.revtable.specs.Spans.{changes_in, history_of, pruned_in, put_in, spans_of, stored_of};
 ghost use Rattle.sqlite.specs.Given.{IsPlain};
 ghost use Rattle.sqlite.specs.Held.{state};
 ghost use Rattle.sqlite.specs.Listing.{reads_listing, understood};
@@ -18,7 +19,7 @@ use crate::keep::Keep;
 use crate::reading::read_marks;
 use crate::tables::{begin_marks, make_index, make_marks, make_objects};
 use crate::{compaction, first_kept, writing};
-use history::{Entry, Key, Marks};
+use history::{Entry, Key, Marks, Write};
 use sqlite::types::ValueRef;
 use sqlite::{Alter, Connection, Error, Row};
 use std::alloc::Global;
@@ -81,6 +82,22 @@ impl<S: Alter> ChangeLog<S> {
         ensures err { OnErr result (self.new ≡ self.old) }
     {
         writing::put(&mut self.base, marks, key, body)?;
+        self.seen = Snapshot::of(&self.base);
+        Ok(())
+    }
+
+    /// Writes several changes, one after the other, from these numbers on: all of them, or none.
+    pub(crate) fn put_all(&mut self, marks: Marks, writes: &[Write]) -> Result<(), Fault>
+        requires current { marks.current ≡ self.old.current }
+        requires compacted { marks.compacted ≡ self.old.compacted }
+        requires fits { marks.current + length writes.now < 2 ^ 63 }
+        requires low { marks.compacted < 2 ^ 63 }
+        requires rising { IsRising 0 (changes_in self.old.spans) self.old.current }
+        requires rows { self.old.spans ≡ spans_of (changes_in self.old.spans) }
+        ensures ok { OnOk result (self.new ≡ stored_of (written_all (history_of self.old) (map write_of writes.now))) }
+        ensures err { OnErr result (self.new ≡ self.old) }
+    {
+        writing::put_all(&mut self.base, marks, writes)?;
         self.seen = Snapshot::of(&self.base);
         Ok(())
     }

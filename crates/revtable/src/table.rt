@@ -1,11 +1,12 @@
 //! The table and its calls. The SELECT statements stand in `statements`, their rows in `reading`.
-ghost use Rattle.std.specs.Prelude.{◌≡◌, suc, ◌≤◌, true, map, IfOk, OnOk, OnErr, Some, None, option_map, length, false};
+ghost use Rattle.std.specs.Prelude.{◌≡◌, suc, ◌+◌, ◌≤◌, true, map, IfOk, OnOk, OnErr, Some, None, option_map, length, false};
 ghost use Rattle.std.specs.FinMap as fin;
 ghost use Rattle.history.specs.History.{fresh, last_revision, later, standing, state_at, up_to, written};
 ghost use Rattle.history.specs.Kept.{IsPruned, between_marks, pruned, with_body};
 ghost use Rattle.history.specs.Page.{changes_within, listed, page, picked};
-ghost use Rattle.history.specs.Read.{change_of, entry_of, key_of, object_of};
+ghost use Rattle.history.specs.Read.{change_of, entry_of, key_of, object_of, write_of};
 ghost use Rattle.history.specs.Whole.{AreThere};
+ghost use Rattle.history.specs.Writes.{changes_by, written_all};
 ghost use Rattle.revtable.specs.Kept.{first_kept, kept_among, AreFirstKept, IsBare};
 ghost use Rattle.revtable.specs.Rows.{the_schema, command_in, IsAnswer};
 ghost use Rattle.revtable.specs.Spans.{stored_of};
@@ -20,7 +21,7 @@ use crate::memory::{self, MemoryLog};
 use crate::merging::{merged, reached};
 use crate::paging::{self, Wanted};
 use crate::reading::{read_entries, read_object};
-use history::{Change, Entry, Key, LAST_REVISION, Marks, Object};
+use history::{Change, Entry, Key, LAST_REVISION, Marks, Object, Write};
 use sqlite::Row;
 use sqlite::types::ValueRef;
 use std::alloc::Global;
@@ -113,6 +114,19 @@ impl Table {
         };
         self.log.put(marks, key, body)?;
         self.current = revision;
+        Ok(())
+    }
+
+    /// Adds several changes, as `put` of each in turn, from the next revision on: all of them, or none.
+    pub fn put_all(&mut self, writes: &[Write]) -> Result<(), Fault>
+        requires fit { self.old.current + length writes.now ≤ last_revision }
+        requires there { AreThere (standing self.old) (changes_by self.old.current (map write_of writes.now)) }
+        ensures ok { OnOk result (self.new ≡ written_all self.old (map write_of writes.now)) }
+        ensures err { OnErr result (self.new ≡ self.old) }
+    {
+        let marks = self.marks();
+        self.log.put_all(marks, writes)?;
+        self.current = marks.current + writes.len() as u64;
         Ok(())
     }
 

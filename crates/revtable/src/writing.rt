@@ -1,19 +1,20 @@
-//! A write, as one transaction: the row that stands under the key ends, a row is added for the new object, and the two numbers
-//! are set. If a statement fails, those before it are undone. It is written over any store that never lost a page
+//! A write, or several, as one transaction: the row that stands under the key ends, a row is added for the new object, and the two
+//! numbers are set. If a statement fails, those before it are undone. It is written over any store that never lost a page
 //! (`IsAlwaysClean`); the table's, over files in memory, is one. The code here doesn't name that one, so the proofs say what
 //! they need of a store, and the prover is done sooner.
 
-ghost use Rattle.std.specs.Prelude.{◌≡◌, [], ◌∷◌, ◌++◌, ℕ, ◌^◌, ◌<◌, List, map, pos, IfOk, OnOk, OnErr, None, false, option_map};
+ghost use Rattle.std.specs.Prelude.{◌≡◌, [], ◌∷◌, ◌++◌, ℕ, ◌+◌, ◌^◌, ◌<◌, List, length, map, pos, IfOk, OnOk, OnErr, None, false, option_map};
 ghost use Rattle.std.specs.Option.{option_to_list};
-ghost use Rattle.history.specs.History.{Change, IsRising};
-ghost use Rattle.history.specs.Read.{key_of};
+ghost use Rattle.history.specs.History.{Change, History, IsRising};
+ghost use Rattle.history.specs.Read.{key_of, write_of};
+ghost use Rattle.history.specs.Writes.{written_all};
 ghost use Rattle.revtable.specs.Rows.{stored_in, Amid, AreBelow, IsAlwaysClean, IsOrdered, Keeps, Undone};
-ghost use Rattle.revtable.specs.Spans.{Stored, ended_by, ended_from, last_span, put_in, spans_of, spans_until};
+ghost use Rattle.revtable.specs.Spans.{Stored, ended_by, ended_from, last_span, put_in, spans_of, spans_until, stored_of};
 ghost use Rattle.sqlite.specs.Held.{state};
 ghost use Rattle.sqlite.specs.declared.types.Value.TheVariants.{Int};
 
 use crate::fault::Fault;
-use history::{Key, Marks};
+use history::{Key, Marks, Write};
 use sqlite::{Alter, Connection, Error, Row, Transaction, params};
 
 /// The revision that the last row of a key began at, if there is one: the index by key and revision ends with it.
@@ -177,6 +178,50 @@ pub(crate) fn put<S: Alter>(
 {
     let mut writing = base.transaction();
     write_change(&mut writing, marks, key, body)?;
+    writing.commit()?;
+    Ok(())
+}
+
+/// Writes several changes, each at the revision after the one before; the first is the one after these numbers.
+fn write_changes<S: Alter>(
+    writing: &mut Transaction<'_, S>,
+    mut marks: Marks,
+    writes: &[Write],
+) -> Result<(), Fault>
+    requires clean { IsAlwaysClean S.Store }
+    requires current { marks.current + length writes.now < 2 ^ 63 }
+    requires compacted { marks.compacted < 2 ^ 63 }
+    ensures same_reference { writing.new.conn.ghost_name ≡ writing.old.conn.ghost_name }
+    ensures ok { (start : Stored) (h : History) → IsRising 0 h.changes h.current → h.current ≡ marks.current → h.compacted ≡ marks.compacted → Amid start (stored_of h) (state S.Store writing.old.conn.now)
+        → OnOk result (Amid start (stored_of (written_all h (map write_of writes.now))) (state S.Store writing.new.conn.now)) }
+    ensures err { (start : Stored) (h : History) → IsRising 0 h.changes h.current → h.current ≡ marks.current → h.compacted ≡ marks.compacted → Amid start (stored_of h) (state S.Store writing.old.conn.now)
+        → OnErr result (Undone start (state S.Store writing.new.conn.now)) }
+{
+    for write in writes {
+        marks.current += 1;
+        write_change(writing, marks, &write.key, write.body.as_deref())?;
+    }
+    Ok(())
+}
+
+/// The same as one transaction: if a statement fails, all before it are undone.
+pub(crate) fn put_all<S: Alter>(
+    base: &mut Connection<S>,
+    marks: Marks,
+    writes: &[Write],
+) -> Result<(), Fault>
+    requires clean { IsAlwaysClean S.Store }
+    requires current { marks.current + length writes.now < 2 ^ 63 }
+    requires compacted { marks.compacted < 2 ^ 63 }
+    requires settled { base.old.in_transaction ≡ false }
+    ensures ok { (h : History) → IsRising 0 h.changes h.current → h.current ≡ marks.current → h.compacted ≡ marks.compacted → Keeps (stored_of h) (state S.Store base.old)
+        → OnOk result (Keeps (stored_of (written_all h (map write_of writes.now))) (state S.Store base.new)
+        × (stored_in (state S.Store base.new).now ≡ stored_of (written_all h (map write_of writes.now)))) }
+    ensures err { (h : History) → IsRising 0 h.changes h.current → h.current ≡ marks.current → h.compacted ≡ marks.compacted → Keeps (stored_of h) (state S.Store base.old)
+        → OnErr result (Keeps (stored_of h) (state S.Store base.new)) }
+{
+    let mut writing = base.transaction();
+    write_changes(&mut writing, marks, writes)?;
     writing.commit()?;
     Ok(())
 }
