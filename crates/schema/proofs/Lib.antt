@@ -9,6 +9,8 @@ pub mod Naming
 pub mod Numbering
 pub mod ObjectTests
 pub mod Placing
+pub mod Pairs
+pub mod Keeping
 pub mod Reading
 pub mod Shapes
 pub mod Sorting

@@ -72,7 +72,7 @@ tested s h =
     let d = and_parts (is_none (field_of (codes "apiVersion") s)) _ c.1 in
     (a.0, b.0, some_is _ c.0, none_is _ d.0, none_is _ d.1)
 
-test : (s : Shape) → IsObjectShape s → is_object_shape s ≡ true
+pub test : (s : Shape) → IsObjectShape s → is_object_shape s ≡ true
 test s is = both_true is.0 (both_true is.1 (both_true (ap is_some_metadata is.2) (both_true (ap is_none is.3) (ap is_none is.4))))
 
 pub tests : (ts : List Served) → All (λ t. IsObjectShape (shape t.schema)) ts → list_all (λ t. is_object_shape (shape t.schema)) ts ≡ true

@@ -18,3 +18,5 @@ pub mod ServedView
 pub mod Served
 pub mod Seen
 pub mod FaultPlaces
+pub mod Becoming
+pub mod ChangeLaws

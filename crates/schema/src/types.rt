@@ -22,7 +22,7 @@ pub struct Types {
 }
 
 impl Types {
-    ghost use Rattle.std.specs.Prelude.{◌≡◌, ℕ, Some, true, slice_get, option_map, IfSome};
+    ghost use Rattle.std.specs.Prelude.{◌≡◌, ℕ, Some, true, slice_get, option_map, map, IfSome};
     ghost use Rattle.std.specs.List.{All};
     ghost use Rattle.serde_json.specs.View.{view};
     ghost use Rattle.schema.specs.Served.{served, types_view};
@@ -44,6 +44,12 @@ impl Types {
             return Err(TypesFault::SameNames);
         }
         Ok(Types { all })
+    }
+
+    pub(crate) fn all(&self) -> &[Served]
+        ensures { map served result.now ≡ types_view self.now }
+    {
+        &self.all
     }
 
     /// The number of the type with these names.
