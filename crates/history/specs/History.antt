@@ -94,7 +94,7 @@ written h k body = record { changes = h.changes ++ record { revision = suc h.cur
 
 -- a compaction changes the compacted number alone: no change is lost
 abbrev pub compacted_to : ℕ → History → History
-compacted_to c h = record { changes = h.changes; current = h.current; compacted = c }
+compacted_to c h = record h { compacted = c }
 
 -- the objects that stand now
 abbrev pub standing : History → Objects

@@ -23,10 +23,10 @@ abbrev pub MayBegin : History → Cursor → Type 0
 MayBegin h w = (w.left ≡ none_left) ⊎ (w.position ≤ h.current)
 
 abbrev pub after : Event → Followed → Followed
-after (turn room) f = record { history = f.history; cursor = (pumped (from_history f.history) room f.cursor).next; lines = f.lines ++ (pumped (from_history f.history) room f.cursor).lines }
-after (mark api_version kind) f = record { history = f.history; cursor = (bookmarked api_version kind f.cursor).next; lines = f.lines }
-after (write k body) f = record { history = written f.history k body; cursor = f.cursor; lines = f.lines }
-after (compaction r) f = record { history = compacted_to r f.history; cursor = f.cursor; lines = f.lines }
+after (turn room) f = record f { cursor = (pumped (from_history f.history) room f.cursor).next; lines = f.lines ++ (pumped (from_history f.history) room f.cursor).lines }
+after (mark api_version kind) f = record f { cursor = (bookmarked api_version kind f.cursor).next }
+after (write k body) f = record f { history = written f.history k body }
+after (compaction r) f = record f { history = compacted_to r f.history }
 
 -- a turn is of a watch that has missed nothing, a write has a revision left, a compaction goes forwards
 abbrev pub IsAllowed : Event → Followed → Type 0

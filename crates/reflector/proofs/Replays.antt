@@ -276,12 +276,12 @@ page_tells c told p placed = go (is_list (told ++ p.objects)) refl
     go true fits = part_tells c p.revision (told ++ p.objects) p.token fits placed
     go false fits = same c first false placed
 
-list_tells : (c : Client) (with_it : Page → Client) (news : News) → ((p : Page) → Tells c (with_it p)) → ArePlaced (kept c.cache) → Tells c (with_list c with_it news)
-list_tells c with_it begun h placed = same c c.asks c.is_asking placed
-list_tells c with_it (page p) h placed = h p
-list_tells c with_it (line l) h placed = same c first false placed
-list_tells c with_it over h placed = same c first false placed
-list_tells c with_it unfit h placed = same c first false placed
+list_tells : (c : Client) (on_page : Page → Client) (news : News) → ((p : Page) → Tells c (on_page p)) → ArePlaced (kept c.cache) → Tells c (with_list c on_page news)
+list_tells c on_page begun h placed = same c c.asks c.is_asking placed
+list_tells c on_page (page p) h placed = h p
+list_tells c on_page (line l) h placed = same c first false placed
+list_tells c on_page over h placed = same c first false placed
+list_tells c on_page unfit h placed = same c first false placed
 
 watch_tells : (c : Client) (cache : Option Cache) (news : News) → c.cache ≡ cache → ArePlaced (kept c.cache) → Tells c (with_watch c cache news)
 watch_tells c None begun is placed = same c c.asks c.is_asking placed

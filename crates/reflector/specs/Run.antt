@@ -12,19 +12,19 @@ use Rattle.reflector.specs.Items.{News, begun, page, line, over, unfit, said_of_
 
 -- what ends the request at once and makes the next one a first page; cache and notices stay
 abbrev pub again : Client → Client
-again c = record { cache = c.cache; asks = first; is_asking = false; notices = c.notices }
+again c = record c { asks = first; is_asking = false }
 
 -- ---- pages
 
 -- the cache as the whole list has it
 abbrev pub listed : Client → ℕ → Objects → Client
 listed c revision objects =
-    record { cache = Some (record { revision = revision; objects = objects }); asks = follow; is_asking = false; notices = c.notices ++ differences (kept c.cache) objects }
+    record c { cache = Some (record { revision = revision; objects = objects }); asks = follow; is_asking = false; notices = c.notices ++ differences (kept c.cache) objects }
 
 -- all objects so far, which are set aside until the last page
 abbrev pub set_aside : Client → ℕ → List Stored → Option (List ℕ) → Client
 set_aside c revision all None = listed c revision (fin.from_sorted {R = place_cmp} (by_place all))
-set_aside c revision all (Some token) = record { cache = c.cache; asks = next revision token all; is_asking = false; notices = c.notices }
+set_aside c revision all (Some token) = record c { asks = next revision token all; is_asking = false }
 
 -- their places strictly ascend, and they are not too many
 abbrev pub is_list : List Stored → Bool
@@ -37,7 +37,7 @@ with_page c aside p = if is_list (aside ++ p.objects) then set_aside c p.revisio
 
 -- another revision, with the objects as they are then, and the notices of it
 abbrev pub moved : Client → ℕ → Objects → List Notice → Client
-moved c revision objects notices = record { cache = Some (record { revision = revision; objects = objects }); asks = follow; is_asking = true; notices = c.notices ++ notices }
+moved c revision objects notices = record c { cache = Some (record { revision = revision; objects = objects }); asks = follow; is_asking = true; notices = c.notices ++ notices }
 
 abbrev pub with_put : Client → Cache → Stored → Client
 with_put c now o =
@@ -64,16 +64,16 @@ with_line c now error = again c
 
 -- of a list, behind what is set aside
 abbrev pub with_list : Client → (Page → Client) → News → Client
-with_list c with_it begun = c
-with_list c with_it (page p) = with_it p
-with_list c with_it _ = again c
+with_list c on_page begun = c
+with_list c on_page (page p) = on_page p
+with_list c on_page _ = again c
 
 -- a later page is of the first one's revision
 abbrev pub with_next : Client → ℕ → List Stored → Page → Client
 with_next c revision aside p = if nat_eq p.revision revision then with_page c aside p else again c
 
 abbrev pub over_at : Client → Client
-over_at c = record { cache = c.cache; asks = follow; is_asking = false; notices = c.notices }
+over_at c = record c { asks = follow; is_asking = false }
 
 abbrev pub with_watch : Client → Option Cache → News → Client
 with_watch c now begun = c
@@ -99,7 +99,7 @@ hears_all wanted c (x ∷ xs) = hears_all wanted (hears wanted c x) xs
 -- ---- the other events
 
 abbrev pub asked : Client → Client
-asked c = record { cache = c.cache; asks = c.asks; is_asking = true; notices = c.notices }
+asked c = record c { is_asking = true }
 
 -- a list that was cut begins again, a watch goes on from the revision that it reached
 abbrev pub after_cut : Asks → Asks
@@ -109,10 +109,10 @@ after_cut follow = follow
 
 -- the connection has ended or was cut; with no request under way it changes nothing
 abbrev pub closed : Client → Client
-closed c = if c.is_asking then record { cache = c.cache; asks = after_cut c.asks; is_asking = false; notices = c.notices } else c
+closed c = if c.is_asking then record c { asks = after_cut c.asks; is_asking = false } else c
 
 abbrev pub restarted : Client → Client
 restarted c = fresh
 
 abbrev pub taken : Client → Client
-taken c = record { cache = c.cache; asks = c.asks; is_asking = c.is_asking; notices = [] }
+taken c = record c { notices = [] }

@@ -74,7 +74,7 @@ stands_at r s = nat_le s.first r && is_past r s.ended
 -- ---- a write and a compaction
 
 abbrev pub end_at : ℕ → Bool → Span → Span
-end_at r gone s = record { first = s.first; key = s.key; ended = Some r; gone = gone; body = s.body }
+end_at r gone s = record s { ended = Some r; gone = gone }
 
 -- the key's row that nothing ended is ended
 abbrev pub ended_by : Key → ℕ → Bool → List Span → List Span

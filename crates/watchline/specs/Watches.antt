@@ -44,7 +44,7 @@ pub record Cursor : Type 0 where
   pub left : Left
 
 abbrev pub moved : Cursor → ℕ → ℕ → Left → Cursor
-moved w position told left = record { kind = w.kind; namespace = w.namespace; requirements = w.requirements; bookmarks = w.bookmarks; position = position; told = told; left = left }
+moved w position told left = record w { position = position; told = told; left = left }
 
 abbrev pub wanted : Cursor → Selection
 wanted w = selection_of w.kind w.namespace w.requirements
