@@ -10,12 +10,13 @@ use Rattle.history.specs.History.{Change, Key, Objects, is_same_key, object_by, 
 use Rattle.history.proofs.Keys.{get-put_or_remove, tied}
 use Rattle.verbs.specs.declared.method.Method.{Method}
 use Rattle.verbs.specs.declared.method.Method.TheVariants.{Get}
-use Rattle.verbs.specs.Calls.{Answer, Call, Plan}
+use Rattle.verbs.specs.Calls.{Answer, Call, Plan, Scope, of_all, of_namespace, of_object, scope_of}
 use Rattle.verbs.specs.Machine.{IsNext, after}
 use Rattle.verbs.specs.Parameters.{parameters_validated}
 use Rattle.verbs.specs.Promise.{CallsChangeOneObject, GetsChangeNothing, IsCalled, RefusalsChangeNothing}
-use Rattle.verbs.specs.Step.{all_validated_by, collection_of, collection_validated_by, get_validated, key_at, list_answered, list_validated, Lists, lists_of, object_validated_by, plan_for, there, validated_at, validated_in, validated_over, version_come}
+use Rattle.verbs.specs.Step.{collection_of, get_validated, key_at, list_answered, list_validated, object_at, plan_for, shown_by, there, validated_at, validated_by, validated_over, version_come}
 use Rattle.verbs.specs.Validated.{Validated}
+use Rattle.watchline.specs.Watches.{Source, from_history}
 use Rattle.verbs.proofs.Changes.{standing_next}
 use Rattle.verbs.proofs.Checks.{change_in, no_err, passed}
 use Rattle.verbs.proofs.Fits.{Fits, planned_fits}
@@ -26,43 +27,39 @@ refusals_change_nothing types m call d e = ap (λ (j : Validated Plan). after m 
 
 -- ---- a GET
 
-module _ (current : ℕ) (objects : Objects) (lists : Lists) (call : Call) (is : call.target.method ≡ Get) where
-  got_none : (t : ServedShape) (k : Key) (p : Plan) → get_validated t current (fin.get objects k) k call.query ≡ Ok p → None ≡ p.change
+module _ (s : Source) (call : Call) (is : call.target.method ≡ Get) where
+  got_none : (t : ServedShape) (k : Key) (p : Plan) → get_validated t s.current (object_at s k) k call.query ≡ Ok p → None ≡ p.change
   got_none t k p e =
       let values = passed (parameters_validated asked.Get call.query) _ p e in
-      let o = passed (there t k.name (fin.get objects k)) _ p values.2 in
-      let come = passed (version_come values.0.version current) _ p o.2 in
+      let o = passed (there t k.name (object_at s k)) _ p values.2 in
+      let come = passed (version_come values.0.version s.current) _ p o.2 in
       ap change_in come.2
 
-  listed_none : (t : ServedShape) (kind : ℕ) (namespace : Option (List ℕ)) (p : Plan) → list_validated t lists kind namespace call.query ≡ Ok p → None ≡ p.change
+  listed_none : (t : ServedShape) (kind : ℕ) (namespace : Option (List ℕ)) (p : Plan) → list_validated t s kind namespace call.query ≡ Ok p → None ≡ p.change
   listed_none t kind namespace p e =
       let values = passed (parameters_validated asked.List call.query) _ p e in
-      answered (lists (collection_of t kind namespace) values.0) values.2
+      answered (shown_by s (collection_of t kind namespace) values.0 values.0.watch) values.2
     where
       answered : (r : Result Answer Refusal) → list_answered r ≡ Ok p → None ≡ p.change
       answered (Ok answer) f = ap change_in f
       answered (Err refusal) f = no_err _ p f
 
-  in_none : (t : ServedShape) (namespace name : Option (List ℕ)) (p : Plan) → validated_in t current objects lists call namespace name ≡ Ok p → None ≡ p.change
-  in_none t None None p e = listed_none t call.target.kind None p (subst (λ (w : Method). all_validated_by w t lists call.target.kind call.query ≡ Ok p) is e)
-  in_none t None (Some name) p e = no_err _ p e
-  in_none t (Some namespace) None p e =
-      listed_none t call.target.kind (Some namespace) p
-      (subst (λ (w : Method). collection_validated_by w t current objects lists call.target.kind namespace call.query call.body ≡ Ok p) is e)
-  in_none t (Some namespace) (Some name) p e =
-      let k = key_at call namespace name in
-      got_none t k p (subst (λ (w : Method). object_validated_by w t current (fin.get objects k) k call.query call.body ≡ Ok p) is e)
+  by_none : (t : ServedShape) (scope : Scope) (p : Plan) → validated_by scope Get t s call ≡ Ok p → None ≡ p.change
+  by_none t of_all p e = listed_none t call.target.kind None p e
+  by_none t (of_namespace namespace) p e = listed_none t call.target.kind (Some namespace) p e
+  by_none t (of_object namespace name) p e = got_none t (key_at call namespace name) p e
 
-  at_none : (found : Option ServedShape) (p : Plan) → validated_at found current objects lists call ≡ Ok p → None ≡ p.change
-  at_none None p e = no_err _ p e
-  at_none (Some t) p e = in_none t call.target.namespace call.target.name p e
+  at_none : (found : Option ServedShape) (scope : Option Scope) (p : Plan) → validated_at found scope s call ≡ Ok p → None ≡ p.change
+  at_none None scope p e = no_err _ p e
+  at_none (Some t) None p e = no_err _ p e
+  at_none (Some t) (Some scope) p e = by_none t scope p (subst (λ (w : Method). validated_by scope w t s call ≡ Ok p) is e)
 
-  plans_none : (types : List ServedShape) (j : Validated Plan) → validated_over types current objects lists call ≡ j → None ≡ (plan_for j).change
+  plans_none : (types : List ServedShape) (j : Validated Plan) → validated_over types s call ≡ j → None ≡ (plan_for j).change
   plans_none types (Err d) e = refl
-  plans_none types (Ok p) e = at_none (slice_get types call.target.kind) p e
+  plans_none types (Ok p) e = at_none (slice_get types call.target.kind) (scope_of call.target.namespace call.target.name) p e
 
 pub gets_change_nothing : GetsChangeNothing
-gets_change_nothing types m call is = ap (after m) (sym (plans_none m.current (standing m) (lists_of m) call is types (validated_over types m.current (standing m) (lists_of m) call) refl))
+gets_change_nothing types m call is = ap (after m) (sym (plans_none (from_history m) call is types (validated_over types (from_history m) call) refl))
 
 -- ---- the object that a call changes
 
@@ -75,7 +72,7 @@ other_key j k apart = go (is_same_key j k) refl
 
 pub calls_change_one_object : CallsChangeOneObject
 calls_change_one_object types m call c is json e =
-    let fits = subst (Fits m.current (standing m) (IsCalled call.target)) e (planned_fits m.current (standing m) (lists_of m) call types) in
+    let fits = subst (Fits m.current (standing m) (IsCalled call.target)) e (planned_fits (from_history m) call types) in
     let next = subst (λ (o : Option Change). IfSome o (IsNext types m)) e (plans_come_next types m call is json) in
     let made = object_by (suc m.current) c.body in (
       fits.2,

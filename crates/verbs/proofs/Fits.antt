@@ -13,7 +13,7 @@ use Rattle.ownership.specs.Sameness.{same_state}
 use Rattle.objects.proofs.Taken.{no_some}
 use Rattle.verbs.specs.declared.method.Method.{Method}
 use Rattle.verbs.specs.declared.method.Method.TheVariants.{Delete, Get, Patch, Post, Put}
-use Rattle.verbs.specs.Calls.{Answer, Call, Plan}
+use Rattle.verbs.specs.Calls.{Answer, Call, Plan, of_all, of_namespace, of_object, scope_of}
 use Rattle.verbs.specs.Envelope.{Expected, api_version_of, name_in}
 use Rattle.std.specs.declared.result.Result.{Result}
 use Rattle.lists.specs.declared.refusal.Refusal.{Refusal}
@@ -25,7 +25,8 @@ use Rattle.verbs.specs.Parameters.{parameters_validated}
 use Rattle.verbs.specs.Promise.{IsCalled}
 use Rattle.verbs.specs.Seen.{objects_in}
 use Rattle.verbs.specs.Size.{size_validated}
-use Rattle.verbs.specs.Step.{Creation, Intent, apply_validated, at_path, body_of, collection_validated_by, create_validated, creation_validated, delete_validated, deleted_over, get_validated, intent_of, validated_at, validated_in, validated_over, as_it_stands, key_at, not_there, object_validated_by, plan_for, planned_over, ownership_validated, printed, revisions_left, store_state, store_unless_same, there, update_validated, updated_by, updated_over, version_checked, version_come, all_validated_by, collection_of, list_answered, list_validated, Lists, lists_in}
+use Rattle.watchline.specs.Watches.{Source, from_view}
+use Rattle.verbs.specs.Step.{Creation, Intent, apply_validated, at_path, body_of, created_as, creation_validated, delete_validated, deleted_over, get_validated, intent_of, validated_at, validated_by, validated_over, as_it_stands, key_at, not_there, object_validated_by, plan_for, planned_over, ownership_validated, printed, revisions_left, store_state, store_unless_same, there, update_validated, updated_by, updated_over, version_checked, version_come, collection_of, list_answered, list_validated, shown_by}
 use Rattle.verbs.proofs.Checks.{change_in, no_err, ok_is, passed}
 
 -- and its key is one of those that Q says
@@ -90,7 +91,7 @@ module _ (current : ℕ) (objects : Objects) (Q : Key → Type 0) where
       subst (Fits current objects Q) (ap change_in come.2) tt
 
   create_fits : (t : ServedShape) (kind : ℕ) (namespace query : List ℕ) (body : Data) (p : Plan) → ((name : List ℕ) → Q (record { kind = kind; namespace = namespace; name = name }))
-      → create_validated t current objects kind namespace query body ≡ Ok p → Fits current objects Q p.change
+      → and_then (creation_validated t kind namespace query body) (λ c. created_as t current (fin.get objects c.key) c.key c.intent) ≡ Ok p → Fits current objects Q p.change
   create_fits t kind namespace query body p own e =
       let of : Expected = record { served = t; namespace = namespace; name = None; method = Post } in
       let creation = passed (creation_validated t kind namespace query body) _ p e in
@@ -103,7 +104,13 @@ module _ (current : ℕ) (objects : Objects) (Q : Key → Type 0) where
       let free = passed (not_there t k.name (fin.get objects k)) _ p named.2 in
       stored_fits t k 201 (updated_by creation.0.intent no_state) p (subst (λ (c : Creation). Q c.key) same (own name.0)) free.2
 
-module _ (current : ℕ) (objects : Objects) (lists : Lists) (call : Call) where
+module _ (s : Source) (call : Call) where
+  abbrev current : ℕ
+  current = s.current
+
+  abbrev objects : Objects
+  objects = s.at s.current
+
   abbrev AllFit : Validated Plan → Type 0
   AllFit j = (p : Plan) → j ≡ Ok p → Fits current objects (IsCalled call.target) p.change
 
@@ -120,24 +127,24 @@ module _ (current : ℕ) (objects : Objects) (lists : Lists) (call : Call) where
   object_fits Delete t k own p e = delete_fits current objects (IsCalled call.target) t k call.query call.body p own e
 
   -- a list changes nothing
-  list_fits : (t : ServedShape) (kind : ℕ) (namespace : Option (List ℕ)) → AllFit (list_validated t lists kind namespace call.query)
+  list_fits : (t : ServedShape) (kind : ℕ) (namespace : Option (List ℕ)) → AllFit (list_validated t s kind namespace call.query)
   list_fits t kind namespace p e =
       let values = passed (parameters_validated asked.List call.query) _ p e in
-      answered (lists (collection_of t kind namespace) values.0) values.2
+      answered (shown_by s (collection_of t kind namespace) values.0 values.0.watch) values.2
     where
       answered : (r : Result Answer Refusal) → list_answered r ≡ Ok p → Fits current objects (IsCalled call.target) p.change
       answered (Ok answer) f = subst (Fits current objects (IsCalled call.target)) (ap change_in f) tt
       answered (Err refusal) f = no_err _ p f
 
-  all_fits : (w : Method) (t : ServedShape) (kind : ℕ) → AllFit (all_validated_by w t lists kind call.query)
-  all_fits Get t kind p e = list_fits t kind None p e
-  all_fits Post t kind p e = no_err _ p e
-  all_fits Put t kind p e = no_err _ p e
-  all_fits Patch t kind p e = no_err _ p e
-  all_fits Delete t kind p e = no_err _ p e
+  all_fits : (w : Method) (t : ServedShape) → AllFit (validated_by of_all w t s call)
+  all_fits Get t p e = list_fits t call.target.kind None p e
+  all_fits Post t p e = no_err _ p e
+  all_fits Put t p e = no_err _ p e
+  all_fits Patch t p e = no_err _ p e
+  all_fits Delete t p e = no_err _ p e
 
   collection_fits : (w : Method) (t : ServedShape) (namespace : List ℕ) → ((name : List ℕ) → IsCalled call.target (key_at call namespace name))
-      → AllFit (collection_validated_by w t current objects lists call.target.kind namespace call.query call.body)
+      → AllFit (validated_by (of_namespace namespace) w t s call)
   collection_fits Post t namespace own p e = with_body _ (λ body q f. create_fits current objects (IsCalled call.target) t call.target.kind namespace call.query body q own f) p e
   collection_fits Get t namespace own p e = list_fits t call.target.kind (Some namespace) p e
   collection_fits Put t namespace own p e = no_err _ p e
@@ -150,28 +157,28 @@ module _ (current : ℕ) (objects : Objects) (lists : Lists) (call : Call) where
   if_none : (given : Option (List ℕ)) (name : List ℕ) → given ≡ None → IfSome given (λ n. n ≡ name)
   if_none given name is = subst (λ o. IfSome o (λ n. n ≡ name)) (sym is) tt
 
-  in_fits : (t : ServedShape) (namespace name : Option (List ℕ)) → call.target.namespace ≡ namespace → call.target.name ≡ name → AllFit (validated_in t current objects lists call namespace name)
-  in_fits t None None placed is p e = all_fits call.target.method t call.target.kind p e
+  in_fits : (t : ServedShape) (namespace name : Option (List ℕ)) → call.target.namespace ≡ namespace → call.target.name ≡ name → AllFit (validated_at (Some t) (scope_of namespace name) s call)
+  in_fits t None None placed is p e = all_fits call.target.method t p e
   in_fits t None (Some name) placed is p e = no_err _ p e
   in_fits t (Some namespace) None placed is p e =
       collection_fits call.target.method t namespace (λ name. record { kind = refl; namespace = placed; name = if_none call.target.name name is }) p e
   in_fits t (Some namespace) (Some name) placed is p e =
       object_fits call.target.method t (key_at call namespace name) (record { kind = refl; namespace = placed; name = if_named call.target.name name is }) p e
 
-  at_fits : (found : Option ServedShape) → AllFit (validated_at found current objects lists call)
+  at_fits : (found : Option ServedShape) → AllFit (validated_at found (scope_of call.target.namespace call.target.name) s call)
   at_fits None p e = no_err _ p e
   at_fits (Some t) p e = in_fits t call.target.namespace call.target.name refl refl p e
 
-  told_fits : (types : List ServedShape) (j : Validated Plan) → validated_over types current objects lists call ≡ j → Fits current objects (IsCalled call.target) (plan_for j).change
+  told_fits : (types : List ServedShape) (j : Validated Plan) → validated_over types s call ≡ j → Fits current objects (IsCalled call.target) (plan_for j).change
   told_fits types (Err d) e = tt
   told_fits types (Ok p) e = at_fits (slice_get types call.target.kind) p e
 
-  pub planned_fits : (types : List ServedShape) → Fits current objects (IsCalled call.target) (planned_over types current objects lists call).change
-  planned_fits types = told_fits types (validated_over types current objects lists call) refl
+  pub planned_fits : (types : List ServedShape) → Fits current objects (IsCalled call.target) (planned_over types s call).change
+  planned_fits types = told_fits types (validated_over types s call) refl
 
 if_comes : (v : View) (Q : Key → Type 0) (change : Option Change) → Fits v.current (objects_in v) Q change → IfSome change (ComesAfter v)
 if_comes v Q None is = tt
 if_comes v Q (Some c) is = record { next = is.0; there = is.1 }
 
-pub planned_comes : (types : List ServedShape) (v : View) (call : Call) → IfSome (planned_over types v.current (objects_in v) (lists_in v) call).change (ComesAfter v)
-planned_comes types v call = if_comes v (IsCalled call.target) _ (planned_fits v.current (objects_in v) (lists_in v) call types)
+pub planned_comes : (types : List ServedShape) (v : View) (call : Call) → IfSome (planned_over types (from_view v) call).change (ComesAfter v)
+planned_comes types v call = if_comes v (IsCalled call.target) _ (planned_fits (from_view v) call types)

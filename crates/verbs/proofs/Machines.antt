@@ -1,6 +1,6 @@
 -- A machine from its beginning on.
-use Rattle.std.proofs.Common.{◌≡◌, ℕ, List, [], ◌∷◌, Option, None, Some, Ok, Err, sym, ap, ap₂, cond}
-use Rattle.std.specs.Prelude.{◌==◌, nat_lt}
+use Rattle.std.proofs.Common.{◌≡◌, ℕ, List, [], ◌∷◌, Option, None, Some, Ok, Err, refl, sym, ap, cond}
+use Rattle.std.specs.Prelude.{◌==◌, nat_lt, slice_get}
 use Rattle.std.specs.declared.result.Result.{Result}
 use Rattle.std.specs.FinMap as fin
 use Rattle.std.specs.List.{AllByRecursion}
@@ -15,17 +15,21 @@ use Rattle.lists.specs.declared.refusal.Refusal.{Refusal}
 use Rattle.lists.specs.declared.refusal.Refusal.TheVariants.{Expired}
 use Rattle.lists.proofs.Bounds.{list_same}
 use Rattle.params.specs.Values.{Values, Watch}
+use Rattle.params.specs.declared.params.Asked.TheVariants as asked
 use Rattle.watchline.specs.declared.opening.Initial.{Initial}
 use Rattle.watchline.specs.declared.opening.Initial.TheVariants.{Changes}
 use Rattle.watchline.specs.Opening.{WatchFrom, from_parts, initial_in, initial_of, started, opened_by, starts}
 use Rattle.watchline.specs.Watches.{from_history, from_view}
-use Rattle.std.proofs.Math.Path.{fun_ext}
 use Rattle.history.proofs.Wholes.{whole_compacts, whole_fresh}
-use Rattle.verbs.specs.Calls.{Call}
+use Rattle.verbs.specs.Calls.{Call, Scope, of_all, of_namespace, of_object, scope_of}
 use Rattle.verbs.specs.Json.{IsJsonBody}
+use Rattle.verbs.specs.Parameters.{parameters_validated}
+use Rattle.verbs.specs.Validated.{Validated, and_then}
+use Rattle.verbs.specs.declared.method.Method.{Method}
+use Rattle.verbs.specs.declared.method.Method.TheVariants.{Get, Post, Put, Patch, Delete}
 use Rattle.verbs.specs.Machine.{IsMachine}
 use Rattle.verbs.specs.Promise.{CallsKeepMachines, CompactionsKeepMachines, MachinesBegin, PlansByViews}
-use Rattle.verbs.specs.Step.{lists_in, lists_of, page_shown, planned_over, shown_by, step, steps, watch_shown}
+use Rattle.verbs.specs.Step.{body_of, collection_of, created_as, creation_validated, key_at, list_answered, object_validated_by, page_shown, plan_for, shown_by, step, steps, validated_at, validated_by, validated_over, watch_shown}
 use Rattle.verbs.proofs.Changes.{is_history, no_texts}
 use Rattle.verbs.proofs.Promise.{steps_keep_machines}
 
@@ -68,8 +72,35 @@ module _ (types : List ServedShape) (m : History) (is : IsMachine types m) where
       ap page_shown (list_same m.current m.compacted is.whole.low of values (state_in (view m)) (state_at m.changes) (λ r low. view_states m r (is_history types m is) low))
   shown_seen of values (Some watch) = ap watch_shown (opened_seen of.kind of.namespace values watch)
 
-  pub lists_seen : lists_in (view m) ≡ lists_of m
-  lists_seen = fun_ext (λ of. fun_ext (λ values. shown_seen of values values.watch))
+  listed_seen : (t : ServedShape) (kind : ℕ) (namespace : Option (List ℕ)) (j : Validated Values)
+      → and_then j (λ values. list_answered (shown_by (from_view (view m)) (collection_of t kind namespace) values values.watch))
+      ≡ and_then j (λ values. list_answered (shown_by (from_history m) (collection_of t kind namespace) values values.watch))
+  listed_seen t kind namespace (Ok values) = ap list_answered (shown_seen (collection_of t kind namespace) values values.watch)
+  listed_seen t kind namespace (Err d) = refl
+
+  by_seen : (scope : Scope) (w : Method) (t : ServedShape) (call : Call) → validated_by scope w t (from_view (view m)) call ≡ validated_by scope w t (from_history m) call
+  by_seen of_all Get t call = listed_seen t call.target.kind None (parameters_validated asked.List call.query)
+  by_seen of_all Post t call = refl
+  by_seen of_all Put t call = refl
+  by_seen of_all Patch t call = refl
+  by_seen of_all Delete t call = refl
+  by_seen (of_namespace namespace) Get t call = listed_seen t call.target.kind (Some namespace) (parameters_validated asked.List call.query)
+  by_seen (of_namespace namespace) Post t call =
+      ap (λ (os : Objects). and_then (body_of call.body) (λ body. and_then (creation_validated t call.target.kind namespace call.query body) (λ c. created_as t m.current (fin.get os c.key) c.key c.intent)))
+      (standing_seen types m is)
+  by_seen (of_namespace namespace) Put t call = refl
+  by_seen (of_namespace namespace) Patch t call = refl
+  by_seen (of_namespace namespace) Delete t call = refl
+  by_seen (of_object namespace name) w t call =
+      ap (λ (os : Objects). object_validated_by w t m.current (fin.get os (key_at call namespace name)) (key_at call namespace name) call.query call.body) (standing_seen types m is)
+
+  at_seen : (found : Option ServedShape) (scope : Option Scope) (call : Call) → validated_at found scope (from_view (view m)) call ≡ validated_at found scope (from_history m) call
+  at_seen None scope call = refl
+  at_seen (Some t) None call = refl
+  at_seen (Some t) (Some scope) call = by_seen scope call.target.method t call
+
+  pub over_seen : (call : Call) → validated_over types (from_view (view m)) call ≡ validated_over types (from_history m) call
+  over_seen call = at_seen (slice_get types call.target.kind) (scope_of call.target.namespace call.target.name) call
 
 pub plans_by_views : PlansByViews
-plans_by_views types m call is = sym (ap₂ (λ s ls. planned_over types m.current s ls call) (standing_seen types m is) (lists_seen types m is))
+plans_by_views types m call is = sym (ap plan_for (over_seen types m is call))

@@ -11,6 +11,7 @@ use Rattle.history.specs.View.{View, compacted_in, written_in}
 use Rattle.history.proofs.Seen.{view_compacts, view_writes}
 use Rattle.objects.specs.ReadBack.{IsObjectText}
 use Rattle.objects.proofs.Taken.{same_some}
+use Rattle.watchline.specs.Watches.{from_history, from_view}
 use Rattle.verbs.specs.declared.api.Api.{Api}
 use Rattle.verbs.specs.declared.body.Body.{Body}
 use Rattle.verbs.specs.declared.calls.Call.{Call as TheCall}
@@ -20,19 +21,19 @@ use Rattle.verbs.specs.Json.{IsJsonBody}
 use Rattle.verbs.specs.Calls.{Call, Plan}
 use Rattle.verbs.specs.Machine.{AreTexts, IsMachine, IsNext, IsReadable, after, identity_of}
 use Rattle.verbs.proofs.Changes.{all_push, is_history, machine_next}
-use Rattle.verbs.proofs.Machines.{compactions_keep_machines, lists_seen, standing_seen}
+use Rattle.verbs.proofs.Machines.{compactions_keep_machines, over_seen, standing_seen}
 use Rattle.verbs.proofs.Promise.{plans_come_next}
 use Rattle.verbs.specs.Seen.{Stands, body_seen, call_of, change_of, plan_of, types_of, objects_in}
-use Rattle.verbs.specs.Step.{lists_in, lists_of, plan_for, planned, planned_over, validated_over}
+use Rattle.verbs.specs.Step.{plan_for, planned, planned_over, validated_over}
 
 module _ (api : Api) (types : List ServedShape) (m : History) (call : Call) (stands : Stands api types m) where
-  validated_is : validated_over (types_of api) api.store.current (objects_in api.store) (lists_in api.store) call ≡ validated_over types m.current (standing m) (lists_of m) call
+  validated_is : validated_over (types_of api) (from_view api.store) call ≡ validated_over types (from_history m) call
   validated_is =
-      ap (λ ts. validated_over ts api.store.current (objects_in api.store) (lists_in api.store) call) stands.serves
-      ∙ ap (λ (v : View). validated_over types v.current (objects_in v) (lists_in v) call) stands.store
-      ∙ ap₂ (λ os ls. validated_over types m.current os ls call) (standing_seen types m stands.is_machine) (lists_seen types m stands.is_machine)
+      ap (λ ts. validated_over ts (from_view api.store) call) stands.serves
+      ∙ ap (λ (v : View). validated_over types (from_view v) call) stands.store
+      ∙ over_seen types m stands.is_machine call
 
-  pub planned_is : planned_over (types_of api) api.store.current (objects_in api.store) (lists_in api.store) call ≡ planned types m call
+  pub planned_is : planned_over (types_of api) (from_view api.store) call ≡ planned types m call
   planned_is = ap plan_for validated_is
 
   -- each text that stands in the store is an object's

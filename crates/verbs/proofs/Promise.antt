@@ -36,7 +36,7 @@ use Rattle.ownership.specs.Sameness.{same_state}
 use Rattle.ownership.proofs.Keeping.{others_keep}
 use Rattle.verbs.specs.declared.method.Method.{Method}
 use Rattle.verbs.specs.declared.method.Method.TheVariants.{Get, Post, Put, Patch, Delete}
-use Rattle.verbs.specs.Calls.{Answer, Call, Plan}
+use Rattle.verbs.specs.Calls.{Answer, Call, Plan, Scope, of_all, of_namespace, of_object, scope_of}
 use Rattle.verbs.specs.Json.{IsJson, IsJsonBody}
 use Rattle.verbs.specs.Envelope.{Expected, api_version_of, envelope_of, name_in}
 use Rattle.std.specs.declared.result.Result.{Result}
@@ -49,7 +49,8 @@ use Rattle.verbs.specs.Options.{options_validated}
 use Rattle.verbs.specs.Parameters.{parameters_validated}
 use Rattle.verbs.specs.Promise.{AppliesKeepOthers, BodiesSayStates, OthersKeepUnchanged, PlansAreShort, PlansComeNext, SaysState, StandingTextsSayStates, StepsKeepMachines, TextsSayStates, UpdatesTakeChanges}
 use Rattle.verbs.specs.Size.{count_if_there, is_over, max_bytes, max_labels, size_validated}
-use Rattle.verbs.specs.Step.{Intent, applied_over, apply_validated, at_path, body_of, collection_validated_by, conflict_refusal, Creation, create_validated, created_as, creation_validated, delete_validated, deleted_over, get_validated, intent_of, validated_at, validated_in, validated_over, as_it_stands, key_at, not_there, object_validated_by, ownership_validated, planned, printed, revisions_left, shape_validated, store_state, store_unless_same, text_at, there, plan_for, update_validated, updated_by, updated_over, version_checked, version_come, all_validated_by, collection_of, list_answered, list_validated, Lists, lists_of}
+use Rattle.verbs.specs.Step.{Intent, applied_over, apply_validated, at_path, body_of, conflict_refusal, Creation, created_as, creation_validated, delete_validated, deleted_over, get_validated, intent_of, object_at, validated_at, validated_by, validated_over, as_it_stands, key_at, not_there, object_validated_by, ownership_validated, planned, printed, revisions_left, shape_validated, store_state, store_unless_same, text_at, there, plan_for, update_validated, updated_by, updated_over, version_checked, version_come, collection_of, list_answered, list_validated, shown_by}
+use Rattle.watchline.specs.Watches.{Source, from_history}
 use Rattle.verbs.proofs.Changes.{machine_next, standing_next, texts_at}
 use Rattle.verbs.proofs.Checks.{change_in, held, no_err, ok_is, passed}
 use Rattle.verbs.proofs.Contents.{intended_content}
@@ -263,7 +264,7 @@ module _ (types : List ServedShape) (current : ℕ) (objects : Objects) (shapes 
       stored_writes types current objects t k serves (Unit {0}) (λ old new. Unit {0}) 201 (updated_by intent no_state) p (updated_placed no_state intent.content (manager_of intent.manager update_operation) t.shape content (nothing_placed t.shape)) tt named e
 
   create_writes : (t : ServedShape) (kind : ℕ) → slice_get types kind ≡ Some t → (namespace query : List ℕ) (body : Data) (p : Plan) → IsJson body
-      → create_validated t current objects kind namespace query body ≡ Ok p → WritesBy types current objects (Unit {0}) (λ old new. Unit {0}) p.change
+      → and_then (creation_validated t kind namespace query body) (λ c. created_as t current (fin.get objects c.key) c.key c.intent) ≡ Ok p → WritesBy types current objects (Unit {0}) (λ old new. Unit {0}) p.change
   create_writes t kind serves namespace query body p json e =
       let of : Expected = record { served = t; namespace = namespace; name = None; method = Post } in
       let creation = passed (creation_validated t kind namespace query body) _ p e in
@@ -282,7 +283,13 @@ body_json : (body : Option Data) (d : Data) → IsJsonBody body → body_of body
 body_json None d json e = no_err _ d e
 body_json (Some x) d json e = subst IsJson (ok_is x d e) json
 
-module _ (types : List ServedShape) (current : ℕ) (objects : Objects) (shapes : Shapes types) (texts : AreTexts types objects) (lists : Lists) (call : Call) (json : IsJsonBody call.body) where
+module _ (types : List ServedShape) (s : Source) (shapes : Shapes types) (texts : AreTexts types (s.at s.current)) (call : Call) (json : IsJsonBody call.body) where
+  abbrev current : ℕ
+  current = s.current
+
+  abbrev objects : Objects
+  objects = s.at s.current
+
   abbrev Writes : Validated Plan → Type 0
   Writes j = (p : Plan) → j ≡ Ok p → WritesBy types current objects (Unit {0}) (λ old new. Unit {0}) p.change
 
@@ -299,42 +306,42 @@ module _ (types : List ServedShape) (current : ℕ) (objects : Objects) (shapes 
   object_writes Delete t k serves p e = delete_writes types current objects shapes texts t k serves (Unit {0}) (λ old new. Unit {0}) tt call.query call.body p e
 
   -- a list writes nothing
-  list_writes : (t : ServedShape) (kind : ℕ) (namespace : Option (List ℕ)) → Writes (list_validated t lists kind namespace call.query)
+  list_writes : (t : ServedShape) (kind : ℕ) (namespace : Option (List ℕ)) → Writes (list_validated t s kind namespace call.query)
   list_writes t kind namespace p e =
       let values = passed (parameters_validated asked.List call.query) _ p e in
-      answered (lists (collection_of t kind namespace) values.0) values.2
+      answered (shown_by s (collection_of t kind namespace) values.0 values.0.watch) values.2
     where
       answered : (r : Result Answer Refusal) → list_answered r ≡ Ok p → WritesBy types current objects (Unit {0}) (λ old new. Unit {0}) p.change
       answered (Ok answer) f = subst (WritesBy types current objects (Unit {0}) (λ old new. Unit {0})) (ap change_in f) tt
       answered (Err refusal) f = no_err _ p f
 
-  all_writes : (w : Method) (t : ServedShape) (kind : ℕ) → Writes (all_validated_by w t lists kind call.query)
-  all_writes Get t kind p e = list_writes t kind None p e
-  all_writes Post t kind p e = no_err _ p e
-  all_writes Put t kind p e = no_err _ p e
-  all_writes Patch t kind p e = no_err _ p e
-  all_writes Delete t kind p e = no_err _ p e
+  all_writes : (w : Method) (t : ServedShape) → Writes (validated_by of_all w t s call)
+  all_writes Get t p e = list_writes t call.target.kind None p e
+  all_writes Post t p e = no_err _ p e
+  all_writes Put t p e = no_err _ p e
+  all_writes Patch t p e = no_err _ p e
+  all_writes Delete t p e = no_err _ p e
 
-  collection_writes : (w : Method) (t : ServedShape) (kind : ℕ) (namespace : List ℕ) → slice_get types kind ≡ Some t → Writes (collection_validated_by w t current objects lists kind namespace call.query call.body)
-  collection_writes Post t kind namespace serves p e = with_body _ (λ body read q f. create_writes types current objects shapes texts t kind serves namespace call.query body q read f) p e
-  collection_writes Get t kind namespace serves p e = list_writes t kind (Some namespace) p e
-  collection_writes Put t kind namespace serves p e = no_err _ p e
-  collection_writes Patch t kind namespace serves p e = no_err _ p e
-  collection_writes Delete t kind namespace serves p e = no_err _ p e
+  collection_writes : (w : Method) (t : ServedShape) (namespace : List ℕ) → slice_get types call.target.kind ≡ Some t → Writes (validated_by (of_namespace namespace) w t s call)
+  collection_writes Post t namespace serves p e = with_body _ (λ body read q f. create_writes types current objects shapes texts t call.target.kind serves namespace call.query body q read f) p e
+  collection_writes Get t namespace serves p e = list_writes t call.target.kind (Some namespace) p e
+  collection_writes Put t namespace serves p e = no_err _ p e
+  collection_writes Patch t namespace serves p e = no_err _ p e
+  collection_writes Delete t namespace serves p e = no_err _ p e
 
-  in_writes : (t : ServedShape) → slice_get types call.target.kind ≡ Some t → (namespace name : Option (List ℕ)) → Writes (validated_in t current objects lists call namespace name)
-  in_writes t serves None None p e = all_writes call.target.method t call.target.kind p e
-  in_writes t serves None (Some name) p e = no_err _ p e
-  in_writes t serves (Some namespace) None p e = collection_writes call.target.method t call.target.kind namespace serves p e
-  in_writes t serves (Some namespace) (Some name) p e = object_writes call.target.method t (key_at call namespace name) serves p e
+  by_writes : (scope : Scope) (t : ServedShape) → slice_get types call.target.kind ≡ Some t → Writes (validated_by scope call.target.method t s call)
+  by_writes of_all t serves p e = all_writes call.target.method t p e
+  by_writes (of_namespace namespace) t serves p e = collection_writes call.target.method t namespace serves p e
+  by_writes (of_object namespace name) t serves p e = object_writes call.target.method t (key_at call namespace name) serves p e
 
-  at_writes : (found : Option ServedShape) → slice_get types call.target.kind ≡ found → Writes (validated_at found current objects lists call)
-  at_writes None is p e = no_err _ p e
-  at_writes (Some t) is p e = in_writes t is call.target.namespace call.target.name p e
+  at_writes : (found : Option ServedShape) (scope : Option Scope) → slice_get types call.target.kind ≡ found → Writes (validated_at found scope s call)
+  at_writes None scope is p e = no_err _ p e
+  at_writes (Some t) None is p e = no_err _ p e
+  at_writes (Some t) (Some scope) is p e = by_writes scope t is p e
 
-  call_writes : (j : Validated Plan) → validated_over types current objects lists call ≡ j → WritesBy types current objects (Unit {0}) (λ old new. Unit {0}) (plan_for j).change
+  call_writes : (j : Validated Plan) → validated_over types s call ≡ j → WritesBy types current objects (Unit {0}) (λ old new. Unit {0}) (plan_for j).change
   call_writes (Err d) e = tt
-  call_writes (Ok p) e = at_writes (slice_get types call.target.kind) refl p e
+  call_writes (Ok p) e = at_writes (slice_get types call.target.kind) (scope_of call.target.namespace call.target.name) refl p e
 
 -- ---- what is planned may come next
 
@@ -368,7 +375,7 @@ if_next types m D R None is = tt
 if_next types m D R (Some c) is = comes_next types m D R c is
 
 any_writes : (types : List ServedShape) (m : History) (call : Call) → IsMachine types m → IsJsonBody call.body → WritesBy types m.current (standing m) (Unit {0}) (λ old new. Unit {0}) (planned types m call).change
-any_writes types m call is json = call_writes types m.current (standing m) (shapes_of types is.shapes) is.stand (lists_of m) call json (validated_over types m.current (standing m) (lists_of m) call) refl
+any_writes types m call is json = call_writes types (from_history m) (shapes_of types is.shapes) is.stand call json (validated_over types (from_history m) call) refl
 
 pub plans_come_next : PlansComeNext
 plans_come_next types m call is json = if_next types m (Unit {0}) (λ old new. Unit {0}) (planned types m call).change (any_writes types m call is json)
@@ -421,31 +428,28 @@ bodies_say_states types m is = all_say types m.changes is.texts
 
 -- ---- a call whose method is a write of an object
 
-module _ (types : List ServedShape) (current : ℕ) (objects : Objects) (lists : Lists) (call : Call) (json : IsJsonBody call.body) (R : State → State → Type 0) (w : Method) (validated : ServedShape → Key → Data → Validated Plan)
+module _ (types : List ServedShape) (s : Source) (call : Call) (json : IsJsonBody call.body) (R : State → State → Type 0) (w : Method) (validated : ServedShape → Key → Data → Validated Plan)
     (is : call.target.method ≡ w)
-    (alone : (t : ServedShape) (kind : ℕ) (namespace : List ℕ) (p : Plan) → collection_validated_by w t current objects lists kind namespace call.query call.body ≡ Ok p → ⊥)
-    (everywhere : (t : ServedShape) (kind : ℕ) (p : Plan) → all_validated_by w t lists kind call.query ≡ Ok p → ⊥)
-    (object : (t : ServedShape) (k : Key) → object_validated_by w t current (fin.get objects k) k call.query call.body ≡ and_then (body_of call.body) (validated t k))
-    (keeps : (t : ServedShape) (k : Key) → slice_get types k.kind ≡ Some t → (body : Data) (p : Plan) → IsJson body → validated t k body ≡ Ok p → WritesBy types current objects ⊥ R p.change) where
-  in_keeps : (t : ServedShape) → slice_get types call.target.kind ≡ Some t → (namespace name : Option (List ℕ)) (p : Plan) → validated_in t current objects lists call namespace name ≡ Ok p → WritesBy types current objects ⊥ R p.change
-  in_keeps t serves None None p e =
-      absurd (everywhere t call.target.kind p (subst (λ (m : Method). all_validated_by m t lists call.target.kind call.query ≡ Ok p) is e))
-  in_keeps t serves None (Some name) p e = no_err _ p e
-  in_keeps t serves (Some namespace) None p e =
-      absurd (alone t call.target.kind namespace p (subst (λ (m : Method). collection_validated_by m t current objects lists call.target.kind namespace call.query call.body ≡ Ok p) is e))
-  in_keeps t serves (Some namespace) (Some name) p e =
+    (alone : (t : ServedShape) (namespace : List ℕ) (p : Plan) → validated_by (of_namespace namespace) w t s call ≡ Ok p → ⊥)
+    (everywhere : (t : ServedShape) (p : Plan) → validated_by of_all w t s call ≡ Ok p → ⊥)
+    (object : (t : ServedShape) (k : Key) → object_validated_by w t s.current (object_at s k) k call.query call.body ≡ and_then (body_of call.body) (validated t k))
+    (keeps : (t : ServedShape) (k : Key) → slice_get types k.kind ≡ Some t → (body : Data) (p : Plan) → IsJson body → validated t k body ≡ Ok p → WritesBy types s.current (s.at s.current) ⊥ R p.change) where
+  by_keeps : (t : ServedShape) → slice_get types call.target.kind ≡ Some t → (scope : Scope) (p : Plan) → validated_by scope w t s call ≡ Ok p → WritesBy types s.current (s.at s.current) ⊥ R p.change
+  by_keeps t serves of_all p e = absurd (everywhere t p e)
+  by_keeps t serves (of_namespace namespace) p e = absurd (alone t namespace p e)
+  by_keeps t serves (of_object namespace name) p e =
       let k = key_at call namespace name in
-      let served = sym (object t k) ∙ subst (λ (m : Method). object_validated_by m t current (fin.get objects k) k call.query call.body ≡ Ok p) is e in
-      let body = passed (body_of call.body) (validated t k) p served in
+      let body = passed (body_of call.body) (validated t k) p (sym (object t k) ∙ e) in
       keeps t k serves body.0 p (body_json call.body body.0 json body.1) body.2
 
-  at_keeps : (found : Option ServedShape) → slice_get types call.target.kind ≡ found → (p : Plan) → validated_at found current objects lists call ≡ Ok p → WritesBy types current objects ⊥ R p.change
-  at_keeps None serves p e = no_err _ p e
-  at_keeps (Some t) serves p e = in_keeps t serves call.target.namespace call.target.name p e
+  at_keeps : (found : Option ServedShape) (scope : Option Scope) → slice_get types call.target.kind ≡ found → (p : Plan) → validated_at found scope s call ≡ Ok p → WritesBy types s.current (s.at s.current) ⊥ R p.change
+  at_keeps None scope serves p e = no_err _ p e
+  at_keeps (Some t) None serves p e = no_err _ p e
+  at_keeps (Some t) (Some scope) serves p e = by_keeps t serves scope p (subst (λ (m : Method). validated_by scope m t s call ≡ Ok p) is e)
 
-  plan_keeps : (j : Validated Plan) → validated_over types current objects lists call ≡ j → WritesBy types current objects ⊥ R (plan_for j).change
+  plan_keeps : (j : Validated Plan) → validated_over types s call ≡ j → WritesBy types s.current (s.at s.current) ⊥ R (plan_for j).change
   plan_keeps (Err d) e = tt
-  plan_keeps (Ok p) e = at_keeps (slice_get types call.target.kind) refl p e
+  plan_keeps (Ok p) e = at_keeps (slice_get types call.target.kind) (scope_of call.target.namespace call.target.name) refl p e
 
 -- ---- the machine after it
 
@@ -482,25 +486,25 @@ module _ (types : List ServedShape) (m : History) (is : IsMachine types m) (R : 
 pub applies_keep_others : AppliesKeepOthers
 applies_keep_others types m call values is json patch read gentle =
     let R = AsApplied values.manager in
-    after_keeps types m is R (λ s k p apart owns. (refl, owns)) (plan_for (validated_over types m.current (standing m) (lists_of m) call)).change
-    (plan_keeps types m.current (standing m) (lists_of m) call json R Patch (λ t k. apply_validated t m.current (fin.get (standing m) k) k call.query) patch
-    (λ t kind namespace p e. no_err _ p e) (λ t kind p e. no_err _ p e) (λ t k. refl)
+    after_keeps types m is R (λ s k p apart owns. (refl, owns)) (plan_for (validated_over types (from_history m) call)).change
+    (plan_keeps types (from_history m) call json R Patch (λ t k. apply_validated t m.current (fin.get (standing m) k) k call.query) patch
+    (λ t namespace p e. no_err _ p e) (λ t p e. no_err _ p e) (λ t k. refl)
     (λ t k serves body p spelled e. apply_writes types m.current (standing m) (shapes_of types is.shapes) is.stand t k serves ⊥ R call.query body p spelled
     (λ i intends before s owned.
     let said = intended (at_path t k Patch) asked.Apply call.query body i values intends read in
     subst (λ w. AsApplied w before s) (sym said.0)
     (owned_keeps _ before i.content (manager_of i.manager apply_operation) i.is_forced s (sym said.1 ∙ gentle) owned)) e)
-    (validated_over types m.current (standing m) (lists_of m) call) refl)
+    (validated_over types (from_history m) call) refl)
 
 pub updates_take_changes : UpdatesTakeChanges
 updates_take_changes types m call values is json put read =
     let R = AsUpdated values.manager in
-    after_keeps types m is R (λ s k p apart owns same. owns) (plan_for (validated_over types m.current (standing m) (lists_of m) call)).change
-    (plan_keeps types m.current (standing m) (lists_of m) call json R Put (λ t k. update_validated t m.current (fin.get (standing m) k) k call.query) put
-    (λ t kind namespace p e. no_err _ p e) (λ t kind p e. no_err _ p e) (λ t k. refl)
+    after_keeps types m is R (λ s k p apart owns same. owns) (plan_for (validated_over types (from_history m) call)).change
+    (plan_keeps types (from_history m) call json R Put (λ t k. update_validated t m.current (fin.get (standing m) k) k call.query) put
+    (λ t namespace p e. no_err _ p e) (λ t p e. no_err _ p e) (λ t k. refl)
     (λ t k serves body p spelled e. update_writes types m.current (standing m) (shapes_of types is.shapes) is.stand t k serves ⊥ R call.query body p spelled
     (λ i intends before.
     let said = intended (at_path t k Put) asked.Put call.query body i values intends read in
     subst (λ w. AsUpdated w before (updated_by i before)) (sym said.0)
     (updated_keeps before i.content (manager_of i.manager update_operation))) e)
-    (validated_over types m.current (standing m) (lists_of m) call) refl)
+    (validated_over types (from_history m) call) refl)

@@ -4,7 +4,7 @@ use Rattle.std.specs.Prelude.{ℕ, Bool, true, false, ◌||◌, ◌==◌, List, 
 use Rattle.std.specs.declared.result.Result.{Result}
 use Rattle.std.specs.declared.result.Result.TheVariants.{Ok, Err}
 use Rattle.std.specs.Char.{is_ascii}
-use Rattle.std.specs.List.{list_all, before_first}
+use Rattle.std.specs.List.{list_all, list_any, join_by, before_first}
 use Rattle.std.specs.Str.{bytes_eq, str_eq_ignore_ascii_case}
 use Rattle.matchit.specs.Rows.{RowsOf}
 use Rattle.matchit.specs.Router.{RouteOf, route_from}
@@ -23,30 +23,33 @@ use Rattle.verbs.specs.Calls.{Target, Denied}
 
 -- ---- methods (RFC 9110, section 9.1: they are known by their bytes)
 
+abbrev pub name_of : Method → List ℕ
+name_of Get = codes "GET"
+name_of Post = codes "POST"
+name_of Put = codes "PUT"
+name_of Patch = codes "PATCH"
+name_of Delete = codes "DELETE"
+
 abbrev pub method_named : List ℕ → Option Method
 method_named s =
-    if bytes_eq s (codes "GET") then Some Get
-    else (if bytes_eq s (codes "POST") then Some Post
-    else (if bytes_eq s (codes "PUT") then Some Put
-    else (if bytes_eq s (codes "PATCH") then Some Patch
-    else (if bytes_eq s (codes "DELETE") then Some Delete else None))))
+    if bytes_eq s (name_of Get) then Some Get
+    else (if bytes_eq s (name_of Post) then Some Post
+    else (if bytes_eq s (name_of Put) then Some Put
+    else (if bytes_eq s (name_of Patch) then Some Patch
+    else (if bytes_eq s (name_of Delete) then Some Delete else None))))
 
--- the methods that are served on what a path leads to
+-- the methods that are served on what a path leads to, in the order of their names
+abbrev pub methods_of : Resource → List Method
+methods_of AllNamespaces = Get ∷ []
+methods_of Collection = Get ∷ Post ∷ []
+methods_of Object = Delete ∷ Get ∷ Patch ∷ Put ∷ []
+
 abbrev pub serves : Resource → Method → Bool
-serves AllNamespaces Get = true
-serves Collection Get = true
-serves Collection Post = true
-serves Object Get = true
-serves Object Put = true
-serves Object Patch = true
-serves Object Delete = true
-serves r how = false
+serves r m = list_any (λ n. bytes_eq (name_of n) (name_of m)) (methods_of r)
 
 -- as they stand in `Allow`
 abbrev pub allowed : Resource → List ℕ
-allowed AllNamespaces = codes "GET"
-allowed Collection = codes "GET, POST"
-allowed Object = codes "DELETE, GET, PATCH, PUT"
+allowed r = join_by name_of (codes ", ") (methods_of r)
 
 -- ---- routes
 

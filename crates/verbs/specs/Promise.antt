@@ -22,7 +22,8 @@ use Rattle.verbs.specs.Parameters.{parameters_validated}
 use Rattle.verbs.specs.Size.{max_bytes}
 use Rattle.lists.specs.declared.refusal.Refusal.TheVariants.{Expired}
 use Rattle.watchline.specs.Lines.{expired_message, expired_value}
-use Rattle.verbs.specs.Step.{list_refusal, lists_of, planned, planned_in, step, steps, validated_over}
+use Rattle.watchline.specs.Watches.{from_history}
+use Rattle.verbs.specs.Step.{list_refusal, planned, planned_in, step, steps, validated_over}
 use Rattle.verbs.specs.Status.{CallRefusal, call_refusal_value}
 
 -- what a call plans may come next, so the machine is one after each call whose body is a value that a JSON text spells
@@ -102,7 +103,7 @@ ErrorsAreRefusals = (revision compacted : ℕ) → expired_value (expired_messag
 -- a refused call changes nothing
 abbrev pub RefusalsChangeNothing : Type 0
 RefusalsChangeNothing =
-    (types : List ServedShape) (m : History) (call : Call) (d : CallRefusal) → validated_over types m.current (standing m) (lists_of m) call ≡ Err d → (step types m call).1 ≡ m
+    (types : List ServedShape) (m : History) (call : Call) (d : CallRefusal) → validated_over types (from_history m) call ≡ Err d → (step types m call).1 ≡ m
 
 -- a GET changes nothing
 abbrev pub GetsChangeNothing : Type 0

@@ -14,8 +14,8 @@ use Rattle.typed.specs.declared.fault.Cause.TheVariants.{NotAnObject, UnknownFie
 use Rattle.typed.specs.Faults.{Read, cause_text}
 use Rattle.typed.specs.Reading.{content_of}
 use Rattle.objects.specs.Owners.{Manager, manager_of, apply_operation, update_operation}
-use Rattle.history.specs.History.{Key, Object, Objects, History, last_revision, standing}
-use Rattle.history.specs.View.{View, state_in}
+use Rattle.history.specs.History.{Key, Object, History, last_revision}
+use Rattle.history.specs.View.{View}
 use Rattle.objects.specs.State.{State}
 use Rattle.ownership.specs.Apply.{Conflict, conflicts, applied, is_refused}
 use Rattle.ownership.specs.Update.{updated}
@@ -212,10 +212,6 @@ get_validated t current live k query =
 
 -- ---- lists ("Retrieving large results sets in chunks") and watches ("Efficient detection of changes")
 
--- the answers to lists and watches, or why there is none
-abbrev pub Lists : Type 0
-Lists = Collection → Values → Result Answer Refusal
-
 abbrev pub collection_of : ServedShape → ℕ → Option (List ℕ) → Collection
 collection_of t kind namespace = record { kind = kind; namespace = namespace; api_version = api_version_of t; item_kind = t.kind }
 
@@ -226,10 +222,6 @@ list_refusal (TooLarge n current) = call_refusal Timeout (too_large_message n cu
 abbrev pub list_answered : Result Answer Refusal → Validated Plan
 list_answered (Ok answer) = Ok (record { answer = answer; change = None })
 list_answered (Err refusal) = Err (list_refusal refusal)
-
--- parameters, then the revision
-abbrev pub list_validated : ServedShape → Lists → ℕ → Option (List ℕ) → List ℕ → Validated Plan
-list_validated t lists kind namespace query = and_then (parameters_validated asked.List query) (λ values. list_answered (lists (collection_of t kind namespace) values))
 
 -- the text of a page
 abbrev pub page_shown : Result (List ℕ) Refusal → Result Answer Refusal
@@ -246,8 +238,10 @@ abbrev pub shown_by : Source → Collection → Values → Option Watch → Resu
 shown_by s of values None = page_shown (list_of of values s.current s.compacted s.at)
 shown_by s of values (Some watch) = watch_shown (started s of.kind of.namespace values watch)
 
-abbrev pub lists_from : Source → Lists
-lists_from s = λ of values. shown_by s of values values.watch
+-- parameters, then the revision
+abbrev pub list_validated : ServedShape → Source → ℕ → Option (List ℕ) → List ℕ → Validated Plan
+list_validated t s kind namespace query =
+    and_then (parameters_validated asked.List query) (λ values. list_answered (shown_by s (collection_of t kind namespace) values values.watch))
 
 -- ---- creation and update ("Server-Side Apply", "Comparison with Client-Side Apply": they own what they change)
 
@@ -273,10 +267,14 @@ creation_validated t kind namespace query body =
     and_then (required_name (name_in body)) (λ name.
     Ok (record { key = record { kind = kind; namespace = namespace; name = name }; intent = intent })))
 
--- of a body of JSON (`collection_validated_by`): what `creation_validated` checks, then what `created_as` checks
-abbrev pub create_validated : ServedShape → ℕ → Objects → ℕ → List ℕ → List ℕ → Data → Validated Plan
-create_validated t current objects kind namespace query body =
-    and_then (creation_validated t kind namespace query body) (λ c. created_as t current (fin.get objects c.key) c.key c.intent)
+-- the object that stands under a key
+abbrev pub object_at : Source → Key → Option Object
+object_at s k = fin.get (s.at s.current) k
+
+-- of a body of JSON: what `creation_validated` checks, then what `created_as` checks
+abbrev pub create_validated : ServedShape → Source → ℕ → List ℕ → List ℕ → Data → Validated Plan
+create_validated t s kind namespace query body =
+    and_then (creation_validated t kind namespace query body) (λ c. created_as t s.current (object_at s c.key) c.key c.intent)
 
 -- whether the object is there, version, whether anything changes, number of labels and size, revisions left
 abbrev pub updated_over : ServedShape → ℕ → Key → Option Object → Intent → Validated Plan
@@ -338,44 +336,29 @@ abbrev pub object_validated_by : Method → ServedShape → ℕ → Option Objec
 object_validated_by Get t current live k query body = get_validated t current live k query
 object_validated_by how t current live k query body = write_validated_by how t current live k query body
 
--- on all objects of a namespace
-abbrev pub collection_validated_by : Method → ServedShape → ℕ → Objects → Lists → ℕ → List ℕ → List ℕ → Option Data → Validated Plan
-collection_validated_by Post t current objects lists kind namespace query body = and_then (body_of body) (create_validated t current objects kind namespace query)
-collection_validated_by Get t current objects lists kind namespace query body = list_validated t lists kind (Some namespace) query
-collection_validated_by how t current objects lists kind namespace query body = not_served
-
--- on all objects of a type
-abbrev pub all_validated_by : Method → ServedShape → Lists → ℕ → List ℕ → Validated Plan
-all_validated_by Get t lists kind query = list_validated t lists kind None query
-all_validated_by how t lists kind query = not_served
-
 abbrev pub no_path : Validated Plan
 no_path = refused_for NotFound (codes "no such path")
 
 abbrev pub key_at : Call → List ℕ → List ℕ → Key
 key_at call namespace name = record { kind = call.target.kind; namespace = namespace; name = name }
 
-abbrev pub validated_on : ServedShape → ℕ → Objects → Lists → Call → Scope → Validated Plan
-validated_on t current objects lists call of_all = all_validated_by call.target.method t lists call.target.kind call.query
-validated_on t current objects lists call (of_namespace namespace) =
-    collection_validated_by call.target.method t current objects lists call.target.kind namespace call.query call.body
-validated_on t current objects lists call (of_object namespace name) =
-    object_validated_by call.target.method t current (fin.get objects (key_at call namespace name)) (key_at call namespace name) call.query call.body
+-- by the objects that the call is of, and its method
+abbrev pub validated_by : Scope → Method → ServedShape → Source → Call → Validated Plan
+validated_by of_all Get t s call = list_validated t s call.target.kind None call.query
+validated_by (of_namespace namespace) Get t s call = list_validated t s call.target.kind (Some namespace) call.query
+validated_by (of_namespace namespace) Post t s call = and_then (body_of call.body) (create_validated t s call.target.kind namespace call.query)
+validated_by (of_object namespace name) how t s call =
+    object_validated_by how t s.current (object_at s (key_at call namespace name)) (key_at call namespace name) call.query call.body
+validated_by scope how t s call = not_served
 
-abbrev pub validated_scope : ServedShape → ℕ → Objects → Lists → Call → Option Scope → Validated Plan
-validated_scope t current objects lists call None = no_path
-validated_scope t current objects lists call (Some scope) = validated_on t current objects lists call scope
+-- where a type has the number, and the target names objects
+abbrev pub validated_at : Option ServedShape → Option Scope → Source → Call → Validated Plan
+validated_at None scope s call = no_path
+validated_at (Some t) None s call = no_path
+validated_at (Some t) (Some scope) s call = validated_by scope call.target.method t s call
 
--- by namespace and name
-abbrev pub validated_in : ServedShape → ℕ → Objects → Lists → Call → Option (List ℕ) → Option (List ℕ) → Validated Plan
-validated_in t current objects lists call namespace name = validated_scope t current objects lists call (scope_of namespace name)
-
-abbrev pub validated_at : Option ServedShape → ℕ → Objects → Lists → Call → Validated Plan
-validated_at None current objects lists call = no_path
-validated_at (Some t) current objects lists call = validated_in t current objects lists call call.target.namespace call.target.name
-
-abbrev pub validated_over : List ServedShape → ℕ → Objects → Lists → Call → Validated Plan
-validated_over types current objects lists call = validated_at (slice_get types call.target.kind) current objects lists call
+abbrev pub validated_over : List ServedShape → Source → Call → Validated Plan
+validated_over types s call = validated_at (slice_get types call.target.kind) (scope_of call.target.namespace call.target.name) s call
 
 -- a refusal is answered by its Status, and changes nothing
 abbrev pub refused : CallRefusal → Plan
@@ -385,24 +368,17 @@ abbrev pub plan_for : Validated Plan → Plan
 plan_for (Ok p) = p
 plan_for (Err d) = refused d
 
--- by the types, the current number, the objects that stand, and the answers to lists
-abbrev pub planned_over : List ServedShape → ℕ → Objects → Lists → Call → Plan
-planned_over types current objects lists call = plan_for (validated_over types current objects lists call)
-
--- the lists and watches of a machine, by its objects at each revision
-abbrev pub lists_of : History → Lists
-lists_of m = lists_from (from_history m)
-
-abbrev pub lists_in : View → Lists
-lists_in v = lists_from (from_view v)
-
 -- the answer of a call, and the change that it makes
-abbrev pub planned : List ServedShape → History → Call → Plan
-planned types m call = planned_over types m.current (standing m) (lists_of m) call
+abbrev pub planned_over : List ServedShape → Source → Call → Plan
+planned_over types s call = plan_for (validated_over types s call)
 
--- the same, by what may be seen of the history
+-- at a machine
+abbrev pub planned : List ServedShape → History → Call → Plan
+planned types m call = planned_over types (from_history m) call
+
+-- by what may be seen of it
 abbrev pub planned_in : List ServedShape → View → Call → Plan
-planned_in types v call = planned_over types v.current (state_in v v.current) (lists_in v) call
+planned_in types v call = planned_over types (from_view v) call
 
 -- the answer, and the machine after the call
 abbrev pub step : List ServedShape → History → Call → Answer × History

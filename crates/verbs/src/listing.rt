@@ -11,7 +11,8 @@ ghost use Rattle.verbs.specs.declared.reason.Reason.TheVariants.{Timeout};
 ghost use Rattle.verbs.specs.Calls as calls;
 ghost use Rattle.verbs.specs.Planner.{asked_of, type_of};
 ghost use Rattle.verbs.specs.Seen.{Refuses, RefusesFor, answer_of, plan_of};
-ghost use Rattle.verbs.specs.Step.{list_answered, list_refusal, list_validated, lists_in, plan_for, too_large_message};
+ghost use Rattle.watchline.specs.Watches.{from_view};
+ghost use Rattle.verbs.specs.Step.{list_answered, list_refusal, list_validated, plan_for, shown_by, too_large_message};
 
 use crate::answering::{plan_for, shown};
 use crate::calls::{Answer, Plan};
@@ -66,7 +67,7 @@ fn answered(
     of: Collection<'_>,
     params: Params,
 ) -> Result<Answer, ListFault>
-    ensures answered { views.Gives answer_of result (lists_in store.old (views.collection_of of.entry) (values_of params)) }
+    ensures answered { views.Gives answer_of result (shown_by (from_view store.old) (views.collection_of of.entry) (values_of params) (values_of params).watch) }
     ensures same { store.new ≡ store.old }
 {
     let watch = params.watch;
@@ -83,7 +84,7 @@ impl Planner<'_> {
     /// A list of a namespace, or of all, or a watch of these. Checks, in order: parameters, the revision.
     pub(crate) fn listed(self, store: &mut Store, namespace: Option<&str>) -> Result<Plan, Fault>
         ensures planned { let c = asked_of self.entry in
-            IfOk result (λ p. plan_of p ≡ plan_for (list_validated (type_of self.entry) (lists_in store.old) c.target.kind (option_map (λ s. s.now) namespace.entry) c.query)) }
+            IfOk result (λ p. plan_of p ≡ plan_for (list_validated (type_of self.entry) (from_view store.old) c.target.kind (option_map (λ s. s.now) namespace.entry) c.query)) }
         ensures readable { result ≢ Err Fault.Unreadable }
         ensures same { store.new ≡ store.old }
     {

@@ -12,9 +12,10 @@ ghost use Rattle.verbs.specs.Machine.{AreTexts, IsReadable};
 ghost use Rattle.verbs.specs.Planner.{IsPlanner, asked_of, type_of};
 ghost use Rattle.verbs.specs.Remembered.{IsRight, IsRightAt};
 ghost use Rattle.verbs.specs.Seen.{Gives, call_of, objects_in, plan_of, scope_seen};
-ghost use Rattle.verbs.specs.Step.{body_of, create_validated, get_validated, key_at, lists_in, plan_for, planned_over, validated_on, write_validated_by};
+ghost use Rattle.verbs.specs.Step.{body_of, create_validated, get_validated, key_at, plan_for, planned_over, validated_by, write_validated_by};
 ghost use Rattle.verbs.specs.Validated.{Validated, and_then};
 ghost use Rattle.verbs.specs.WritePlans.{RemembersRight, written_plan};
+ghost use Rattle.watchline.specs.Watches.{from_view};
 
 use crate::admitting::{NO_PATH, NOT_SERVED};
 use crate::answering::{plan_for, refused_for};
@@ -123,7 +124,7 @@ impl Planner<'_> {
         requires current { self.current ≡ store.old.current }
         requires right { IfSome known.old (IsRight (type_of self)) }
         ensures planned { let c = asked_of self.entry in
-            IfOk result (λ p. plan_of p ≡ plan_for (and_then (body_of c.body) (create_validated (type_of self.entry) store.old.current (objects_in store.old) c.target.kind namespace.now c.query))) }
+            IfOk result (λ p. plan_of p ≡ plan_for (and_then (body_of c.body) (create_validated (type_of self.entry) (from_view store.old) c.target.kind namespace.now c.query))) }
         ensures readable { result ≢ Err Fault.Unreadable }
         ensures right { IfSome known.new (IsRight (type_of self.entry)) }
         ensures same { store.new ≡ store.old }
@@ -147,7 +148,8 @@ impl Planner<'_> {
         requires planner { IsPlanner self }
         requires current { self.current ≡ store.old.current }
         requires right { IfSome known.old (IsRight (type_of self)) }
-        ensures planned { IfOk result (λ p. plan_of p ≡ plan_for (validated_on (type_of self.entry) store.old.current (objects_in store.old) (lists_in store.old) (asked_of self.entry) (scope_seen scope.entry))) }
+        ensures planned { let c = asked_of self.entry in
+            IfOk result (λ p. plan_of p ≡ plan_for (validated_by (scope_seen scope.entry) c.target.method (type_of self.entry) (from_view store.old) c)) }
         ensures readable { (all : List ServedShape) → slice_get all self.entry.call.now.target.kind ≡ Some (type_of self.entry) → AreTexts all (objects_in store.old) → result ≢ Err Fault.Unreadable }
         ensures right { IfSome known.new (IsRight (type_of self.entry)) }
         ensures same { store.new ≡ store.old }
@@ -180,7 +182,7 @@ fn planned_over(
     known: &mut Option<Remembered>,
 ) -> Result<Plan, Fault>
     requires { IfSome known.old (IsRightAt (types_view all.now) call.now.target.kind) }
-    ensures planned { IfOk result (λ p. plan_of p ≡ planned_over (types_view all.now) store.old.current (objects_in store.old) (lists_in store.old) (call_of call.now)) }
+    ensures planned { IfOk result (λ p. plan_of p ≡ planned_over (types_view all.now) (from_view store.old) (call_of call.now)) }
     ensures readable { AreTexts (types_view all.now) (objects_in store.old) → result ≢ Err Fault.Unreadable }
     ensures right { IfSome known.new (IsRightAt (types_view all.now) call.now.target.kind) }
     ensures same { store.new ≡ store.old }
@@ -207,7 +209,7 @@ pub(crate) fn planned(
     store: &mut Store,
     call: &Call,
 ) -> Result<Plan, Fault>
-    ensures planned { IfOk result (λ p. plan_of p ≡ planned_over catalog.old store.old.current (objects_in store.old) (lists_in store.old) (call_of call.now)) }
+    ensures planned { IfOk result (λ p. plan_of p ≡ planned_over catalog.old (from_view store.old) (call_of call.now)) }
     ensures readable { AreTexts catalog.old (objects_in store.old) → result ≢ Err Fault.Unreadable }
     ensures types { catalog.new ≡ catalog.old }
     ensures same { store.new ≡ store.old }

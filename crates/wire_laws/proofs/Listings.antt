@@ -4,7 +4,7 @@ use Rattle.std.proofs.lemmas.Bool.{le-ltb, lt-ltb, ne_eqb}
 use Rattle.std.specs.Prelude.{if◌then◌else◌, nat_lt, slice_get}
 use Rattle.schema.specs.TypesFile.{ServedShape}
 use Rattle.names.specs.Names.{is_dns_label, is_dns_subdomain}
-use Rattle.history.specs.History.{History, IsHistory, Key, Object, Objects, standing, state_at}
+use Rattle.history.specs.History.{History, IsHistory, Key, Object, Objects, state_at}
 use Rattle.history.proofs.Wholes.{whole_is}
 use Rattle.objects.specs.ReadBack.{IsObjectText, max_version}
 use Rattle.objects.proofs.Taken.{same_some}
@@ -22,11 +22,11 @@ use Rattle.watchline.specs.Opening.{from_parts, initial_in, opened_by, starts}
 use Rattle.watchline.specs.Watches.{from_history}
 use Rattle.line_laws.specs.Listed.{AreKept, IsKept, IsReadAsPage, IsWanted}
 use Rattle.verbs.specs.declared.method.Method.TheVariants.{Get}
-use Rattle.verbs.specs.Calls.{Call, Plan}
+use Rattle.verbs.specs.Calls.{Call, Plan, of_all, of_namespace, scope_of}
 use Rattle.verbs.specs.Machine.{IsMachine, IsSomeTextAt, identity_of}
 use Rattle.verbs.specs.Parameters.{parameters_validated}
 use Rattle.verbs.specs.Promise.{TextsSayStates}
-use Rattle.verbs.specs.Step.{all_validated_by, collection_of, collection_validated_by, list_answered, list_refusal, list_validated, lists_of, page_shown, plan_for, planned, refused, shown_by, validated_at, validated_in, validated_over, watch_shown}
+use Rattle.verbs.specs.Step.{collection_of, list_answered, list_refusal, list_validated, page_shown, plan_for, planned, refused, shown_by, validated_at, validated_by, validated_over, watch_shown}
 use Rattle.verbs.specs.Validated.{Validated, and_then}
 use Rattle.wire_laws.specs.Listings.{IsListing, IsWatching, listed_by, page_plan, watch_after, watch_plan}
 
@@ -63,17 +63,17 @@ page_text t call values revision m = list_text (listed_by t call) revision (page
 
 module _ (types : List ServedShape) (m : History) (call : Call) (t : ServedShape) (values : Values) (served : slice_get types call.target.kind ≡ Some t) (gets : call.target.method ≡ Get)
     (unnamed : call.target.name ≡ None) (says : parameters_validated asked.List call.query ≡ Ok values) where
-  validated_by : (namespace : Option (List ℕ))
-      → validated_in t m.current (standing m) (lists_of m) call namespace None ≡ list_validated t (lists_of m) call.target.kind namespace call.query
-  validated_by None = ap (λ how. all_validated_by how t (lists_of m) call.target.kind call.query) gets
-  validated_by (Some namespace) = ap (λ how. collection_validated_by how t m.current (standing m) (lists_of m) call.target.kind namespace call.query call.body) gets
+  by_namespace : (namespace : Option (List ℕ))
+      → validated_at (Some t) (scope_of namespace None) (from_history m) call ≡ list_validated t (from_history m) call.target.kind namespace call.query
+  by_namespace None = ap (λ how. validated_by of_all how t (from_history m) call) gets
+  by_namespace (Some namespace) = ap (λ how. validated_by (of_namespace namespace) how t (from_history m) call) gets
 
-  validated_is : validated_over types m.current (standing m) (lists_of m) call ≡ list_answered (shown_by (from_history m) (listed_by t call) values values.watch)
+  validated_is : validated_over types (from_history m) call ≡ list_answered (shown_by (from_history m) (listed_by t call) values values.watch)
   validated_is =
-      ap (λ o. validated_at o m.current (standing m) (lists_of m) call) served
-      ∙ ap (λ name. validated_in t m.current (standing m) (lists_of m) call call.target.namespace name) unnamed
-      ∙ validated_by call.target.namespace
-      ∙ ap (λ (v : Validated Values). and_then v (λ said. list_answered (lists_of m (listed_by t call) said))) says
+      ap (λ o. validated_at o (scope_of call.target.namespace call.target.name) (from_history m) call) served
+      ∙ ap (λ name. validated_at (Some t) (scope_of call.target.namespace name) (from_history m) call) unnamed
+      ∙ by_namespace call.target.namespace
+      ∙ ap (λ (v : Validated Values). and_then v (λ said. list_answered (shown_by (from_history m) (listed_by t call) said said.watch))) says
 
   shown_as : (watch : Option Watch) → values.watch ≡ watch → planned types m call ≡ plan_for (list_answered (shown_by (from_history m) (listed_by t call) values watch))
   shown_as watch is = ap plan_for validated_is ∙ ap (λ o. plan_for (list_answered (shown_by (from_history m) (listed_by t call) values o))) is

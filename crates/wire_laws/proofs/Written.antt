@@ -1,7 +1,6 @@
 -- Each reply that a hub writes is one that its client reads: its status, what it allows, and how long it is.
 use Rattle.std.proofs.Common.{arith, ◌≡◌, ℕ, suc, ◌≤◌, Bool, true, false, List, length, take, drop, Option, None, Some, Result, Ok, Err, refl, sym, subst, inl, inr}
 use Rattle.std.proofs.lemmas.Bool.{leb-true}
-use Rattle.std.specs.FinMap as fin
 use Rattle.std.specs.Fmt.{digits}
 use Rattle.std.specs.Prelude.{◌==◌, codes, if◌then◌else◌, nat_le, nat_lt, slice_get, ⊤}
 use Rattle.http.specs.StatusCode.{IsStatusCode}
@@ -20,7 +19,7 @@ use Rattle.verbs.specs.declared.reason.Reason.TheVariants as reason
 use Rattle.verbs.specs.declared.resource.Resource.{Resource}
 use Rattle.verbs.specs.declared.resource.Resource.TheVariants as resource
 use Rattle.verbs.specs.Admit.{Place, admitted, allowed, not_admitted, method_admitted, method_named, method_served, place_admitted, place_of, accepts_media, target_at}
-use Rattle.verbs.specs.Calls.{Answer, Call, Denied, Plan, Target}
+use Rattle.verbs.specs.Calls.{Answer, Call, Denied, Plan, Scope, Target, of_all, of_namespace, of_object, scope_of}
 use Rattle.lists.specs.declared.refusal.Refusal.{Refusal as ListRefusal}
 use Rattle.lists.specs.Body.{Collection}
 use Rattle.lists.specs.Lists.{list_of}
@@ -31,7 +30,7 @@ use Rattle.params.specs.declared.params.Asked.TheVariants as asked
 use Rattle.verbs.specs.Envelope.{api_version_of}
 use Rattle.verbs.specs.Validated as validated
 use Rattle.verbs.specs.Validated.{Validated}
-use Rattle.history.specs.History.{History, Key, Object, Objects, standing}
+use Rattle.history.specs.History.{History, Key, Object}
 use Rattle.verbs.specs.Machine.{no_state, state_of_live, state_said}
 use Rattle.verbs.specs.Naming.{marks_validated, names_validated}
 use Rattle.verbs.specs.Options.{options_validated}
@@ -311,10 +310,10 @@ created_fine t current live k intent =
     (λ u. checked (step.not_there t k.name live) (λ v. step.store_state t current k 201 new)
     (λ v. stored_fine (step.printed t k (suc current) new) current k 201 (omega arith, omega arith)))
 
-create_fine : (t : ServedShape) (current : ℕ) (objects : Objects) (kind : ℕ) (namespace query : List ℕ) (body : Data) → IsFine (step.create_validated t current objects kind namespace query body)
-create_fine t current objects kind namespace query body =
-    checked (step.creation_validated t kind namespace query body) (λ c. step.created_as t current (fin.get objects c.key) c.key c.intent)
-    (λ c. created_fine t current (fin.get objects c.key) c.key c.intent)
+create_fine : (t : ServedShape) (s : Source) (kind : ℕ) (namespace query : List ℕ) (body : Data) → IsFine (step.create_validated t s kind namespace query body)
+create_fine t s kind namespace query body =
+    checked (step.creation_validated t kind namespace query body) (λ c. step.created_as t s.current (step.object_at s c.key) c.key c.intent)
+    (λ c. created_fine t s.current (step.object_at s c.key) c.key c.intent)
 
 updated_fine : (t : ServedShape) (current : ℕ) (k : Key) (live : Option Object) (intent : step.Intent) → IsFine (step.updated_over t current k live intent)
 updated_fine t current k live intent =
@@ -359,9 +358,6 @@ abbrev IsAnswer : Result Answer ListRefusal → Type 0
 IsAnswer (Ok a) = IsStatusCode a.status
 IsAnswer (Err refusal) = Unit {0}
 
-abbrev AreAnswers : step.Lists → Type 0
-AreAnswers lists = (of : Collection) (values : Values) → IsAnswer (lists of values)
-
 page_answer : (r : Result (List ℕ) ListRefusal) → IsAnswer (step.page_shown r)
 page_answer (Ok text) = (omega arith, omega arith)
 page_answer (Err refusal) = tt {0}
@@ -374,44 +370,41 @@ shown : (s : Source) (of : Collection) (values : Values) (o : Option Watch) → 
 shown s of values None = page_answer (list_of of values s.current s.compacted s.at)
 shown s of values (Some watch) = watch_answer (started s of.kind of.namespace values watch)
 
-are_answers : (m : History) → AreAnswers (step.lists_of m)
-are_answers m = λ of values. shown (from_history m) of values values.watch
-
 answered : (r : Result Answer ListRefusal) → IsAnswer r → IsFine (step.list_answered r)
 answered (Ok a) is = fine _ is
 answered (Err refusal) is = denied _
 
-list_fine : (t : ServedShape) (lists : step.Lists) (kind : ℕ) (namespace : Option (List ℕ)) (query : List ℕ) → AreAnswers lists → IsFine (step.list_validated t lists kind namespace query)
-list_fine t lists kind namespace query are =
-    checked (parameters_validated asked.List query) (λ values. step.list_answered (lists (step.collection_of t kind namespace) values))
-    (λ values. answered (lists (step.collection_of t kind namespace) values) (are (step.collection_of t kind namespace) values))
+list_fine : (t : ServedShape) (s : Source) (kind : ℕ) (namespace : Option (List ℕ)) (query : List ℕ) → IsFine (step.list_validated t s kind namespace query)
+list_fine t s kind namespace query =
+    let of = step.collection_of t kind namespace in
+    checked (parameters_validated asked.List query) (λ values. step.list_answered (step.shown_by s of values values.watch))
+    (λ values. answered (step.shown_by s of values values.watch) (shown s of values values.watch))
 
-all_fine : (m : Method) (t : ServedShape) (lists : step.Lists) (kind : ℕ) (query : List ℕ) → AreAnswers lists → IsFine (step.all_validated_by m t lists kind query)
-all_fine method.Get t lists kind query are = list_fine t lists kind None query are
-all_fine method.Post t lists kind query are = denied _
-all_fine method.Put t lists kind query are = denied _
-all_fine method.Patch t lists kind query are = denied _
-all_fine method.Delete t lists kind query are = denied _
+all_fine : (m : Method) (t : ServedShape) (s : Source) (call : Call) → IsFine (step.validated_by of_all m t s call)
+all_fine method.Get t s call = list_fine t s call.target.kind None call.query
+all_fine method.Post t s call = denied _
+all_fine method.Put t s call = denied _
+all_fine method.Patch t s call = denied _
+all_fine method.Delete t s call = denied _
 
-collection_fine : (m : Method) (t : ServedShape) (current : ℕ) (objects : Objects) (lists : step.Lists) (kind : ℕ) (namespace query : List ℕ) (o : Option Data) → AreAnswers lists
-    → IsFine (step.collection_validated_by m t current objects lists kind namespace query o)
-collection_fine method.Post t current objects lists kind namespace query o are = with_body o (step.create_validated t current objects kind namespace query) (create_fine t current objects kind namespace query)
-collection_fine method.Get t current objects lists kind namespace query o are = list_fine t lists kind (Some namespace) query are
-collection_fine method.Put t current objects lists kind namespace query o are = denied _
-collection_fine method.Patch t current objects lists kind namespace query o are = denied _
-collection_fine method.Delete t current objects lists kind namespace query o are = denied _
+collection_fine : (m : Method) (t : ServedShape) (s : Source) (call : Call) (namespace : List ℕ) → IsFine (step.validated_by (of_namespace namespace) m t s call)
+collection_fine method.Post t s call namespace = with_body call.body (step.create_validated t s call.target.kind namespace call.query) (create_fine t s call.target.kind namespace call.query)
+collection_fine method.Get t s call namespace = list_fine t s call.target.kind (Some namespace) call.query
+collection_fine method.Put t s call namespace = denied _
+collection_fine method.Patch t s call namespace = denied _
+collection_fine method.Delete t s call namespace = denied _
 
-in_fine : (t : ServedShape) (current : ℕ) (objects : Objects) (lists : step.Lists) (call : Call) (namespace name : Option (List ℕ)) → AreAnswers lists
-    → IsFine (step.validated_in t current objects lists call namespace name)
-in_fine t current objects lists call None None are = all_fine call.target.method t lists call.target.kind call.query are
-in_fine t current objects lists call None (Some name) are = denied _
-in_fine t current objects lists call (Some namespace) None are = collection_fine call.target.method t current objects lists call.target.kind namespace call.query call.body are
-in_fine t current objects lists call (Some namespace) (Some name) are =
-    object_fine call.target.method t current (fin.get objects (step.key_at call namespace name)) (step.key_at call namespace name) call.query call.body
+by_fine : (scope : Scope) (m : Method) (t : ServedShape) (s : Source) (call : Call) → IsFine (step.validated_by scope m t s call)
+by_fine of_all m t s call = all_fine m t s call
+by_fine (of_namespace namespace) m t s call = collection_fine m t s call namespace
+by_fine (of_object namespace name) m t s call =
+    let k = step.key_at call namespace name in
+    object_fine m t s.current (step.object_at s k) k call.query call.body
 
-at_fine : (o : Option ServedShape) (current : ℕ) (objects : Objects) (lists : step.Lists) (call : Call) → AreAnswers lists → IsFine (step.validated_at o current objects lists call)
-at_fine None current objects lists call are = denied _
-at_fine (Some t) current objects lists call are = in_fine t current objects lists call call.target.namespace call.target.name are
+at_fine : (found : Option ServedShape) (scope : Option Scope) (s : Source) (call : Call) → IsFine (step.validated_at found scope s call)
+at_fine None scope s call = denied _
+at_fine (Some t) None s call = denied _
+at_fine (Some t) (Some scope) s call = by_fine scope call.target.method t s call
 
 plan_fine : (j : Validated Plan) → IsFine j → IsStatusCode (step.plan_for j).answer.status
 plan_fine (Ok p) is = is.is
@@ -419,4 +412,5 @@ plan_fine (Err d) is = code_is d.reason
 
 pub status_is : (types : List ServedShape) (m : History) (call : Call) → IsStatusCode (step.planned types m call).answer.status
 status_is types m call =
-    plan_fine (step.validated_over types m.current (standing m) (step.lists_of m) call) (at_fine (slice_get types call.target.kind) m.current (standing m) (step.lists_of m) call (are_answers m))
+    plan_fine (step.validated_over types (from_history m) call)
+    (at_fine (slice_get types call.target.kind) (scope_of call.target.namespace call.target.name) (from_history m) call)
