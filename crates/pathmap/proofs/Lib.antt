@@ -17,3 +17,4 @@ pub mod Putting
 pub mod Adding
 pub mod Halving
 pub mod FieldTexts
+pub mod Parting

@@ -10,3 +10,4 @@ pub mod Maps
 pub mod Picks
 pub mod Cuts
 pub mod Puts
+pub mod Parted

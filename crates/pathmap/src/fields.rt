@@ -27,7 +27,7 @@ fn is_before_field(child: &(ElemText, PathMap), name: &str) -> bool
 }
 
 /// Whether a child is that of this field.
-fn is_of_field(child: &(ElemText, PathMap), name: &str) -> bool
+pub(crate) fn is_of_field(child: &(ElemText, PathMap), name: &str) -> bool
     ensures { result ≡ bytes_eq (string_bytes child.now.0) (name_text name.now) }
 {
     match child.0.field_name() {

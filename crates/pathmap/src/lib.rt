@@ -10,6 +10,7 @@ mod fields;
 mod find;
 mod held;
 mod insert;
+mod parts;
 mod pathmap;
 mod paths;
 mod pick;
@@ -19,5 +20,6 @@ mod walk;
 mod without;
 
 pub use held::Held;
+pub use parts::Part;
 pub use pathmap::PathMap;
 pub use under::put_under;

@@ -73,6 +73,19 @@ no_whole_mark s (d, plain, reads, is) = by_leaf (leaf_is d)
     by_leaf (inl none) = absurd (none_there (here standing.mark) [] (sym is ∙ none) (ap is_some (get-here-top standing.mark)))
     by_leaf (inr there) = no_mark (standing.plain (compact_text d)) refl (here_same standing.mark (standing.plain (compact_text d)) (sym is ∙ there))
 
+-- no item stands at the empty path
+pub no_mark_on_top : {A : Type 0} (s : Shape) → FitsAt s [] standing.mark → A
+no_mark_on_top text fit = no_mark (standing.text fit.0) refl fit.1
+no_mark_on_top whole fit = no_mark (standing.whole fit.0) refl fit.2
+no_mark_on_top truth fit = no_mark (standing.truth fit.0) refl fit.1
+no_mark_on_top (struct_of all true) fit = no_whole_mark (struct_of all true) fit
+no_mark_on_top (struct_of all false) fit = absurd fit
+no_mark_on_top (map_of s true) fit = no_whole_mark (map_of s true) fit
+no_mark_on_top (map_of s false) fit = absurd fit
+no_mark_on_top (list_of s atomic) fit = no_whole_mark (list_of s atomic) fit
+no_mark_on_top (list_of s set) fit = absurd fit
+no_mark_on_top (list_of s (keyed names)) fit = absurd fit
+
 at_inside : (e : List ℕ) (c : Content) (q : PathTexts) (v : Standing) → fin.get (inside e c) q ≡ Some v → fin.get c (e ∷ q) ≡ Some v
 at_inside e c q v h = sym (get-inside e c q) ∙ h
 
@@ -205,11 +218,11 @@ item_closed names all b c e (g ∷ p) q (ks, is, fit, (f, named, free, fits_f)) 
 
 mutual
   pub placed_closed : (s : Shape) (c : Content) → IsPlaced s c → IsClosed s c
-  placed_closed text c placed [] q fit h = no_mark (standing.text fit.0) refl fit.1
+  placed_closed text c placed [] q fit h = no_mark_on_top text fit
   placed_closed text c placed (e ∷ p) q fit h = absurd fit
-  placed_closed whole c placed [] q fit h = no_mark (standing.whole fit.0) refl fit.2
+  placed_closed whole c placed [] q fit h = no_mark_on_top whole fit
   placed_closed whole c placed (e ∷ p) q fit h = absurd fit
-  placed_closed truth c placed [] q fit h = no_mark (standing.truth fit.0) refl fit.1
+  placed_closed truth c placed [] q fit h = no_mark_on_top truth fit
   placed_closed truth c placed (e ∷ p) q fit h = absurd fit
   placed_closed (struct_of all true) c placed [] q fit h = no_whole_mark (struct_of all true) fit
   placed_closed (struct_of all true) c placed (e ∷ p) q fit h = absurd fit

@@ -1,5 +1,5 @@
 -- What is put over a content, what is left of one, and what is read is one.
-use Rattle.std.proofs.Common.{◌≡◌, ◌||◌, Bool, true, false, cond, List, [], ◌∷◌, ◌++◌, Option, Some, None, is_some, refl, sym, ap, ◌∙◌, true≢false}
+use Rattle.std.proofs.Common.{◌≡◌, ◌||◌, ℕ, Bool, true, false, cond, List, [], ◌∷◌, ◌++◌, Option, Some, None, is_some, refl, sym, ap, ◌∙◌, true≢false}
 use Rattle.std.proofs.lemmas.Bool.{and_parts}
 use Rattle.std.specs.Cmp.Derive.{both_true}
 use Rattle.std.specs.FinMap as fin
@@ -8,11 +8,12 @@ use Rattle.std.specs.List.{list_any}
 use Rattle.std.specs.Str.{bytes_eq}
 use Rattle.fieldpath.specs.Paths.{PathTexts}
 use Rattle.pathmap.specs.Beside.{has_at_or_above, is_front}
-use Rattle.pathmap.specs.Contents.{Standing, PathSet}
-use Rattle.pathmap.proofs.Contents.{either, get-over}
+use Rattle.pathmap.specs.Contents.{Standing, Content, PathSet}
+use Rattle.pathmap.proofs.Contents.{path_cmp_antisymmetric, either, get-over}
 use Rattle.pathmap.proofs.Sets.{get-without}
-use Rattle.typed.specs.Fitting.{FitsAt, OversAreContents, RemainsAreContents, ReadingsAreContents}
-use Rattle.typed.proofs.Fitting.{placed_content}
+use Rattle.schema.specs.Shape.{Shape}
+use Rattle.typed.specs.Fitting.{FitsAt, IsClosed, IsContent, OversAreContents, RemainsAreContents, ReadingsAreContents}
+use Rattle.typed.proofs.Fitting.{no_mark_on_top, placed_content}
 use Rattle.typed.proofs.Placing.{placed}
 
 either_is : (P : Standing → Type 0) (a b : Option Standing) (v : Standing) → ((w : Standing) → a ≡ Some w → P w) → ((w : Standing) → b ≡ Some w → P w) → either a b ≡ Some v → P v
@@ -74,6 +75,28 @@ without_content s c paths content = (
     by_test p q fit a is true more h = absurd (true≢false (sym h))
     by_test p q fit true is false more h = absurd (true≢false (sym (above_more paths p q is) ∙ more))
     by_test p q fit false is false more h = content.1 p q fit h
+
+-- what is left of the paths whose first elements pass a test
+pub retained_content : (s : Shape) (c : Content) (keep : PathTexts → Bool) → ((f : List ℕ) (p q : PathTexts) → keep (f ∷ p) ≡ keep (f ∷ q)) → IsContent s c → IsContent s (fin.retain_keys c keep)
+retained_content s c keep alike content = ((λ p v h. content.0 p v (kept_is (keep p) (fin.get c p) v (sym (get-kept p) ∙ h))), closed)
+  where
+    get-kept : (p : PathTexts) → fin.get (fin.retain_keys c keep) p ≡ cond (keep p) (fin.get c p) None
+    get-kept p = fin.get-retain_keys c keep p (λ x t. ap keep (sym (path_cmp_antisymmetric p x t)))
+
+    kept_is : (b : Bool) (o : Option Standing) (v : Standing) → cond b o None ≡ Some v → o ≡ Some v
+    kept_is true o v h = h
+    kept_is false o v h = absurd (true≢false (sym (ap is_some h)))
+
+    by_test : (a b : Bool) (o p : Option Standing) → a ≡ b → (is_some o ≡ true → is_some p ≡ true) → is_some (cond a o None) ≡ true → is_some (cond b p None) ≡ true
+    by_test true true o p same stays h = stays h
+    by_test true false o p same stays h = absurd (true≢false same)
+    by_test false b o p same stays h = absurd (true≢false (sym h))
+
+    closed : IsClosed s (fin.retain_keys c keep)
+    closed [] q fit h = no_mark_on_top s fit
+    closed (f ∷ p) q fit h =
+        ap is_some (get-kept (f ∷ p))
+        ∙ by_test (keep (f ∷ p ++ q)) (keep (f ∷ p)) (fin.get c (f ∷ p ++ q)) (fin.get c (f ∷ p)) (alike f (p ++ q) p) (content.1 (f ∷ p) q fit) (sym (ap is_some (get-kept (f ∷ p ++ q))) ∙ h)
 
 pub reading_content : ReadingsAreContents
 reading_content s d c lawful spelled shallow h = placed_content s c (placed s d c lawful spelled shallow h)

@@ -26,6 +26,7 @@ mod write_items;
 pub use changes::Changes;
 pub use fault::{Cause, ReadFault};
 pub use omitted::Omitted;
+pub use pathmap::Part;
 pub use print_law::{
     contents_are_kept, contents_are_placed, contents_have_places, printed_has_no_float,
     printed_is_textual, printed_reads_back, readings_are_placed,

@@ -14,6 +14,7 @@ ghost use Rattle.typed.specs.Between.{fields_between, then_fields};
 ghost use Rattle.typed.specs.Printing.{print};
 ghost use Rattle.pathmap.specs.Contents.{nothing, over};
 ghost use Rattle.pathmap.specs.Maps.{content};
+ghost use Rattle.pathmap.specs.Parted.{part_of, rest_of};
 ghost use Rattle.typed.specs.Faults.{Gives};
 ghost use Rattle.typed.specs.Reading.{content_of};
 ghost use Rattle.typed.specs.Without.{omitted_of, without};
@@ -26,7 +27,7 @@ use crate::read::read_map;
 use crate::without::read_without;
 use crate::write::write_fields;
 use json_texts::TextWriter;
-use pathmap::{PathMap, put_under};
+use pathmap::{Part, PathMap, put_under};
 use schema::Schema;
 use serde_json::Value;
 use std::alloc::{AllocError, Global};
@@ -131,6 +132,30 @@ impl Tree {
     {
         Ok(Tree {
             map: put_under(&other.map, alloc, self.map)?,
+        })
+    }
+
+    /// What stands in a part of it, by the field of this name; nothing is copied.
+    pub fn part(self, name: &str, part: Part) -> Tree
+        ensures { result ≡ part_of part name.now self }
+    {
+        Tree {
+            map: self.map.part(name, part),
+        }
+    }
+
+    /// What stands in a part of it, beside what the other has outside of that part; nothing else is copied.
+    pub fn part_beside(
+        self,
+        alloc: Global,
+        name: &str,
+        part: Part,
+        other: &Tree,
+    ) -> Result<Tree, AllocError>
+        ensures { IfOk result (λ t. t ≡ over (part_of part name.now self) (rest_of part name.now other.now)) }
+    {
+        Ok(Tree {
+            map: self.map.part_beside(alloc, name, part, &other.map)?,
         })
     }
 
