@@ -245,8 +245,8 @@ one that creates
 carol= {} => nothing as before
 anew alice {"image":"a"} => {"spec":{"image":"a"}} alice/Apply .spec.image"#;
 
-/// Run with each allocation refused in turn.
+/// Whichever allocation of an apply is refused, what stands stays, and the apply is answered when it is called again.
 #[test]
-fn memory_refused_in_apply(rt: HostRuntime) -> Result<(), Fail> {
+fn an_apply_that_is_refused_memory(rt: HostRuntime) -> Result<(), Fail> {
     play_each(rt.alloc(), ANEW)
 }

@@ -5,11 +5,11 @@
 //! | question | answer |
 //! |---|---|
 //! | `put NAME REVISION TEXT` | the revision of the object that it replaced, or 0 |
-//! | `anew NAME REVISION TEXT` | a put between marks: whether it is done, or else leaves all as it was |
+//! | `anew NAME REVISION TEXT` | a put between marks; out of memory it must leave all as it was, and is made again |
 //! | `remove NAME` | the revision of the object that it removed, or 0 |
 //! | `revision NAME` | the revision of the object, or 0 |
 //! | `replace` | now just two objects are kept, of texts `y` and `z` |
-//! | `replaced NAME` | a replace between marks, by two objects of text `x`: whether it is done whole, or leaves all as it was |
+//! | `replaced NAME` | a replace between marks, by two objects of text `x`; out of memory it must leave all as it was, and is made again |
 //! | `under INDEX KEY` | how many objects stand under the key |
 //! | `keys INDEX` | how many keys the index has |
 //! | `twice` | whether two indexes with one name are refused |
@@ -146,7 +146,10 @@ fn answer_of_object(
     match call {
         "remove" => told(alloc, remove(indexer, key)),
         "revision" => told(alloc, revision(indexer, key)),
-        "replaced" => told(alloc, is_replaced_or_as_before(alloc, indexer, key)?),
+        "replaced" => {
+            replace_anew(alloc, indexer, key)?;
+            done(alloc)
+        }
         _ => Err("no such call".into()),
     }
 }
@@ -181,37 +184,47 @@ fn seen(
     )
 }
 
-/// A put between marks; whether memory was refused.
-fn is_put_refused(
+fn marked_put(
     alloc: Global,
     indexer: &mut Indexer<By>,
     object: Rc<Object>,
-) -> Result<bool, AllocError> {
+) -> Result<Result<u64, AllocError>, AllocError> {
     mark(alloc)?;
-    let is_refused = put(indexer, object).is_err();
+    let was = put(indexer, object);
     mark(alloc)?;
-    Ok(is_refused)
+    Ok(was)
 }
 
-/// A put; out of memory, the objects and both indexes are as before, and it is done when called again.
-fn put_anew(
+/// The test fails where something else is seen than before.
+fn expect_unchanged(
     alloc: Global,
-    indexer: &mut Indexer<By>,
-    object: Rc<Object>,
-) -> Result<bool, AllocError> {
+    indexer: &Indexer<By>,
+    key: &ObjectKey,
+    before: (u64, Option<usize>, Option<usize>, Option<usize>),
+) -> Result<(), Fail> {
+    let after = seen(indexer, key);
+    if after == before {
+        return Ok(());
+    }
+    Err(Fail::new(format!(in alloc; "{before:?} became {after:?}")?))
+}
+
+/// A put between marks; out of memory, all is seen as before, and the put is made again.
+fn put_anew(alloc: Global, indexer: &mut Indexer<By>, object: Rc<Object>) -> Result<u64, Fail> {
     let place = ObjectKey::of(&object)?;
     let again = object.clone()?;
     let before = seen(indexer, &place);
-    if !is_put_refused(alloc, indexer, object)? {
-        return Ok(true);
+    match marked_put(alloc, indexer, object)? {
+        Ok(was) => Ok(was),
+        Err(_) => {
+            expect_unchanged(alloc, indexer, &place, before)?;
+            Ok(put(indexer, again)?)
+        }
     }
-    let is_as_before = before == seen(indexer, &place);
-    put(indexer, again)?;
-    Ok(is_as_before)
 }
 
-/// A replace between marks, by two objects of text `x`; whether memory was refused.
-fn is_replace_refused(alloc: Global, indexer: &mut Indexer<By>) -> Result<bool, AllocError> {
+/// Whether memory was refused.
+fn is_marked_replace_refused(alloc: Global, indexer: &mut Indexer<By>) -> Result<bool, AllocError> {
     let objects = two_objects(alloc, "x", "x")?;
     mark(alloc)?;
     let is_refused = indexer.replace(objects).is_err();
@@ -219,17 +232,14 @@ fn is_replace_refused(alloc: Global, indexer: &mut Indexer<By>) -> Result<bool, 
     Ok(is_refused)
 }
 
-/// Whether a replace of one object at revision 4, with text `y`, is done whole or changes nothing.
-fn is_replaced_or_as_before(
-    alloc: Global,
-    indexer: &mut Indexer<By>,
-    key: &ObjectKey,
-) -> Result<bool, AllocError> {
-    let wanted = match is_replace_refused(alloc, indexer)? {
-        true => (4, Some(1), None, Some(1)),
-        false => (0, Some(2), Some(2), None),
-    };
-    Ok(seen(indexer, key) == wanted)
+/// A replace between marks; out of memory, all is seen as before, and the replace is made again.
+fn replace_anew(alloc: Global, indexer: &mut Indexer<By>, key: &ObjectKey) -> Result<(), Fail> {
+    let before = seen(indexer, key);
+    if is_marked_replace_refused(alloc, indexer)? {
+        expect_unchanged(alloc, indexer, key, before)?;
+        drop(indexer.replace(two_objects(alloc, "x", "x")?)?);
+    }
+    Ok(())
 }
 
 /// Plays examples with blank lines between them, each on an indexer without objects.
@@ -280,18 +290,18 @@ fn examples(rt: HostRuntime) -> Result<(), Fail> {
     play_each(rt.alloc(), EXAMPLES)
 }
 
-const PUT_ANEW: &str = r#"a_refused_put_changes_nothing
-anew a 2 x => true
+const PUT_ANEW: &str = r#"a_put_that_is_refused_memory
+anew a 2 x => 0
 revision a => 2
 under namespace default => Some(1)
 under text x => Some(1)
 under text y => None
-anew a 4 y => true
+anew a 4 y => 2
 revision a => 4
 under namespace default => Some(1)
 under text x => None
 under text y => Some(1)
-anew b 5 x => true
+anew b 5 x => 0
 revision b => 5
 under namespace default => Some(2)
 under text x => Some(1)
@@ -300,16 +310,21 @@ under text y => Some(1)"#;
 /// Whichever allocation of a put is refused, the objects and both indexes are as they were, and the put is done when
 /// it is called again.
 #[test]
-fn a_refused_put_changes_nothing(rt: HostRuntime) -> Result<(), Fail> {
+fn a_put_that_is_refused_memory(rt: HostRuntime) -> Result<(), Fail> {
     play_each(rt.alloc(), PUT_ANEW)
 }
 
-const REPLACED: &str = r#"a_refused_replace_changes_nothing
+const REPLACED: &str = r#"a_replace_that_is_refused_memory
 put a 4 y => 0
-replaced a => true"#;
+replaced a => done
+revision a => 0
+revision c => 5
+under namespace default => Some(2)
+under text x => Some(2)
+under text y => None"#;
 
 /// Whichever allocation of a replace is refused, the objects and both indexes are as they were.
 #[test]
-fn a_refused_replace_changes_nothing(rt: HostRuntime) -> Result<(), Fail> {
+fn a_replace_that_is_refused_memory(rt: HostRuntime) -> Result<(), Fail> {
     play_each(rt.alloc(), REPLACED)
 }

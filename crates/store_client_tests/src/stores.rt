@@ -6,8 +6,8 @@
 //! | question | answer |
 //! |---|---|
 //! | `write KEY BODY`, `erase KEY`, `compact REVISION` | a change is made |
-//! | `write-anew KEY BODY`, `compact-anew REVISION` | a change between marks: whether it is done, or else leaves all as it was |
-//! | `get KEY`, `before KEY REVISION` | what stands under the key, or stood before the revision |
+//! | `write-anew KEY BODY`, `compact-anew REVISION` | the same between marks; where it failed it must leave all as it was, and is made again |
+//! | `get KEY`, `before KEY REVISION` | what stands under the key, or stood before the revision, which is one that has come and isn't compacted |
 //! | `list REVISION`, `changes REVISION` | how many objects stand at it; how many changes came in `default` after it |
 //! | `kept REVISION MAX` | how many of the first objects there have a text of one byte, at most so many; how many texts were looked at |
 //! | `numbers`, `seen` | the current and the compacted revision; all that there is to be seen |
@@ -27,23 +27,25 @@ fn write(store: &mut Store, key: &Key, body: &str) -> Result<u64, WriteFault> {
     store.write(key, Some(body))
 }
 
-fn erase(store: &mut Store, key: &Key) -> Result<(), WriteFault> {
+/// Whether there was an object; then it is erased.
+fn erase(store: &mut Store, key: &Key) -> Result<bool, WriteFault> {
     let found = store.get(key)?;
-    if found.is_some() {
-        store.write(key, None)?;
+    if found.is_none() {
+        return Ok(false);
     }
-    Ok(())
+    store.write(key, None)?;
+    Ok(true)
 }
 
 fn get(store: &mut Store, key: &Key) -> Result<Option<Object>, Fault> {
     store.get(key)
 }
 
-fn before(store: &mut Store, key: &Key, revision: u64) -> Result<Option<Object>, Fault> {
+fn before(store: &mut Store, key: &Key, revision: u64) -> Result<Option<Object>, Fail> {
     if store.compacted() < revision && revision <= store.current() {
-        store.before(key, revision)
+        Ok(store.before(key, revision)?)
     } else {
-        Ok(None)
+        Err("no such revision".into())
     }
 }
 
@@ -122,7 +124,9 @@ fn answer_of_key(
         "write" => told(alloc, write(store, key, word)),
         "write-anew" => told(alloc, write_anew(store, alloc, key, word)?),
         "erase" => {
-            erase(store, key)?;
+            if !erase(store, key)? {
+                return Err("nothing to erase".into());
+            }
             done(alloc)
         }
         "get" => told(alloc, get(store, key)?),
@@ -152,49 +156,70 @@ fn seen_of_store(store: &mut Store, alloc: Global) -> Result<String, Fail> {
     Ok(text)
 }
 
-fn is_write_refused(
+fn marked_write(
     store: &mut Store,
     alloc: Global,
     key: &Key,
     body: &str,
-) -> Result<bool, AllocError> {
+) -> Result<Result<u64, WriteFault>, AllocError> {
     mark(alloc)?;
-    let is_refused = write(store, key, body).is_err();
+    let written = write(store, key, body);
     mark(alloc)?;
-    Ok(is_refused)
+    Ok(written)
 }
 
-/// A write; out of memory, the store shows what it showed before, and the write is done when it is called again.
-fn write_anew(store: &mut Store, alloc: Global, key: &Key, body: &str) -> Result<bool, Fail> {
-    let before = seen_of_store(store, alloc)?;
-    if !is_write_refused(store, alloc, key, body)? {
-        return Ok(true);
-    }
+/// The test fails, and shows what is seen, where that isn't what was seen before.
+fn expect_unchanged(store: &mut Store, alloc: Global, before: &str) -> Result<(), Fail> {
     let after = seen_of_store(store, alloc)?;
-    write(store, key, body)?;
-    Ok(before.as_str() == after.as_str())
+    if after.as_str() == before {
+        Ok(())
+    } else {
+        Err(Fail::new(after))
+    }
 }
 
-fn is_compaction_refused(
+/// A write between marks; where the table failed, all is seen as before, and the write is made again.
+fn write_anew(
+    store: &mut Store,
+    alloc: Global,
+    key: &Key,
+    body: &str,
+) -> Result<Result<u64, WriteFault>, Fail> {
+    let before = seen_of_store(store, alloc)?;
+    match marked_write(store, alloc, key, body)? {
+        Err(WriteFault::Failed(_)) => {
+            expect_unchanged(store, alloc, before.as_str())?;
+            Ok(write(store, key, body))
+        }
+        written => Ok(written),
+    }
+}
+
+fn marked_compaction(
     store: &mut Store,
     alloc: Global,
     revision: u64,
-) -> Result<bool, AllocError> {
+) -> Result<Result<(), CompactFault>, AllocError> {
     mark(alloc)?;
-    let is_refused = compact(store, revision).is_err();
+    let compacted = compact(store, revision);
     mark(alloc)?;
-    Ok(is_refused)
+    Ok(compacted)
 }
 
-/// A compaction; out of memory, the store shows what it showed before, and it is done when it is called again.
-fn compact_anew(store: &mut Store, alloc: Global, revision: u64) -> Result<bool, Fail> {
+/// A compaction between marks; where the table failed, all is seen as before, and the compaction is made again.
+fn compact_anew(
+    store: &mut Store,
+    alloc: Global,
+    revision: u64,
+) -> Result<Result<(), CompactFault>, Fail> {
     let before = seen_of_store(store, alloc)?;
-    if !is_compaction_refused(store, alloc, revision)? {
-        return Ok(true);
+    match marked_compaction(store, alloc, revision)? {
+        Err(CompactFault::Failed(_)) => {
+            expect_unchanged(store, alloc, before.as_str())?;
+            Ok(compact(store, revision))
+        }
+        compacted => Ok(compacted),
     }
-    let after = seen_of_store(store, alloc)?;
-    compact(store, revision)?;
-    Ok(before.as_str() == after.as_str())
 }
 
 /// Plays an example on a store that begins at this revision. The store is not dropped, and no other function holds one.
@@ -265,7 +290,7 @@ write a a3 => Ok(3)
 write other/a o4 => Ok(4)
 erase b => done
 write a a6 => Ok(6)
-write-anew b b7 => true
+write-anew b b7 => Ok(7)
 seen => 1 to 7;; default/a a6 6 default/b b7 7 other/a o4 4; default/b b2 2 default/a a3 3 other/a o4 4 default/b gone 5 default/a a6 6 default/b b7 7"#;
 
 #[test]
@@ -279,7 +304,7 @@ write a a3 => Ok(3)
 write other/a o4 => Ok(4)
 erase b => done
 write a a6 => Ok(6)
-compact-anew 5 => true
+compact-anew 5 => Ok(())
 seen => 5 to 6; default/a a3 3 other/a o4 4; default/a a6 6 other/a o4 4; default/a a6 6"#;
 
 #[test]

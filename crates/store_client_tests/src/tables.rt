@@ -6,7 +6,7 @@
 //! | question | answer |
 //! |---|---|
 //! | `add KEY BODY`, `remove KEY`, `prune REVISION` | a change is made |
-//! | `add-anew KEY BODY`, `prune-anew REVISION` | a change between marks: whether it is done, or else leaves all as it was |
+//! | `add-anew KEY BODY`, `prune-anew REVISION` | the same between marks; where it failed it must leave all as it was, and is made again |
 //! | `stood KEY REVISION` | what stood under the key |
 //! | `page NAMESPACE REVISION MAX`, `page-after KEY REVISION MAX` | a page, of a namespace or of all (`-`), or of all after a key |
 //! | `changes NAMESPACE FROM TO MAX` | the changes of a namespace or of all |
@@ -40,21 +40,25 @@ pub fn table_at(alloc: Global, revision: u64) -> Result<Table, Fault> {
     }
 }
 
-fn add(table: &mut Table, key: &Key, body: &str) -> Result<(), Fault> {
+/// Whether there was a revision left; then it is put at the next one.
+fn add(table: &mut Table, key: &Key, body: &str) -> Result<bool, Fault> {
     let current = table.marks().current;
-    if current < LAST_REVISION {
-        table.put(current + 1, key, Some(body))?;
+    if current >= LAST_REVISION {
+        return Ok(false);
     }
-    Ok(())
+    table.put(current + 1, key, Some(body))?;
+    Ok(true)
 }
 
-fn remove(table: &mut Table, key: &Key) -> Result<(), Fault> {
+/// Whether there was an object, and a revision left; then its deletion is put at that.
+fn remove(table: &mut Table, key: &Key) -> Result<bool, Fault> {
     let current = table.marks().current;
     let found = table.latest(key)?;
-    if current < LAST_REVISION && found.is_some() {
-        table.put(current + 1, key, None)?;
+    if current >= LAST_REVISION || found.is_none() {
+        return Ok(false);
     }
-    Ok(())
+    table.put(current + 1, key, None)?;
+    Ok(true)
 }
 
 fn marks(table: &Table) -> (u64, u64) {
@@ -112,13 +116,17 @@ fn answer_of_key(
     key: &Key,
     word: &str,
 ) -> Result<String, Fail> {
-    match call {
+    let is_done = match call {
         "add" => add(table, key, word)?,
         "remove" => remove(table, key)?,
-        "stood" => return told(alloc, stood(table, key, number(word)?)?),
-        _ => return told(alloc, put_anew(table, alloc, key, word)?),
+        "add-anew" => put_anew(table, alloc, key, word)?,
+        _ => return told(alloc, stood(table, key, number(word)?)?),
+    };
+    if is_done {
+        done(alloc)
+    } else {
+        Err("no change was made".into())
     }
-    done(alloc)
 }
 
 /// The namespace that a word names; `-` is all.
@@ -171,7 +179,10 @@ fn answer_of_table(
             prune(table, number(word)?)?;
             done(alloc)
         }
-        "prune-anew" => told(alloc, prune_anew(table, alloc, number(word)?)?),
+        "prune-anew" => {
+            prune_anew(table, alloc, number(word)?)?;
+            done(alloc)
+        }
         _ => Err("no such call".into()),
     }
 }
@@ -242,45 +253,61 @@ fn seen_of_table(table: &mut Table, alloc: Global) -> Result<String, Fault> {
     Ok(text)
 }
 
-fn is_put_refused(
+fn marked_put(
     table: &mut Table,
     alloc: Global,
     key: &Key,
     body: &str,
-) -> Result<bool, AllocError> {
+) -> Result<Result<bool, Fault>, AllocError> {
     mark(alloc)?;
-    let is_refused = add(table, key, body).is_err();
+    let is_put = add(table, key, body);
     mark(alloc)?;
-    Ok(is_refused)
+    Ok(is_put)
 }
 
-/// A put; out of memory, the table shows what it showed before, and the put is done when it is called again.
-fn put_anew(table: &mut Table, alloc: Global, key: &Key, body: &str) -> Result<bool, Fault> {
-    let before = seen_of_table(table, alloc)?;
-    if !is_put_refused(table, alloc, key, body)? {
-        return Ok(true);
-    }
+/// The test fails, and shows what is seen, where that isn't what was seen before.
+fn expect_unchanged(table: &mut Table, alloc: Global, before: &str) -> Result<(), Fail> {
     let after = seen_of_table(table, alloc)?;
-    add(table, key, body)?;
-    Ok(before.as_str() == after.as_str())
-}
-
-fn is_prune_refused(table: &mut Table, alloc: Global, revision: u64) -> Result<bool, AllocError> {
-    mark(alloc)?;
-    let is_refused = prune(table, revision).is_err();
-    mark(alloc)?;
-    Ok(is_refused)
-}
-
-/// A prune; out of memory, the table shows what it showed before, and the prune is done when it is called again.
-fn prune_anew(table: &mut Table, alloc: Global, revision: u64) -> Result<bool, Fault> {
-    let before = seen_of_table(table, alloc)?;
-    if !is_prune_refused(table, alloc, revision)? {
-        return Ok(true);
+    if after.as_str() == before {
+        Ok(())
+    } else {
+        Err(Fail::new(after))
     }
-    let after = seen_of_table(table, alloc)?;
-    prune(table, revision)?;
-    Ok(before.as_str() == after.as_str())
+}
+
+/// A put between marks; where the table failed, all is seen as before, and the put is made again.
+fn put_anew(table: &mut Table, alloc: Global, key: &Key, body: &str) -> Result<bool, Fail> {
+    let before = seen_of_table(table, alloc)?;
+    match marked_put(table, alloc, key, body)? {
+        Ok(is_put) => Ok(is_put),
+        Err(_) => {
+            expect_unchanged(table, alloc, before.as_str())?;
+            Ok(add(table, key, body)?)
+        }
+    }
+}
+
+fn marked_prune(
+    table: &mut Table,
+    alloc: Global,
+    revision: u64,
+) -> Result<Result<(), Fault>, AllocError> {
+    mark(alloc)?;
+    let pruned = prune(table, revision);
+    mark(alloc)?;
+    Ok(pruned)
+}
+
+/// A prune between marks; where the table failed, all is seen as before, and the prune is made again.
+fn prune_anew(table: &mut Table, alloc: Global, revision: u64) -> Result<(), Fail> {
+    let before = seen_of_table(table, alloc)?;
+    match marked_prune(table, alloc, revision)? {
+        Ok(()) => Ok(()),
+        Err(_) => {
+            expect_unchanged(table, alloc, before.as_str())?;
+            Ok(prune(table, revision)?)
+        }
+    }
 }
 
 /// The revision at which an example's table or store begins.
@@ -367,7 +394,7 @@ add a a3 => done
 add other/a o4 => done
 remove b => done
 add a a6 => done
-add-anew b b7 => true
+add-anew b b7 => done
 seen => 1 to 7 in 5;; default/a a6 6 default/b b7 7 other/a o4 4; default/b b2 2 default/a a3 3 other/a o4 4 default/b gone 5 default/a a6 6 default/b b7 7"#;
 
 #[test]
@@ -381,7 +408,7 @@ add a a3 => done
 add other/a o4 => done
 remove b => done
 add a a6 => done
-prune-anew 5 => true
+prune-anew 5 => done
 seen => 5 to 6 in 3; default/a a3 3 other/a o4 4; default/a a6 6 other/a o4 4; default/a a6 6"#;
 
 #[test]

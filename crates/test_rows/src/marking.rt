@@ -2,7 +2,7 @@
 
 use std::alloc::{AllocError, Global};
 
-/// Where the calls that `bench/failing_memory.py` refuses memory begin and end.
+/// Where the calls that `tools/failing_memory.py` refuses memory begin and end.
 pub fn mark(alloc: Global) -> Result<(), AllocError> {
     Vec::<u8>::with_capacity(alloc, 1_000_003)?;
     Ok(())

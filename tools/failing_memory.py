@@ -1,35 +1,24 @@
 #!/usr/bin/env python3
 """Refuses each allocation of a crate's tests, or of a program, in turn, and says what each run then did.
 
-Usage: bench/failing_memory.py [--all] [--stay] [--jobs N] CRATE [NAME..]
-       bench/failing_memory.py [--all] [--stay] [--jobs N] PROGRAM -- [ARGUMENT..]
+Usage: tools/failing_memory.py [--stay] [--jobs N] CRATE [NAME..]
+       tools/failing_memory.py [--all] [--stay] [--jobs N] PROGRAM -- [ARGUMENT..]
 
-CRATE     a crate's name, whose tests `rt test` built as crates/CRATE/out/CRATE_tests, or the path of such a program
+CRATE     a crate's name, whose tests `rt test` or the gate built as crates/CRATE/out/CRATE_tests, or the path of such a program
 NAME      only the tests whose full name contains one of these
 PROGRAM   a crate's name, whose program `rt run` built as crates/CRATE/out/CRATE, or the path of a program (no shell script)
 ARGUMENT  what the program is run with, here where this script is run
 
-Each test, or the program, runs alone once with ample memory, and once for each allocation that it then made, with that one
-refused. A program's allocations all count, from the C library's start on. With --stay each refusal lasts: every later
-allocation is refused too, up to the end of the marked part (tests) or of the run (programs).
+TESTS. A test marks the calls that it is about by an allocation of exactly 1,000,003 bytes before and after them
+(`test_rows::mark`). Each test runs alone, with ample memory. At each allocation of a marked part a copy of the process goes on
+with that one refused, and with --stay with each later one too, up to the end of the part. The test must pass with ample memory
+and in each copy, and it must have a marked part, or that is a finding, told with the number of the allocation, its part, how the
+copy ended and what it said. One line is told for each test.
 
-TESTS. A test marks the calls that it is about by an allocation of exactly 1,000,003 bytes before and after them:
-
-    fn mark(alloc: Global) -> Result<(), AllocError> {
-        Vec::<u8>::with_capacity(alloc, 1_000_003)?;
-        Ok(())
-    }
-
-Marks are never refused. What a marked call was refused must leave the test passing: it looks that the inputs are as they
-were, calls again and compares. What its set-up was refused may end it by the error it returns, never by a false assertion.
-
-  held       refused in a marked part, and the test passed
-  passed     refused outside, and the test passed
-  ended      refused outside, and the test returned an error
-  FINDING    anything else: the number of the allocation, its part, how the test ended and what it said
-
-PROGRAMS. The runs are counted by exit status, standard error, and how the standard output compares with that of the run with
-ample memory: the whole of it, or a front (its first bytes, or none). The numbers of the allocations stand behind.
+PROGRAMS. The program runs once with ample memory, and once for each allocation that it then made, from the C library's start on,
+with that one refused, and with --stay each later one too. The runs are counted by exit status, standard error, and how the
+standard output compares with that of the run with ample memory: the whole of it, or a front (its first bytes, or none). The
+numbers of the allocations stand behind.
 
   FINDING    the output is no front; or it is less than the whole, and the status is 0 or the run ended just as that with
              ample memory; or a signal ended the program; or it didn't end; or nothing was refused, since it made fewer
@@ -48,83 +37,67 @@ import sys
 import tempfile
 
 TOP = os.path.dirname(os.path.dirname(os.path.abspath(__file__)))
+HERE = os.path.dirname(os.path.abspath(__file__))
 SECONDS = 60
+MOST_TOLD = 10
 
 
 class Run:
     """One run of a program: how it ended, what it wrote, and what the shim told."""
 
-    def __init__(self, shim, command, at=0, stays=False, is_marked=False, where=None, error=subprocess.PIPE):
-        with tempfile.TemporaryFile() as told, tempfile.TemporaryDirectory() as room:
-            asked = {"AT": at, "STAY": int(stays), "MARKED": int(is_marked), "TOLD": told.fileno()}
-            env = {f"FAILING_MEMORY_{name}": str(value) for name, value in asked.items()}
-            env.update({"LD_PRELOAD": shim, "PATH": "/usr/bin:/bin", "HOME": room})
-            how = {"stdin": subprocess.DEVNULL, "stdout": subprocess.PIPE, "stderr": error, "timeout": SECONDS}
+    def __init__(self, shim, command, where, timeout=None, **asked):
+        with tempfile.TemporaryFile() as told:
+            asked["told"] = told.fileno()
+            env = {f"FAILING_MEMORY_{name.upper()}": str(int(value)) for name, value in asked.items()}
+            env.update({"LD_PRELOAD": shim, "PATH": "/usr/bin:/bin", "HOME": where})
+            how = {"stdin": subprocess.DEVNULL, "stdout": subprocess.PIPE, "stderr": subprocess.PIPE, "timeout": timeout}
             try:
-                ran = subprocess.run(command, env=env, cwd=where or room, pass_fds=[told.fileno()], **how)
+                ran = subprocess.run(command, env=env, cwd=where, pass_fds=[told.fileno()], **how)
                 self.status, self.output, self.error = ran.returncode, ran.stdout, ran.stderr or b""
             except subprocess.TimeoutExpired as late:
                 self.status, self.output, self.error = None, late.stdout or b"", late.stderr or b""
             told.seek(0)
-            self.told = [(word, int(a), int(b)) for word, a, b in (it.split() for it in told.read().decode().splitlines())]
-        self.refused = [(number, part) for word, number, part in self.told if word == "refused"]
-        self.calls = [number for word, number, _ in self.told if word == "calls"]
+            lines = [line.split() for line in told.read().decode().splitlines()]
+        self.told = [(word, *map(int, numbers)) for word, *numbers in lines]
+        self.is_refused = any(word == "refused" for word, *_ in self.told)
+        self.calls = [number for word, number, *_ in self.told if word == "calls"]
 
 
-class TestRun(Run):
-    """One run of one test, in a folder of its own."""
-
-    def __init__(self, shim, program, test, at=0, stays=False):
-        super().__init__(shim, [program, test], at, stays, is_marked=True, error=subprocess.STDOUT)
-        self.said = " ".join(self.output.decode(errors="replace").split())
-        if self.status is None:
-            self.said += f" (did not end in {SECONDS} seconds)"
-        self.passed = self.status == 0 and "test result: ok" in self.said
-
-    def judged(self):
-        number, part = self.refused[0]
-        if self.passed:
-            return "held" if part else "passed"
-        return "ended" if not part and self.status == 101 else "FINDING"
-
-
-def parts_of(run):
-    """The marked parts of a run with ample memory, each as the numbers of its first and last allocation."""
-    begins = [number for word, number, _ in run.told if word == "begins"]
-    ends = [number for word, number, _ in run.told if word == "ends"]
-    return [(first + 1, last) for first, last in zip(begins, ends)]
-
-
-def sweep_test(shim, program, test, options):
-    """Refuses each allocation of the test in turn; returns whether all is well."""
-    ample = TestRun(shim, program, test)
-    if not ample.passed or not ample.calls:
-        print(f"{test}: FINDING: with ample memory it ends with {ample.status}: {ample.said[-300:]}")
-        return False
-    parts = parts_of(ample)
-    numbers = range(1, ample.calls[0] + 1)
-    if options.stay:
-        numbers = [number for first, last in parts for number in range(first, last + 1)]
-    counts = collections.Counter()
-    with concurrent.futures.ThreadPoolExecutor(options.jobs) as pool:
-        runs = pool.map(lambda it: TestRun(shim, program, test, it, options.stay), numbers)
-        for number, run in zip(numbers, runs):
-            what = run.judged() if run.refused else "FINDING"
-            counts[what] += 1
-            if what == "FINDING" or options.all:
-                part = run.refused[0][1] if run.refused else "never refused"
-                print(f"  {test}: allocation {number} (part {part}): {what}: status {run.status}: {run.said[-300:]}")
-    inside = sum(last - first + 1 for first, last in parts)
-    shown = ", ".join(f"{counts[it]} {it}" for it in ("held", "passed", "ended", "FINDING") if counts[it])
-    marked = f"{inside} of them in {len(parts)} marked part{'s' * (len(parts) != 1)}" if parts else "no part is marked"
-    print(f"{test}: {ample.calls[0]} allocations, {marked}: {shown or 'none refused'}", flush=True)
-    return not counts["FINDING"]
+def shown(text):
+    return " ".join(text.decode(errors="replace").split())[-300:]
 
 
 def ending_of(status):
     if status is None:
         return f"no end in {SECONDS} seconds"
     return f"signal {-status}" if status < 0 else f"status {status}"
+
+
+def sweep_test(shim, program, test, options):
+    """Refuses each allocation of a test's marked parts in turn; returns whether all is well."""
+    with tempfile.TemporaryDirectory() as room:
+        run = Run(shim, [program, test], room, each=True, stay=options.stay, jobs=options.jobs)
+        copies = [(number, part, os.waitstatus_to_exitcode(status)) for word, number, part, status in run.told if word == "copy"]
+        said = {}
+        for number, _, status in copies:
+            if status != 0:
+                with open(os.path.join(room, str(number)), "rb") as it:
+                    said[number] = shown(it.read())
+    findings = [f"allocation {number} (part {part}): {ending_of(status)}: {said[number]}" for number, part, status in copies if status]
+    if run.status != 0 or b"test result: ok" not in run.output or not run.calls:
+        findings.insert(0, f"with ample memory: {ending_of(run.status)}: {shown(run.output + run.error)}")
+    elif not copies:
+        findings.insert(0, "no allocation is in a marked part")
+    for finding in findings[:MOST_TOLD]:
+        print(f"  FINDING: {test}: {finding}")
+    if len(findings) > MOST_TOLD:
+        print(f"  FINDING: {test}: {len(findings) - MOST_TOLD} more")
+    parts = len({part for _, part, _ in copies})
+    held = sum(status == 0 for _, _, status in copies)
+    lasting = ", each for the rest of its part" if options.stay else ""
+    name = os.path.basename(program).removesuffix("_tests")
+    print(f"{name} {test}: {held} of {len(copies)} refusals in {parts} part{'s' * (parts != 1)} held{lasting}", flush=True)
+    return not findings
 
 
 def output_of(run, whole):
@@ -139,10 +112,10 @@ def output_of(run, whole):
 
 def outcome_of(run, whole):
     """What a run of a program came to: its ending, its error, its output, and whether that is a finding."""
-    error = " ".join(run.error.decode(errors="replace").split())[-300:]
+    error = shown(run.error)
     output, is_finding = output_of(run, whole)
-    is_broken = run.status is None or run.status < 0 or not run.refused
-    if not run.refused:
+    is_broken = run.status is None or run.status < 0 or not run.is_refused
+    if not run.is_refused:
         error += " (nothing was refused)"
     return ending_of(run.status), error, output, is_finding or is_broken
 
@@ -155,23 +128,23 @@ def ranges_of(numbers):
             ranges[-1][1] = number
         else:
             ranges.append([number, number])
-    shown = [str(first) if first == last else f"{first}-{last}" for first, last in ranges[:6]]
-    return ", ".join(shown + [".."] * (len(ranges) > 6))
+    told = [str(first) if first == last else f"{first}-{last}" for first, last in ranges[:6]]
+    return ", ".join(told + [".."] * (len(ranges) > 6))
 
 
 def sweep_program(shim, command, options):
     """Refuses each allocation of the program in turn; returns whether all is well."""
     where = os.getcwd()
     name = " ".join([os.path.basename(command[0])] + command[1:])
-    whole = Run(shim, command, where=where)
+    whole = Run(shim, command, where, SECONDS)
     if not whole.calls:
         print(f"{name}: FINDING: with ample memory: {ending_of(whole.status)}, and the end was not told")
         return False
     outcomes = collections.defaultdict(list)
     numbers = range(1, whole.calls[0] + 1)
     with concurrent.futures.ThreadPoolExecutor(options.jobs) as pool:
-        told = pool.map(lambda it: outcome_of(Run(shim, command, it, options.stay, where=where), whole), numbers)
-        for number, outcome in zip(numbers, told):
+        ran = lambda at: outcome_of(Run(shim, command, where, SECONDS, at=at, stay=options.stay), whole)
+        for number, outcome in zip(numbers, pool.map(ran, numbers)):
             outcomes[outcome].append(number)
             if options.all:
                 print(f"  {name}: allocation {number}: {', '.join(outcome[:3])}", flush=True)
@@ -194,7 +167,7 @@ def read_options():
         place = given.index("--")
         given, arguments = given[:place], given[place + 1:]
     reads = argparse.ArgumentParser(description=__doc__, formatter_class=argparse.RawDescriptionHelpFormatter)
-    reads.add_argument("--all", action="store_true", help="tell each run")
+    reads.add_argument("--all", action="store_true", help="tell each run of a program")
     reads.add_argument("--stay", action="store_true", help="let each refusal last to the end of the part or run")
     reads.add_argument("--jobs", type=int, default=2)
     reads.add_argument("program", metavar="CRATE|PROGRAM")
@@ -233,8 +206,7 @@ def main():
     resource.setrlimit(resource.RLIMIT_CORE, (0, 0))
     with tempfile.TemporaryDirectory() as room:
         shim = f"{room}/failing_memory.so"
-        source = os.path.join(TOP, "bench", "failing_memory.c")
-        subprocess.run(["cc", "-O2", "-shared", "-fPIC", "-o", shim, source], check=True)
+        subprocess.run(["cc", "-O2", "-shared", "-fPIC", "-o", shim, f"{HERE}/failing_memory.c"], check=True)
         if is_test:
             is_well = sweep_tests(shim, program, options)
         else:
