@@ -72,3 +72,23 @@ fn lists_cut_at_every_byte(rt: HostRuntime) -> Result<(), Fail> {
         fronts ask;page 6 - w1@2;ask;status 410 Gone;ask <- page 7 - w2@7 => 0: 6 1=1 /widgets?limit=2 | 306: 7 1=1 -w1 +w2 /widgets?watch=true&resourceVersion=7&allowWatchBookmarks=true\n";
     expect_rows(rt.alloc(), "", rows)
 }
+
+/// Out of memory, the list begins again; until its last page is whole what stood before it stays.
+#[test]
+fn a_page_that_is_refused_memory_is_given_up(rt: HostRuntime) -> Result<(), Fail> {
+    let rows = "ask => /widgets?limit=2\n\
+        marked - 0=0: page 6 6.default.w2 w1@2 w2@3 <- page 6 6.default.w2 w1@2 w2@3 => - 0=0\n\
+        ask => /widgets?limit=2&continue=6.default.w2\n\
+        marked - 0=0: page 6 6.default.w4 w3@4 w4@5 <- page 6 6.default.w2 w1@2 w2@3;ask;page 6 6.default.w4 w3@4 w4@5 => - 0=0\n\
+        ask => /widgets?limit=2&continue=6.default.w4\n\
+        marked - 0=0: page 6 - w5@6 <- page 6 6.default.w2 w1@2 w2@3;ask;page 6 6.default.w4 w3@4 w4@5;ask;page 6 - w5@6 => 6 5=5 +w1 +w2 +w3 +w4 +w5\n\
+        ask => /widgets?watch=true&resourceVersion=6&allowWatchBookmarks=true\n\
+        status 410 Gone => 6 5=5\n\
+        ask => /widgets?limit=2\n\
+        marked 6 5=5: page 8 8.default.w2 w1@2 w2@3 <- page 8 8.default.w2 w1@2 w2@3 => 6 5=5\n\
+        ask => /widgets?limit=2&continue=8.default.w2\n\
+        marked 6 5=5: page 8 8.default.w4 w3@4 w4@5 <- page 8 8.default.w2 w1@2 w2@3;ask;page 8 8.default.w4 w3@4 w4@5 => 6 5=5\n\
+        ask => /widgets?limit=2&continue=8.default.w4\n\
+        marked 6 5=5: page 8 - w5@8 <- page 8 8.default.w2 w1@2 w2@3;ask;page 8 8.default.w4 w3@4 w4@5;ask;page 8 - w5@8 => 8 5=5 *w5\n";
+    expect_rows(rt.alloc(), "", rows)
+}

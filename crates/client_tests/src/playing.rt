@@ -72,8 +72,8 @@ impl Play {
 
     /// `ask`: the request that is due. `counts`, `apply`: what the summary says. `after A;B <- C;D`: what stands after
     /// these replies, and what is asked then. `why A;B <- C;D`: why the reply was given up, after these. `fronts A;B <- C;D`: the same after each front of the bytes of C and D
-    /// and a cut. `marked A;B <- C`: what stands after A and B in one piece, for which memory may be refused; the list C
-    /// tells the same. Else an event, and what stands after it.
+    /// and a cut. `marked S|T: A;B <- C;D`: what stands after A and B in one piece between the marks of refused memory; where it is
+    /// refused, S or T stands, a first page is asked, and C and D lead to the same. Else an event, and what stands after it.
     pub fn answer(&mut self, alloc: Global, question: &str) -> Result<String, Fail> {
         let (word, rest) = first_word(question);
         match word {
@@ -173,17 +173,29 @@ impl Play {
     }
 
     fn marked(&mut self, alloc: Global, words: &str) -> Result<String, Fail> {
-        let (words, page) = words.split_once(" <- ").ok_or("no list")?;
+        let (words, events) = words.split_once(" <- ").ok_or("no replies")?;
+        let (standings, words) = words.split_once(": ").ok_or("no standings")?;
         let text = replies(alloc, words)?;
         mark(alloc)?;
         let fed = self.informer.feed(text.as_bytes());
         mark(alloc)?;
         if fed.is_err() {
-            expect_text(trouble(alloc, &self.informer)?, "OutOfMemory")?;
-            expect_text(ask(alloc, &mut self.informer)?, "/widgets?limit=2")?;
-            self.event(alloc, page)?;
+            self.given_up(alloc, standings)?;
+            for event in events.split(';') {
+                self.event(alloc, event)?;
+            }
         }
         self.stands(alloc)
+    }
+
+    /// The test fails unless one of these stands, out of memory is told, and a first page is asked.
+    fn given_up(&mut self, alloc: Global, standings: &str) -> Result<(), Fail> {
+        let standing = standing(alloc, &self.informer)?;
+        if !standings.split('|').any(|it| it == standing.as_str()) {
+            return Err(Fail::new(standing));
+        }
+        expect_text(trouble(alloc, &self.informer)?, "OutOfMemory")?;
+        expect_text(ask(alloc, &mut self.informer)?, "/widgets?limit=2")
     }
 
     fn after_front(&mut self, alloc: Global, front: &[u8]) -> Result<String, Fail> {

@@ -78,14 +78,14 @@ fn watches_cut_at_every_byte(rt: HostRuntime) -> Result<(), Fail> {
     expect_rows(rt.alloc(), "", rows)
 }
 
-/// Out of memory, a list tells what the watch would have told.
+/// Out of memory, what stands is as after the last whole line, and a list tells what the watch would have told.
 #[test]
 fn a_piece_that_is_refused_memory_is_given_up(rt: HostRuntime) -> Result<(), Fail> {
     let rows = "ask => /widgets?limit=2\n\
         page 2 - w1@2 => 2 1=1 +w1\n\
         ask => /widgets?watch=true&resourceVersion=2&allowWatchBookmarks=true\n\
         watch => 2 1=1\n\
-        marked line MODIFIED w1@3;line ADDED w2@4,web <- page 4 - w1@3 w2@4,web => 4 2=2 *w1 +w2\n\
+        marked 2 1=1|3 1=1|4 2=2: line MODIFIED w1@3;line ADDED w2@4,web <- page 4 - w1@3 w2@4,web => 4 2=2 *w1 +w2\n\
         counts => web=1 \n";
     expect_rows(rt.alloc(), "", rows)
 }
