@@ -8,12 +8,13 @@ use std::alloc::Global;
 use std::test::Fail;
 
 /// `hub_rows` says what the rows are, and plays them.
-pub const CONNECTIONS: &str = r#"request_byte_by_byte on widgets
+pub const CONNECTIONS: &str =
+    r#"request_byte_by_byte on widgets: until the last one a get finds nothing
 open 1 2 => -
-bytes 1 PATCH namespaces/default/widgets/w1?fieldManager=alice {"apiVersion":"demo.example/v1","kind":"Widget","metadata":{"name":"w1"},"spec":{"image":"a","replicas":3}} => HTTP/1.1 201 Created|$Content-Type: application/json|$Content-Length: 317|$Connection: close|$|${"apiVersion":"demo.example/v1","kind":"Widget","metadata":{"managedFields":[{"apiVersion":"demo.example/v1","fieldsType":"FieldsV1","fieldsV1":{"f:spec":{"f:image":{},"f:replicas":{}}},"manager":"alice","operation":"Apply"}],"name":"w1","namespace":"default","resourceVersion":"2"},"spec":{"image":"a","replicas":3}}
+apart 1 PATCH namespaces/default/widgets/w1?fieldManager=alice {"apiVersion":"demo.example/v1","kind":"Widget","metadata":{"name":"w1"},"spec":{"image":"a","replicas":3}} => HTTP/1.1 201 Created|$Content-Type: application/json|$Content-Length: 317|$Connection: close|$|${"apiVersion":"demo.example/v1","kind":"Widget","metadata":{"managedFields":[{"apiVersion":"demo.example/v1","fieldsType":"FieldsV1","fieldsV1":{"f:spec":{"f:image":{},"f:replicas":{}}},"manager":"alice","operation":"Apply"}],"name":"w1","namespace":"default","resourceVersion":"2"},"spec":{"image":"a","replicas":3}}
 stand 1 => 0 false true
 stand 2 => 0 true false
-ask 2 GET namespaces/default/widgets/w1 => -
+ask 2 GET namespaces/default/widgets/w1 => 200
 out 2 => HTTP/1.1 200 OK|$Content-Type: application/json|$Content-Length: 317|$Connection: close|$|${"apiVersion":"demo.example/v1","kind":"Widget","metadata":{"managedFields":[{"apiVersion":"demo.example/v1","fieldsType":"FieldsV1","fieldsV1":{"f:spec":{"f:image":{},"f:replicas":{}}},"manager":"alice","operation":"Apply"}],"name":"w1","namespace":"default","resourceVersion":"2"},"spec":{"image":"a","replicas":3}}
 
 hub_refusals on widgets: of several causes the least counts
@@ -45,7 +46,7 @@ stand 1024 => 0 true false
 open 1025 => -
 stand 1025 => 250 false true
 out 1025 => HTTP/1.1 503 Service Unavailable|$Content-Type: application/json|$Content-Length: 142|$Connection: close|$|${"apiVersion":"v1","code":503,"kind":"Status","message":"too many connections","metadata":{},"reason":"ServiceUnavailable","status":"Failure"}
-ask 1026 GET namespaces/default/widgets/w1 => -
+ask 1026 GET namespaces/default/widgets/w1 => 503
 out 1026 => HTTP/1.1 503 Service Unavailable|$Content-Type: application/json|$Content-Length: 142|$Connection: close|$|${"apiVersion":"v1","code":503,"kind":"Status","message":"too many connections","metadata":{},"reason":"ServiceUnavailable","status":"Failure"}
 in 1025 GET => -
 out 1025 => -
@@ -54,22 +55,22 @@ open 1027 => -
 stand 1027 => 0 true false
 
 bytes_are_taken on widgets
-ask 2 PATCH namespaces/default/widgets/w1?fieldManager=alice {"apiVersion":"demo.example/v1","kind":"Widget","metadata":{"name":"w1"},"spec":{"image":"a","replicas":3}} => -
+ask 2 PATCH namespaces/default/widgets/w1?fieldManager=alice {"apiVersion":"demo.example/v1","kind":"Widget","metadata":{"name":"w1"},"spec":{"image":"a","replicas":3}} => 201
 take 2 96 => 317
 take 2 300 => 17
 out 2 => a","replicas":3}}
 take 2 1000 => 0
 stand 2 => 0 false true
 take 3 5 => 0
-ask 4 GET namespaces/default/widgets/w2 => -
+ask 4 GET namespaces/default/widgets/w2 => 404
 out 4 => HTTP/1.1 404 Not Found|$Content-Type: application/json|$Content-Length: 149|$Connection: close|$|${"apiVersion":"v1","code":404,"kind":"Status","message":"widgets.demo.example \"w2\" not found","metadata":{},"reason":"NotFound","status":"Failure"}
 
 served_after_a_peer_has_gone on widgets: one that goes makes room, and the next one is served
 open 1 1024 => -
-ask 1025 GET namespaces/default/widgets/w1 => -
+ask 1025 GET namespaces/default/widgets/w1 => 503
 out 1025 => HTTP/1.1 503 Service Unavailable|$Content-Type: application/json|$Content-Length: 142|$Connection: close|$|${"apiVersion":"v1","code":503,"kind":"Status","message":"too many connections","metadata":{},"reason":"ServiceUnavailable","status":"Failure"}
 gone 1 => -
-ask 1026 GET namespaces/default/widgets/w1 => -
+ask 1026 GET namespaces/default/widgets/w1 => 404
 out 1026 => HTTP/1.1 404 Not Found|$Content-Type: application/json|$Content-Length: 149|$Connection: close|$|${"apiVersion":"v1","code":404,"kind":"Status","message":"widgets.demo.example \"w1\" not found","metadata":{},"reason":"NotFound","status":"Failure"}
 stand 1026 => 0 false true
 
@@ -94,7 +95,7 @@ stand 10006 => 0 false true
 pump 10006 1 => -
 pump 10006 0 => NoLines
 open 10007 => IdNotAbove
-ask 10008 GET namespaces/default/widgets/w1 => -
+ask 10008 GET namespaces/default/widgets/w1 => 404
 kept 0 => 1 3
 gone 10008 => -
 kept 0 => 0 3
@@ -103,7 +104,7 @@ stand 10008 => 0 false true
 nobody_waits_for_another on widgets: a request that isn't whole keeps nobody waiting
 open 1 => -
 in 1 PATCH /apis/demo => -
-ask 2 GET namespaces/default/widgets/w1 => -
+ask 2 GET namespaces/default/widgets/w1 => 404
 out 2 => HTTP/1.1 404 Not Found|$Content-Type: application/json|$Content-Length: 149|$Connection: close|$|${"apiVersion":"v1","code":404,"kind":"Status","message":"widgets.demo.example \"w1\" not found","metadata":{},"reason":"NotFound","status":"Failure"}
 stand 1 => 0 true false"#;
 
@@ -147,20 +148,60 @@ fn expect(text: String, wanted: &str) -> Result<(), Fail> {
     Err(Fail::new(text))
 }
 
-/// A request is read, a refusal is told, a reply is written.
+/// A request is read, a reply is written.
 #[test]
 fn parts_of_requests_and_replies(rt: HostRuntime) -> Result<(), Fail> {
     let alloc = rt.alloc();
     let request =
         "\r\nDELETE /a?b=c HTTP/1.1\nHOST: x\r\ncontent-type: t/u\r\nContent-Length: 02\r\ncontent-length: 2\r\n\r\n{}more";
     expect(request_told(alloc, request)?, "/a b=c t/u 2 {}more")?;
-    expect(
-        refusal_told(alloc, Refusal::BodyTooLarge)?,
-        "413 RequestEntityTooLarge, body over 65536 bytes, none",
-    )?;
     let reply = reply_bytes(alloc, 405, Some("PATCH"), "{}")?;
     expect(
         String::from_str(alloc, str::from_utf8(&reply)?)?,
         "HTTP/1.1 405 Method Not Allowed\r\nContent-Type: application/json\r\nContent-Length: 2\r\nConnection: close\r\nAllow: PATCH\r\n\r\n{}",
     )
+}
+
+/// Each refusal of a request that isn't read, as its Status tells it.
+#[test]
+fn refusals_are_told(rt: HostRuntime) -> Result<(), Fail> {
+    for (refusal, wanted) in [
+        (
+            Refusal::HeadTooLarge,
+            "431 RequestHeaderFieldsTooLarge, request head too large, none",
+        ),
+        (Refusal::BadHead, "400 BadRequest, bad request head, none"),
+        (
+            Refusal::WrongVersion,
+            "505 HTTPVersionNotSupported, HTTP/1.1 is needed, none",
+        ),
+        (
+            Refusal::NotOneHost,
+            "400 BadRequest, one Host field is needed, none",
+        ),
+        (
+            Refusal::TransferEncoding,
+            "501 NotImplemented, Transfer-Encoding is not served, none",
+        ),
+        (
+            Refusal::NoLength,
+            "411 LengthRequired, Content-Length is needed, none",
+        ),
+        (
+            Refusal::BadLength,
+            "400 BadRequest, bad Content-Length, none",
+        ),
+        (
+            Refusal::BodyTooLarge,
+            "413 RequestEntityTooLarge, body over 65536 bytes, none",
+        ),
+        (Refusal::NotJson, "400 BadRequest, body is not JSON, none"),
+        (
+            Refusal::TooManyConnections,
+            "503 ServiceUnavailable, too many connections, none",
+        ),
+    ] {
+        expect(refusal_told(rt.alloc(), refusal)?, wanted)?;
+    }
+    Ok(())
 }

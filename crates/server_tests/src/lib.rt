@@ -8,11 +8,19 @@
 #[cfg(test)]
 mod connections;
 #[cfg(test)]
+mod forms;
+#[cfg(test)]
 mod given;
 #[cfg(test)]
 mod hub_rows;
 #[cfg(test)]
 mod list_rows;
+#[cfg(test)]
+mod pieces;
+#[cfg(test)]
+mod plans;
+#[cfg(test)]
+mod refused_memory;
 #[cfg(test)]
 mod single_objects;
 #[cfg(test)]

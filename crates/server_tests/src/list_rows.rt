@@ -9,14 +9,14 @@ told 3 GET namespaces/default/widgets?resourceVersion=0&resourceVersionMatch=Exa
 told 4 GET namespaces/default/widgets?resourceVersion=abc => 400 bad parameter: resourceVersion
 
 items_stand_as_they_are_stored on widgets
-ask 2 POST namespaces/default/widgets {"apiVersion":"demo.example/v1","kind":"Widget","metadata":{"name":"w1"}} => -
-ask 3 POST namespaces/default/widgets {"apiVersion":"demo.example/v1","kind":"Widget","metadata":{"name":"w2"}} => -
+ask 2 POST namespaces/default/widgets {"apiVersion":"demo.example/v1","kind":"Widget","metadata":{"name":"w1"}} => 201
+ask 3 POST namespaces/default/widgets {"apiVersion":"demo.example/v1","kind":"Widget","metadata":{"name":"w2"}} => 201
 got 4 GET namespaces/default/widgets => 200 {"apiVersion":"demo.example/v1","items":[{"apiVersion":"demo.example/v1","kind":"Widget","metadata":{"name":"w1","namespace":"default","resourceVersion":"2"}},{"apiVersion":"demo.example/v1","kind":"Widget","metadata":{"name":"w2","namespace":"default","resourceVersion":"3"}}],"kind":"WidgetList","metadata":{"resourceVersion":"3"}}
 
 pages_versions_and_selectors on widgets
-ask 2 POST namespaces/default/widgets {"apiVersion":"demo.example/v1","kind":"Widget","metadata":{"labels":{"tier":"web"},"name":"w1"}} => -
-ask 3 POST namespaces/default/widgets {"apiVersion":"demo.example/v1","kind":"Widget","metadata":{"labels":{"tier":"db"},"name":"w2"}} => -
-ask 4 POST namespaces/default/widgets {"apiVersion":"demo.example/v1","kind":"Widget","metadata":{"labels":{"tier":"web"},"name":"w3"}} => -
+ask 2 POST namespaces/default/widgets {"apiVersion":"demo.example/v1","kind":"Widget","metadata":{"labels":{"tier":"web"},"name":"w1"}} => 201
+ask 3 POST namespaces/default/widgets {"apiVersion":"demo.example/v1","kind":"Widget","metadata":{"labels":{"tier":"db"},"name":"w2"}} => 201
+ask 4 POST namespaces/default/widgets {"apiVersion":"demo.example/v1","kind":"Widget","metadata":{"labels":{"tier":"web"},"name":"w3"}} => 201
 got 5 GET namespaces/default/widgets?limit=2 => 200 {"apiVersion":"demo.example/v1","items":[{"apiVersion":"demo.example/v1","kind":"Widget","metadata":{"labels":{"tier":"web"},"managedFields":[{"apiVersion":"demo.example/v1","fieldsType":"FieldsV1","fieldsV1":{"f:metadata":{"f:labels":{"f:tier":{}}}},"manager":"unknown","operation":"Update"}],"name":"w1","namespace":"default","resourceVersion":"2"}},{"apiVersion":"demo.example/v1","kind":"Widget","metadata":{"labels":{"tier":"db"},"managedFields":[{"apiVersion":"demo.example/v1","fieldsType":"FieldsV1","fieldsV1":{"f:metadata":{"f:labels":{"f:tier":{}}}},"manager":"unknown","operation":"Update"}],"name":"w2","namespace":"default","resourceVersion":"3"}}],"kind":"WidgetList","metadata":{"continue":"4.default.w2","resourceVersion":"4"}}
 got 6 GET namespaces/default/widgets?limit=2&continue=4.default.w2 => 200 {"apiVersion":"demo.example/v1","items":[{"apiVersion":"demo.example/v1","kind":"Widget","metadata":{"labels":{"tier":"web"},"managedFields":[{"apiVersion":"demo.example/v1","fieldsType":"FieldsV1","fieldsV1":{"f:metadata":{"f:labels":{"f:tier":{}}}},"manager":"unknown","operation":"Update"}],"name":"w3","namespace":"default","resourceVersion":"4"}}],"kind":"WidgetList","metadata":{"resourceVersion":"4"}}
 got 7 GET namespaces/default/widgets?labelSelector=tier%3Dweb&limit=1 => 200 {"apiVersion":"demo.example/v1","items":[{"apiVersion":"demo.example/v1","kind":"Widget","metadata":{"labels":{"tier":"web"},"managedFields":[{"apiVersion":"demo.example/v1","fieldsType":"FieldsV1","fieldsV1":{"f:metadata":{"f:labels":{"f:tier":{}}}},"manager":"unknown","operation":"Update"}],"name":"w1","namespace":"default","resourceVersion":"2"}}],"kind":"WidgetList","metadata":{"continue":"4.default.w1","resourceVersion":"4"}}
@@ -32,32 +32,32 @@ got 16 GET namespaces/default/widgets?labelSelector=tier!%3Dweb => 200 {"apiVers
 got 17 GET namespaces/default/widgets?labelSelector=nothing!%3Dweb&limit=3 => 200 {"apiVersion":"demo.example/v1","items":[{"apiVersion":"demo.example/v1","kind":"Widget","metadata":{"labels":{"tier":"web"},"managedFields":[{"apiVersion":"demo.example/v1","fieldsType":"FieldsV1","fieldsV1":{"f:metadata":{"f:labels":{"f:tier":{}}}},"manager":"unknown","operation":"Update"}],"name":"w1","namespace":"default","resourceVersion":"2"}},{"apiVersion":"demo.example/v1","kind":"Widget","metadata":{"labels":{"tier":"db"},"managedFields":[{"apiVersion":"demo.example/v1","fieldsType":"FieldsV1","fieldsV1":{"f:metadata":{"f:labels":{"f:tier":{}}}},"manager":"unknown","operation":"Update"}],"name":"w2","namespace":"default","resourceVersion":"3"}},{"apiVersion":"demo.example/v1","kind":"Widget","metadata":{"labels":{"tier":"web"},"managedFields":[{"apiVersion":"demo.example/v1","fieldsType":"FieldsV1","fieldsV1":{"f:metadata":{"f:labels":{"f:tier":{}}}},"manager":"unknown","operation":"Update"}],"name":"w3","namespace":"default","resourceVersion":"4"}}],"kind":"WidgetList","metadata":{"resourceVersion":"4"}}
 
 delete_with_precondition_in_lists on widgets: the object stands at the revision before its deletion, as long as that isn't compacted
-ask 2 POST namespaces/default/widgets {"apiVersion":"demo.example/v1","kind":"Widget","metadata":{"name":"w1"}} => -
-ask 3 DELETE namespaces/default/widgets/w1 {"preconditions":{"resourceVersion":"1"}} => -
+ask 2 POST namespaces/default/widgets {"apiVersion":"demo.example/v1","kind":"Widget","metadata":{"name":"w1"}} => 201
+ask 3 DELETE namespaces/default/widgets/w1 {"preconditions":{"resourceVersion":"1"}} => 409
 out 3 => HTTP/1.1 409 Conflict|$Content-Type: application/json|$Content-Length: 146|$Connection: close|$|${"apiVersion":"v1","code":409,"kind":"Status","message":"version 1 is not the stored one, 2","metadata":{},"reason":"Conflict","status":"Failure"}
-ask 4 DELETE namespaces/default/widgets/w1 {"preconditions":{"resourceVersion":"2"}} => -
+ask 4 DELETE namespaces/default/widgets/w1 {"preconditions":{"resourceVersion":"2"}} => 200
 out 4 => HTTP/1.1 200 OK|$Content-Type: application/json|$Content-Length: 117|$Connection: close|$|${"apiVersion":"demo.example/v1","kind":"Widget","metadata":{"name":"w1","namespace":"default","resourceVersion":"3"}}
-ask 5 GET namespaces/default/widgets/w1 => -
+ask 5 GET namespaces/default/widgets/w1 => 404
 out 5 => HTTP/1.1 404 Not Found|$Content-Type: application/json|$Content-Length: 149|$Connection: close|$|${"apiVersion":"v1","code":404,"kind":"Status","message":"widgets.demo.example \"w1\" not found","metadata":{},"reason":"NotFound","status":"Failure"}
-ask 6 GET namespaces/default/widgets?resourceVersion=2&resourceVersionMatch=Exact => -
+ask 6 GET namespaces/default/widgets?resourceVersion=2&resourceVersionMatch=Exact => 200
 out 6 => HTTP/1.1 200 OK|$Content-Type: application/json|$Content-Length: 215|$Connection: close|$|${"apiVersion":"demo.example/v1","items":[{"apiVersion":"demo.example/v1","kind":"Widget","metadata":{"name":"w1","namespace":"default","resourceVersion":"2"}}],"kind":"WidgetList","metadata":{"resourceVersion":"2"}}
-ask 7 GET namespaces/default/widgets?resourceVersion=3&resourceVersionMatch=Exact => -
+ask 7 GET namespaces/default/widgets?resourceVersion=3&resourceVersionMatch=Exact => 200
 out 7 => HTTP/1.1 200 OK|$Content-Type: application/json|$Content-Length: 98|$Connection: close|$|${"apiVersion":"demo.example/v1","items":[],"kind":"WidgetList","metadata":{"resourceVersion":"3"}}
 compact 3 => -
-ask 8 GET namespaces/default/widgets?resourceVersion=2&resourceVersionMatch=Exact => -
+ask 8 GET namespaces/default/widgets?resourceVersion=2&resourceVersionMatch=Exact => 410
 out 8 => HTTP/1.1 410 Gone|$Content-Type: application/json|$Content-Length: 142|$Connection: close|$|${"apiVersion":"v1","code":410,"kind":"Status","message":"too old resource version: 2 (3)","metadata":{},"reason":"Expired","status":"Failure"}
 
 pages_of_three on widgets: two pages of three objects, whole
-ask 2 POST namespaces/default/widgets {"apiVersion":"demo.example/v1","kind":"Widget","metadata":{"name":"w1"}} => -
-ask 3 POST namespaces/default/widgets {"apiVersion":"demo.example/v1","kind":"Widget","metadata":{"name":"w2"}} => -
-ask 4 POST namespaces/default/widgets {"apiVersion":"demo.example/v1","kind":"Widget","metadata":{"name":"w3"}} => -
-ask 5 GET widgets?limit=2 => -
+ask 2 POST namespaces/default/widgets {"apiVersion":"demo.example/v1","kind":"Widget","metadata":{"name":"w1"}} => 201
+ask 3 POST namespaces/default/widgets {"apiVersion":"demo.example/v1","kind":"Widget","metadata":{"name":"w2"}} => 201
+ask 4 POST namespaces/default/widgets {"apiVersion":"demo.example/v1","kind":"Widget","metadata":{"name":"w3"}} => 201
+ask 5 GET widgets?limit=2 => 200
 out 5 => HTTP/1.1 200 OK|$Content-Type: application/json|$Content-Length: 359|$Connection: close|$|${"apiVersion":"demo.example/v1","items":[{"apiVersion":"demo.example/v1","kind":"Widget","metadata":{"name":"w1","namespace":"default","resourceVersion":"2"}},{"apiVersion":"demo.example/v1","kind":"Widget","metadata":{"name":"w2","namespace":"default","resourceVersion":"3"}}],"kind":"WidgetList","metadata":{"continue":"4.default.w2","resourceVersion":"4"}}
-ask 6 GET widgets?limit=2&continue=4.default.w2 => -
+ask 6 GET widgets?limit=2&continue=4.default.w2 => 200
 out 6 => HTTP/1.1 200 OK|$Content-Type: application/json|$Content-Length: 215|$Connection: close|$|${"apiVersion":"demo.example/v1","items":[{"apiVersion":"demo.example/v1","kind":"Widget","metadata":{"name":"w3","namespace":"default","resourceVersion":"4"}}],"kind":"WidgetList","metadata":{"resourceVersion":"4"}}
 
 pages_over_namespaces on widgets: the first page ends in one namespace, and the second goes on in the next
-ask 2 POST namespaces/b/widgets {"apiVersion":"demo.example/v1","kind":"Widget","metadata":{"name":"y"},"spec":{}} => -
-ask 3 POST namespaces/a/widgets {"apiVersion":"demo.example/v1","kind":"Widget","metadata":{"name":"x"},"spec":{}} => -
+ask 2 POST namespaces/b/widgets {"apiVersion":"demo.example/v1","kind":"Widget","metadata":{"name":"y"},"spec":{}} => 201
+ask 3 POST namespaces/a/widgets {"apiVersion":"demo.example/v1","kind":"Widget","metadata":{"name":"x"},"spec":{}} => 201
 got 4 GET widgets?limit=1 => 200 {"apiVersion":"demo.example/v1","items":[{"apiVersion":"demo.example/v1","kind":"Widget","metadata":{"name":"x","namespace":"a","resourceVersion":"3"}}],"kind":"WidgetList","metadata":{"continue":"3.a.x","resourceVersion":"3"}}
 got 5 GET widgets?limit=1&continue=3.a.x => 200 {"apiVersion":"demo.example/v1","items":[{"apiVersion":"demo.example/v1","kind":"Widget","metadata":{"name":"y","namespace":"b","resourceVersion":"2"}}],"kind":"WidgetList","metadata":{"resourceVersion":"3"}}"#;

@@ -2,7 +2,19 @@
 //! the worked examples. Lists stand in `list_rows`, watches in `watch_rows`.
 
 /// `hub_rows` says what the rows are, and plays them.
-pub const SINGLE_OBJECTS: &str = r#"update_and_version on widgets
+pub const SINGLE_OBJECTS: &str =
+    r#"one_object_after_another on widgets: a conflict and a get after it, a take-over, an apply that changes nothing, shared owners, and updates with a version
+got 1 PATCH namespaces/default/widgets/w1?fieldManager=alice {"apiVersion":"demo.example/v1","kind":"Widget","metadata":{"name":"w1"},"spec":{"image":"a","replicas":3}} => 201 {"apiVersion":"demo.example/v1","kind":"Widget","metadata":{"managedFields":[{"apiVersion":"demo.example/v1","fieldsType":"FieldsV1","fieldsV1":{"f:spec":{"f:image":{},"f:replicas":{}}},"manager":"alice","operation":"Apply"}],"name":"w1","namespace":"default","resourceVersion":"2"},"spec":{"image":"a","replicas":3}}
+got 2 PATCH namespaces/default/widgets/w1?fieldManager=bob {"apiVersion":"demo.example/v1","kind":"Widget","spec":{"replicas":5}} => 409 {"apiVersion":"v1","code":409,"details":{"causes":[{"field":".spec.replicas","message":"conflict with \"alice\" using demo.example/v1","reason":"FieldManagerConflict"}]},"kind":"Status","message":"Apply failed with 1 conflict(s)","metadata":{},"reason":"Conflict","status":"Failure"}
+got 3 GET namespaces/default/widgets/w1 => 200 {"apiVersion":"demo.example/v1","kind":"Widget","metadata":{"managedFields":[{"apiVersion":"demo.example/v1","fieldsType":"FieldsV1","fieldsV1":{"f:spec":{"f:image":{},"f:replicas":{}}},"manager":"alice","operation":"Apply"}],"name":"w1","namespace":"default","resourceVersion":"2"},"spec":{"image":"a","replicas":3}}
+got 4 PATCH namespaces/default/widgets/w1?fieldManager=bob&force=true {"apiVersion":"demo.example/v1","kind":"Widget","spec":{"replicas":5}} => 200 {"apiVersion":"demo.example/v1","kind":"Widget","metadata":{"managedFields":[{"apiVersion":"demo.example/v1","fieldsType":"FieldsV1","fieldsV1":{"f:spec":{"f:image":{}}},"manager":"alice","operation":"Apply"},{"apiVersion":"demo.example/v1","fieldsType":"FieldsV1","fieldsV1":{"f:spec":{"f:replicas":{}}},"manager":"bob","operation":"Apply"}],"name":"w1","namespace":"default","resourceVersion":"3"},"spec":{"image":"a","replicas":5}}
+got 5 PATCH namespaces/default/widgets/w1?fieldManager=alice {"apiVersion":"demo.example/v1","kind":"Widget","spec":{"image":"a"}} => 200 {"apiVersion":"demo.example/v1","kind":"Widget","metadata":{"managedFields":[{"apiVersion":"demo.example/v1","fieldsType":"FieldsV1","fieldsV1":{"f:spec":{"f:image":{}}},"manager":"alice","operation":"Apply"},{"apiVersion":"demo.example/v1","fieldsType":"FieldsV1","fieldsV1":{"f:spec":{"f:replicas":{}}},"manager":"bob","operation":"Apply"}],"name":"w1","namespace":"default","resourceVersion":"3"},"spec":{"image":"a","replicas":5}}
+got 6 PATCH namespaces/default/widgets/w1?fieldManager=bob {"apiVersion":"demo.example/v1","kind":"Widget","spec":{"image":"a","replicas":5}} => 200 {"apiVersion":"demo.example/v1","kind":"Widget","metadata":{"managedFields":[{"apiVersion":"demo.example/v1","fieldsType":"FieldsV1","fieldsV1":{"f:spec":{"f:image":{}}},"manager":"alice","operation":"Apply"},{"apiVersion":"demo.example/v1","fieldsType":"FieldsV1","fieldsV1":{"f:spec":{"f:image":{},"f:replicas":{}}},"manager":"bob","operation":"Apply"}],"name":"w1","namespace":"default","resourceVersion":"4"},"spec":{"image":"a","replicas":5}}
+got 7 PATCH namespaces/default/widgets/w1?fieldManager=alice {"apiVersion":"demo.example/v1","kind":"Widget"} => 200 {"apiVersion":"demo.example/v1","kind":"Widget","metadata":{"managedFields":[{"apiVersion":"demo.example/v1","fieldsType":"FieldsV1","fieldsV1":{"f:spec":{"f:image":{},"f:replicas":{}}},"manager":"bob","operation":"Apply"}],"name":"w1","namespace":"default","resourceVersion":"5"},"spec":{"image":"a","replicas":5}}
+told 8 PUT namespaces/default/widgets/w1?fieldManager=dave {"apiVersion":"demo.example/v1","kind":"Widget","metadata":{"resourceVersion":"4"},"spec":{"image":"a","replicas":5}} => 409 version 4 is not the stored one, 5
+got 9 PUT namespaces/default/widgets/w1?fieldManager=dave {"apiVersion":"demo.example/v1","kind":"Widget","metadata":{"resourceVersion":"5"},"spec":{"image":"a","replicas":5}} => 200 {"apiVersion":"demo.example/v1","kind":"Widget","metadata":{"managedFields":[{"apiVersion":"demo.example/v1","fieldsType":"FieldsV1","fieldsV1":{"f:spec":{"f:image":{},"f:replicas":{}}},"manager":"bob","operation":"Apply"}],"name":"w1","namespace":"default","resourceVersion":"5"},"spec":{"image":"a","replicas":5}}
+
+update_and_version on widgets
 got 1 PATCH namespaces/default/widgets/w1?fieldManager=bob {"apiVersion":"demo.example/v1","kind":"Widget","spec":{"image":"a","replicas":5}} => 201 {"apiVersion":"demo.example/v1","kind":"Widget","metadata":{"managedFields":[{"apiVersion":"demo.example/v1","fieldsType":"FieldsV1","fieldsV1":{"f:spec":{"f:image":{},"f:replicas":{}}},"manager":"bob","operation":"Apply"}],"name":"w1","namespace":"default","resourceVersion":"2"},"spec":{"image":"a","replicas":5}}
 told 2 PUT namespaces/default/widgets/w1?fieldManager=dave {"apiVersion":"demo.example/v1","kind":"Widget","metadata":{"resourceVersion":"1"},"spec":{"image":"a","replicas":5}} => 409 version 1 is not the stored one, 2
 got 3 PUT namespaces/default/widgets/w1?fieldManager=dave {"apiVersion":"demo.example/v1","kind":"Widget","metadata":{"resourceVersion":"2"},"spec":{"image":"a","replicas":5}} => 200 {"apiVersion":"demo.example/v1","kind":"Widget","metadata":{"managedFields":[{"apiVersion":"demo.example/v1","fieldsType":"FieldsV1","fieldsV1":{"f:spec":{"f:image":{},"f:replicas":{}}},"manager":"bob","operation":"Apply"}],"name":"w1","namespace":"default","resourceVersion":"2"},"spec":{"image":"a","replicas":5}}
@@ -10,8 +22,8 @@ got 4 PUT namespaces/default/widgets/w1 {"apiVersion":"demo.example/v1","kind":"
 told 5 PUT namespaces/default/widgets/w2?fieldManager=dave {"apiVersion":"demo.example/v1","kind":"Widget","spec":{"image":"a"}} => 404 widgets.demo.example \"w2\" not found
 
 item_kept_for_other_owner_of_an_update on ports
-ask 2 PATCH namespaces/default/widgets/w1?fieldManager=alice {"apiVersion":"demo.example/v1","kind":"Widget","spec":{"ports":[{"name":"web","port":80}]}} => -
-ask 3 PUT namespaces/default/widgets/w1?fieldManager=carol {"apiVersion":"demo.example/v1","kind":"Widget","spec":{"ports":[{"name":"web","note":"x","port":80}]}} => -
+ask 2 PATCH namespaces/default/widgets/w1?fieldManager=alice {"apiVersion":"demo.example/v1","kind":"Widget","spec":{"ports":[{"name":"web","port":80}]}} => 201
+ask 3 PUT namespaces/default/widgets/w1?fieldManager=carol {"apiVersion":"demo.example/v1","kind":"Widget","spec":{"ports":[{"name":"web","note":"x","port":80}]}} => 200
 got 4 PATCH namespaces/default/widgets/w1?fieldManager=alice {"apiVersion":"demo.example/v1","kind":"Widget"} => 200 {"apiVersion":"demo.example/v1","kind":"Widget","metadata":{"managedFields":[{"apiVersion":"demo.example/v1","fieldsType":"FieldsV1","fieldsV1":{"f:spec":{"f:ports":{"k:{\"name\":\"web\"}":{"f:note":{}}}}},"manager":"carol","operation":"Update"}],"name":"w1","namespace":"default","resourceVersion":"4"},"spec":{"ports":[{"name":"web","note":"x"}]}}
 
 delete_with_precondition on widgets
@@ -68,17 +80,21 @@ told 5 PATCH namespaces/default/widgets/w1?fieldManager=m {"apiVersion":"demo.ex
 told 6 PATCH namespaces/default/widgets/w1?fieldManager=m {"apiVersion":"demo.example/v1","kind":"Widget","metadata":{"resourceVersion":"9"}} => 409 version 9 is not the stored one, 2
 told 7 PATCH namespaces/default/widgets/w2?fieldManager=m {"apiVersion":"demo.example/v1","kind":"Widget","metadata":{"resourceVersion":"9"}} => 409 version 9 was given and there is no object
 told 8 PATCH namespaces/default/widgets/w1?fieldManager=b {"apiVersion":"demo.example/v1","kind":"Widget","metadata":{"resourceVersion":"9"},"spec":{"replicas":4}} => 409 version 9 is not the stored one, 2
-told 9 PATCH namespaces/default/widgets/w1?fieldManager=b {"apiVersion":"demo.example/v1","kind":"Widget","spec":{"replicas":4}} => 409 Apply failed with 1 conflict(s)
+got 9 PATCH namespaces/default/widgets/w1?fieldManager=b {"apiVersion":"demo.example/v1","kind":"Widget","spec":{"replicas":4}} => 409 {"apiVersion":"v1","code":409,"details":{"causes":[{"field":".spec.replicas","message":"conflict with \"m\" using demo.example/v1","reason":"FieldManagerConflict"}]},"kind":"Status","message":"Apply failed with 1 conflict(s)","metadata":{},"reason":"Conflict","status":"Failure"}
 told 10 PATCH namespaces/default/widgets/w1?fieldManager=b&force=true {"apiVersion":"demo.example/v1","kind":"Widget","spec":{"replicas":4}} => 200 3
 told 11 PATCH namespaces/default/widgets/w1?fieldManager=b {"apiVersion":"demo.example/v1","kind":"Widget","spec":{"replicas":4}} => 200 3
 
 route_method_and_media_type on widgets: a media type in any case, with a parameter behind it, is the same
-open 1 5 => -
+open 1 6 => -
 in 1 GET /apis/demo.example HTTP/1.1|$Host: x|$|$ => HTTP/1.1 404 Not Found|$Content-Type: application/json|$Content-Length: 124|$Connection: close|$|${"apiVersion":"v1","code":404,"kind":"Status","message":"no such path","metadata":{},"reason":"NotFound","status":"Failure"}
 in 2 BREW /apis/demo.example/v1/namespaces/default/widgets/w1 HTTP/1.1|$Host: x|$|$ => -
 out 2 => HTTP/1.1 405 Method Not Allowed|$Content-Type: application/json|$Content-Length: 142|$Connection: close|$Allow: DELETE, GET, PATCH, PUT|$|${"apiVersion":"v1","code":405,"kind":"Status","message":"method not served here","metadata":{},"reason":"MethodNotAllowed","status":"Failure"}
 in 3 PATCH /apis/demo.example/v1/namespaces/default/widgets/w1 HTTP/1.1|$Host: x|$Content-Length: 2|$|${} => -
 out 3 => HTTP/1.1 415 Unsupported Media Type|$Content-Type: application/json|$Content-Length: 145|$Connection: close|$|${"apiVersion":"v1","code":415,"kind":"Status","message":"media type not served","metadata":{},"reason":"UnsupportedMediaType","status":"Failure"}
+in 5 PUT /apis/demo.example/v1/namespaces/default/widgets HTTP/1.1|$Host: x|$|$ => -
+out 5 => HTTP/1.1 405 Method Not Allowed|$Content-Type: application/json|$Content-Length: 142|$Connection: close|$Allow: GET, POST|$|${"apiVersion":"v1","code":405,"kind":"Status","message":"method not served here","metadata":{},"reason":"MethodNotAllowed","status":"Failure"}
+in 6 POST /apis/demo.example/v1/widgets HTTP/1.1|$Host: x|$|$ => -
+out 6 => HTTP/1.1 405 Method Not Allowed|$Content-Type: application/json|$Content-Length: 142|$Connection: close|$Allow: GET|$|${"apiVersion":"v1","code":405,"kind":"Status","message":"method not served here","metadata":{},"reason":"MethodNotAllowed","status":"Failure"}
 in 4 PATCH /apis/demo.example/v1/namespaces/default/widgets/w1?fieldManager=m HTTP/1.1|$Host: x|$Content-Type: Application/Apply-Patch+YAML ; charset=utf-8|$Content-Length: 70|$|${"apiVersion":"demo.example/v1","kind":"Widget","spec":{"replicas":3}} => -
 told 4 => 201 2
 
