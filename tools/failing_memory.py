@@ -169,7 +169,7 @@ def read_options():
     reads = argparse.ArgumentParser(description=__doc__, formatter_class=argparse.RawDescriptionHelpFormatter)
     reads.add_argument("--all", action="store_true", help="tell each run of a program")
     reads.add_argument("--stay", action="store_true", help="let each refusal last to the end of the part or run")
-    reads.add_argument("--jobs", type=int, default=2)
+    reads.add_argument("--jobs", type=int, default=os.cpu_count() or 2)
     reads.add_argument("program", metavar="CRATE|PROGRAM")
     reads.add_argument("names", nargs="*", metavar="NAME")
     options = reads.parse_intermixed_args(given)
