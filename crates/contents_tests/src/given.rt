@@ -28,6 +28,13 @@ pub const WIDGET_TYPES: &str = r#"{"types":[
    "counts":{"type":"object","additionalProperties":{"type":"integer"}},
    "label":{"type":"string"},"total":{"type":"integer"}}}}}}]}"#;
 
+/// A type with a status.
+pub const READY_TYPES: &str = r#"{"types":[
+ {"group":"demo.example","version":"v1","kind":"Widget","plural":"widgets",
+  "schema":{"type":"object","properties":{
+   "spec":{"type":"object","properties":{"replicas":{"type":"integer"}}},
+   "status":{"type":"object","properties":{"ready":{"type":"integer"}}}}}}]}"#;
+
 /// The types of a types file.
 pub fn types_of(alloc: Global, text: &str) -> Result<Types, Fail> {
     Ok(Types::read(alloc, &Value::from_str(alloc, text)?)?)

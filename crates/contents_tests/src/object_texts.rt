@@ -3,7 +3,7 @@
 //! Behind an example's name stands what its texts have, in turn.
 
 use crate::contents::play_under;
-use crate::given::WIDGET_TYPES;
+use crate::given::{READY_TYPES, WIDGET_TYPES};
 use std::test::Fail;
 
 const EXAMPLES: &str =
@@ -87,13 +87,6 @@ object {"apiVersion":"demo.example/v1","kind":"Widget","metadata":{"managedField
 fn examples(rt: HostRuntime) -> Result<(), Fail> {
     play_under(rt.alloc(), WIDGET_TYPES, EXAMPLES)
 }
-
-/// A type with a status.
-const READY_TYPES: &str = r#"{"types":[
- {"group":"demo.example","version":"v1","kind":"Widget","plural":"widgets",
-  "schema":{"type":"object","properties":{
-   "spec":{"type":"object","properties":{"replicas":{"type":"integer"}}},
-   "status":{"type":"object","properties":{"ready":{"type":"integer"}}}}}}]}"#;
 
 const BY_STATUS: &str =
     r#"written_by_status: an entry by `status`; the member in front of `operation`; the same name by the main resource behind it

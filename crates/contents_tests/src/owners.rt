@@ -6,12 +6,13 @@
 //! | question | answer |
 //! |---|---|
 //! | `NAME SPEC` | what stands after an apply, by force with `!` behind the name, or after an update with `=`: the content, each manager and its paths, and `as before` where it is; or the conflicts |
+//! | `NAME SPEC STATUS` | the same of a body that has a `status` too; `/status` behind the name (before `!` and `=`) writes by it |
 //! | `anew NAME SPEC` | the same between marks, or once more where it was refused memory; what stands stays |
 //! | `object` | the text of the object `w1` at version 4 |
 //! | `managers NAME/OPERATION NAME/OPERATION` | how two managers compare, and whether they are the same; `/status` behind one that wrote by `status` |
 
 use crate::contents::w1;
-use crate::given::{WIDGET_TYPES, first_schema, printed, push_paths, tree, types_of};
+use crate::given::{READY_TYPES, WIDGET_TYPES, first_schema, printed, push_paths, tree, types_of};
 use ownership::{
     ApplyFault, Conflict, Manager, Operation, Owned, Subresource, apply, is_same, update,
 };
@@ -41,11 +42,11 @@ impl Answers for Live {
     }
 }
 
-/// Plays examples with blank lines between them, each from no object.
-fn play_each(alloc: Global, examples: &str) -> Result<(), Fail> {
+/// Plays examples with blank lines between them, each from no object of the first type.
+fn play_each(alloc: Global, types: &str, examples: &str) -> Result<(), Fail> {
     for example in examples.split("\n\n") {
         let mut live = Live {
-            types: types_of(alloc, WIDGET_TYPES)?,
+            types: types_of(alloc, types)?,
             owned: Owned::empty(alloc),
         };
         play(alloc, &mut live, example)?;
@@ -53,17 +54,36 @@ fn play_each(alloc: Global, examples: &str) -> Result<(), Fail> {
     Ok(())
 }
 
-/// The content of a body with this `spec`.
-fn body(alloc: Global, schema: &Schema, spec: &str) -> Result<Tree, Fail> {
-    let text = format!(in alloc; "{{\"spec\":{spec}}}")?;
+/// A body with this `spec`, and this `status` if there is a second word.
+fn body_text(alloc: Global, words: &str) -> Result<String, AllocError> {
+    let (spec, status) = first_word(words);
+    if status.is_empty() {
+        return format!(in alloc; "{{\"spec\":{spec}}}");
+    }
+    format!(in alloc; "{{\"spec\":{spec},\"status\":{status}}}")
+}
+
+/// The content of a body.
+fn body(alloc: Global, schema: &Schema, words: &str) -> Result<Tree, Fail> {
+    let text = body_text(alloc, words)?;
     tree(alloc, schema, text.as_str())
+}
+
+/// Puts a subresource, unless it is the main resource.
+fn push_subresource(text: &mut String, subresource: &str) -> Result<(), AllocError> {
+    if subresource.is_empty() {
+        return Ok(());
+    }
+    text.push_str("/")?;
+    text.push_str(subresource)
 }
 
 fn push_manager(text: &mut String, manager: &Manager) -> Result<(), AllocError> {
     text.push_str(" ")?;
     text.push_str(manager.name.as_str())?;
     text.push_str("/")?;
-    text.push_str(manager.operation.text())
+    text.push_str(manager.operation.text())?;
+    push_subresource(text, manager.subresource.text())
 }
 
 /// The content, and each manager with its paths.
@@ -107,13 +127,23 @@ fn shown_beside(
     }
 }
 
-/// Applies a content, by force with `!` behind the name, or updates to it with `=`.
-fn write(alloc: Global, live: &Owned, name: &str, content: Tree) -> Result<Owned, ApplyFault> {
-    if let Some(name) = name.strip_suffix("=") {
-        return Ok(update(alloc, live, name, content)?);
+/// The name of who writes, and what by.
+fn writer(words: &str) -> (&str, Subresource) {
+    match words.strip_suffix("/status") {
+        Some(name) => (name, Subresource::Status),
+        None => (words, Subresource::Main),
     }
-    let manager = name.strip_suffix("!").unwrap_or(name);
-    apply(alloc, live, manager, content, manager != name)
+}
+
+/// Applies a content, by force with `!` behind the name, or updates to it with `=`.
+fn write(alloc: Global, live: &Owned, words: &str, content: Tree) -> Result<Owned, ApplyFault> {
+    if let Some(words) = words.strip_suffix("=") {
+        let (name, subresource) = writer(words);
+        return Ok(update(alloc, live, name, subresource, content)?);
+    }
+    let by = words.strip_suffix("!").unwrap_or(words);
+    let (name, subresource) = writer(by);
+    apply(alloc, live, name, subresource, content, by != words)
 }
 
 /// Writes and tells the answer; what is done becomes what stands.
@@ -122,9 +152,9 @@ fn step(
     schema: &Schema,
     live: &mut Owned,
     name: &str,
-    spec: &str,
+    words: &str,
 ) -> Result<String, Fail> {
-    let answer = write(alloc, live, name, body(alloc, schema, spec)?);
+    let answer = write(alloc, live, name, body(alloc, schema, words)?);
     let text = shown_beside(alloc, schema, live, &answer)?;
     match answer {
         Ok(owned) => *live = owned,
@@ -179,8 +209,8 @@ fn answer_or_again(
 
 /// What a write answers; out of memory, it leaves what stands as it was, and is answered when it is called again.
 fn answer_anew(alloc: Global, schema: &Schema, live: &Owned, line: &str) -> Result<String, Fail> {
-    let (name, spec) = first_word(line);
-    let content = body(alloc, schema, spec)?;
+    let (name, words) = first_word(line);
+    let content = body(alloc, schema, words)?;
     let before = shown(alloc, schema, live)?;
     let answer = answer_or_again(alloc, live, name, content)?;
     if shown(alloc, schema, live)?.as_str() != before.as_str() {
@@ -231,7 +261,38 @@ managers bob/Apply/status bob/Apply/status => (Equal, true)"#;
 
 #[test]
 fn examples(rt: HostRuntime) -> Result<(), Fail> {
-    play_each(rt.alloc(), EXAMPLES)
+    play_each(rt.alloc(), WIDGET_TYPES, EXAMPLES)
+}
+
+const BY_STATUS: &str = r#"each_side_keeps_to_itself
+alice {"replicas":3} {"ready":1} => {"spec":{"replicas":3}} alice/Apply .spec.replicas
+ctl/status {"replicas":9} {"ready":2} => {"spec":{"replicas":3},"status":{"ready":2}} alice/Apply .spec.replicas ctl/Apply/status .status.ready
+object => {"apiVersion":"demo.example/v1","kind":"Widget","metadata":{"managedFields":[{"apiVersion":"demo.example/v1","fieldsType":"FieldsV1","fieldsV1":{"f:spec":{"f:replicas":{}}},"manager":"alice","operation":"Apply"},{"apiVersion":"demo.example/v1","fieldsType":"FieldsV1","fieldsV1":{"f:status":{"f:ready":{}}},"manager":"ctl","operation":"Apply","subresource":"status"}],"name":"w1","namespace":"default","resourceVersion":"4"},"spec":{"replicas":3},"status":{"ready":2}}
+alice= {"replicas":3} => {"spec":{"replicas":3},"status":{"ready":2}} alice/Apply .spec.replicas ctl/Apply/status .status.ready as before
+alice= {"replicas":4} {"ready":8} => {"spec":{"replicas":4},"status":{"ready":2}} alice/Update .spec.replicas ctl/Apply/status .status.ready
+alice= {} => {"status":{"ready":2}} ctl/Apply/status .status.ready
+alice {} => {"status":{"ready":2}} ctl/Apply/status .status.ready as before
+ctl/status {"replicas":9} => nothing
+
+a_conflict_and_a_takeover_of_status
+alice {"replicas":3} => {"spec":{"replicas":3}} alice/Apply .spec.replicas
+ctl/status {} {"ready":2} => {"spec":{"replicas":3},"status":{"ready":2}} alice/Apply .spec.replicas ctl/Apply/status .status.ready
+bob/status {"replicas":9} {"ready":5} => conflicts: .status.ready ctl/Apply/status
+bob {} {"ready":5} => {"spec":{"replicas":3},"status":{"ready":2}} alice/Apply .spec.replicas ctl/Apply/status .status.ready as before
+bob/status! {"replicas":9} {"ready":5} => {"spec":{"replicas":3},"status":{"ready":5}} alice/Apply .spec.replicas bob/Apply/status .status.ready
+ctl/status= {"replicas":9} {"ready":6} => {"spec":{"replicas":3},"status":{"ready":6}} alice/Apply .spec.replicas ctl/Update/status .status.ready
+bob! {"replicas":4} {"ready":7} => {"spec":{"replicas":4},"status":{"ready":6}} bob/Apply .spec.replicas ctl/Update/status .status.ready
+ctl/status= {"replicas":4} {} => {"spec":{"replicas":4}} bob/Apply .spec.replicas
+
+one_name_on_both_sides
+alice {"replicas":3} => {"spec":{"replicas":3}} alice/Apply .spec.replicas
+alice/status {} {"ready":1} => {"spec":{"replicas":3},"status":{"ready":1}} alice/Apply .spec.replicas alice/Apply/status .status.ready
+alice {} => {"status":{"ready":1}} alice/Apply/status .status.ready
+alice/status {} => nothing"#;
+
+#[test]
+fn writes_by_status(rt: HostRuntime) -> Result<(), Fail> {
+    play_each(rt.alloc(), READY_TYPES, BY_STATUS)
 }
 
 const ANEW: &str = r#"an apply with conflicts, one by force, one that drops
@@ -248,5 +309,19 @@ anew alice {"image":"a"} => {"spec":{"image":"a"}} alice/Apply .spec.image"#;
 /// Whichever allocation of an apply is refused, what stands stays, and the apply is answered when it is called again.
 #[test]
 fn an_apply_that_is_refused_memory(rt: HostRuntime) -> Result<(), Fail> {
-    play_each(rt.alloc(), ANEW)
+    play_each(rt.alloc(), WIDGET_TYPES, ANEW)
+}
+
+const STATUS_ANEW: &str = r#"an apply and an update of each side
+alice {"replicas":3} => {"spec":{"replicas":3}} alice/Apply .spec.replicas
+anew ctl/status {} {"ready":2} => {"spec":{"replicas":3},"status":{"ready":2}} alice/Apply .spec.replicas ctl/Apply/status .status.ready
+anew ctl/status= {} {"ready":2} => {"spec":{"replicas":3},"status":{"ready":2}} alice/Apply .spec.replicas ctl/Update/status .status.ready
+ctl/status {} {"ready":2} => {"spec":{"replicas":3},"status":{"ready":2}} alice/Apply .spec.replicas ctl/Apply/status .status.ready
+anew alice {"replicas":4} => {"spec":{"replicas":4},"status":{"ready":2}} alice/Apply .spec.replicas ctl/Apply/status .status.ready
+anew alice= {"replicas":4} => {"spec":{"replicas":4},"status":{"ready":2}} alice/Update .spec.replicas ctl/Apply/status .status.ready"#;
+
+/// The same of applies and updates of each side.
+#[test]
+fn a_write_by_status_that_is_refused_memory(rt: HostRuntime) -> Result<(), Fail> {
+    play_each(rt.alloc(), READY_TYPES, STATUS_ANEW)
 }

@@ -74,14 +74,14 @@ module _ (live : State) (new : Content) (m : Manager) where
   abbrev mine : PathSet
   mine = set.union (set.difference (owned_by live.owners m) gone) changes
 
-  contains-gone : (p : PathTexts) → set.contains gone p ≡ (is_some (fin.get live.content p) && not (is_some (fin.get new p)))
+  pub contains-gone : (p : PathTexts) → set.contains gone p ≡ (is_some (fin.get live.content p) && not (is_some (fin.get new p)))
   unfolding removed
   contains-gone p = set.contains-difference path_cmp_total (dom live.content) (dom new) p ∙ ap₂ (λ a b. a && not b) (contains-dom live.content p) (contains-dom new p)
 
   stays_there : (p : PathTexts) → Stands live.content p → set.contains gone p ≡ false → Stands new p
   stays_there p there free = and_not (is_some (fin.get live.content p)) (is_some (fin.get new p)) (sym (contains-gone p) ∙ free) there
 
-  contains-mine : (p : PathTexts) → set.contains mine p ≡ ((set.contains (owned_by live.owners m) p && not (set.contains gone p)) || set.contains changes p)
+  pub contains-mine : (p : PathTexts) → set.contains mine p ≡ ((set.contains (owned_by live.owners m) p && not (set.contains gone p)) || set.contains changes p)
   contains-mine p =
       set.contains-union path_cmp_total (set.difference (owned_by live.owners m) gone) changes p ∙ ap (λ b. b || set.contains changes p) (set.contains-difference path_cmp_total (owned_by live.owners m) gone p)
 

@@ -64,7 +64,7 @@ pub one_above : (s : PathSet) (p q : PathTexts) → set.contains s p ≡ true �
 unfolding has_at_or_above
 one_above s p q is front = one_in (λ x. is_front x q) s p is front
 
-some_above : (s : PathSet) (q : PathTexts) → has_at_or_above s q ≡ true → (p : PathTexts) × (set.contains s p ≡ true) × (is_front p q ≡ true)
+pub some_above : (s : PathSet) (q : PathTexts) → has_at_or_above s q ≡ true → (p : PathTexts) × (set.contains s p ≡ true) × (is_front p q ≡ true)
 unfolding has_at_or_above
 some_above s q h = some_in (λ p. is_front p q) s h
 

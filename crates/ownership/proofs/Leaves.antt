@@ -102,7 +102,7 @@ module _ (live : State) (body : Content) (m : Manager) (s : Shape) (places : Has
       by_front found.0 found.2 (all_back (dom body) (others live.owners m) (sorted-others live.owners m) found.0 found.1)
 
 module _ (live : State) (body : Content) (m : Manager) where
-  after-is : (p : PathTexts) → fin.get (applied live body m).content p ≡ cond (has_at_or_above (dropped live body m) p) None (either (fin.get body p) (fin.get live.content p))
+  pub after-is : (p : PathTexts) → fin.get (applied live body m).content p ≡ cond (has_at_or_above (dropped live body m) p) None (either (fin.get body p) (fin.get live.content p))
   unfolding applied
   after-is p = get-without (over body live.content) (dropped live body m) p ∙ ap (cond (has_at_or_above (dropped live body m) p) None) (get-over body live.content p)
 

@@ -7,3 +7,4 @@ pub mod Leaves
 pub mod Placed
 pub mod Clauses
 pub mod Changing
+pub mod Sides

@@ -4,3 +4,4 @@ pub mod Sameness
 pub mod Keeping
 pub mod Update
 pub mod Outcomes
+pub mod Sides

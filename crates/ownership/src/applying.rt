@@ -6,17 +6,19 @@ ghost use Rattle.schema.specs.Shape.{Shape};
 ghost use Rattle.pathmap.specs.Beside.{changed as changed_paths};
 ghost use Rattle.pathmap.specs.Contents.{Content, dom, in_order};
 ghost use Rattle.typed.specs.Fitting.{IsContent};
-ghost use Rattle.objects.specs.Owners.{apply_operation, manager_of, others};
+ghost use Rattle.objects.specs.Owners.{apply_operation, manager_by, others};
 ghost use Rattle.ownership.specs.Apply.{applied, clear_of_all, conflicts_with, dropped, is_refused};
 ghost use Rattle.ownership.specs.Keeping.{HasPlaces, IsSettled, LeavesOwned, OthersKeep};
 ghost use Rattle.objects.specs.Placed.{IsPlacedState, OwnedStand};
 ghost use Rattle.objects.specs.Managers.{manager_view};
 ghost use Rattle.ownership.specs.Results.{Applies, conflict_of};
+ghost use Rattle.ownership.specs.Sides.{OtherSideStays, OwnSides, own_part};
 ghost use Rattle.objects.specs.Views.{state_of};
 
 use crate::conflict::{ApplyFault, Conflict};
+use crate::parts::own_part;
 use fieldset::FieldSet;
-use objects::{Entry, Manager, Managers, Operation, Owned};
+use objects::{Entry, Manager, Managers, Operation, Owned, Subresource};
 use std::alloc::{AllocError, Global};
 use typed::Tree;
 
@@ -120,23 +122,28 @@ fn is_refused(conflicts: &[Conflict], force: bool) -> bool
 }
 
 /// Applies a body (Server-Side Apply, "Field management"): `live` is the object before, empty where there is none,
-/// `manager` the name of who applies, `config` the body's content. Without `force` a conflict refuses it.
+/// `manager` the name of who applies, `subresource` by what, `config` the body's content, of which only what the subresource
+/// writes counts. Without `force` a conflict refuses it.
 pub fn apply(
     alloc: Global,
     live: &Owned,
     manager: &str,
+    subresource: Subresource,
     config: Tree,
     force: bool,
 ) -> Result<Owned, ApplyFault>
-    ensures applies { Applies (state_of live.now) config (manager_of manager.now apply_operation) force result }
-    ensures others { force ≡ false → IfOk result (λ o. OthersKeep (state_of live.now) (state_of o) (manager_of manager.now apply_operation)) }
+    ensures applies { Applies (state_of live.now) (own_part subresource config) (manager_by manager.now apply_operation subresource) force result }
+    ensures others { force ≡ false → IfOk result (λ o. OthersKeep (state_of live.now) (state_of o) (manager_by manager.now apply_operation subresource)) }
+    ensures sides { OwnSides (state_of live.now) → IfOk result (λ o. OwnSides (state_of o)) }
+    ensures apart { OwnSides (state_of live.now) → IfOk result (λ o. OtherSideStays subresource (state_of live.now) (state_of o)) }
     ensures places { (s : Shape) → HasPlaces s live.now.tree → HasPlaces s config → IfOk result (λ o. HasPlaces s o.tree) }
     ensures stand { OwnedStand (state_of live.now) → IfOk result (λ o. OwnedStand (state_of o)) }
     ensures leaves { (s : Shape) → HasPlaces s live.now.tree → HasPlaces s config → OwnedStand (state_of live.now) → LeavesOwned s (state_of live.now) → IfOk result (λ o. LeavesOwned s (state_of o)) }
     ensures placed { (s : Shape) → IsContent s config → IsPlacedState s (state_of live.now) → IfOk result (λ o. IsPlacedState s (state_of o)) }
-    ensures again { IfOk result (λ o. IsSettled (state_of o) config (manager_of manager.now apply_operation)) }
+    ensures again { IfOk result (λ o. IsSettled (state_of o) (own_part subresource config) (manager_by manager.now apply_operation subresource)) }
 {
-    let manager = Manager::new(alloc, manager, Operation::Apply)?;
+    let manager = Manager::by(alloc, manager, Operation::Apply, subresource)?;
+    let config = own_part(subresource, config);
     let changed = config.changed_from(alloc, &live.tree)?;
     let conflicts = conflicts_with_others(&live.managers, alloc, &manager, &changed)?;
     if is_refused(&conflicts, force) {

@@ -2,13 +2,15 @@
 //! where its object is stored, is `verbs`'.
 //!
 //! Promises: an apply is refused for all its conflicts or changes content and owners exactly as defined;
-//! without force it changes no path that another manager owns.
+//! without force it changes no path that another manager owns. A write by the main resource leaves `.status` and who owns
+//! it as they are, and one by the subresource `status` leaves all else.
 //! Stands on `objects` for objects and their owners, on `fieldset` for sets of paths and on `typed` for contents.
 #![tactic(auto)]
 
 mod applying;
 mod conflict;
 mod outcome;
+mod parts;
 mod same;
 mod updating;
 

@@ -2,17 +2,19 @@
 
 ghost use Rattle.std.specs.Prelude.{◌≡◌, IfOk};
 ghost use Rattle.std.specs.FinSet as set;
-ghost use Rattle.objects.specs.Owners.{manager_of, owned_by, taken_over, update_operation};
+ghost use Rattle.objects.specs.Owners.{manager_by, owned_by, taken_over, update_operation};
 ghost use Rattle.schema.specs.Shape.{Shape};
 ghost use Rattle.typed.specs.Fitting.{IsContent};
 ghost use Rattle.objects.specs.Placed.{IsPlacedState, OwnedStand};
 ghost use Rattle.ownership.specs.Keeping.{LeavesOwned};
 ghost use Rattle.objects.specs.Managers.{manager_view};
 ghost use Rattle.objects.specs.Views.{state_of};
+ghost use Rattle.ownership.specs.Sides.{OtherSideStays, OwnSides, beside_others};
 ghost use Rattle.ownership.specs.Update.{removed, updated};
 
+use crate::parts::beside_others;
 use fieldset::FieldSet;
-use objects::{Manager, Managers, Operation, Owned};
+use objects::{Manager, Managers, Operation, Owned, Subresource};
 use std::alloc::{AllocError, Global};
 use typed::Tree;
 
@@ -55,15 +57,25 @@ fn owners_then(
 }
 
 /// Replaces the content (Server-Side Apply, "Field management"): `live` is the object before, empty where there is none,
-/// `manager` the name of who updates, `new` the whole content. Who updates owns what it changed, and keeps what it owned
-/// and still stands; the others lose what was changed or removed. An update has no conflict.
-pub fn update(alloc: Global, live: &Owned, manager: &str, new: Tree) -> Result<Owned, AllocError>
-    ensures updates { IfOk result (λ o. state_of o ≡ updated (state_of live.now) new (manager_of manager.now update_operation)) }
+/// `manager` the name of who updates, `subresource` by what, `new` the whole content, of which only what the subresource
+/// writes counts: the rest of what stands stays. Who updates owns what it changed, and keeps what it owned and still stands;
+/// the others lose what was changed or removed. An update has no conflict.
+pub fn update(
+    alloc: Global,
+    live: &Owned,
+    manager: &str,
+    subresource: Subresource,
+    new: Tree,
+) -> Result<Owned, AllocError>
+    ensures updates { IfOk result (λ o. state_of o ≡ updated (state_of live.now) (beside_others subresource new live.now.tree) (manager_by manager.now update_operation subresource)) }
+    ensures sides { OwnSides (state_of live.now) → IfOk result (λ o. OwnSides (state_of o)) }
+    ensures apart { OwnSides (state_of live.now) → IfOk result (λ o. OtherSideStays subresource (state_of live.now) (state_of o)) }
     ensures stand { OwnedStand (state_of live.now) → IfOk result (λ o. OwnedStand (state_of o)) }
     ensures placed { (s : Shape) → IsContent s new → IsPlacedState s (state_of live.now) → IfOk result (λ o. IsPlacedState s (state_of o)) }
     ensures leaves { (s : Shape) → LeavesOwned s (state_of live.now) → IfOk result (λ o. LeavesOwned s (state_of o)) }
 {
-    let manager = Manager::new(alloc, manager, Operation::Update)?;
+    let manager = Manager::by(alloc, manager, Operation::Update, subresource)?;
+    let new = beside_others(alloc, subresource, new, &live.tree)?;
     let changed = new.changed_from(alloc, &live.tree)?;
     let gone = removed(alloc, &live.tree, &new)?;
     let managers = owners_then(&live.managers, alloc, manager, changed, &gone)?;

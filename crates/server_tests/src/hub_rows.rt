@@ -1,7 +1,7 @@
 //! Plays examples, each on a hub of its own: a line `NAME on WHAT: WHY`, and rows `STEP => ANSWER` up to the next blank
-//! line. WHAT is `widgets`, `ports` (widgets with a list of ports) or `the last revision` (widgets, where one revision
-//! is left); `: WHY` may be absent. The examples stand in `connections`, `single_objects`, `list_rows` and
-//! `watch_rows`.
+//! line. WHAT is `widgets`, `ports` (widgets with a list of ports), `status` (widgets with a status) or `the last revision`
+//! (widgets, where one revision is left); `: WHY` may be absent. The examples stand in `connections`, `single_objects`,
+//! `status_rows`, `list_rows` and `watch_rows`.
 //!
 //! | step | what happens |
 //! |---|---|
@@ -32,11 +32,12 @@
 
 use crate::connections::CONNECTIONS;
 use crate::forms::{expect_head, expect_refusal};
-use crate::given::{PORT_TYPES, WIDGET_TYPES};
+use crate::given::{PORT_TYPES, STATUS_TYPES, WIDGET_TYPES};
 use crate::list_rows::LISTS;
 use crate::pieces::{PIECES, comes_apart, cut_anywhere, fronts_of};
 use crate::refused_memory::REFUSED_MEMORY;
 use crate::single_objects::SINGLE_OBJECTS;
+use crate::status_rows::STATUS;
 use crate::watch_rows::WATCHES;
 use httpedge::{Event, Hub, HubFault};
 use schema::Types;
@@ -345,8 +346,11 @@ fn play_rows(alloc: Global, hub: &mut Hub, heading: &str, rows: &str) -> Result<
 /// The API without objects that an example begins from.
 fn api_of(alloc: Global, heading: &str) -> Result<Api, Fail> {
     let (heading, _) = heading.split_once(": ").unwrap_or((heading, ""));
-    let has_ports = heading.ends_with(" on ports");
-    let text = if has_ports { PORT_TYPES } else { WIDGET_TYPES };
+    let text = match heading.rsplit_once(" on ") {
+        Some((_, "ports")) => PORT_TYPES,
+        Some((_, "status")) => STATUS_TYPES,
+        _ => WIDGET_TYPES,
+    };
     let types = Types::read(alloc, &Value::from_str(alloc, text)?)?;
     if heading.ends_with(" on the last revision") {
         return Ok(Api::new_at(alloc, types, 9_223_372_036_854_775_806)?);
@@ -366,6 +370,14 @@ fn play(alloc: Global, example: &str) -> Result<(), Fail> {
 #[test]
 fn single_objects(rt: HostRuntime) -> Result<(), Fail> {
     for example in SINGLE_OBJECTS.split("\n\n") {
+        play(rt.alloc(), example)?;
+    }
+    Ok(())
+}
+
+#[test]
+fn writes_by_status(rt: HostRuntime) -> Result<(), Fail> {
+    for example in STATUS.split("\n\n") {
         play(rt.alloc(), example)?;
     }
     Ok(())

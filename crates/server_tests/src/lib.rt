@@ -24,4 +24,6 @@ mod refused_memory;
 #[cfg(test)]
 mod single_objects;
 #[cfg(test)]
+mod status_rows;
+#[cfg(test)]
 mod watch_rows;

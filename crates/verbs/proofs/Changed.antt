@@ -47,7 +47,7 @@ module _ (s : Source) (call : Call) (is : call.target.method ≡ Get) where
   by_none : (t : ServedShape) (scope : Scope) (p : Plan) → validated_by scope Get t s call ≡ Ok p → None ≡ p.change
   by_none t of_all p e = listed_none t call.target.kind None p e
   by_none t (of_namespace namespace) p e = listed_none t call.target.kind (Some namespace) p e
-  by_none t (of_object namespace name) p e = got_none t (key_at call namespace name) p e
+  by_none t (of_object namespace name subresource) p e = got_none t (key_at call namespace name) p e
 
   at_none : (found : Option ServedShape) (scope : Option Scope) (p : Plan) → validated_at found scope s call ≡ Ok p → None ≡ p.change
   at_none None scope p e = no_err _ p e
@@ -56,7 +56,7 @@ module _ (s : Source) (call : Call) (is : call.target.method ≡ Get) where
 
   plans_none : (types : List ServedShape) (j : Validated Plan) → validated_over types s call ≡ j → None ≡ (plan_for j).change
   plans_none types (Err d) e = refl
-  plans_none types (Ok p) e = at_none (slice_get types call.target.kind) (scope_of call.target.namespace call.target.name) p e
+  plans_none types (Ok p) e = at_none (slice_get types call.target.kind) (scope_of call.target.namespace call.target.name call.target.status) p e
 
 pub gets_change_nothing : GetsChangeNothing
 gets_change_nothing types m call is = ap (after m) (sym (plans_none (from_history m) call is types (validated_over types (from_history m) call) refl))

@@ -8,25 +8,28 @@ use Rattle.schema.specs.TypesFile.{ServedShape}
 use Rattle.history.specs.History.{Change, Key, Object, Objects}
 use Rattle.history.specs.View.{View}
 use Rattle.objects.specs.State.{State}
-use Rattle.objects.specs.Owners.{apply_operation, manager_of}
+use Rattle.objects.specs.declared.manager.Subresource.{Subresource}
+use Rattle.objects.specs.declared.manager.Subresource.TheVariants.{Main, Status}
+use Rattle.objects.specs.Owners.{apply_operation}
+use Rattle.ownership.specs.Sides.{own_part}
 use Rattle.ownership.specs.Sameness.{same_state}
 use Rattle.objects.proofs.Taken.{no_some}
 use Rattle.verbs.specs.declared.method.Method.{Method}
 use Rattle.verbs.specs.declared.method.Method.TheVariants.{Delete, Get, Patch, Post, Put}
-use Rattle.verbs.specs.Calls.{Answer, Call, Plan, of_all, of_namespace, of_object, scope_of}
+use Rattle.verbs.specs.Calls.{Answer, Call, Plan, of_all, of_namespace, scope_of, subresource_of}
 use Rattle.verbs.specs.Envelope.{Expected, api_version_of, name_in}
 use Rattle.std.specs.declared.result.Result.{Result}
 use Rattle.lists.specs.declared.refusal.Refusal.{Refusal}
 use Rattle.verbs.specs.Validated.{Validated, and_then}
 use Rattle.verbs.specs.Machine.{ComesAfter, no_state, state_of_live, state_said}
-use Rattle.verbs.specs.Naming.{marks_validated, names_validated, required_name}
+use Rattle.verbs.specs.Naming.{marks_validated_by, names_validated, required_name}
 use Rattle.verbs.specs.Options.{options_validated}
 use Rattle.verbs.specs.Parameters.{parameters_validated}
 use Rattle.verbs.specs.Promise.{IsCalled}
 use Rattle.verbs.specs.Seen.{objects_in}
 use Rattle.verbs.specs.Size.{size_validated}
 use Rattle.watchline.specs.Watches.{Source, from_view}
-use Rattle.verbs.specs.Step.{Creation, Intent, apply_validated, at_path, body_of, created_as, creation_validated, delete_validated, deleted_over, get_validated, intent_of, validated_at, validated_by, validated_over, as_it_stands, key_at, not_there, object_validated_by, plan_for, planned_over, ownership_validated, printed, revisions_left, store_state, store_unless_same, there, update_validated, updated_by, updated_over, version_checked, version_come, collection_of, list_answered, list_validated, shown_by}
+use Rattle.verbs.specs.Step.{Creation, Intent, apply_validated, at_path, body_of, created_as, creation_validated, delete_validated, deleted_over, get_validated, intent_of, validated_at, validated_by, validated_over, as_it_stands, key_at, manager_for, not_there, object_validated_by, plan_for, planned_over, ownership_validated, printed, revisions_left, store_state, store_unless_same, there, there_for, update_validated, updated_by, updated_over, version_checked, version_come, collection_of, list_answered, list_validated, shown_by}
 use Rattle.verbs.proofs.Checks.{change_in, no_err, ok_is, passed}
 
 -- and its key is one of those that Q says
@@ -49,13 +52,16 @@ module _ (current : ℕ) (objects : Objects) (Q : Key → Type 0) where
       go true f = subst (Fits current objects Q) (ap change_in f) tt
       go false f = stored_fits t k 200 s p own f
 
-  apply_fits : (t : ServedShape) (k : Key) (query : List ℕ) (body : Data) (p : Plan) → Q k → apply_validated t current (fin.get objects k) k query body ≡ Ok p → Fits current objects Q p.change
-  apply_fits t k query body p own e =
+  apply_fits : (by : Subresource) (t : ServedShape) (k : Key) (query : List ℕ) (body : Data) (p : Plan) → Q k → apply_validated by t current (fin.get objects k) k query body ≡ Ok p
+      → Fits current objects Q p.change
+  apply_fits by t k query body p own e =
       let live = fin.get objects k in
-      let intent = passed (intent_of (at_path t k Patch) asked.Apply query body) _ p e in
-      let named = passed (names_validated k.namespace k.name intent.0.rest) _ p intent.2 in
-      let version = passed (version_checked intent.0.version live) _ p named.2 in
-      let owned = passed (ownership_validated (api_version_of t) (state_of_live t live) intent.0.content (manager_of intent.0.manager apply_operation) intent.0.is_forced) _ p version.2 in
+      let intent = passed (intent_of (at_path t k Patch by) asked.Apply query body) _ p e in
+      let named = passed (names_validated intent.0.subresource k.namespace k.name intent.0.rest) _ p intent.2 in
+      let found = passed (there_for intent.0.subresource t k.name live) _ p named.2 in
+      let version = passed (version_checked intent.0.version live) _ p found.2 in
+      let config = own_part intent.0.subresource intent.0.content in
+      let owned = passed (ownership_validated (api_version_of t) (state_of_live t live) config (manager_for apply_operation intent.0) intent.0.is_forced) _ p version.2 in
       over_fits t k live owned.0 p own owned.2
 
   updated_fits : (t : ServedShape) (k : Key) (found : Option Object) (intent : Intent) (p : Plan) → Q k → updated_over t current k found intent ≡ Ok p → Fits current objects Q p.change
@@ -64,10 +70,11 @@ module _ (current : ℕ) (objects : Objects) (Q : Key → Type 0) where
       let version = passed (version_checked intent.version (Some o)) _ p e in
       over_fits t k (Some o) (updated_by intent (state_said t.shape o.body)) p own version.2
 
-  update_fits : (t : ServedShape) (k : Key) (query : List ℕ) (body : Data) (p : Plan) → Q k → update_validated t current (fin.get objects k) k query body ≡ Ok p → Fits current objects Q p.change
-  update_fits t k query body p own e =
-      let intent = passed (intent_of (at_path t k Put) asked.Put query body) _ p e in
-      let marks = passed (marks_validated intent.0.rest) _ p intent.2 in
+  update_fits : (by : Subresource) (t : ServedShape) (k : Key) (query : List ℕ) (body : Data) (p : Plan) → Q k → update_validated by t current (fin.get objects k) k query body ≡ Ok p
+      → Fits current objects Q p.change
+  update_fits by t k query body p own e =
+      let intent = passed (intent_of (at_path t k Put by) asked.Put query body) _ p e in
+      let marks = passed (marks_validated_by intent.0.subresource intent.0.rest) _ p intent.2 in
       updated_fits t k (fin.get objects k) intent.0 p own marks.2
 
   deleted_fits : (t : ServedShape) (k : Key) (version : Option ℕ) (found : Option Object) (p : Plan) → Q k → fin.get objects k ≡ found → deleted_over t current k found version ≡ Ok p → Fits current objects Q p.change
@@ -93,14 +100,14 @@ module _ (current : ℕ) (objects : Objects) (Q : Key → Type 0) where
   create_fits : (t : ServedShape) (kind : ℕ) (namespace query : List ℕ) (body : Data) (p : Plan) → ((name : List ℕ) → Q (record { kind = kind; namespace = namespace; name = name }))
       → and_then (creation_validated t kind namespace query body) (λ c. created_as t current (fin.get objects c.key) c.key c.intent) ≡ Ok p → Fits current objects Q p.change
   create_fits t kind namespace query body p own e =
-      let of : Expected = record { served = t; namespace = namespace; name = None; method = Post } in
+      let of : Expected = record { served = t; namespace = namespace; name = None; method = Post; subresource = Main } in
       let creation = passed (creation_validated t kind namespace query body) _ p e in
       let intent = passed (intent_of of asked.Post query body) _ creation.0 creation.1 in
       let name = passed (required_name (name_in body)) _ creation.0 intent.2 in
       let k = creation.0.key in
       let made : Creation = record { key = record { kind = kind; namespace = namespace; name = name.0 }; intent = intent.0 } in
       let same : made ≡ creation.0 = ok_is made creation.0 name.2 in
-      let named = passed (names_validated k.namespace k.name creation.0.intent.rest) _ p creation.2 in
+      let named = passed (names_validated creation.0.intent.subresource k.namespace k.name creation.0.intent.rest) _ p creation.2 in
       let free = passed (not_there t k.name (fin.get objects k)) _ p named.2 in
       stored_fits t k 201 (updated_by creation.0.intent no_state) p (subst (λ (c : Creation). Q c.key) same (own name.0)) free.2
 
@@ -119,12 +126,13 @@ module _ (s : Source) (call : Call) where
       let body = passed (body_of call.body) validated p e in
       fits body.0 p body.2
 
-  object_fits : (w : Method) (t : ServedShape) (k : Key) → IsCalled call.target k → AllFit (object_validated_by w t current (fin.get objects k) k call.query call.body)
-  object_fits Get t k own p e = get_fits current objects (IsCalled call.target) t k call.query p e
-  object_fits Post t k own p e = no_err _ p e
-  object_fits Put t k own p e = with_body _ (λ body q f. update_fits current objects (IsCalled call.target) t k call.query body q own f) p e
-  object_fits Patch t k own p e = with_body _ (λ body q f. apply_fits current objects (IsCalled call.target) t k call.query body q own f) p e
-  object_fits Delete t k own p e = delete_fits current objects (IsCalled call.target) t k call.query call.body p own e
+  object_fits : (w : Method) (by : Subresource) (t : ServedShape) (k : Key) → IsCalled call.target k → AllFit (object_validated_by w by t current (fin.get objects k) k call.query call.body)
+  object_fits Get by t k own p e = get_fits current objects (IsCalled call.target) t k call.query p e
+  object_fits Post by t k own p e = no_err _ p e
+  object_fits Put by t k own p e = with_body _ (λ body q f. update_fits current objects (IsCalled call.target) by t k call.query body q own f) p e
+  object_fits Patch by t k own p e = with_body _ (λ body q f. apply_fits current objects (IsCalled call.target) by t k call.query body q own f) p e
+  object_fits Delete Main t k own p e = delete_fits current objects (IsCalled call.target) t k call.query call.body p own e
+  object_fits Delete Status t k own p e = no_err _ p e
 
   -- a list changes nothing
   list_fits : (t : ServedShape) (kind : ℕ) (namespace : Option (List ℕ)) → AllFit (list_validated t s kind namespace call.query)
@@ -157,15 +165,15 @@ module _ (s : Source) (call : Call) where
   if_none : (given : Option (List ℕ)) (name : List ℕ) → given ≡ None → IfSome given (λ n. n ≡ name)
   if_none given name is = subst (λ o. IfSome o (λ n. n ≡ name)) (sym is) tt
 
-  in_fits : (t : ServedShape) (namespace name : Option (List ℕ)) → call.target.namespace ≡ namespace → call.target.name ≡ name → AllFit (validated_at (Some t) (scope_of namespace name) s call)
+  in_fits : (t : ServedShape) (namespace name : Option (List ℕ)) → call.target.namespace ≡ namespace → call.target.name ≡ name → AllFit (validated_at (Some t) (scope_of namespace name call.target.status) s call)
   in_fits t None None placed is p e = all_fits call.target.method t p e
   in_fits t None (Some name) placed is p e = no_err _ p e
   in_fits t (Some namespace) None placed is p e =
       collection_fits call.target.method t namespace (λ name. record { kind = refl; namespace = placed; name = if_none call.target.name name is }) p e
   in_fits t (Some namespace) (Some name) placed is p e =
-      object_fits call.target.method t (key_at call namespace name) (record { kind = refl; namespace = placed; name = if_named call.target.name name is }) p e
+      object_fits call.target.method (subresource_of call.target.status) t (key_at call namespace name) (record { kind = refl; namespace = placed; name = if_named call.target.name name is }) p e
 
-  at_fits : (found : Option ServedShape) → AllFit (validated_at found (scope_of call.target.namespace call.target.name) s call)
+  at_fits : (found : Option ServedShape) → AllFit (validated_at found (scope_of call.target.namespace call.target.name call.target.status) s call)
   at_fits None p e = no_err _ p e
   at_fits (Some t) p e = in_fits t call.target.namespace call.target.name refl refl p e
 

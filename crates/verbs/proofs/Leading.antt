@@ -11,9 +11,9 @@ use Rattle.matchit.specs.Params.{part_of, walk}
 use Rattle.matchit.specs.Seek.{first, seek, segment, slash, step, with_suffix}
 use Rattle.schema.specs.TypesFile.{ServedShape}
 use Rattle.verbs.specs.declared.resource.Resource.{Resource}
-use Rattle.verbs.specs.declared.resource.Resource.TheVariants.{AllNamespaces, Collection, Object}
-use Rattle.verbs.specs.Admit.{Parts, all_path, collection_path, object_path, parts_by, place_by, place_in, place_of, routes}
-use Rattle.verbs.specs.Routes.{IsPart, PathsOfAll, PathsOfCollections, PathsOfObjects, path_of_all, path_of_collection, path_of_object}
+use Rattle.verbs.specs.declared.resource.Resource.TheVariants.{AllNamespaces, Collection, Object, Status}
+use Rattle.verbs.specs.Admit.{Parts, all_path, collection_path, object_path, parts_by, place_by, place_in, place_of, routes, status_path}
+use Rattle.verbs.specs.Routes.{IsPart, PathsOfAll, PathsOfCollections, PathsOfObjects, PathsOfStatus, path_of_all, path_of_collection, path_of_object, path_of_status}
 use Rattle.verbs.proofs.Seeking.{first_whole, params_none, rest_whole, seek_end, seek_literals, seek_part, slashed_none, steps}
 use Rattle.verbs.proofs.Walking.{AreBytes, Left, goes_on, left_all, left_past, walk_end, walk_mid}
 
@@ -61,9 +61,17 @@ object_route = record {
   value = Object;
 }
 
+abbrev status_route : RouteOf Resource
+status_route = record {
+  pattern = codes "/apis/" ++ param_token ∷ slash ∷ param_token ∷ codes "/namespaces/" ++ param_token ∷ slash ∷ param_token ∷ slash ∷ param_token ∷ codes "/status";
+  text = status_path;
+  names = (7, 12) ∷ (15, 22) ∷ (36, 45) ∷ (48, 54) ∷ (57, 61) ∷ [];
+  value = Status;
+}
+
 -- all of them, in their order
 abbrev table : RouteRows
-table = (object_route.pattern, object_route) ∷ (collection_route.pattern, collection_route) ∷ (all_route.pattern, all_route) ∷ []
+table = (status_route.pattern, status_route) ∷ (object_route.pattern, object_route) ∷ (collection_route.pattern, collection_route) ∷ (all_route.pattern, all_route) ∷ []
 
 routes_are : routes ≡ table
 unfolding routes matchit_on_literals
@@ -91,14 +99,14 @@ behind [] v rest k ig iv found = no_part ig
 behind (a ∷ g) [] rest k ig iv found = no_part iv
 behind (a ∷ g) (c ∷ v) rest k ig iv found =
     seek_literals (codes "/apis/") table (a ∷ g ++ slash ∷ (c ∷ v ++ slash ∷ rest)) k
-    (seek_part grouped a g (c ∷ v ++ slash ∷ rest) k ig.whole (head_byte a g ig) (refl, (refl, (refl, tt))) (refl, (inl refl, (inl refl, tt)))
-    (seek_part versioned c v rest k iv.whole (head_byte c v iv) (refl, (refl, (refl, tt))) (refl, (inl refl, (inl refl, tt))) found))
+    (seek_part grouped a g (c ∷ v ++ slash ∷ rest) k ig.whole (head_byte a g ig) (refl, (refl, (refl, (refl, tt)))) (refl, (inl refl, (inl refl, (inl refl, tt))))
+    (seek_part versioned c v rest k iv.whole (head_byte c v iv) (refl, (refl, (refl, (refl, tt)))) (refl, (inl refl, (inl refl, (inl refl, tt)))) found))
 
 found_all : (g v p : List ℕ) → IsPart g → IsPart v → IsPart p → first table (path_of_all g v p) ≡ Some all_route
 found_all g v [] ig iv ip = no_part ip
 found_all g v (d ∷ p) ig iv ip =
     behind g v (d ∷ p) all_route ig iv
-    (seek_end typed d p all_route ip.whole (slashed_none d typed p (first_whole d p ip.whole) (head_byte d p ip) (rest_whole d p ip.whole) (inl refl, (inl refl, (inr refl, tt)))) (inr refl, tt) refl)
+    (seek_end typed d p all_route ip.whole (slashed_none d typed p (first_whole d p ip.whole) (head_byte d p ip) (rest_whole d p ip.whole) (inl refl, (inl refl, (inl refl, (inr refl, tt))))) (inr refl, tt) refl)
 
 found_collection : (g v n p : List ℕ) → IsPart g → IsPart v → IsPart n → IsPart p → first table (path_of_collection g v n p) ≡ Some collection_route
 found_collection g v [] p ig iv inn ip = no_part inn
@@ -106,8 +114,8 @@ found_collection g v (b ∷ n) [] ig iv inn ip = no_part ip
 found_collection g v (b ∷ n) (d ∷ p) ig iv inn ip =
     behind g v (codes "namespaces/" ++ (b ∷ n ++ slash ∷ d ∷ p)) collection_route ig iv
     (seek_literals (codes "namespaces/") typed (b ∷ n ++ slash ∷ d ∷ p) collection_route
-    (seek_part spaced b n (d ∷ p) collection_route inn.whole (head_byte b n inn) (refl, (refl, tt)) (refl, (inl refl, tt))
-    (seek_end (past spaced) d p collection_route ip.whole (params_none d (past spaced) p (head_byte d p ip) (refl, (refl, tt))) (inl refl, (inr refl, tt)) refl)))
+    (seek_part spaced b n (d ∷ p) collection_route inn.whole (head_byte b n inn) (refl, (refl, (refl, tt))) (refl, (inl refl, (inl refl, tt)))
+    (seek_end (past spaced) d p collection_route ip.whole (params_none d (past spaced) p (head_byte d p ip) (refl, (refl, (refl, tt)))) (inl refl, (inl refl, (inr refl, tt))) refl)))
 
 found_object : (g v n p o : List ℕ) → IsPart g → IsPart v → IsPart n → IsPart p → IsPart o → first table (path_of_object g v n p o) ≡ Some object_route
 found_object g v [] p o ig iv inn ip io = no_part inn
@@ -116,9 +124,25 @@ found_object g v (b ∷ n) (d ∷ p) [] ig iv inn ip io = no_part io
 found_object g v (b ∷ n) (d ∷ p) (e ∷ o) ig iv inn ip io =
     behind g v (codes "namespaces/" ++ (b ∷ n ++ slash ∷ (d ∷ p ++ slash ∷ e ∷ o))) object_route ig iv
     (seek_literals (codes "namespaces/") typed (b ∷ n ++ slash ∷ (d ∷ p ++ slash ∷ e ∷ o)) object_route
-    (seek_part spaced b n (d ∷ p ++ slash ∷ e ∷ o) object_route inn.whole (head_byte b n inn) (refl, (refl, tt)) (refl, (inl refl, tt))
-    (seek_part (past spaced) d p (e ∷ o) object_route ip.whole (head_byte d p ip) (refl, (refl, tt)) (refl, (inr refl, tt))
-    (seek_end (past (past spaced)) e o object_route io.whole (params_none e (past (past spaced)) o (head_byte e o io) (refl, tt)) (inr refl, tt) refl))))
+    (seek_part spaced b n (d ∷ p ++ slash ∷ e ∷ o) object_route inn.whole (head_byte b n inn) (refl, (refl, (refl, tt))) (refl, (inl refl, (inl refl, tt)))
+    (seek_part (past spaced) d p (e ∷ o) object_route ip.whole (head_byte d p ip) (refl, (refl, (refl, tt))) (refl, (inl refl, (inr refl, tt)))
+    (seek_end (past (past spaced)) e o object_route io.whole (params_none e (past (past spaced)) o (head_byte e o io) (refl, (refl, tt))) (inl refl, (inr refl, tt)) refl))))
+
+found_last : seek 0 (past (past (past spaced))) (codes "status") ≡ Some status_route
+unfolding seek
+found_last = refl
+
+found_status : (g v n p o : List ℕ) → IsPart g → IsPart v → IsPart n → IsPart p → IsPart o → first table (path_of_status g v n p o) ≡ Some status_route
+found_status g v [] p o ig iv inn ip io = no_part inn
+found_status g v (b ∷ n) [] o ig iv inn ip io = no_part ip
+found_status g v (b ∷ n) (d ∷ p) [] ig iv inn ip io = no_part io
+found_status g v (b ∷ n) (d ∷ p) (e ∷ o) ig iv inn ip io =
+    let last = e ∷ o ++ codes "/status" in
+    behind g v (codes "namespaces/" ++ (b ∷ n ++ slash ∷ (d ∷ p ++ slash ∷ last))) status_route ig iv
+    (seek_literals (codes "namespaces/") typed (b ∷ n ++ slash ∷ (d ∷ p ++ slash ∷ last)) status_route
+    (seek_part spaced b n (d ∷ p ++ slash ∷ last) status_route inn.whole (head_byte b n inn) (refl, (refl, (refl, tt))) (refl, (inl refl, (inl refl, tt)))
+    (seek_part (past spaced) d p last status_route ip.whole (head_byte d p ip) (refl, (refl, (refl, tt))) (refl, (inl refl, (inr refl, tt)))
+    (seek_part (past (past spaced)) e o (codes "status") status_route io.whole (head_byte e o io) (refl, (refl, tt)) (refl, (inr refl, tt)) found_last))))
 
 -- ---- what the names of a route take
 
@@ -169,7 +193,7 @@ parts_all g v p ig iv =
     ∙ ap (λ ps. (codes "group", g) ∷ (codes "version", v) ∷ ps)
     (walk_end all_route.pattern all_path (path_of_all g v p) (25, 31) 9 (second g v) (slash ∷ []) p [] refl (refl, tt) refl (left_second g v p))
 
--- of the two routes with a namespace, up to it
+-- of the routes with a namespace, up to it
 three_parts : (pattern text g v n rest pat more last : List ℕ) (names : List (ℕ × ℕ)) → IsPart g → IsPart v → IsPart n
     → drop 0 pattern ≡ codes "/apis/" ++ param_token ∷ pat → goes_on pattern 6 ≡ true → segment (drop 7 pattern) ≡ slash ∷ []
     → drop 7 pattern ≡ slash ∷ param_token ∷ more → goes_on pattern 8 ≡ true → segment (drop 9 pattern) ≡ slash ∷ []
@@ -208,6 +232,23 @@ parts_object g v n p o ig iv inn ip =
     (walk_end object_route.pattern object_path path (57, 61) 24 (third g v n + length (slash ∷ []) + length p) (slash ∷ []) o [] refl (refl, tt) refl
     (left_past path (third g v n + length (slash ∷ [])) p (slash ∷ o) named)))
 
+parts_status : (g v n p o : List ℕ) → IsPart g → IsPart v → IsPart n → IsPart p → IsPart o
+    → parts_by (path_of_status g v n p o) status_route ≡ (codes "group", g) ∷ (codes "version", v) ∷ (codes "namespace", n) ∷ (codes "plural", p) ∷ (codes "name", o) ∷ []
+parts_status g v n p o ig iv inn ip io =
+    let path = path_of_status g v n p o in
+    let last = o ++ codes "/status" in
+    let left = left_third g v n (p ++ slash ∷ last) in
+    let named = left_past path (third g v n) (slash ∷ []) (p ++ slash ∷ last) left in
+    three_parts status_route.pattern status_path g v n (p ++ slash ∷ last)
+    (slash ∷ param_token ∷ codes "/namespaces/" ++ param_token ∷ slash ∷ param_token ∷ slash ∷ param_token ∷ codes "/status")
+    (codes "/namespaces/" ++ param_token ∷ slash ∷ param_token ∷ slash ∷ param_token ∷ codes "/status") (slash ∷ param_token ∷ slash ∷ param_token ∷ codes "/status")
+    ((48, 54) ∷ (57, 61) ∷ []) ig iv inn refl refl refl refl refl refl refl refl refl
+    ∙ ap (λ ps. (codes "group", g) ∷ (codes "version", v) ∷ (codes "namespace", n) ∷ ps)
+    (walk_mid status_route.pattern status_path path (48, 54) ((57, 61) ∷ []) 22 (third g v n) (slash ∷ []) p (slash ∷ param_token ∷ codes "/status") last refl (refl, tt) ip.whole refl refl left
+    ∙ ap (λ ps. (codes "plural", p) ∷ ps)
+    (walk_mid status_route.pattern status_path path (57, 61) [] 24 (third g v n + length (slash ∷ []) + length p) (slash ∷ []) o (codes "/status") (codes "status") refl (refl, tt) io.whole refl refl
+    (left_past path (third g v n + length (slash ∷ [])) p (slash ∷ last) named)))
+
 -- ---- places
 
 led : (types : List ServedShape) (path : List ℕ) (route : RouteOf Resource) (parts : Parts) → list_all is_ascii path ≡ true → first table path ≡ Some route → parts_by path route ≡ parts
@@ -238,3 +279,13 @@ paths_of_objects types g v n p o ig iv inn ip io =
     (all_both g (slash ∷ (v ++ (codes "/namespaces/" ++ (n ++ slash ∷ (p ++ slash ∷ o))))) ig.ascii
     (all_both v (codes "/namespaces/" ++ (n ++ slash ∷ (p ++ slash ∷ o))) iv.ascii (all_both n (slash ∷ p ++ slash ∷ o) inn.ascii (all_both p (slash ∷ o) ip.ascii io.ascii)))))
     (found_object g v n p o ig iv inn ip io) (parts_object g v n p o ig iv inn ip)
+
+pub paths_of_status : PathsOfStatus
+paths_of_status types g v n p o ig iv inn ip io =
+    let last = o ++ codes "/status" in
+    led types (path_of_status g v n p o) status_route _
+    (all_both (codes "/apis/") (g ++ slash ∷ (v ++ (codes "/namespaces/" ++ (n ++ slash ∷ (p ++ slash ∷ last))))) refl
+    (all_both g (slash ∷ (v ++ (codes "/namespaces/" ++ (n ++ slash ∷ (p ++ slash ∷ last))))) ig.ascii
+    (all_both v (codes "/namespaces/" ++ (n ++ slash ∷ (p ++ slash ∷ last))) iv.ascii (all_both n (slash ∷ p ++ slash ∷ last) inn.ascii
+    (all_both p (slash ∷ last) ip.ascii (all_both o (codes "/status") io.ascii refl))))))
+    (found_status g v n p o ig iv inn ip io) (parts_status g v n p o ig iv inn ip io)

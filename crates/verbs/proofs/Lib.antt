@@ -19,5 +19,6 @@ pub mod Refusals
 pub mod Statuses
 pub mod Said
 pub mod Seeking
+pub mod Sides
 pub mod Walking
 pub mod Leading

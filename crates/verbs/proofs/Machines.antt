@@ -91,8 +91,8 @@ module _ (types : List ServedShape) (m : History) (is : IsMachine types m) where
   by_seen (of_namespace namespace) Put t call = refl
   by_seen (of_namespace namespace) Patch t call = refl
   by_seen (of_namespace namespace) Delete t call = refl
-  by_seen (of_object namespace name) w t call =
-      ap (λ (os : Objects). object_validated_by w t m.current (fin.get os (key_at call namespace name)) (key_at call namespace name) call.query call.body) (standing_seen types m is)
+  by_seen (of_object namespace name subresource) w t call =
+      ap (λ (os : Objects). object_validated_by w subresource t m.current (fin.get os (key_at call namespace name)) (key_at call namespace name) call.query call.body) (standing_seen types m is)
 
   at_seen : (found : Option ServedShape) (scope : Option Scope) (call : Call) → validated_at found scope (from_view (view m)) call ≡ validated_at found scope (from_history m) call
   at_seen None scope call = refl
@@ -100,7 +100,7 @@ module _ (types : List ServedShape) (m : History) (is : IsMachine types m) where
   at_seen (Some t) (Some scope) call = by_seen scope call.target.method t call
 
   pub over_seen : (call : Call) → validated_over types (from_view (view m)) call ≡ validated_over types (from_history m) call
-  over_seen call = at_seen (slice_get types call.target.kind) (scope_of call.target.namespace call.target.name) call
+  over_seen call = at_seen (slice_get types call.target.kind) (scope_of call.target.namespace call.target.name call.target.status) call
 
 pub plans_by_views : PlansByViews
 plans_by_views types m call is = sym (ap plan_for (over_seen types m is call))

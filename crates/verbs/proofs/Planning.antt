@@ -1,12 +1,12 @@
 -- What a call comes to at a machine.
-use Rattle.std.proofs.Common.{◌≡◌, Ok, Err, Bool, true, false, Option, Some, None, refl, sym, ap, ap₂, subst, ◌∙◌, List, ℕ, true≢false, ltb-true, ltb-false}
+use Rattle.std.proofs.Common.{◌≡◌, Ok, Err, Bool, true, false, Option, Some, None, refl, sym, ap, subst, ◌∙◌, List, ℕ, true≢false, ltb-true, ltb-false}
 use Rattle.std.specs.Prelude.{◌↔◌, ◌<◌, ◌≤◌, IfSome, IsUtf8, OnOk, String, nat_lt, option_map, slice_get, string_bytes, suc}
 use Rattle.std.specs.declared.alloc.Global.{Global}
 use Rattle.std.proofs.lemmas.Str.{IsUtf8-string_bytes}
 use Rattle.std.specs.declared.result.Result.{Result}
 use Rattle.std.specs.FinMap as fin
 use Rattle.schema.specs.TypesFile.{ServedShape}
-use Rattle.history.specs.History.{Change, History, Key, Object, Objects, compacted_to, standing}
+use Rattle.history.specs.History.{Change, History, Key, Object, Objects, compacted_to}
 use Rattle.history.specs.View.{View, compacted_in, written_in}
 use Rattle.history.proofs.Seen.{view_compacts, view_writes}
 use Rattle.objects.specs.ReadBack.{IsObjectText}

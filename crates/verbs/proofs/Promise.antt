@@ -1,5 +1,5 @@
 -- What a call plans may come next; an apply without force changes no field that another manager owns, and an update takes from others only what it changes.
-use Rattle.std.proofs.Common.{◌≡◌, ℕ, suc, ◌<◌, ◌≤◌, Bool, true, false, cond, List, [], ◌∷◌, Option, Some, None, Ok, Err, refl, sym, ap, subst, ◌∙◌, is_some, not, ◌&&◌, ◌||◌, ap₂, true≢false, ltb-true, ltb-false}
+use Rattle.std.proofs.Common.{◌≡◌, ℕ, suc, ◌<◌, ◌≤◌, Bool, true, false, cond, List, [], ◌∷◌, Option, Some, None, Ok, Err, refl, sym, ap, subst, ◌∙◌, inl, inr, is_some, not, ◌&&◌, ◌||◌, ap₂, true≢false, ltb-true, ltb-false}
 use Rattle.std.specs.Prelude.{codes, length, nat_le, nat_lt, slice_get, IfSome}
 use Rattle.std.specs.FinMap as fin
 use Rattle.std.specs.List.{AllByRecursion}
@@ -19,24 +19,25 @@ use Rattle.typed.specs.Fitting.{IsContent}
 use Rattle.typed.specs.Reading.{content_of}
 use Rattle.history.specs.History.{Key, Change, Object, Objects, History, is_same_key, last_revision, object_by, put_or_remove, standing}
 use Rattle.history.proofs.Keys.{get-put_or_remove, tied}
-use Rattle.objects.specs.Owners.{Manager, is_same, manager_of, apply_operation, owned_by, update_operation}
+use Rattle.objects.specs.declared.manager.Subresource.{Subresource}
+use Rattle.objects.specs.declared.manager.Subresource.TheVariants.{Main, Status}
+use Rattle.objects.specs.Owners.{Manager, is_same, manager_by, apply_operation, owned_by, update_operation}
 use Rattle.ownership.specs.Update.{removed, updated}
 use Rattle.schema.specs.ObjectShape.{IsObjectShape}
 use Rattle.objects.specs.ReadBack.{IsObjectText}
-use Rattle.ownership.proofs.Placed.{applied_placed, updated_placed}
+use Rattle.ownership.specs.Sides.{OtherSideStays, OwnSides, beside_others, own_part}
 use Rattle.objects.proofs.Within.{both_true, same_manager-is}
 use Rattle.ownership.proofs.Sameness.{same_value-itself}
-use Rattle.objects.proofs.Taken.{no_some, same_some}
+use Rattle.objects.proofs.Taken.{no_some}
 use Rattle.objects.proofs.Taking.{owned_other}
 use Rattle.objects.specs.State.{State}
 use Rattle.ownership.specs.Apply.{conflicts, applied, is_refused}
-use Rattle.objects.specs.Placed.{IsPlacedState}
 use Rattle.ownership.specs.Keeping.{OthersKeep}
 use Rattle.ownership.specs.Sameness.{same_state}
 use Rattle.ownership.proofs.Keeping.{others_keep}
 use Rattle.verbs.specs.declared.method.Method.{Method}
 use Rattle.verbs.specs.declared.method.Method.TheVariants.{Get, Post, Put, Patch, Delete}
-use Rattle.verbs.specs.Calls.{Answer, Call, Plan, Scope, of_all, of_namespace, of_object, scope_of}
+use Rattle.verbs.specs.Calls.{Answer, Call, Plan, Scope, of_all, of_namespace, of_object, scope_of, subresource_of}
 use Rattle.verbs.specs.Json.{IsJson, IsJsonBody}
 use Rattle.verbs.specs.Envelope.{Expected, api_version_of, envelope_of, name_in}
 use Rattle.std.specs.declared.result.Result.{Result}
@@ -44,24 +45,25 @@ use Rattle.lists.specs.declared.refusal.Refusal.{Refusal}
 use Rattle.verbs.specs.declared.reason.Reason.TheVariants.{Invalid}
 use Rattle.verbs.specs.Validated.{Validated, and_then, require}
 use Rattle.verbs.specs.Machine.{AreTexts, IsMachine, IsNamed, IsNext, IsOfTypes, IsSomeTextAt, IsTextAt, after, identity_of, no_state, state_by, state_of_live, state_said, state_under}
-use Rattle.verbs.specs.Naming.{marks_validated, metadata_object, names_validated, path_validated, required_name}
+use Rattle.verbs.specs.Naming.{marks_validated_by, metadata_object, names_validated, path_validated, required_name}
 use Rattle.verbs.specs.Options.{options_validated}
 use Rattle.verbs.specs.Parameters.{parameters_validated}
-use Rattle.verbs.specs.Promise.{AppliesKeepOthers, BodiesSayStates, OthersKeepUnchanged, PlansAreShort, PlansComeNext, SaysState, StandingTextsSayStates, StepsKeepMachines, TextsSayStates, UpdatesTakeChanges}
+use Rattle.verbs.specs.Promise.{AppliesKeepOthers, BodiesSayStates, ManagersOwnTheirSides, OthersKeepUnchanged, PlansAreShort, PlansComeNext, SaysState, StandingTextsSayStates, StepsKeepMachines, TextsSayStates, UpdatesTakeChanges, WritesLeaveOtherSide}
 use Rattle.verbs.specs.Size.{count_if_there, is_over, max_bytes, max_labels, size_validated}
-use Rattle.verbs.specs.Step.{Intent, applied_over, apply_validated, at_path, body_of, conflict_refusal, Creation, created_as, creation_validated, delete_validated, deleted_over, get_validated, intent_of, object_at, validated_at, validated_by, validated_over, as_it_stands, key_at, not_there, object_validated_by, ownership_validated, planned, printed, revisions_left, shape_validated, store_state, store_unless_same, text_at, there, plan_for, update_validated, updated_by, updated_over, version_checked, version_come, collection_of, list_answered, list_validated, shown_by}
+use Rattle.verbs.specs.Step.{Intent, applied_over, apply_validated, at_path, body_of, manager_for, conflict_refusal, Creation, created_as, creation_validated, delete_validated, deleted_over, get_validated, intent_of, object_at, validated_at, validated_by, validated_over, as_it_stands, key_at, not_there, object_validated_by, ownership_validated, planned, printed, revisions_left, shape_validated, store_state, store_unless_same, text_at, there, there_for, plan_for, step, update_validated, updated_by, updated_over, version_checked, version_come, collection_of, list_answered, list_validated, shown_by}
 use Rattle.watchline.specs.Watches.{Source, from_history}
 use Rattle.verbs.proofs.Changes.{machine_next, standing_next, texts_at}
 use Rattle.verbs.proofs.Checks.{change_in, held, no_err, ok_is, passed}
 use Rattle.verbs.proofs.Contents.{intended_content}
-use Rattle.verbs.proofs.Said.{Shapes, nothing_placed, printed_is_text, said_back, shapes_of}
+use Rattle.verbs.proofs.Sides.{IsStored, live_stored, nothing_stored, owned_apart, owned_stored, stands_own, updated_by_apart, updated_stored}
+use Rattle.verbs.proofs.Said.{Shapes, printed_is_text, said_back, shapes_of}
 
 -- ---- what a call plans: no change; a deletion of what is there; or a text of a placed state that is as R says beside the one before
 
 abbrev BodyBy : List ServedShape → Objects → Type 0 → (State → State → Type 0) → Change → Option (List ℕ) → Type 0
 BodyBy types objects D R c None = D × (fin.contains_key objects c.key ≡ true)
 BodyBy types objects D R c (Some text) =
-    (t : ServedShape) × (slice_get types c.key.kind ≡ Some t) × (s : State) × IsPlacedState t.shape s × (text ≡ text_at t c.key c.revision s) × R (state_under types objects c.key) s × (length text ≤ max_bytes) × IsNamed c.key
+    (t : ServedShape) × (slice_get types c.key.kind ≡ Some t) × (s : State) × IsStored t s × (text ≡ text_at t c.key c.revision s) × R (state_under types objects c.key) s × (length text ≤ max_bytes) × IsNamed c.key
 
 abbrev WritesBy : List ServedShape → ℕ → Objects → Type 0 → (State → State → Type 0) → Option Change → Type 0
 WritesBy types current objects D R None = Unit {0}
@@ -77,8 +79,8 @@ short_enough d u e =
     by_test true is h = absurd (true≢false (sym h))
     by_test false is h = ltb-false _ _ is
 
-is_named : (k : Key) (body : Data) (u : Unit {0}) → names_validated k.namespace k.name body ≡ Ok u → IsNamed k
-is_named k body u e =
+is_named : (by : Subresource) (k : Key) (body : Data) (u : Unit {0}) → names_validated by k.namespace k.name body ≡ Ok u → IsNamed k
+is_named by k body u e =
     let path = passed (path_validated k.namespace k.name) _ u e in
     let first = passed (require (is_dns_subdomain k.name) Invalid (codes "metadata.name: bad name")) _ path.0 path.1 in
     record { namespace = held (is_dns_label k.namespace) _ _ path.0 first.2; name = held (is_dns_subdomain k.name) _ _ first.0 first.1 }
@@ -91,14 +93,14 @@ module _ (types : List ServedShape) (current : ℕ) (objects : Objects) (t : Ser
   under : state_under types objects k ≡ state_of_live t (fin.get objects k)
   under = ap (λ o. state_by o (fin.get objects k)) serves
 
-  stored_writes : (status : ℕ) (s : State) (p : Plan) → IsPlacedState t.shape s → R (state_of_live t (fin.get objects k)) s → IsNamed k → store_state t current k status s ≡ Ok p → WritesBy types current objects D R p.change
+  stored_writes : (status : ℕ) (s : State) (p : Plan) → IsStored t s → R (state_of_live t (fin.get objects k)) s → IsNamed k → store_state t current k status s ≡ Ok p → WritesBy types current objects D R p.change
   stored_writes status s p placed keeps named e =
       let sized = passed (size_validated (printed t k (suc current) s)) _ p e in
       let left = passed (revisions_left current) _ p sized.2 in
       subst (WritesBy types current objects D R) (ap change_in left.2)
       (refl, next_left current (ltb-true _ _ (held (nat_lt current last_revision) _ _ left.0 left.1)), (t, serves, s, placed, refl, subst (λ x. R x s) (sym under) keeps, short_enough (printed t k (suc current) s) sized.0 sized.1, named))
 
-  over_writes : (found : Option Object) (s : State) (p : Plan) → IsPlacedState t.shape s → R (state_of_live t (fin.get objects k)) s → IsNamed k → store_unless_same t current k found s ≡ Ok p → WritesBy types current objects D R p.change
+  over_writes : (found : Option Object) (s : State) (p : Plan) → IsStored t s → R (state_of_live t (fin.get objects k)) s → IsNamed k → store_unless_same t current k found s ≡ Ok p → WritesBy types current objects D R p.change
   over_writes None s p placed keeps named e = stored_writes 201 s p placed keeps named e
   over_writes (Some o) s p placed keeps named e = go (same_state s (state_said t.shape o.body)) e
     where
@@ -116,6 +118,10 @@ abbrev force_in : Validated Intent → Bool
 force_in (Ok i) = i.is_forced
 force_in (Err d) = false
 
+abbrev subresource_in : Subresource → Validated Intent → Subresource
+subresource_in by (Ok i) = i.subresource
+subresource_in by (Err d) = by
+
 intended : (of : Expected) (how : Asked) (query : List ℕ) (body : Data) (i : Intent) (values : Values) → intent_of of how query body ≡ Ok i
     → parameters_validated how query ≡ Ok values → (values.manager ≡ i.manager) × (values.is_forced ≡ i.is_forced)
 intended of how query body i values e is =
@@ -124,6 +130,14 @@ intended of how query body i values e is =
     let read = passed (parameters_validated how query) _ i shape.2 in
     let same = ok_is values read.0 (sym is ∙ read.1) in
     (ap (λ v. v.manager) same ∙ ap manager_in read.2, ap (λ v. v.is_forced) same ∙ ap force_in read.2)
+
+-- it is intended by the subresource that the call is of
+intended_by : (of : Expected) (how : Asked) (query : List ℕ) (body : Data) (i : Intent) → intent_of of how query body ≡ Ok i → of.subresource ≡ i.subresource
+intended_by of how query body i e =
+    let envelope = passed (envelope_of of body) _ i e in
+    let shape = passed (shape_validated (content_of of.served.shape envelope.0.rest)) _ i envelope.2 in
+    let read = passed (parameters_validated how query) _ i shape.2 in
+    ap (subresource_in of.subresource) read.2
 
 -- ---- an apply without force
 
@@ -137,8 +151,8 @@ owned_keeps api_version live config mgr false s gentle e = go (is_refused (confl
     go true is f = no_err _ s f
     go false is f = subst (λ x. OthersKeep live x mgr) (ok_is _ s f) (others_keep live config mgr is)
 
-abbrev AsApplied : List ℕ → State → State → Type 0
-AsApplied name old new = OthersKeep old new (manager_of name apply_operation)
+abbrev AsApplied : List ℕ → Subresource → State → State → Type 0
+AsApplied name by old new = OthersKeep old new (manager_by name apply_operation by)
 
 -- ---- an update
 
@@ -170,70 +184,60 @@ updated_keeps live new m k p apart is same =
     ∙ set.contains-difference path_cmp_total (owned_by live.owners k) lost p
     ∙ both_true _ _ is (ap not free)
 
-abbrev AsUpdated : List ℕ → State → State → Type 0
-AsUpdated name old new = OthersKeepUnchanged old new (manager_of name update_operation)
+abbrev AsUpdated : List ℕ → Subresource → State → State → Type 0
+AsUpdated name by old new = OthersKeepUnchanged old new (manager_by name update_operation by)
 
 -- ---- each write
 
--- the applied state is of a content and owners of its paths
-owned_placed : (t : ServedShape) (api_version : List ℕ) (before : State) (config : Content) (mgr : Manager) (is_forced : Bool) (s : State)
-    → IsPlacedState t.shape before → IsContent t.shape config → ownership_validated api_version before config mgr is_forced ≡ Ok s → IsPlacedState t.shape s
-owned_placed t api_version before config mgr is_forced s placed content e = go (is_refused (conflicts before config mgr) is_forced) e
-  where
-    go : (b : Bool) → cond b (Err (conflict_refusal api_version (conflicts before config mgr))) (Ok (applied before config mgr)) ≡ Ok s → IsPlacedState t.shape s
-    go true f = no_err _ s f
-    go false f = subst (IsPlacedState t.shape) (ok_is _ s f) (applied_placed before config mgr t.shape content placed)
+-- the state that an apply stores
+abbrev owned_by_intent : ServedShape → State → Intent → Validated State
+owned_by_intent t before i = ownership_validated (api_version_of t) before (own_part i.subresource i.content) (manager_for apply_operation i) i.is_forced
 
 module _ (types : List ServedShape) (current : ℕ) (objects : Objects) (shapes : Shapes types) (texts : AreTexts types objects) where
-  -- the state that stands under a key is placed
-  live_placed : (t : ServedShape) (k : Key) → slice_get types k.kind ≡ Some t → (found : Option Object) → fin.get objects k ≡ found → IsPlacedState t.shape (state_of_live t found)
-  live_placed t k serves None is = nothing_placed t.shape
-  live_placed t k serves (Some o) is =
-      let x = texts k o is in
-      let same : x.t ≡ t = same_some x.t t (sym x.served ∙ serves) in
-      subst (λ (u : ServedShape). IsPlacedState u.shape (state_said u.shape o.body)) same
-      (subst (IsPlacedState x.t.shape) (sym (said_back x.t.shape _ o.revision x.is_text.state o.body (shapes k.kind x.t x.served) x.is_text.says)) x.is_text.says.placed)
-
   module _ (t : ServedShape) (k : Key) (serves : slice_get types k.kind ≡ Some t) (D : Type 0) (R : State → State → Type 0) where
     shaped : IsObjectShape t.shape
     shaped = shapes k.kind t serves
 
     applied_writes : (intent : Intent) (p : Plan) → IsContent t.shape intent.content → IsNamed k
-        → ((before s : State) → ownership_validated (api_version_of t) before intent.content (manager_of intent.manager apply_operation) intent.is_forced ≡ Ok s → R before s)
+        → ((before s : State) → OwnSides before → owned_by_intent t before intent ≡ Ok s → R before s)
         → applied_over t current k (fin.get objects k) intent ≡ Ok p → WritesBy types current objects D R p.change
     applied_writes intent p content named keeps e =
-        let version = passed (version_checked intent.version (fin.get objects k)) _ p e in
+        let found = passed (there_for intent.subresource t k.name (fin.get objects k)) _ p e in
+        let version = passed (version_checked intent.version (fin.get objects k)) _ p found.2 in
         let before = state_of_live t (fin.get objects k) in
-        let owned = passed (ownership_validated (api_version_of t) before intent.content (manager_of intent.manager apply_operation) intent.is_forced) _ p version.2 in
+        let live = live_stored types objects shapes texts t k serves (fin.get objects k) refl in
+        let owned = passed (owned_by_intent t before intent) _ p version.2 in
         over_writes types current objects t k serves D R (fin.get objects k) owned.0 p
-        (owned_placed t _ before intent.content _ intent.is_forced owned.0 (live_placed t k serves (fin.get objects k) refl) content owned.1) (keeps before owned.0 owned.1) named owned.2
+        (owned_stored t (api_version_of t) before intent owned.0 live content owned.1) (keeps before owned.0 live.1 owned.1) named owned.2
 
-    apply_writes : (query : List ℕ) (body : Data) (p : Plan) → IsJson body
-        → ((i : Intent) → intent_of (at_path t k Patch) asked.Apply query body ≡ Ok i → (before s : State)
-        → ownership_validated (api_version_of t) before i.content (manager_of i.manager apply_operation) i.is_forced ≡ Ok s → R before s)
-        → apply_validated t current (fin.get objects k) k query body ≡ Ok p → WritesBy types current objects D R p.change
-    apply_writes query body p json keeps e =
-        let intent = passed (intent_of (at_path t k Patch) asked.Apply query body) _ p e in
-        let named = passed (names_validated k.namespace k.name intent.0.rest) _ p intent.2 in
-        applied_writes intent.0 p (intended_content (at_path t k Patch) asked.Apply query body intent.0 shaped json intent.1) (is_named k intent.0.rest named.0 named.1) (keeps intent.0 intent.1) named.2
+    apply_writes : (by : Subresource) (query : List ℕ) (body : Data) (p : Plan) → IsJson body
+        → ((i : Intent) → intent_of (at_path t k Patch by) asked.Apply query body ≡ Ok i → (before s : State) → OwnSides before → owned_by_intent t before i ≡ Ok s → R before s)
+        → apply_validated by t current (fin.get objects k) k query body ≡ Ok p → WritesBy types current objects D R p.change
+    apply_writes by query body p json keeps e =
+        let of = at_path t k Patch by in
+        let intent = passed (intent_of of asked.Apply query body) _ p e in
+        let named = passed (names_validated intent.0.subresource k.namespace k.name intent.0.rest) _ p intent.2 in
+        applied_writes intent.0 p (intended_content of asked.Apply query body intent.0 shaped json intent.1) (is_named intent.0.subresource k intent.0.rest named.0 named.1)
+        (keeps intent.0 intent.1) named.2
 
-    updated_writes : (intent : Intent) (p : Plan) → IsContent t.shape intent.content → ((before : State) → R before (updated_by intent before))
+    updated_writes : (intent : Intent) (p : Plan) → IsContent t.shape intent.content → ((before : State) → OwnSides before → R before (updated_by intent before))
         → (found : Option Object) → fin.get objects k ≡ found → updated_over t current k found intent ≡ Ok p → WritesBy types current objects D R p.change
     updated_writes intent p content keeps None is e = no_err _ p e
     updated_writes intent p content keeps (Some o) is e =
         let version = passed (version_checked intent.version (Some o)) _ p e in
         let before = state_said t.shape o.body in
-        over_writes types current objects t k serves D R (Some o) (updated_by intent before) p
-        (updated_placed before intent.content (manager_of intent.manager update_operation) t.shape content (live_placed t k serves (Some o) is))
-        (subst (λ found. R (state_of_live t found) (updated_by intent before)) (sym is) (keeps before)) (texts k o is).is_text.named version.2
+        let live = live_stored types objects shapes texts t k serves (Some o) is in
+        over_writes types current objects t k serves D R (Some o) (updated_by intent before) p (updated_stored t before intent content live)
+        (subst (λ found. R (state_of_live t found) (updated_by intent before)) (sym is) (keeps before live.1)) (texts k o is).is_text.named version.2
 
-    update_writes : (query : List ℕ) (body : Data) (p : Plan) → IsJson body
-        → ((i : Intent) → intent_of (at_path t k Put) asked.Put query body ≡ Ok i → (before : State) → R before (updated_by i before))
-        → update_validated t current (fin.get objects k) k query body ≡ Ok p → WritesBy types current objects D R p.change
-    update_writes query body p json keeps e =
-        let intent = passed (intent_of (at_path t k Put) asked.Put query body) _ p e in
-        let marks = passed (marks_validated intent.0.rest) _ p intent.2 in
-        updated_writes intent.0 p (intended_content (at_path t k Put) asked.Put query body intent.0 shaped json intent.1) (keeps intent.0 intent.1) (fin.get objects k) refl marks.2
+    update_writes : (by : Subresource) (query : List ℕ) (body : Data) (p : Plan) → IsJson body
+        → ((i : Intent) → intent_of (at_path t k Put by) asked.Put query body ≡ Ok i → (before : State) → OwnSides before → R before (updated_by i before))
+        → update_validated by t current (fin.get objects k) k query body ≡ Ok p → WritesBy types current objects D R p.change
+    update_writes by query body p json keeps e =
+        let of = at_path t k Put by in
+        let intent = passed (intent_of of asked.Put query body) _ p e in
+        let marks = passed (marks_validated_by intent.0.subresource intent.0.rest) _ p intent.2 in
+        updated_writes intent.0 p (intended_content of asked.Put query body intent.0 shaped json intent.1) (keeps intent.0 intent.1) (fin.get objects k) refl marks.2
 
     deleted_writes : D → (version : Option ℕ) (p : Plan) (found : Option Object) → fin.get objects k ≡ found → deleted_over t current k found version ≡ Ok p → WritesBy types current objects D R p.change
     deleted_writes d version p None is e = no_err _ p e
@@ -261,12 +265,12 @@ module _ (types : List ServedShape) (current : ℕ) (objects : Objects) (shapes 
       → (found : Option Object) → fin.get objects k ≡ found → and_then (not_there t k.name found) (λ u. store_state t current k 201 (updated_by intent no_state)) ≡ Ok p → WritesBy types current objects (Unit {0}) (λ old new. Unit {0}) p.change
   created_writes t k serves intent p content named (Some o) is e = no_err _ p e
   created_writes t k serves intent p content named None is e =
-      stored_writes types current objects t k serves (Unit {0}) (λ old new. Unit {0}) 201 (updated_by intent no_state) p (updated_placed no_state intent.content (manager_of intent.manager update_operation) t.shape content (nothing_placed t.shape)) tt named e
+      stored_writes types current objects t k serves (Unit {0}) (λ old new. Unit {0}) 201 (updated_by intent no_state) p (updated_stored t no_state intent content (nothing_stored t)) tt named e
 
   create_writes : (t : ServedShape) (kind : ℕ) → slice_get types kind ≡ Some t → (namespace query : List ℕ) (body : Data) (p : Plan) → IsJson body
       → and_then (creation_validated t kind namespace query body) (λ c. created_as t current (fin.get objects c.key) c.key c.intent) ≡ Ok p → WritesBy types current objects (Unit {0}) (λ old new. Unit {0}) p.change
   create_writes t kind serves namespace query body p json e =
-      let of : Expected = record { served = t; namespace = namespace; name = None; method = Post } in
+      let of : Expected = record { served = t; namespace = namespace; name = None; method = Post; subresource = Main } in
       let creation = passed (creation_validated t kind namespace query body) _ p e in
       let intent = passed (intent_of of asked.Post query body) _ creation.0 creation.1 in
       let name = passed (required_name (name_in body)) _ creation.0 intent.2 in
@@ -274,8 +278,8 @@ module _ (types : List ServedShape) (current : ℕ) (objects : Objects) (shapes 
       let made : Creation = record { key = k; intent = intent.0 } in
       let same : made ≡ creation.0 = ok_is made creation.0 name.2 in
       let f = subst (λ (c : Creation). created_as t current (fin.get objects c.key) c.key c.intent ≡ Ok p) (sym same) creation.2 in
-      let named = passed (names_validated k.namespace k.name intent.0.rest) _ p f in
-      created_writes t k serves intent.0 p (intended_content of asked.Post query body intent.0 (shapes kind t serves) json intent.1) (is_named k intent.0.rest named.0 named.1) (fin.get objects k) refl named.2
+      let named = passed (names_validated intent.0.subresource k.namespace k.name intent.0.rest) _ p f in
+      created_writes t k serves intent.0 p (intended_content of asked.Post query body intent.0 (shapes kind t serves) json intent.1) (is_named intent.0.subresource k intent.0.rest named.0 named.1) (fin.get objects k) refl named.2
 
 -- ---- each call
 
@@ -287,23 +291,26 @@ module _ (types : List ServedShape) (s : Source) (shapes : Shapes types) (texts 
   abbrev current : ℕ
   current = s.current
 
-  abbrev objects : Objects
-  objects = s.at s.current
+  abbrev stood : Objects
+  stood = s.at s.current
 
   abbrev Writes : Validated Plan → Type 0
-  Writes j = (p : Plan) → j ≡ Ok p → WritesBy types current objects (Unit {0}) (λ old new. Unit {0}) p.change
+  Writes j = (p : Plan) → j ≡ Ok p → WritesBy types current stood (Unit {0}) (λ old new. Unit {0}) p.change
 
   with_body : (validated : Data → Validated Plan) → ((body : Data) → IsJson body → Writes (validated body)) → Writes (and_then (body_of call.body) validated)
   with_body validated writes p e =
       let body = passed (body_of call.body) validated p e in
       writes body.0 (body_json call.body body.0 json body.1) p body.2
 
-  object_writes : (w : Method) (t : ServedShape) (k : Key) → slice_get types k.kind ≡ Some t → Writes (object_validated_by w t current (fin.get objects k) k call.query call.body)
-  object_writes Get t k serves p e = get_writes types current objects shapes texts t k serves (Unit {0}) (λ old new. Unit {0}) call.query p e
-  object_writes Post t k serves p e = no_err _ p e
-  object_writes Put t k serves p e = with_body _ (λ body read q f. update_writes types current objects shapes texts t k serves (Unit {0}) (λ old new. Unit {0}) call.query body q read (λ i is before. tt) f) p e
-  object_writes Patch t k serves p e = with_body _ (λ body read q f. apply_writes types current objects shapes texts t k serves (Unit {0}) (λ old new. Unit {0}) call.query body q read (λ i is before s owned. tt) f) p e
-  object_writes Delete t k serves p e = delete_writes types current objects shapes texts t k serves (Unit {0}) (λ old new. Unit {0}) tt call.query call.body p e
+  object_writes : (w : Method) (by : Subresource) (t : ServedShape) (k : Key) → slice_get types k.kind ≡ Some t → Writes (object_validated_by w by t current (fin.get stood k) k call.query call.body)
+  object_writes Get by t k serves p e = get_writes types current stood shapes texts t k serves (Unit {0}) (λ old new. Unit {0}) call.query p e
+  object_writes Post by t k serves p e = no_err _ p e
+  object_writes Put by t k serves p e =
+      with_body _ (λ body read q f. update_writes types current stood shapes texts t k serves (Unit {0}) (λ old new. Unit {0}) by call.query body q read (λ i is before sides. tt) f) p e
+  object_writes Patch by t k serves p e =
+      with_body _ (λ body read q f. apply_writes types current stood shapes texts t k serves (Unit {0}) (λ old new. Unit {0}) by call.query body q read (λ i is before s sides owned. tt) f) p e
+  object_writes Delete Main t k serves p e = delete_writes types current stood shapes texts t k serves (Unit {0}) (λ old new. Unit {0}) tt call.query call.body p e
+  object_writes Delete Status t k serves p e = no_err _ p e
 
   -- a list writes nothing
   list_writes : (t : ServedShape) (kind : ℕ) (namespace : Option (List ℕ)) → Writes (list_validated t s kind namespace call.query)
@@ -311,8 +318,8 @@ module _ (types : List ServedShape) (s : Source) (shapes : Shapes types) (texts 
       let values = passed (parameters_validated asked.List call.query) _ p e in
       answered (shown_by s (collection_of t kind namespace) values.0 values.0.watch) values.2
     where
-      answered : (r : Result Answer Refusal) → list_answered r ≡ Ok p → WritesBy types current objects (Unit {0}) (λ old new. Unit {0}) p.change
-      answered (Ok answer) f = subst (WritesBy types current objects (Unit {0}) (λ old new. Unit {0})) (ap change_in f) tt
+      answered : (r : Result Answer Refusal) → list_answered r ≡ Ok p → WritesBy types current stood (Unit {0}) (λ old new. Unit {0}) p.change
+      answered (Ok answer) f = subst (WritesBy types current stood (Unit {0}) (λ old new. Unit {0})) (ap change_in f) tt
       answered (Err refusal) f = no_err _ p f
 
   all_writes : (w : Method) (t : ServedShape) → Writes (validated_by of_all w t s call)
@@ -323,7 +330,7 @@ module _ (types : List ServedShape) (s : Source) (shapes : Shapes types) (texts 
   all_writes Delete t p e = no_err _ p e
 
   collection_writes : (w : Method) (t : ServedShape) (namespace : List ℕ) → slice_get types call.target.kind ≡ Some t → Writes (validated_by (of_namespace namespace) w t s call)
-  collection_writes Post t namespace serves p e = with_body _ (λ body read q f. create_writes types current objects shapes texts t call.target.kind serves namespace call.query body q read f) p e
+  collection_writes Post t namespace serves p e = with_body _ (λ body read q f. create_writes types current stood shapes texts t call.target.kind serves namespace call.query body q read f) p e
   collection_writes Get t namespace serves p e = list_writes t call.target.kind (Some namespace) p e
   collection_writes Put t namespace serves p e = no_err _ p e
   collection_writes Patch t namespace serves p e = no_err _ p e
@@ -332,16 +339,16 @@ module _ (types : List ServedShape) (s : Source) (shapes : Shapes types) (texts 
   by_writes : (scope : Scope) (t : ServedShape) → slice_get types call.target.kind ≡ Some t → Writes (validated_by scope call.target.method t s call)
   by_writes of_all t serves p e = all_writes call.target.method t p e
   by_writes (of_namespace namespace) t serves p e = collection_writes call.target.method t namespace serves p e
-  by_writes (of_object namespace name) t serves p e = object_writes call.target.method t (key_at call namespace name) serves p e
+  by_writes (of_object namespace name subresource) t serves p e = object_writes call.target.method subresource t (key_at call namespace name) serves p e
 
   at_writes : (found : Option ServedShape) (scope : Option Scope) → slice_get types call.target.kind ≡ found → Writes (validated_at found scope s call)
   at_writes None scope is p e = no_err _ p e
   at_writes (Some t) None is p e = no_err _ p e
   at_writes (Some t) (Some scope) is p e = by_writes scope t is p e
 
-  call_writes : (j : Validated Plan) → validated_over types s call ≡ j → WritesBy types current objects (Unit {0}) (λ old new. Unit {0}) (plan_for j).change
+  call_writes : (j : Validated Plan) → validated_over types s call ≡ j → WritesBy types current stood (Unit {0}) (λ old new. Unit {0}) (plan_for j).change
   call_writes (Err d) e = tt
-  call_writes (Ok p) e = at_writes (slice_get types call.target.kind) (scope_of call.target.namespace call.target.name) refl p e
+  call_writes (Ok p) e = at_writes (slice_get types call.target.kind) (scope_of call.target.namespace call.target.name call.target.status) refl p e
 
 -- ---- what is planned may come next
 
@@ -353,7 +360,8 @@ written_text types objects D R c (Some text) low is = record {
   served = is.1;
   is_text = record {
     state = is.2;
-    says = subst (λ x. IsObjectText is.0.shape (identity_of is.0 c.key) c.revision is.2 x) (sym is.4) (printed_is_text is.0 c.key c.revision is.2 is.3 low);
+    says = subst (λ x. IsObjectText is.0.shape (identity_of is.0 c.key) c.revision is.2 x) (sym is.4) (printed_is_text is.0 c.key c.revision is.2 is.3.0 low);
+    sides = is.3.1;
     named = is.7;
   };
 }
@@ -432,24 +440,29 @@ module _ (types : List ServedShape) (s : Source) (call : Call) (json : IsJsonBod
     (is : call.target.method ≡ w)
     (alone : (t : ServedShape) (namespace : List ℕ) (p : Plan) → validated_by (of_namespace namespace) w t s call ≡ Ok p → ⊥)
     (everywhere : (t : ServedShape) (p : Plan) → validated_by of_all w t s call ≡ Ok p → ⊥)
-    (object : (t : ServedShape) (k : Key) → object_validated_by w t s.current (object_at s k) k call.query call.body ≡ and_then (body_of call.body) (validated t k))
+    (object : (t : ServedShape) (k : Key) → object_validated_by w (subresource_of call.target.status) t s.current (object_at s k) k call.query call.body ≡ and_then (body_of call.body) (validated t k))
     (keeps : (t : ServedShape) (k : Key) → slice_get types k.kind ≡ Some t → (body : Data) (p : Plan) → IsJson body → validated t k body ≡ Ok p → WritesBy types s.current (s.at s.current) ⊥ R p.change) where
-  by_keeps : (t : ServedShape) → slice_get types call.target.kind ≡ Some t → (scope : Scope) (p : Plan) → validated_by scope w t s call ≡ Ok p → WritesBy types s.current (s.at s.current) ⊥ R p.change
-  by_keeps t serves of_all p e = absurd (everywhere t p e)
-  by_keeps t serves (of_namespace namespace) p e = absurd (alone t namespace p e)
-  by_keeps t serves (of_object namespace name) p e =
+  by_method : (t : ServedShape) (scope : Scope) (p : Plan) → validated_by scope call.target.method t s call ≡ Ok p → validated_by scope w t s call ≡ Ok p
+  by_method t scope p e = subst (λ (m : Method). validated_by scope m t s call ≡ Ok p) is e
+
+  in_keeps : (t : ServedShape) → slice_get types call.target.kind ≡ Some t → (namespace name : Option (List ℕ)) (p : Plan)
+      → validated_at (Some t) (scope_of namespace name call.target.status) s call ≡ Ok p → WritesBy types s.current (s.at s.current) ⊥ R p.change
+  in_keeps t serves None None p e = absurd (everywhere t p (by_method t of_all p e))
+  in_keeps t serves None (Some name) p e = no_err _ p e
+  in_keeps t serves (Some namespace) None p e = absurd (alone t namespace p (by_method t (of_namespace namespace) p e))
+  in_keeps t serves (Some namespace) (Some name) p e =
       let k = key_at call namespace name in
-      let body = passed (body_of call.body) (validated t k) p (sym (object t k) ∙ e) in
+      let body = passed (body_of call.body) (validated t k) p (sym (object t k) ∙ by_method t (of_object namespace name (subresource_of call.target.status)) p e) in
       keeps t k serves body.0 p (body_json call.body body.0 json body.1) body.2
 
-  at_keeps : (found : Option ServedShape) (scope : Option Scope) → slice_get types call.target.kind ≡ found → (p : Plan) → validated_at found scope s call ≡ Ok p → WritesBy types s.current (s.at s.current) ⊥ R p.change
-  at_keeps None scope serves p e = no_err _ p e
-  at_keeps (Some t) None serves p e = no_err _ p e
-  at_keeps (Some t) (Some scope) serves p e = by_keeps t serves scope p (subst (λ (m : Method). validated_by scope m t s call ≡ Ok p) is e)
+  at_keeps : (found : Option ServedShape) → slice_get types call.target.kind ≡ found → (p : Plan) → validated_at found (scope_of call.target.namespace call.target.name call.target.status) s call ≡ Ok p
+      → WritesBy types s.current (s.at s.current) ⊥ R p.change
+  at_keeps None serves p e = no_err _ p e
+  at_keeps (Some t) serves p e = in_keeps t serves call.target.namespace call.target.name p e
 
   plan_keeps : (j : Validated Plan) → validated_over types s call ≡ j → WritesBy types s.current (s.at s.current) ⊥ R (plan_for j).change
   plan_keeps (Err d) e = tt
-  plan_keeps (Ok p) e = at_keeps (slice_get types call.target.kind) (scope_of call.target.namespace call.target.name) refl p e
+  plan_keeps (Ok p) e = at_keeps (slice_get types call.target.kind) refl p e
 
 -- ---- the machine after it
 
@@ -459,7 +472,7 @@ module _ (types : List ServedShape) (m : History) (is : IsMachine types m) (R : 
       → R (state_under types (standing m) c.key) (state_by (slice_get types c.key.kind) (object_by (suc m.current) body))
   changed_keeps c None low b = absurd b.0
   changed_keeps c (Some text) low b =
-      let says = printed_is_text b.0 c.key c.revision b.2 b.3 low in
+      let says = printed_is_text b.0 c.key c.revision b.2 b.3.0 low in
       subst (R (state_under types (standing m) c.key))
       (sym (ap (λ u. state_by u (object_by (suc m.current) (Some text))) b.1 ∙ ap (state_said b.0.shape) b.4
       ∙ said_back b.0.shape _ c.revision b.2 (text_at b.0 c.key c.revision b.2) ((shapes_of types is.shapes) c.key.kind b.0 b.1) says))
@@ -481,30 +494,71 @@ module _ (types : List ServedShape) (m : History) (is : IsMachine types m) (R : 
       subst (λ os. R (state_under types (standing m) k) (state_under types os k)) (sym (standing_next types m c is (comes_next types m ⊥ R c writes)))
       (under_put c k (changed_keeps c c.body writes.1 writes.2))
 
--- ---- the two laws
+-- ---- an apply and an update as relations of the states before and after them
+
+module _ (types : List ServedShape) (m : History) (call : Call) (is : IsMachine types m) (json : IsJsonBody call.body) (R : State → State → Type 0) (stays : (s : State) → R s s) where
+  abbrev written_by : Subresource
+  written_by = subresource_of call.target.status
+
+  pub applies_keep : call.target.method ≡ Patch
+      → ((t : ServedShape) (k : Key) (body : Data) (i : Intent) → intent_of (at_path t k Patch written_by) asked.Apply call.query body ≡ Ok i → (before s : State) → OwnSides before
+      → owned_by_intent t before i ≡ Ok s → R before s)
+      → (k : Key) → R (state_under types (standing m) k) (state_under types (standing (step types m call).1) k)
+  applies_keep patch keeps =
+      after_keeps types m is R stays (plan_for (validated_over types (from_history m) call)).change
+      (plan_keeps types (from_history m) call json R Patch (λ t k. apply_validated written_by t m.current (fin.get (standing m) k) k call.query) patch
+      (λ t namespace p e. no_err _ p e) (λ t p e. no_err _ p e) (λ t k. refl)
+      (λ t k serves body p spelled e. apply_writes types m.current (standing m) (shapes_of types is.shapes) is.stand t k serves ⊥ R written_by call.query body p spelled (keeps t k body) e)
+      (validated_over types (from_history m) call) refl)
+
+  pub updates_keep : call.target.method ≡ Put
+      → ((t : ServedShape) (k : Key) (body : Data) (i : Intent) → intent_of (at_path t k Put written_by) asked.Put call.query body ≡ Ok i → (before : State) → OwnSides before → R before (updated_by i before))
+      → (k : Key) → R (state_under types (standing m) k) (state_under types (standing (step types m call).1) k)
+  updates_keep put keeps =
+      after_keeps types m is R stays (plan_for (validated_over types (from_history m) call)).change
+      (plan_keeps types (from_history m) call json R Put (λ t k. update_validated written_by t m.current (fin.get (standing m) k) k call.query) put
+      (λ t namespace p e. no_err _ p e) (λ t p e. no_err _ p e) (λ t k. refl)
+      (λ t k serves body p spelled e. update_writes types m.current (standing m) (shapes_of types is.shapes) is.stand t k serves ⊥ R written_by call.query body p spelled (keeps t k body) e)
+      (validated_over types (from_history m) call) refl)
+
+-- ---- the laws
 
 pub applies_keep_others : AppliesKeepOthers
 applies_keep_others types m call values is json patch read gentle =
-    let R = AsApplied values.manager in
-    after_keeps types m is R (λ s k p apart owns. (refl, owns)) (plan_for (validated_over types (from_history m) call)).change
-    (plan_keeps types (from_history m) call json R Patch (λ t k. apply_validated t m.current (fin.get (standing m) k) k call.query) patch
-    (λ t namespace p e. no_err _ p e) (λ t p e. no_err _ p e) (λ t k. refl)
-    (λ t k serves body p spelled e. apply_writes types m.current (standing m) (shapes_of types is.shapes) is.stand t k serves ⊥ R call.query body p spelled
-    (λ i intends before s owned.
-    let said = intended (at_path t k Patch) asked.Apply call.query body i values intends read in
-    subst (λ w. AsApplied w before s) (sym said.0)
-    (owned_keeps _ before i.content (manager_of i.manager apply_operation) i.is_forced s (sym said.1 ∙ gentle) owned)) e)
-    (validated_over types (from_history m) call) refl)
+    let by = subresource_of call.target.status in
+    applies_keep types m call is json (AsApplied values.manager by) (λ s k p apart owns. (refl, owns)) patch
+    (λ t k body i intends before s sides owned.
+    let of = at_path t k Patch by in
+    let said = intended of asked.Apply call.query body i values intends read in
+    subst (λ w. AsApplied w by before s) (sym said.0)
+    (subst (λ b. AsApplied i.manager b before s) (sym (intended_by of asked.Apply call.query body i intends))
+    (owned_keeps _ before (own_part i.subresource i.content) (manager_for apply_operation i) i.is_forced s (sym said.1 ∙ gentle) owned)))
 
 pub updates_take_changes : UpdatesTakeChanges
 updates_take_changes types m call values is json put read =
-    let R = AsUpdated values.manager in
-    after_keeps types m is R (λ s k p apart owns same. owns) (plan_for (validated_over types (from_history m) call)).change
-    (plan_keeps types (from_history m) call json R Put (λ t k. update_validated t m.current (fin.get (standing m) k) k call.query) put
-    (λ t namespace p e. no_err _ p e) (λ t p e. no_err _ p e) (λ t k. refl)
-    (λ t k serves body p spelled e. update_writes types m.current (standing m) (shapes_of types is.shapes) is.stand t k serves ⊥ R call.query body p spelled
-    (λ i intends before.
-    let said = intended (at_path t k Put) asked.Put call.query body i values intends read in
-    subst (λ w. AsUpdated w before (updated_by i before)) (sym said.0)
-    (updated_keeps before i.content (manager_of i.manager update_operation))) e)
-    (validated_over types (from_history m) call) refl)
+    let by = subresource_of call.target.status in
+    updates_keep types m call is json (AsUpdated values.manager by) (λ s k p apart owns same. owns) put
+    (λ t k body i intends before sides.
+    let of = at_path t k Put by in
+    let said = intended of asked.Put call.query body i values intends read in
+    subst (λ w. AsUpdated w by before (updated_by i before)) (sym said.0)
+    (subst (λ b. AsUpdated i.manager b before (updated_by i before)) (sym (intended_by of asked.Put call.query body i intends))
+    (updated_keeps before (beside_others i.subresource i.content before.content) (manager_for update_operation i))))
+
+itself_stays : (by : Subresource) (s : State) → OtherSideStays by s s
+itself_stays by s = λ p other. (refl, λ k. refl)
+
+pub writes_leave_other_side : WritesLeaveOtherSide
+writes_leave_other_side types m call is json (inl patch) =
+    let by = subresource_of call.target.status in
+    applies_keep types m call is json (OtherSideStays by) (itself_stays by) patch
+    (λ t k body i intends before s sides owned.
+    subst (λ b. OtherSideStays b before s) (sym (intended_by (at_path t k Patch by) asked.Apply call.query body i intends)) (owned_apart (api_version_of t) before i s sides owned))
+writes_leave_other_side types m call is json (inr put) =
+    let by = subresource_of call.target.status in
+    updates_keep types m call is json (OtherSideStays by) (itself_stays by) put
+    (λ t k body i intends before sides.
+    subst (λ b. OtherSideStays b before (updated_by i before)) (sym (intended_by (at_path t k Put by) asked.Put call.query body i intends)) (updated_by_apart before i))
+
+pub managers_own_their_sides : ManagersOwnTheirSides
+managers_own_their_sides types m k is = stands_own types (standing m) (shapes_of types is.shapes) is.stand k

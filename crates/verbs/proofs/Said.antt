@@ -49,7 +49,7 @@ printed_says t k revision state shaped placed low = (said_back t.shape (identity
 pub printed_clean : (t : ServedShape) (k : Key) (revision : ℕ) (state : State) → IsObjectShape t.shape → IsContent t.shape state.content → has_float (printed t k revision state) ≡ false
 printed_clean t k revision state shaped content = (value_textual t.shape shaped.1 (identity_of t k) revision state content).1
 
-nobody_owns : (k : Manager) (p : PathTexts) → set.contains (owned_by fin.empty k) p ≡ false
+pub nobody_owns : (k : Manager) (p : PathTexts) → set.contains (owned_by fin.empty k) p ≡ false
 unfolding owned_by
 nobody_owns k p =
     ap (λ (o : Option PathSet). set.contains (unwrap_or o set.empty) p) (fin.get-empty manager_cmp k) ∙ set.contains-empty path_cmp p

@@ -1,6 +1,6 @@
 -- Which calls are served: the route of a path, its methods, the media type of its body
--- (Kubernetes docs, "Kubernetes API Concepts", "Resource URIs"; RFC 9110, sections 8.3 and 10.2.1).
-use Rattle.std.specs.Prelude.{ℕ, Bool, true, false, ◌||◌, ◌==◌, List, [], ◌∷◌, Option, Some, None, option_map, option_and_then, if◌then◌else◌, codes}
+-- (Kubernetes docs, "Kubernetes API Concepts", "Resource URIs", "Custom Resources", "Status subresource"; RFC 9110, sections 8.3 and 10.2.1).
+use Rattle.std.specs.Prelude.{ℕ, Bool, true, false, ◌||◌, ◌==◌, List, [], ◌∷◌, Option, Some, None, option_map, option_and_then, if◌then◌else◌, is_some, slice_get, codes}
 use Rattle.std.specs.declared.result.Result.{Result}
 use Rattle.std.specs.declared.result.Result.TheVariants.{Ok, Err}
 use Rattle.std.specs.Char.{is_ascii}
@@ -12,13 +12,14 @@ use Rattle.matchit.specs.Order.{placed}
 use Rattle.matchit.specs.Route.{Scan, parse_route}
 use Rattle.matchit.specs.Seek.{first}
 use Rattle.matchit.specs.Params.{walk, named}
+use Rattle.schema.specs.ObjectShape.{field_of}
 use Rattle.schema.specs.TypesFile.{ServedShape, type_number}
 use Rattle.verbs.specs.declared.method.Method.{Method}
 use Rattle.verbs.specs.declared.method.Method.TheVariants.{Get, Post, Put, Patch, Delete}
 use Rattle.verbs.specs.declared.reason.Reason.{Reason}
 use Rattle.verbs.specs.declared.reason.Reason.TheVariants.{NotFound, MethodNotAllowed, UnsupportedMediaType}
 use Rattle.verbs.specs.declared.resource.Resource.{Resource}
-use Rattle.verbs.specs.declared.resource.Resource.TheVariants.{AllNamespaces, Collection, Object}
+use Rattle.verbs.specs.declared.resource.Resource.TheVariants.{AllNamespaces, Collection, Object, Status}
 use Rattle.verbs.specs.Calls.{Target, Denied}
 
 -- ---- methods (RFC 9110, section 9.1: they are known by their bytes)
@@ -43,6 +44,7 @@ abbrev pub methods_of : Resource → List Method
 methods_of AllNamespaces = Get ∷ []
 methods_of Collection = Get ∷ Post ∷ []
 methods_of Object = Delete ∷ Get ∷ Patch ∷ Put ∷ []
+methods_of Status = Get ∷ Patch ∷ Put ∷ []
 
 abbrev pub serves : Resource → Method → Bool
 serves r m = list_any (λ n. bytes_eq (name_of n) (name_of m)) (methods_of r)
@@ -62,6 +64,9 @@ collection_path = codes "/apis/{group}/{version}/namespaces/{namespace}/{plural}
 abbrev pub object_path : List ℕ
 object_path = codes "/apis/{group}/{version}/namespaces/{namespace}/{plural}/{name}"
 
+abbrev pub status_path : List ℕ
+status_path = codes "/apis/{group}/{version}/namespaces/{namespace}/{plural}/{name}/status"
+
 abbrev pub Rows : Type 0
 Rows = RowsOf (RouteOf Resource)
 
@@ -74,7 +79,7 @@ with_route path r rows = with_scan (parse_route path) r rows
 
 -- the table
 unfoldable pub routes : Rows
-routes = with_route object_path Object (with_route collection_path Collection (with_route all_path AllNamespaces []))
+routes = with_route status_path Status (with_route object_path Object (with_route collection_path Collection (with_route all_path AllNamespaces [])))
 
 -- the parts of a path by the names in its route
 abbrev pub Parts : Type 0
@@ -95,9 +100,18 @@ kind_in types parts =
     option_and_then (λ group. option_and_then (λ version. option_and_then (λ plural. type_number group version plural types)
     (named (codes "plural") parts)) (named (codes "version") parts)) (named (codes "group") parts)
 
+-- whether objects of the type with this number have a status: its schema has that property
+abbrev pub has_status : List ServedShape → ℕ → Bool
+has_status types kind = is_some (option_and_then (λ t. field_of (codes "status") t.shape) (slice_get types kind))
+
+-- a type, where it has the resource
+abbrev pub kind_with : List ServedShape → Resource → Option ℕ → Option ℕ
+kind_with types Status kind = option_and_then (λ n. if has_status types n then Some n else None) kind
+kind_with types resource kind = kind
+
 abbrev pub place_in : List ServedShape → Resource → Parts → Option Place
 place_in types resource parts =
-    option_map (λ kind. record { resource = resource; kind = kind; namespace = named (codes "namespace") parts; name = named (codes "name") parts }) (kind_in types parts)
+    option_map (λ kind. record { resource = resource; kind = kind; namespace = named (codes "namespace") parts; name = named (codes "name") parts }) (kind_with types resource (kind_in types parts))
 
 abbrev pub place_by : List ServedShape → List ℕ → RouteOf Resource → Option Place
 place_by types path r = place_in types r.value (parts_by path r)
@@ -154,8 +168,12 @@ accepts_media how field = is_json field
 abbrev pub not_admitted : Reason → List ℕ → Option (List ℕ) → Result Target Denied
 not_admitted r message allow = Err (record { reason = r; message = message; allow = allow })
 
+abbrev pub is_status : Resource → Bool
+is_status Status = true
+is_status resource = false
+
 abbrev pub target_at : Place → Method → Target
-target_at place method = record { kind = place.kind; namespace = place.namespace; name = place.name; method = method }
+target_at place method = record { kind = place.kind; namespace = place.namespace; name = place.name; status = is_status place.resource; method = method }
 
 abbrev pub media_admitted : Place → Method → Option (List ℕ) → Result Target Denied
 media_admitted place method media =

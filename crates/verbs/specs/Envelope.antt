@@ -7,6 +7,7 @@ use Rattle.serde_json.specs.Data.{Data, null, string, array, object, Items, no_i
 use Rattle.serde_json.specs.Find.{get, get_member, as_object}
 use Rattle.json_values.specs.Texts.{unless_empty}
 use Rattle.names.specs.Decimals.{version_of}
+use Rattle.objects.specs.declared.manager.Subresource.{Subresource}
 use Rattle.schema.specs.Keywords.{is_in}
 use Rattle.schema.specs.TypesFile.{ServedShape}
 use Rattle.typed.specs.Without.{Omitted}
@@ -15,12 +16,14 @@ use Rattle.verbs.specs.declared.method.Method.TheVariants.{Post, Patch}
 use Rattle.verbs.specs.declared.reason.Reason.TheVariants.{BadRequest}
 use Rattle.verbs.specs.Validated.{Validated, and_then, refused_for, require}
 
--- what a body has to name, and what it is sent by; without a name the body gives its object's
+-- what a body has to name, and what it is sent by; without a name the body gives its object's; of the body only what the subresource
+-- writes counts
 pub record Expected : Type 0 where
   pub served : ServedShape
   pub namespace : List ℕ
   pub name : Option (List ℕ)
   pub method : Method
+  pub subresource : Subresource
 
 -- the version that the body names, if any, and the body less its envelope, which is read under the type's schema
 pub record Envelope : Type 0 where

@@ -15,6 +15,7 @@ use Rattle.objects.specs.ObjectText.{Identity}
 use Rattle.objects.specs.Parts.{parts_in}
 use Rattle.schema.specs.ObjectShape.{IsObjectShape}
 use Rattle.objects.specs.ReadBack.{IsObjectText}
+use Rattle.ownership.specs.Sides.{OwnSides}
 use Rattle.names.specs.Names.{is_dns_label, is_dns_subdomain}
 use Rattle.verbs.specs.Envelope.{api_version_of}
 
@@ -56,11 +57,12 @@ pub record IsNamed (k : Key) : Type 0 where
   pub namespace : is_dns_label k.namespace ≡ true
   pub name : is_dns_subdomain k.name ≡ true
 
--- the text is that of an object of the type and the key, at the revision: of a content of the type, with owners of its paths;
--- the key has a namespace and a name that an object may have
+-- the text is that of an object of the type and the key, at the revision: of a content of the type, with owners of its paths, each of
+-- paths that its subresource writes; the key has a namespace and a name that an object may have
 pub record IsTextOf (t : ServedShape) (k : Key) (revision : ℕ) (text : List ℕ) : Type 0 where
   pub state : State
   pub says : IsObjectText t.shape (identity_of t k) revision state text
+  pub sides : OwnSides state
   pub named : IsNamed k
 
 -- of the key's type, as it is served now

@@ -3,6 +3,8 @@ use Rattle.std.specs.Prelude.{ℕ, List, Option, Some, None, option_and_then, co
 use Rattle.std.specs.declared.result.Result.TheVariants.{Ok}
 use Rattle.serde_json.specs.Data.{Data, string, Members, no_members, member}
 use Rattle.serde_json.specs.Find.{get, as_object}
+use Rattle.objects.specs.declared.manager.Subresource.{Subresource}
+use Rattle.objects.specs.declared.manager.Subresource.TheVariants.{Main, Status}
 use Rattle.names.specs.Names.{is_dns_label, is_dns_subdomain, is_label_key, is_label_value}
 use Rattle.verbs.specs.declared.reason.Reason.TheVariants.{Invalid}
 use Rattle.verbs.specs.Validated.{Validated, and_then, refused_for, require}
@@ -46,9 +48,14 @@ marks_validated body =
     and_then (if_there labels_validated (metadata_object (codes "labels") body)) (λ u.
     if_there annotations_validated (metadata_object (codes "annotations") body))
 
+-- those that a write gives: a status has none
+abbrev pub marks_validated_by : Subresource → Data → Validated (Unit {0})
+marks_validated_by Main body = marks_validated body
+marks_validated_by Status body = Ok tt
+
 -- the object's name and namespace, then the body's labels and annotations
-abbrev pub names_validated : List ℕ → List ℕ → Data → Validated (Unit {0})
-names_validated namespace name body = and_then (path_validated namespace name) (λ u. marks_validated body)
+abbrev pub names_validated : Subresource → List ℕ → List ℕ → Data → Validated (Unit {0})
+names_validated subresource namespace name body = and_then (path_validated namespace name) (λ u. marks_validated_by subresource body)
 
 -- a creation has to name its object
 abbrev pub required_name : Option (List ℕ) → Validated (List ℕ)

@@ -1,6 +1,6 @@
--- What a call leaves to the managers of other fields (Kubernetes docs, "Server-Side Apply", "Conflicts", "Transferring ownership"),
--- and what it leaves of the machine.
-use Rattle.std.specs.Prelude.{◌≡◌, ◌≤◌, ℕ, false, List, length, Some, IfSome}
+-- What a call leaves to the managers of other fields (Kubernetes docs, "Server-Side Apply", "Conflicts", "Transferring ownership"; "Custom
+-- Resources", "Status subresource"), and what it leaves of the machine.
+use Rattle.std.specs.Prelude.{◌≡◌, ◌⊎◌, ◌≤◌, ℕ, false, List, length, Some, IfSome}
 use Rattle.std.specs.declared.result.Result.TheVariants.{Ok, Err}
 use Rattle.std.specs.FinMap as fin
 use Rattle.std.specs.List.{AllByRecursion}
@@ -10,12 +10,13 @@ use Rattle.schema.specs.TypesFile.{ServedShape}
 use Rattle.fieldpath.specs.Paths.{PathTexts}
 use Rattle.history.specs.History.{Change, Key, Object, History, compacted_to, fresh, last_revision, standing, state_at}
 use Rattle.history.specs.View.{view}
-use Rattle.objects.specs.Owners.{Manager, manager_of, apply_operation, update_operation}
+use Rattle.objects.specs.Owners.{Manager, manager_by, apply_operation, update_operation}
 use Rattle.objects.specs.State.{State}
 use Rattle.ownership.specs.Keeping.{OthersKeep}
+use Rattle.ownership.specs.Sides.{OtherSideStays, OwnSides}
 use Rattle.objects.specs.Placed.{Owns}
 use Rattle.verbs.specs.declared.method.Method.TheVariants.{Get, Patch, Put}
-use Rattle.verbs.specs.Calls.{Call, Target}
+use Rattle.verbs.specs.Calls.{Call, Target, subresource_of}
 use Rattle.verbs.specs.Json.{IsJsonBody}
 use Rattle.verbs.specs.Machine.{AreObjectTypes, IsMachine, IsNext, IsSomeTextAt, IsTextAt, state_said, state_under}
 use Rattle.verbs.specs.Parameters.{parameters_validated}
@@ -79,7 +80,7 @@ abbrev pub AppliesKeepOthers : Type 0
 AppliesKeepOthers =
     (types : List ServedShape) (m : History) (call : Call) (values : Values) → IsMachine types m → IsJsonBody call.body
     → call.target.method ≡ Patch → parameters_validated asked.Apply call.query ≡ Ok values → values.is_forced ≡ false
-    → (k : Key) → OthersKeep (state_under types (standing m) k) (state_under types (standing (step types m call).1) k) (manager_of values.manager apply_operation)
+    → (k : Key) → OthersKeep (state_under types (standing m) k) (state_under types (standing (step types m call).1) k) (manager_by values.manager apply_operation (subresource_of call.target.status))
 
 -- each path that another manager owned, and that has the value that it had, is still owned by that manager
 abbrev pub OthersKeepUnchanged : State → State → Manager → Type 0
@@ -90,7 +91,19 @@ abbrev pub UpdatesTakeChanges : Type 0
 UpdatesTakeChanges =
     (types : List ServedShape) (m : History) (call : Call) (values : Values) → IsMachine types m → IsJsonBody call.body
     → call.target.method ≡ Put → parameters_validated asked.Put call.query ≡ Ok values
-    → (k : Key) → OthersKeepUnchanged (state_under types (standing m) k) (state_under types (standing (step types m call).1) k) (manager_of values.manager update_operation)
+    → (k : Key) → OthersKeepUnchanged (state_under types (standing m) k) (state_under types (standing (step types m call).1) k) (manager_by values.manager update_operation (subresource_of call.target.status))
+
+-- A PATCH and a PUT change only what their subresource writes: after the call, whatever it answers, each other path of each object has
+-- the value and the owners that it had.
+abbrev pub WritesLeaveOtherSide : Type 0
+WritesLeaveOtherSide =
+    (types : List ServedShape) (m : History) (call : Call) → IsMachine types m → IsJsonBody call.body
+    → (call.target.method ≡ Patch) ⊎ (call.target.method ≡ Put)
+    → (k : Key) → OtherSideStays (subresource_of call.target.status) (state_under types (standing m) k) (state_under types (standing (step types m call).1) k)
+
+-- of each object that stands, each manager owns only what its subresource writes
+abbrev pub ManagersOwnTheirSides : Type 0
+ManagersOwnTheirSides = (types : List ServedShape) (m : History) (k : Key) → IsMachine types m → OwnSides (state_under types (standing m) k)
 
 -- ---- what ends a watch
 

@@ -5,8 +5,8 @@ use Rattle.std.specs.List.{join_with_byte, list_all}
 use Rattle.matchit.specs.Seek.{has_slash, slash}
 use Rattle.schema.specs.TypesFile.{ServedShape, type_number}
 use Rattle.verbs.specs.declared.resource.Resource.{Resource}
-use Rattle.verbs.specs.declared.resource.Resource.TheVariants.{AllNamespaces, Collection, Object}
-use Rattle.verbs.specs.Admit.{Place, place_of}
+use Rattle.verbs.specs.declared.resource.Resource.TheVariants.{AllNamespaces, Collection, Object, Status}
+use Rattle.verbs.specs.Admit.{Place, kind_with, place_of}
 
 -- a part of a path: at least one ASCII character, and no slash
 pub record IsPart (part : List ℕ) : Type 0 where
@@ -26,6 +26,10 @@ path_of_collection group version namespace plural = path_of (codes "apis" ∷ gr
 
 abbrev pub path_of_object : List ℕ → List ℕ → List ℕ → List ℕ → List ℕ → List ℕ
 path_of_object group version namespace plural name = path_of (codes "apis" ∷ group ∷ version ∷ codes "namespaces" ∷ namespace ∷ plural ∷ name ∷ [])
+
+abbrev pub path_of_status : List ℕ → List ℕ → List ℕ → List ℕ → List ℕ → List ℕ
+path_of_status group version namespace plural name =
+    path_of (codes "apis" ∷ group ∷ version ∷ codes "namespaces" ∷ namespace ∷ plural ∷ name ∷ codes "status" ∷ [])
 
 -- a place of a type, where the type is served
 abbrev pub place_for : Resource → Option (List ℕ) → Option (List ℕ) → Option ℕ → Option Place
@@ -48,3 +52,10 @@ abbrev pub PathsOfObjects : Type 0
 PathsOfObjects =
     (types : List ServedShape) (group version namespace plural name : List ℕ) → IsPart group → IsPart version → IsPart namespace → IsPart plural → IsPart name
     → place_of types (path_of_object group version namespace plural name) ≡ place_for Object (Some namespace) (Some name) (type_number group version plural types)
+
+-- an object's status, where the objects of the type have one
+abbrev pub PathsOfStatus : Type 0
+PathsOfStatus =
+    (types : List ServedShape) (group version namespace plural name : List ℕ) → IsPart group → IsPart version → IsPart namespace → IsPart plural → IsPart name
+    → place_of types (path_of_status group version namespace plural name)
+    ≡ place_for Status (Some namespace) (Some name) (kind_with types Status (type_number group version plural types))

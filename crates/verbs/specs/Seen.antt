@@ -46,12 +46,12 @@ use Rattle.verbs.specs.Calls.{Target, Scope, of_all, of_namespace, of_object, Ca
 -- ---- calls and answers
 
 abbrev pub target_of : TheTarget → Target
-target_of t = record { kind = t.kind; namespace = option_map string_bytes t.namespace; name = option_map string_bytes t.name; method = t.method }
+target_of t = record { kind = t.kind; namespace = option_map string_bytes t.namespace; name = option_map string_bytes t.name; status = t.status; method = t.method }
 
 abbrev pub scope_seen : TheScope → Scope
 scope_seen scope.All = of_all
 scope_seen (scope.Namespace namespace) = of_namespace namespace.now
-scope_seen (scope.Object namespace name) = of_object namespace.now name.now
+scope_seen (scope.Object namespace name subresource) = of_object namespace.now name.now subresource
 
 abbrev pub body_seen : Body → Data
 body_seen b = view b.value
@@ -102,7 +102,7 @@ Admits (Err refusal.Memory) answer = Unit {0}
 -- ---- what checks find
 
 abbrev pub expected_of : TheExpected → Expected
-expected_of e = record { served = served e.served.now; namespace = e.namespace.now; name = option_map (λ s. s.now) e.name; method = e.method }
+expected_of e = record { served = served e.served.now; namespace = e.namespace.now; name = option_map (λ s. s.now) e.name; method = e.method; subresource = e.subresource }
 
 -- the body less its envelope is read from the body itself
 abbrev pub rest_seen : Data → Data
@@ -119,7 +119,7 @@ abbrev pub envelope_seen : Data → Option ℕ → Envelope
 envelope_seen body version = record { version = version; rest = rest_seen body }
 
 abbrev pub intent_seen : TheIntent → Intent
-intent_seen i = record { version = i.version; content = i.content; manager = string_bytes i.manager; is_forced = i.is_forced; rest = rest_seen (view i.body.now) }
+intent_seen i = record { version = i.version; content = i.content; manager = string_bytes i.manager; subresource = i.subresource; is_forced = i.is_forced; rest = rest_seen (view i.body.now) }
 
 abbrev pub creation_seen : TheCreation → Creation
 creation_seen c = record { key = key_of c.key; intent = intent_seen c.intent }

@@ -1,5 +1,5 @@
 -- The step: what a call answers at a machine, and the machine after it, with the checks in their order
--- (Kubernetes docs, "Server-Side Apply"; "Kubernetes API Concepts", "Resource versions").
+-- (Kubernetes docs, "Server-Side Apply"; "Kubernetes API Concepts", "Resource versions"; "Custom Resources", "Status subresource").
 use Rattle.std.specs.Prelude.{ℕ, suc, Bool, ◌==◌, nat_le, nat_lt, List, [], ◌∷◌, ◌++◌, length, Option, Some, None, slice_get, if◌then◌else◌, codes, decimal}
 use Rattle.std.specs.declared.result.Result.{Result}
 use Rattle.std.specs.declared.result.Result.TheVariants.{Ok, Err}
@@ -13,12 +13,16 @@ use Rattle.typed.specs.declared.fault.Cause.{Cause}
 use Rattle.typed.specs.declared.fault.Cause.TheVariants.{NotAnObject, UnknownField, WrongType, DuplicateItem, KeyFieldMissing}
 use Rattle.typed.specs.Faults.{Read, cause_text}
 use Rattle.typed.specs.Reading.{content_of}
-use Rattle.objects.specs.Owners.{Manager, manager_of, apply_operation, update_operation}
+use Rattle.objects.specs.declared.manager.Operation.{Operation}
+use Rattle.objects.specs.declared.manager.Subresource.{Subresource}
+use Rattle.objects.specs.declared.manager.Subresource.TheVariants.{Main, Status}
+use Rattle.objects.specs.Owners.{Manager, manager_by, apply_operation, update_operation}
 use Rattle.history.specs.History.{Key, Object, History, last_revision}
 use Rattle.history.specs.View.{View}
 use Rattle.objects.specs.State.{State}
 use Rattle.ownership.specs.Apply.{Conflict, conflicts, applied, is_refused}
 use Rattle.ownership.specs.Update.{updated}
+use Rattle.ownership.specs.Sides.{beside_others, own_part}
 use Rattle.ownership.specs.Sameness.{same_state}
 use Rattle.objects.specs.ObjectText.{object_value}
 use Rattle.lists.specs.Body.{Collection}
@@ -43,7 +47,7 @@ use Rattle.verbs.specs.Machine.{after, identity_of, no_state, state_of_live, sta
 use Rattle.verbs.specs.Calls.{Scope, of_all, of_namespace, of_object, scope_of, Call, Answer, Plan}
 use Rattle.verbs.specs.Envelope.{Expected, api_version_of, envelope_of, name_in}
 use Rattle.verbs.specs.Parameters.{parameters_validated}
-use Rattle.verbs.specs.Naming.{marks_validated, names_validated, required_name}
+use Rattle.verbs.specs.Naming.{marks_validated_by, names_validated, required_name}
 use Rattle.verbs.specs.Options.{options_validated}
 use Rattle.verbs.specs.Size.{size_validated}
 
@@ -114,13 +118,19 @@ ownership_validated api_version live config m is_forced =
 
 -- ---- what a write intends
 
--- as its body and its parameters say; rest is the body less its envelope, whose labels and annotations are checked next
+-- as its body and its parameters say: of the content only what the subresource writes counts; rest is the body less its envelope, whose
+-- labels and annotations are checked next
 pub record Intent : Type 0 where
   pub version : Option ℕ
   pub content : Content
   pub manager : List ℕ
+  pub subresource : Subresource
   pub is_forced : Bool
   pub rest : Data
+
+-- who intends it
+abbrev pub manager_for : Operation → Intent → Manager
+manager_for operation intent = manager_by intent.manager operation intent.subresource
 
 -- envelope, shape, parameters
 abbrev pub intent_of : Expected → Asked → List ℕ → Data → Validated Intent
@@ -128,11 +138,11 @@ intent_of of asked query body =
     and_then (envelope_of of body) (λ e.
     and_then (shape_validated (content_of of.served.shape e.rest)) (λ content.
     and_then (parameters_validated asked query) (λ values.
-    Ok (record { version = e.version; content = content; manager = values.manager; is_forced = values.is_forced; rest = e.rest }))))
+    Ok (record { version = e.version; content = content; manager = values.manager; subresource = of.subresource; is_forced = values.is_forced; rest = e.rest }))))
 
 -- a write to the path of an object names that object
-abbrev pub at_path : ServedShape → Key → Method → Expected
-at_path t k method = record { served = t; namespace = k.namespace; name = Some k.name; method = method }
+abbrev pub at_path : ServedShape → Key → Method → Subresource → Expected
+at_path t k method subresource = record { served = t; namespace = k.namespace; name = Some k.name; method = method; subresource = subresource }
 
 -- ---- what is stored
 
@@ -162,22 +172,6 @@ abbrev pub store_unless_same : ServedShape → ℕ → Key → Option Object →
 store_unless_same t current k None s = store_state t current k 201 s
 store_unless_same t current k (Some o) s = if same_state s (state_said t.shape o.body) then Ok (as_it_stands o) else store_state t current k 200 s
 
--- ---- apply
-
--- version, conflicts, whether anything changes, number of labels and size, revisions left
-abbrev pub applied_over : ServedShape → ℕ → Key → Option Object → Intent → Validated Plan
-applied_over t current k live intent =
-    and_then (version_checked intent.version live) (λ u.
-    and_then (ownership_validated (api_version_of t) (state_of_live t live) intent.content (manager_of intent.manager apply_operation) intent.is_forced) (λ s.
-    store_unless_same t current k live s))
-
--- of a body of JSON (`object_validated_by`): envelope, shape, parameters (`intent_of`), names with labels and annotations, what `applied_over` checks
-abbrev pub apply_validated : ServedShape → ℕ → Option Object → Key → List ℕ → Data → Validated Plan
-apply_validated t current live k query body =
-    and_then (intent_of (at_path t k Patch) asked.Apply query body) (λ intent.
-    and_then (names_validated k.namespace k.name intent.rest) (λ u.
-    applied_over t current k live intent))
-
 -- ---- objects that are there, and that are not
 
 -- `<plural>.<group> "<name>"`, and what is said of it
@@ -191,6 +185,28 @@ there t name (Some o) = Ok o
 abbrev pub not_there : ServedShape → List ℕ → Option Object → Validated (Unit {0})
 not_there t name None = Ok tt
 not_there t name (Some o) = refused_for AlreadyExists (said_of_object t name (codes " already exists"))
+
+-- a status is written of an object that is there
+abbrev pub there_for : Subresource → ServedShape → List ℕ → Option Object → Validated (Unit {0})
+there_for Main t name live = Ok tt
+there_for Status t name live = and_then (there t name live) (λ o. Ok tt)
+
+-- ---- apply
+
+-- whether the object of a status is there, version, conflicts, whether anything changes, number of labels and size, revisions left
+abbrev pub applied_over : ServedShape → ℕ → Key → Option Object → Intent → Validated Plan
+applied_over t current k live intent =
+    and_then (there_for intent.subresource t k.name live) (λ u.
+    and_then (version_checked intent.version live) (λ u.
+    and_then (ownership_validated (api_version_of t) (state_of_live t live) (own_part intent.subresource intent.content) (manager_for apply_operation intent) intent.is_forced) (λ s.
+    store_unless_same t current k live s)))
+
+-- of a body of JSON (`object_validated_by`): envelope, shape, parameters (`intent_of`), names with labels and annotations, what `applied_over` checks
+abbrev pub apply_validated : Subresource → ServedShape → ℕ → Option Object → Key → List ℕ → Data → Validated Plan
+apply_validated subresource t current live k query body =
+    and_then (intent_of (at_path t k Patch subresource) asked.Apply query body) (λ intent.
+    and_then (names_validated intent.subresource k.namespace k.name intent.rest) (λ u.
+    applied_over t current k live intent))
 
 -- ---- get
 
@@ -246,12 +262,12 @@ list_validated t s kind namespace query =
 -- ---- creation and update ("Server-Side Apply", "Comparison with Client-Side Apply": they own what they change)
 
 abbrev pub updated_by : Intent → State → State
-updated_by intent s = updated s intent.content (manager_of intent.manager update_operation)
+updated_by intent s = updated s (beside_others intent.subresource intent.content s.content) (manager_for update_operation intent)
 
 -- names with labels and annotations, that no object is there, number of labels and size, revisions left
 abbrev pub created_as : ServedShape → ℕ → Option Object → Key → Intent → Validated Plan
 created_as t current live k intent =
-    and_then (names_validated k.namespace k.name intent.rest) (λ u.
+    and_then (names_validated intent.subresource k.namespace k.name intent.rest) (λ u.
     and_then (not_there t k.name live) (λ u.
     store_state t current k 201 (updated_by intent no_state)))
 
@@ -263,7 +279,7 @@ pub record Creation : Type 0 where
 -- of a body of JSON: envelope, shape, parameters, that there is a name: the body names the object
 abbrev pub creation_validated : ServedShape → ℕ → List ℕ → List ℕ → Data → Validated Creation
 creation_validated t kind namespace query body =
-    and_then (intent_of (record { served = t; namespace = namespace; name = None; method = Post }) asked.Post query body) (λ intent.
+    and_then (intent_of (record { served = t; namespace = namespace; name = None; method = Post; subresource = Main }) asked.Post query body) (λ intent.
     and_then (required_name (name_in body)) (λ name.
     Ok (record { key = record { kind = kind; namespace = namespace; name = name }; intent = intent })))
 
@@ -284,10 +300,10 @@ updated_over t current k live intent =
     store_unless_same t current k live (updated_by intent (state_said t.shape o.body))))
 
 -- of a body of JSON (`object_validated_by`): envelope, shape, parameters, labels and annotations, what `updated_over` checks
-abbrev pub update_validated : ServedShape → ℕ → Option Object → Key → List ℕ → Data → Validated Plan
-update_validated t current live k query body =
-    and_then (intent_of (at_path t k Put) asked.Put query body) (λ intent.
-    and_then (marks_validated intent.rest) (λ u.
+abbrev pub update_validated : Subresource → ServedShape → ℕ → Option Object → Key → List ℕ → Data → Validated Plan
+update_validated subresource t current live k query body =
+    and_then (intent_of (at_path t k Put subresource) asked.Put query body) (λ intent.
+    and_then (marks_validated_by intent.subresource intent.rest) (λ u.
     updated_over t current k live intent))
 
 -- ---- deletion
@@ -324,17 +340,17 @@ body_of (Some body) = Ok body
 abbrev pub not_served : Validated Plan
 not_served = refused_for MethodNotAllowed (codes "method not served here")
 
--- a write of an object, by its method
-abbrev pub write_validated_by : Method → ServedShape → ℕ → Option Object → Key → List ℕ → Option Data → Validated Plan
-write_validated_by Put t current live k query body = and_then (body_of body) (update_validated t current live k query)
-write_validated_by Patch t current live k query body = and_then (body_of body) (apply_validated t current live k query)
-write_validated_by Delete t current live k query body = delete_validated t current live k query body
-write_validated_by how t current live k query body = not_served
+-- a write of an object, by its method; a status is deleted with its object alone
+abbrev pub write_validated_by : Method → Subresource → ServedShape → ℕ → Option Object → Key → List ℕ → Option Data → Validated Plan
+write_validated_by Put subresource t current live k query body = and_then (body_of body) (update_validated subresource t current live k query)
+write_validated_by Patch subresource t current live k query body = and_then (body_of body) (apply_validated subresource t current live k query)
+write_validated_by Delete Main t current live k query body = delete_validated t current live k query body
+write_validated_by how subresource t current live k query body = not_served
 
--- on an object
-abbrev pub object_validated_by : Method → ServedShape → ℕ → Option Object → Key → List ℕ → Option Data → Validated Plan
-object_validated_by Get t current live k query body = get_validated t current live k query
-object_validated_by how t current live k query body = write_validated_by how t current live k query body
+-- on an object, or its status
+abbrev pub object_validated_by : Method → Subresource → ServedShape → ℕ → Option Object → Key → List ℕ → Option Data → Validated Plan
+object_validated_by Get subresource t current live k query body = get_validated t current live k query
+object_validated_by how subresource t current live k query body = write_validated_by how subresource t current live k query body
 
 abbrev pub no_path : Validated Plan
 no_path = refused_for NotFound (codes "no such path")
@@ -347,8 +363,8 @@ abbrev pub validated_by : Scope → Method → ServedShape → Source → Call �
 validated_by of_all Get t s call = list_validated t s call.target.kind None call.query
 validated_by (of_namespace namespace) Get t s call = list_validated t s call.target.kind (Some namespace) call.query
 validated_by (of_namespace namespace) Post t s call = and_then (body_of call.body) (create_validated t s call.target.kind namespace call.query)
-validated_by (of_object namespace name) how t s call =
-    object_validated_by how t s.current (object_at s (key_at call namespace name)) (key_at call namespace name) call.query call.body
+validated_by (of_object namespace name subresource) how t s call =
+    object_validated_by how subresource t s.current (object_at s (key_at call namespace name)) (key_at call namespace name) call.query call.body
 validated_by scope how t s call = not_served
 
 -- where a type has the number, and the target names objects
@@ -358,7 +374,7 @@ validated_at (Some t) None s call = no_path
 validated_at (Some t) (Some scope) s call = validated_by scope call.target.method t s call
 
 abbrev pub validated_over : List ServedShape → Source → Call → Validated Plan
-validated_over types s call = validated_at (slice_get types call.target.kind) (scope_of call.target.namespace call.target.name) s call
+validated_over types s call = validated_at (slice_get types call.target.kind) (scope_of call.target.namespace call.target.name call.target.status) s call
 
 -- a refusal is answered by its Status, and changes nothing
 abbrev pub refused : CallRefusal → Plan

@@ -68,6 +68,7 @@ fn target_at(alloc: Global, place: Place<'_>, method: Method) -> Result<Target, 
         kind: place.kind,
         namespace: copied(alloc, place.namespace)?,
         name: copied(alloc, place.name)?,
+        status: place.resource.is_status(),
         method,
     })
 }

@@ -1,11 +1,13 @@
 //! Calls, answers and plans as data. How a call is planned stands in `plans`.
 
-ghost use Rattle.std.specs.Prelude.{string_bytes};
+ghost use Rattle.std.specs.Prelude.{◌≡◌, string_bytes};
+ghost use Rattle.verbs.specs.Calls.{subresource_of};
 ghost use Rattle.verbs.specs.Stored.{IsAnswered, IsAnswered-prop};
 
 use crate::body::Body;
 use crate::change::Change;
 use crate::method::Method;
+use ownership::Subresource;
 use watchline::WatchFrom;
 
 /// The status code of what is shown or changed (RFC 9110, section 15.3.1).
@@ -14,7 +16,7 @@ pub(crate) const OK: u16 = 200;
 /// The status code of a creation (RFC 9110, section 15.3.2).
 pub(crate) const CREATED: u16 = 201;
 
-/// What a call is of (Kubernetes docs, "Kubernetes API Concepts", "Resource URIs").
+/// What a call is of (Kubernetes docs, "Kubernetes API Concepts", "Resource URIs"; "Custom Resources", "Status subresource").
 #[derive(Debug, Drop)]
 pub struct Target {
     /// The number of the type.
@@ -23,6 +25,8 @@ pub struct Target {
     pub namespace: Option<String>,
     /// None for a collection.
     pub name: Option<String>,
+    /// Whether it is of the status of the object of this name.
+    pub status: bool,
     pub method: Method,
 }
 
@@ -33,8 +37,18 @@ pub(crate) enum Scope<'a> {
     All,
     /// All in a namespace.
     Namespace(&'a str),
-    /// One, by its namespace and its name.
-    Object(&'a str, &'a str),
+    /// One, by its namespace and its name, and by a subresource.
+    Object(&'a str, &'a str, Subresource),
+}
+
+/// Which subresource a call is of, an object's status or the object.
+fn subresource_of(status: bool) -> Subresource
+    ensures { result ≡ subresource_of status }
+{
+    match status {
+        true => Subresource::Status,
+        false => Subresource::Main,
+    }
 }
 
 impl Target {
@@ -44,13 +58,14 @@ impl Target {
 
     /// Which objects it is of; none for a name without a namespace, to which no path leads.
     pub(crate) fn scope(&self) -> Option<Scope<'_>>
-        ensures { option_map scope_seen result ≡ scope_of (target_of self.now).namespace (target_of self.now).name }
+        ensures { let t = target_of self.now in option_map scope_seen result ≡ scope_of t.namespace t.name t.status }
     {
         match (&self.namespace, &self.name) {
             (None, None) => Some(Scope::All),
             (Some(namespace), None) => Some(Scope::Namespace(namespace.as_str())),
             (Some(namespace), Some(name)) => {
-                Some(Scope::Object(namespace.as_str(), name.as_str()))
+                let subresource = subresource_of(self.status);
+                Some(Scope::Object(namespace.as_str(), name.as_str(), subresource))
             }
             (None, Some(_)) => None,
         }

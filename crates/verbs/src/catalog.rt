@@ -45,7 +45,7 @@ fn slot_in(target: &Target, plan: &Plan) -> Option<usize> {
 /// The slot of the object that a call is of, if it names one.
 fn slot_at(target: &Target) -> Option<usize> {
     match target.scope() {
-        Some(Scope::Object(namespace, name)) => Some(slot_of(target.kind, namespace, name)),
+        Some(Scope::Object(namespace, name, _)) => Some(slot_of(target.kind, namespace, name)),
         _ => None,
     }
 }

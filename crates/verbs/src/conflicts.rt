@@ -5,13 +5,14 @@ ghost use Rattle.serde_json.specs.View.{items_view, view};
 ghost use Rattle.schema.specs.Shape.{Shape};
 ghost use Rattle.typed.specs.Fitting.{IsContent};
 ghost use Rattle.objects.specs.Placed.{IsPlacedState};
-ghost use Rattle.objects.specs.Owners.{apply_operation, manager_of};
+ghost use Rattle.objects.specs.Owners.{apply_operation};
 ghost use Rattle.ownership.specs.Results.{conflict_of};
+ghost use Rattle.ownership.specs.Sides.{own_part};
 ghost use Rattle.objects.specs.Views.{state_of};
 ghost use Rattle.verbs.specs.Envelope.{api_version_of};
 ghost use Rattle.verbs.specs.Planner.{type_of};
 ghost use Rattle.verbs.specs.Seen.{Gives, call_refusal_of, intent_seen};
-ghost use Rattle.verbs.specs.Step.{cause_of, causes_of, conflict_refusal, ownership_validated};
+ghost use Rattle.verbs.specs.Step.{cause_of, causes_of, conflict_refusal, manager_for, ownership_validated};
 
 use crate::call_refusal::CallRefusal;
 use crate::envelope::api_version_of;
@@ -79,16 +80,24 @@ impl Planner<'_> {
     /// Applies what is intended over what stands, unless other managers own what it changes.
     pub(crate) fn applied(self, live: &Owned, intent: Intent<'_>) -> Result<Owned, CallError>
         ensures validated { let i = intent_seen intent.entry in
-            Gives state_of result (ownership_validated (api_version_of (type_of self.entry)) (state_of live.now) i.content (manager_of i.manager apply_operation) i.is_forced) }
+            Gives state_of result (ownership_validated (api_version_of (type_of self.entry)) (state_of live.now) (own_part i.subresource i.content) (manager_for apply_operation i) i.is_forced) }
         ensures placed { (s : Shape) → IsContent s intent.entry.content → IsPlacedState s (state_of live.now) → IfOk result (λ o. IsPlacedState s (state_of o)) }
     {
         let Intent {
             content,
             manager,
+            subresource,
             is_forced,
             ..
         } = intent;
-        match apply(self.alloc, live, manager.as_str(), content, is_forced) {
+        match apply(
+            self.alloc,
+            live,
+            manager.as_str(),
+            subresource,
+            content,
+            is_forced,
+        ) {
             Ok(owned) => Ok(owned),
             Err(ApplyFault::Conflicts(conflicts)) => {
                 Err(CallError::Refused(self.conflicting(&conflicts)?))

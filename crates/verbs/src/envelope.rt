@@ -16,6 +16,7 @@ use crate::method::Method;
 use crate::reason::Reason;
 use json_values::{member, unless_empty};
 use names::version_of;
+use ownership::Subresource;
 use schema::Served;
 use serde_json::{Map, Value};
 use std::alloc::{AllocError, Global};
@@ -30,6 +31,8 @@ pub struct Expected<'a> {
     pub name: Option<&'a str>,
     /// What the body is sent by.
     pub method: Method,
+    /// What of the body counts.
+    pub subresource: Subresource,
 }
 
 /// The path of `metadata`, before a member's name.

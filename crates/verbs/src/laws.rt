@@ -1,7 +1,7 @@
 //! Laws of calls (the step of a machine); paths stand in `route_laws`. Each function does nothing; what it promises is
 //! the law.
 
-ghost use Rattle.verbs.specs.Promise.{AppliesKeepOthers, BodiesSayStates, CallsChangeOneObject, CallsKeepMachines, CompactionsKeepMachines, ErrorsAreRefusals, GetsChangeNothing, MachinesBegin, PlansAreShort, PlansByViews, PlansComeNext, RefusalsChangeNothing, StandingTextsSayStates, StepsKeepMachines, TextsSayStates, UpdatesTakeChanges};
+ghost use Rattle.verbs.specs.Promise.{AppliesKeepOthers, BodiesSayStates, CallsChangeOneObject, CallsKeepMachines, CompactionsKeepMachines, ErrorsAreRefusals, GetsChangeNothing, MachinesBegin, ManagersOwnTheirSides, PlansAreShort, PlansByViews, PlansComeNext, RefusalsChangeNothing, StandingTextsSayStates, StepsKeepMachines, TextsSayStates, UpdatesTakeChanges, WritesLeaveOtherSide};
 
 /// A machine begins without a change. What a call plans may come next, and a text in it is no longer than an object may
 /// be; a machine stays one over each call, over calls one after the other, and over a compaction.
@@ -35,6 +35,13 @@ pub fn applies_keep_others()
 /// An update takes from other managers only what it changes.
 pub fn updates_take_changes()
     ensures { UpdatesTakeChanges }
+{}
+
+/// An object's status is written by the subresource `status` alone, and that writes nothing else: a PATCH and a PUT leave the values
+/// and the owners of what they don't write, and each manager owns only what its subresource writes.
+pub fn status_is_apart()
+    ensures leaves { WritesLeaveOtherSide }
+    ensures sides { ManagersOwnTheirSides }
 {}
 
 /// A refused call and a GET change nothing; any other call changes one object at most, one that it is of.

@@ -1,8 +1,8 @@
 //! Calls on objects and their answers. The bytes of requests and replies stand in the crate `requests`.
 //!
 //! Promises: what a call answers and changes is the step of the machine, with its checks in their order;
-//! a refused call changes nothing. The machine is a history whose bodies are texts of objects. A watch tells what is
-//! seen of the machine.
+//! a refused call changes nothing, and the subresource `status` alone writes an object's status. The machine is a history
+//! whose bodies are texts of objects. A watch tells what is seen of the machine.
 //! Stands on `history` for changes, `revstore` for what stands, `lists` for lists, `watchline` for watches, `objects` for
 //! objects and their texts, `ownership` for apply, `typed` for reading, `schema` for types, `params` and `names` for
 //! parameters and names, `json_values` for the parts of a body.
@@ -54,7 +54,7 @@ pub use change::Change;
 pub use fault::{Fault, STORE_FAILED};
 pub use laws::{
     applies_keep_others, calls_change_one_object, errors_are_refusals, machines_stay,
-    plans_by_views, texts_say_states, updates_take_changes,
+    plans_by_views, status_is_apart, texts_say_states, updates_take_changes,
 };
 pub use media::{APPLY_TYPE, JSON_TYPE};
 pub use method::Method;

@@ -5,13 +5,14 @@ ghost use Rattle.serde_json.specs.View.{members_view, view};
 ghost use Rattle.history.specs.Read.{key_of};
 ghost use Rattle.verbs.specs.declared.reason.Reason.TheVariants.{Invalid};
 ghost use Rattle.verbs.specs.Validated.{require};
-ghost use Rattle.verbs.specs.Naming.{annotation_validated, annotations_validated, if_there, label_validated, labels_validated, marks_validated, metadata_object, names_validated, path_validated, required_name};
+ghost use Rattle.verbs.specs.Naming.{annotation_validated, annotations_validated, if_there, label_validated, labels_validated, marks_validated, marks_validated_by, metadata_object, names_validated, path_validated, required_name};
 ghost use Rattle.verbs.specs.Seen.{Gives, rest_seen};
 
 use crate::fault::CallError;
 use crate::reason::Reason;
 use history::Key;
 use names::{is_dns_label, is_dns_subdomain, is_label_key, is_label_value};
+use ownership::Subresource;
 use serde_json::{Map, Value};
 use std::alloc::Global;
 
@@ -107,11 +108,25 @@ fn validate_annotations_of(alloc: Global, body: &Value) -> Result<(), CallError>
 }
 
 /// The labels and annotations of a body, which are no part of its envelope.
-pub fn validate_marks(alloc: Global, body: &Value) -> Result<(), CallError>
+fn validate_marks(alloc: Global, body: &Value) -> Result<(), CallError>
     ensures { Gives (λ u. u) result (marks_validated (rest_seen (view body.now))) }
 {
     validate_labels_of(alloc, body)?;
     validate_annotations_of(alloc, body)
+}
+
+/// Those that a write gives: a status has none.
+pub fn validate_marks_by(
+    alloc: Global,
+    subresource: Subresource,
+    body: &Value,
+) -> Result<(), CallError>
+    ensures { Gives (λ u. u) result (marks_validated_by subresource (rest_seen (view body.now))) }
+{
+    match subresource {
+        Subresource::Main => validate_marks(alloc, body),
+        Subresource::Status => Ok(()),
+    }
 }
 
 /// A creation has to name its object.
@@ -125,9 +140,14 @@ pub fn require_name<'a>(alloc: Global, name: Option<&'a str>) -> Result<&'a str,
 }
 
 /// The object's name and namespace, then the body's labels and annotations.
-pub fn validate_names(alloc: Global, key: &Key, body: &Value) -> Result<(), CallError>
-    ensures { Gives (λ u. u) result (names_validated (key_of key.now).namespace (key_of key.now).name (rest_seen (view body.now))) }
+pub fn validate_names(
+    alloc: Global,
+    subresource: Subresource,
+    key: &Key,
+    body: &Value,
+) -> Result<(), CallError>
+    ensures { Gives (λ u. u) result (names_validated subresource (key_of key.now).namespace (key_of key.now).name (rest_seen (view body.now))) }
 {
     validate_path(alloc, key.namespace.as_str(), key.name.as_str())?;
-    validate_marks(alloc, body)
+    validate_marks_by(alloc, subresource, body)
 }

@@ -29,6 +29,7 @@ use crate::reason::Reason;
 use crate::remembered::{Remembered, WritePlan};
 use crate::validating::Creation;
 use history::Key;
+use ownership::Subresource;
 use revstore::Store;
 use schema::Types;
 use std::alloc::Global;
@@ -70,20 +71,23 @@ impl Planner<'_> {
     }
 
     /// The checks of a write of one object, by its method.
-    fn validate_write(self, key: Key, live: &Live) -> Result<WritePlan, CallError>
+    fn validate_write(
+        self,
+        key: Key,
+        subresource: Subresource,
+        live: &Live,
+    ) -> Result<WritePlan, CallError>
         requires planner { IsPlanner self }
         requires live { IsLive (type_of self) live.now }
         ensures plan { let c = asked_of self.entry in
-            Gives written_plan result (write_validated_by c.target.method (type_of self.entry) self.entry.current (object_in live.now) (key_of key) c.query c.body) }
+            Gives written_plan result (write_validated_by c.target.method subresource (type_of self.entry) self.entry.current (object_in live.now) (key_of key) c.query c.body) }
         ensures right { IfOk result (RemembersRight (type_of self.entry)) }
     {
-        match self.call.target.method {
-            Method::Put => self.validate_update(key, live),
-            Method::Patch => self.validate_apply(key, live),
-            Method::Delete => self.validate_delete(key, live),
-            Method::Get | Method::Post => {
-                Err(CallError::refused_for(self.alloc, Reason::MethodNotAllowed, NOT_SERVED))
-            }
+        match (self.call.target.method, subresource) {
+            (Method::Put, _) => self.validate_update(key, subresource, live),
+            (Method::Patch, _) => self.validate_apply(key, subresource, live),
+            (Method::Delete, Subresource::Main) => self.validate_delete(key, live),
+            _ => { Err(CallError::refused_for(self.alloc, Reason::MethodNotAllowed, NOT_SERVED)) }
         }
     }
 
@@ -93,13 +97,14 @@ impl Planner<'_> {
         store: &mut Store,
         namespace: &str,
         name: &str,
+        subresource: Subresource,
         known: &mut Option<Remembered>,
     ) -> Result<Plan, Fault>
         requires planner { IsPlanner self }
         requires current { self.current ≡ store.old.current }
         requires right { IfSome known.old (IsRight (type_of self)) }
         ensures planned { let c = asked_of self.entry in let k = key_at c namespace.now name.now in
-            IfOk result (λ p. plan_of p ≡ plan_for (write_validated_by c.target.method (type_of self.entry) store.old.current (fin.get (objects_in store.old) k) k c.query c.body)) }
+            IfOk result (λ p. plan_of p ≡ plan_for (write_validated_by c.target.method subresource (type_of self.entry) store.old.current (fin.get (objects_in store.old) k) k c.query c.body)) }
         ensures readable { let k = key_at (asked_of self.entry) namespace.now name.now in
             IsReadable (type_of self.entry) k (fin.get (objects_in store.old) k) → result ≢ Err Fault.Unreadable }
         ensures right { IfSome known.new (IsRight (type_of self.entry)) }
@@ -108,7 +113,7 @@ impl Planner<'_> {
         let key = self.key(namespace, name)?;
         let object = store.get(&key)?;
         let live = live_at(self.alloc, self.served, &key, object, known.take())?;
-        let written = self.validate_write(key, &live);
+        let written = self.validate_write(key, subresource, &live);
         *known = live.into_remembered();
         plan_written(self.alloc, written, known)
     }
@@ -158,16 +163,28 @@ impl Planner<'_> {
             (Scope::All, Method::Get) => self.listed(store, None),
             (Scope::Namespace(namespace), Method::Get) => self.listed(store, Some(namespace)),
             (Scope::Namespace(namespace), Method::Post) => self.created(store, namespace, known),
-            (Scope::Object(namespace, name), Method::Get) => self.got(store, namespace, name),
-            (Scope::Object(namespace, name), Method::Put) => self.written(
-                store, namespace, name, known,
+            (Scope::Object(namespace, name, _), Method::Get) => self.got(store, namespace, name),
+            (Scope::Object(namespace, name, subresource), Method::Put) => self.written(
+                store,
+                namespace,
+                name,
+                subresource,
+                known,
             ),
-            (Scope::Object(namespace, name), Method::Patch) => {
-                self.written(store, namespace, name, known)
-            }
-            (Scope::Object(namespace, name), Method::Delete) => {
-                self.written(store, namespace, name, known)
-            }
+            (Scope::Object(namespace, name, subresource), Method::Patch) => self.written(
+                store,
+                namespace,
+                name,
+                subresource,
+                known,
+            ),
+            (Scope::Object(namespace, name, subresource), Method::Delete) => self.written(
+                store,
+                namespace,
+                name,
+                subresource,
+                known,
+            ),
             _ => refused_for(self.alloc, Reason::MethodNotAllowed, NOT_SERVED),
         }
     }

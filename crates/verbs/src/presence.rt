@@ -1,16 +1,17 @@
 //! Refuses a call whose object isn't there, or is there already. What stands is read in `live`.
 
-ghost use Rattle.std.specs.Prelude.{codes};
+ghost use Rattle.std.specs.Prelude.{codes, option_map};
 ghost use Rattle.history.specs.Read.{key_of};
 ghost use Rattle.verbs.specs.declared.reason.Reason.TheVariants.{AlreadyExists, NotFound};
 ghost use Rattle.verbs.specs.Planner.{type_of};
-ghost use Rattle.verbs.specs.Seen.{RefusesFor};
-ghost use Rattle.verbs.specs.Step.{said_of_object};
+ghost use Rattle.verbs.specs.Seen.{Gives, RefusesFor, object_of};
+ghost use Rattle.verbs.specs.Step.{said_of_object, there_for};
 
 use crate::fault::CallError;
 use crate::planner::Planner;
 use crate::reason::Reason;
-use history::Key;
+use history::{Key, Object};
+use ownership::Subresource;
 
 impl Planner<'_> {
     /// The refusal of a call whose object isn't there.
@@ -22,6 +23,21 @@ impl Planner<'_> {
         let name = &key.name;
         let message = format!(in self.alloc; "{plural}.{group} \"{name}\" not found");
         CallError::told(self.alloc, Reason::NotFound, message)
+    }
+
+    /// A status is written of an object that is there.
+    pub(crate) fn check_there(
+        self,
+        subresource: Subresource,
+        key: &Key,
+        live: Option<&Object>,
+    ) -> Result<(), CallError>
+        ensures { Gives (λ u. u) result (there_for subresource (type_of self.entry) (key_of key.now).name (option_map (λ o. object_of o.now) live.entry)) }
+    {
+        match (subresource, live) {
+            (Subresource::Status, None) => Err(self.not_found(key)),
+            _ => Ok(()),
+        }
     }
 
     /// The refusal of a creation whose object is there already.

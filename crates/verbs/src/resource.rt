@@ -1,7 +1,7 @@
-//! What a path leads to, one object or those of a type, and the methods that it serves. The paths stand in `route`.
+//! What a path leads to, one object, its status or all of a type, and the methods that it serves. The paths stand in `route`.
 
 ghost use Rattle.std.specs.Prelude.{◌≡◌};
-ghost use Rattle.verbs.specs.Admit.{allowed, serves};
+ghost use Rattle.verbs.specs.Admit.{allowed, is_status, serves};
 
 use crate::method::Method;
 
@@ -14,6 +14,8 @@ pub enum Resource {
     Collection,
     /// An object in a namespace.
     Object,
+    /// Its status (Kubernetes docs, "Custom Resources", "Status subresource").
+    Status,
 }
 
 impl Resource {
@@ -25,6 +27,7 @@ impl Resource {
             Resource::AllNamespaces => method == Method::Get,
             Resource::Collection => method == Method::Get || method == Method::Post,
             Resource::Object => method != Method::Post,
+            Resource::Status => method != Method::Post && method != Method::Delete,
         }
     }
 
@@ -36,6 +39,17 @@ impl Resource {
             Resource::AllNamespaces => "GET",
             Resource::Collection => "GET, POST",
             Resource::Object => "DELETE, GET, PATCH, PUT",
+            Resource::Status => "GET, PATCH, PUT",
+        }
+    }
+
+    /// Whether it is the status of an object.
+    pub fn is_status(self) -> bool
+        ensures { result ≡ is_status self }
+    {
+        match self {
+            Resource::Status => true,
+            Resource::AllNamespaces | Resource::Collection | Resource::Object => false,
         }
     }
 }

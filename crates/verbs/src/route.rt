@@ -19,6 +19,9 @@ const COLLECTION: &str = "/apis/{group}/{version}/namespaces/{namespace}/{plural
 /// An object's path.
 const OBJECT: &str = "/apis/{group}/{version}/namespaces/{namespace}/{plural}/{name}";
 
+/// The path of an object's status.
+const STATUS: &str = "/apis/{group}/{version}/namespaces/{namespace}/{plural}/{name}/status";
+
 /// The routes of the API.
 #[derive(Drop)]
 pub struct Routes {
@@ -32,7 +35,7 @@ impl Routes {
     ghost use Rattle.verbs.specs.Admit.{place_of};
     ghost use Rattle.verbs.specs.Seen.{place_seen};
 
-    /// The three routes.
+    /// The four routes.
     pub fn new(alloc: Global) -> Result<Routes, Fault>
         ensures readable { result ≢ Err Fault.Unreadable }
     {
@@ -46,6 +49,10 @@ impl Routes {
             Err(_) => return Err(Fault::Memory),
         }
         match router.insert(OBJECT, Resource::Object) {
+            Ok(()) => (),
+            Err(_) => return Err(Fault::Memory),
+        }
+        match router.insert(STATUS, Resource::Status) {
             Ok(()) => Ok(Routes { router }),
             Err(_) => Err(Fault::Memory),
         }

@@ -36,7 +36,7 @@ use crate::fault::CallError;
 use crate::listing::too_large;
 use crate::live::Live;
 use crate::method::Method;
-use crate::naming::{require_name, validate_marks, validate_names};
+use crate::naming::{require_name, validate_marks_by, validate_names};
 use crate::options::validate_options;
 use crate::parameters::read_parameters;
 use crate::planner::Planner;
@@ -45,7 +45,7 @@ use crate::remembered::{WritePlan, remember};
 use crate::size::validate_size;
 use crate::storing::check_version;
 use history::{Key, Object};
-use ownership::{Outcome, Owned, update, written_over};
+use ownership::{Outcome, Owned, Subresource, update, written_over};
 use params::Asked;
 use schema::Served;
 use serde_json::Value;
@@ -57,8 +57,10 @@ use typed::Tree;
 #[derive(Drop)]
 pub struct Intent<'a> {
     pub version: Option<u64>,
+    /// Of it only what the subresource writes counts.
     pub content: Tree,
     pub manager: String,
+    pub subresource: Subresource,
     pub is_forced: bool,
     /// The body, whose labels and annotations are checked next.
     pub body: &'a Value,
@@ -72,14 +74,20 @@ pub struct Creation<'a> {
 }
 
 /// A write to the path of an object names that object.
-fn at_path<'a>(served: &'a Served, key: &'a Key, method: Method) -> Expected<'a>
-    ensures { expected_of result ≡ at_path (types.served served.now) (key_of key.now) method }
+fn at_path<'a>(
+    served: &'a Served,
+    key: &'a Key,
+    method: Method,
+    subresource: Subresource,
+) -> Expected<'a>
+    ensures { expected_of result ≡ at_path (types.served served.now) (key_of key.now) method subresource }
 {
     Expected {
         served,
         namespace: key.namespace.as_str(),
         name: Some(key.name.as_str()),
         method,
+        subresource,
     }
 }
 
@@ -101,6 +109,7 @@ impl<'a> Planner<'a> {
             version,
             content,
             manager: params.manager,
+            subresource: expected.subresource,
             is_forced: params.is_forced,
             body,
         })
@@ -180,7 +189,7 @@ impl<'a> Planner<'a> {
         }
     }
 
-    /// Checks, in order: version, conflicts, those of `store_unless_same`.
+    /// Checks, in order: whether the object of a status is there, version, conflicts, those of `store_unless_same`.
     fn applied_over(self, key: Key, live: &Live, intent: Intent<'_>) -> Result<WritePlan, CallError>
         requires planner { IsPlanner self }
         requires content { IsContent (type_of self).shape intent.content }
@@ -188,6 +197,7 @@ impl<'a> Planner<'a> {
         ensures plan { Gives written_plan result (applied_over (type_of self.entry) self.entry.current (key_of key) (object_in live.now) (intent_seen intent.entry)) }
         ensures right { IfOk result (RemembersRight (type_of self.entry)) }
     {
+        self.check_there(intent.subresource, &key, live.object.as_ref())?;
         check_version(self.alloc, intent.version, live.object.as_ref())?;
         let owned = self.applied(&live.state, intent)?;
         self.store_unless_same(key, live, owned)
@@ -195,33 +205,43 @@ impl<'a> Planner<'a> {
 
     /// An apply over what stands. Checks, in order: that there is a body, those of `intent_of`, names with labels and annotations,
     /// those of `applied_over`.
-    pub(crate) fn validate_apply(self, key: Key, live: &Live) -> Result<WritePlan, CallError>
+    pub(crate) fn validate_apply(
+        self,
+        key: Key,
+        subresource: Subresource,
+        live: &Live,
+    ) -> Result<WritePlan, CallError>
         requires planner { IsPlanner self }
         requires live { IsLive (type_of self) live.now }
         ensures plan { let c = asked_of self.entry in
-            Gives written_plan result (and_then (body_of c.body) (apply_validated (type_of self.entry) self.entry.current (object_in live.now) (key_of key) c.query)) }
+            Gives written_plan result (and_then (body_of c.body) (apply_validated subresource (type_of self.entry) self.entry.current (object_in live.now) (key_of key) c.query)) }
         ensures right { IfOk result (RemembersRight (type_of self.entry)) }
     {
         let body = body_of(self.alloc, self.call)?;
-        let expected = at_path(self.served, &key, Method::Patch);
+        let expected = at_path(self.served, &key, Method::Patch, subresource);
         let intent = self.intent_of(expected, Asked::Apply, body)?;
-        validate_names(self.alloc, &key, intent.body)?;
+        validate_names(self.alloc, intent.subresource, &key, intent.body)?;
         self.applied_over(key, live, intent)
     }
 
     /// An update of an object that is there. Checks, in order: that there is a body, those of `intent_of`, labels and annotations,
     /// whether the object is there, version, those of `store_unless_same`.
-    pub(crate) fn validate_update(self, key: Key, live: &Live) -> Result<WritePlan, CallError>
+    pub(crate) fn validate_update(
+        self,
+        key: Key,
+        subresource: Subresource,
+        live: &Live,
+    ) -> Result<WritePlan, CallError>
         requires planner { IsPlanner self }
         requires live { IsLive (type_of self) live.now }
         ensures plan { let c = asked_of self.entry in
-            Gives written_plan result (and_then (body_of c.body) (update_validated (type_of self.entry) self.entry.current (object_in live.now) (key_of key) c.query)) }
+            Gives written_plan result (and_then (body_of c.body) (update_validated subresource (type_of self.entry) self.entry.current (object_in live.now) (key_of key) c.query)) }
         ensures right { IfOk result (RemembersRight (type_of self.entry)) }
     {
         let body = body_of(self.alloc, self.call)?;
-        let expected = at_path(self.served, &key, Method::Put);
+        let expected = at_path(self.served, &key, Method::Put, subresource);
         let intent = self.intent_of(expected, Asked::Put, body)?;
-        validate_marks(self.alloc, intent.body)?;
+        validate_marks_by(self.alloc, intent.subresource, intent.body)?;
         let Some(object) = &live.object else {
             return Err(self.not_found(&key));
         };
@@ -244,6 +264,7 @@ impl<'a> Planner<'a> {
             namespace,
             name: None,
             method: Method::Post,
+            subresource: Subresource::Main,
         };
         let intent = self.intent_of(expected, Asked::Post, body)?;
         let name = require_name(self.alloc, name_in(body))?;
@@ -264,7 +285,7 @@ impl<'a> Planner<'a> {
         ensures plan { Gives written_plan result (created_as (type_of self.entry) self.entry.current (option_map (λ o. object_of o.now) live.entry) (key_of key) (intent_seen intent.entry)) }
         ensures right { IfOk result (RemembersRight (type_of self.entry)) }
     {
-        validate_names(self.alloc, &key, intent.body)?;
+        validate_names(self.alloc, intent.subresource, &key, intent.body)?;
         if live.is_some() {
             return Err(self.already_exists(&key));
         }
@@ -366,7 +387,8 @@ fn updated_by(alloc: Global, intent: Intent<'_>, live: &Owned) -> Result<Owned, 
     let Intent {
         content,
         manager,
+        subresource,
         ..
     } = intent;
-    update(alloc, live, manager.as_str(), content)
+    update(alloc, live, manager.as_str(), subresource, content)
 }

@@ -64,14 +64,14 @@ page_text t call values revision m = list_text (listed_by t call) revision (page
 module _ (types : List ServedShape) (m : History) (call : Call) (t : ServedShape) (values : Values) (served : slice_get types call.target.kind ≡ Some t) (gets : call.target.method ≡ Get)
     (unnamed : call.target.name ≡ None) (says : parameters_validated asked.List call.query ≡ Ok values) where
   by_namespace : (namespace : Option (List ℕ))
-      → validated_at (Some t) (scope_of namespace None) (from_history m) call ≡ list_validated t (from_history m) call.target.kind namespace call.query
+      → validated_at (Some t) (scope_of namespace None call.target.status) (from_history m) call ≡ list_validated t (from_history m) call.target.kind namespace call.query
   by_namespace None = ap (λ how. validated_by of_all how t (from_history m) call) gets
   by_namespace (Some namespace) = ap (λ how. validated_by (of_namespace namespace) how t (from_history m) call) gets
 
   validated_is : validated_over types (from_history m) call ≡ list_answered (shown_by (from_history m) (listed_by t call) values values.watch)
   validated_is =
-      ap (λ o. validated_at o (scope_of call.target.namespace call.target.name) (from_history m) call) served
-      ∙ ap (λ name. validated_at (Some t) (scope_of call.target.namespace name) (from_history m) call) unnamed
+      ap (λ o. validated_at o (scope_of call.target.namespace call.target.name call.target.status) (from_history m) call) served
+      ∙ ap (λ name. validated_at (Some t) (scope_of call.target.namespace name call.target.status) (from_history m) call) unnamed
       ∙ by_namespace call.target.namespace
       ∙ ap (λ (v : Validated Values). and_then v (λ said. list_answered (shown_by (from_history m) (listed_by t call) said said.watch))) says
 

@@ -9,7 +9,10 @@ use Rattle.serde_json.proofs.OnLiterals.{serde_json_on_literals}
 use Rattle.serde_json.specs.Data.{Data}
 use Rattle.serde_json.specs.Written.{compact_text}
 use Rattle.objects.specs.State.{State}
-use Rattle.objects.specs.Owners.{apply_operation, manager_of}
+use Rattle.objects.specs.declared.manager.Subresource.{Subresource}
+use Rattle.objects.specs.declared.manager.Subresource.TheVariants as subresource
+use Rattle.objects.specs.Owners.{apply_operation}
+use Rattle.ownership.specs.Sides.{own_part}
 use Rattle.ownership.specs.Sameness.{same_state}
 use Rattle.schema.specs.TypesFile.{ServedShape}
 use Rattle.verbs.specs.declared.method.Method.{Method}
@@ -32,7 +35,7 @@ use Rattle.verbs.specs.Validated as validated
 use Rattle.verbs.specs.Validated.{Validated}
 use Rattle.history.specs.History.{History, Key, Object}
 use Rattle.verbs.specs.Machine.{no_state, state_of_live, state_said}
-use Rattle.verbs.specs.Naming.{marks_validated, names_validated}
+use Rattle.verbs.specs.Naming.{marks_validated_by, names_validated}
 use Rattle.verbs.specs.Options.{options_validated}
 use Rattle.verbs.specs.Parameters.{parameters_validated}
 use Rattle.verbs.specs.Reasons.{code_of}
@@ -87,6 +90,7 @@ allowed_readable : (r : Resource) → IsAllowed (Some (allowed r))
 allowed_readable resource.AllNamespaces = (passes_each is_value_byte (codes "GET") refl, omega arith)
 allowed_readable resource.Collection = (passes_each is_value_byte (codes "GET, POST") refl, omega arith)
 allowed_readable resource.Object = (passes_each is_value_byte (codes "DELETE, GET, PATCH, PUT") refl, omega arith)
+allowed_readable resource.Status = (passes_each is_value_byte (codes "GET, PATCH, PUT") refl, omega arith)
 
 method_short : length (compact_text (status_value reason.MethodNotAllowed (codes "method not served here"))) ≤ client.max_body
 unfolding serde_json_on_literals digits
@@ -281,18 +285,20 @@ over_fine t current k (Some o) s =
 
 applied_fine : (t : ServedShape) (current : ℕ) (k : Key) (live : Option Object) (intent : step.Intent) → IsFine (step.applied_over t current k live intent)
 applied_fine t current k live intent =
-    let owned = step.ownership_validated (api_version_of t) (state_of_live t live) intent.content (manager_of intent.manager apply_operation) intent.is_forced in
-    checked (step.version_checked intent.version live) (λ u. validated.and_then owned (step.store_unless_same t current k live))
-    (λ u. checked owned (step.store_unless_same t current k live) (λ s. over_fine t current k live s))
+    let owned = step.ownership_validated (api_version_of t) (state_of_live t live) (own_part intent.subresource intent.content) (step.manager_for apply_operation intent) intent.is_forced in
+    let stored : Unit {0} → Validated Plan = λ u. validated.and_then owned (step.store_unless_same t current k live) in
+    checked (step.there_for intent.subresource t k.name live) (λ u. validated.and_then (step.version_checked intent.version live) stored)
+    (λ u. checked (step.version_checked intent.version live) stored
+    (λ u. checked owned (step.store_unless_same t current k live) (λ s. over_fine t current k live s)))
 
 fine : (p : Plan) → IsStatusCode p.answer.status → IsFine (Ok p)
 fine p is = record { is = is }
 
-apply_fine : (t : ServedShape) (current : ℕ) (live : Option Object) (k : Key) (query : List ℕ) (body : Data) → IsFine (step.apply_validated t current live k query body)
-apply_fine t current live k query body =
-    checked (step.intent_of (step.at_path t k method.Patch) asked.Apply query body)
-    (λ intent. validated.and_then (names_validated k.namespace k.name intent.rest) (λ u. step.applied_over t current k live intent))
-    (λ intent. checked (names_validated k.namespace k.name intent.rest) (λ u. step.applied_over t current k live intent)
+apply_fine : (by : Subresource) (t : ServedShape) (current : ℕ) (live : Option Object) (k : Key) (query : List ℕ) (body : Data) → IsFine (step.apply_validated by t current live k query body)
+apply_fine by t current live k query body =
+    checked (step.intent_of (step.at_path t k method.Patch by) asked.Apply query body)
+    (λ intent. validated.and_then (names_validated intent.subresource k.namespace k.name intent.rest) (λ u. step.applied_over t current k live intent))
+    (λ intent. checked (names_validated intent.subresource k.namespace k.name intent.rest) (λ u. step.applied_over t current k live intent)
     (λ u. applied_fine t current k live intent))
 
 get_fine : (t : ServedShape) (current : ℕ) (live : Option Object) (k : Key) (query : List ℕ) → IsFine (step.get_validated t current live k query)
@@ -305,7 +311,7 @@ get_fine t current live k query =
 created_fine : (t : ServedShape) (current : ℕ) (live : Option Object) (k : Key) (intent : step.Intent) → IsFine (step.created_as t current live k intent)
 created_fine t current live k intent =
     let new = step.updated_by intent no_state in
-    checked (names_validated k.namespace k.name intent.rest)
+    checked (names_validated intent.subresource k.namespace k.name intent.rest)
     (λ u. validated.and_then (step.not_there t k.name live) (λ v. step.store_state t current k 201 new))
     (λ u. checked (step.not_there t k.name live) (λ v. step.store_state t current k 201 new)
     (λ v. stored_fine (step.printed t k (suc current) new) current k 201 (omega arith, omega arith)))
@@ -322,11 +328,11 @@ updated_fine t current k live intent =
     (λ o. checked (step.version_checked intent.version live) (λ u. step.store_unless_same t current k live (step.updated_by intent (state_said t.shape o.body)))
     (λ u. over_fine t current k live (step.updated_by intent (state_said t.shape o.body))))
 
-update_fine : (t : ServedShape) (current : ℕ) (live : Option Object) (k : Key) (query : List ℕ) (body : Data) → IsFine (step.update_validated t current live k query body)
-update_fine t current live k query body =
-    checked (step.intent_of (step.at_path t k method.Put) asked.Put query body)
-    (λ intent. validated.and_then (marks_validated intent.rest) (λ u. step.updated_over t current k live intent))
-    (λ intent. checked (marks_validated intent.rest) (λ u. step.updated_over t current k live intent)
+update_fine : (by : Subresource) (t : ServedShape) (current : ℕ) (live : Option Object) (k : Key) (query : List ℕ) (body : Data) → IsFine (step.update_validated by t current live k query body)
+update_fine by t current live k query body =
+    checked (step.intent_of (step.at_path t k method.Put by) asked.Put query body)
+    (λ intent. validated.and_then (marks_validated_by intent.subresource intent.rest) (λ u. step.updated_over t current k live intent))
+    (λ intent. checked (marks_validated_by intent.subresource intent.rest) (λ u. step.updated_over t current k live intent)
     (λ u. updated_fine t current k live intent))
 
 deleted_fine : (t : ServedShape) (current : ℕ) (k : Key) (live : Option Object) (version : Option ℕ) → IsFine (step.deleted_over t current k live version)
@@ -345,12 +351,13 @@ delete_fine t current live k query body =
 with_body : (o : Option Data) (validate : Data → Validated Plan) → ((body : Data) → IsFine (validate body)) → IsFine (validated.and_then (step.body_of o) validate)
 with_body o validate is = checked (step.body_of o) validate is
 
-object_fine : (m : Method) (t : ServedShape) (current : ℕ) (live : Option Object) (k : Key) (query : List ℕ) (o : Option Data) → IsFine (step.object_validated_by m t current live k query o)
-object_fine method.Get t current live k query o = get_fine t current live k query
-object_fine method.Post t current live k query o = denied _
-object_fine method.Put t current live k query o = with_body o (step.update_validated t current live k query) (update_fine t current live k query)
-object_fine method.Patch t current live k query o = with_body o (step.apply_validated t current live k query) (apply_fine t current live k query)
-object_fine method.Delete t current live k query o = delete_fine t current live k query o
+object_fine : (m : Method) (by : Subresource) (t : ServedShape) (current : ℕ) (live : Option Object) (k : Key) (query : List ℕ) (o : Option Data) → IsFine (step.object_validated_by m by t current live k query o)
+object_fine method.Get by t current live k query o = get_fine t current live k query
+object_fine method.Post by t current live k query o = denied _
+object_fine method.Put by t current live k query o = with_body o (step.update_validated by t current live k query) (update_fine by t current live k query)
+object_fine method.Patch by t current live k query o = with_body o (step.apply_validated by t current live k query) (apply_fine by t current live k query)
+object_fine method.Delete subresource.Main t current live k query o = delete_fine t current live k query o
+object_fine method.Delete subresource.Status t current live k query o = denied _
 
 -- ---- lists and watches
 
@@ -397,9 +404,9 @@ collection_fine method.Delete t s call namespace = denied _
 by_fine : (scope : Scope) (m : Method) (t : ServedShape) (s : Source) (call : Call) → IsFine (step.validated_by scope m t s call)
 by_fine of_all m t s call = all_fine m t s call
 by_fine (of_namespace namespace) m t s call = collection_fine m t s call namespace
-by_fine (of_object namespace name) m t s call =
+by_fine (of_object namespace name by) m t s call =
     let k = step.key_at call namespace name in
-    object_fine m t s.current (step.object_at s k) k call.query call.body
+    object_fine m by t s.current (step.object_at s k) k call.query call.body
 
 at_fine : (found : Option ServedShape) (scope : Option Scope) (s : Source) (call : Call) → IsFine (step.validated_at found scope s call)
 at_fine None scope s call = denied _
@@ -413,4 +420,4 @@ plan_fine (Err d) is = code_is d.reason
 pub status_is : (types : List ServedShape) (m : History) (call : Call) → IsStatusCode (step.planned types m call).answer.status
 status_is types m call =
     plan_fine (step.validated_over types (from_history m) call)
-    (at_fine (slice_get types call.target.kind) (scope_of call.target.namespace call.target.name) (from_history m) call)
+    (at_fine (slice_get types call.target.kind) (scope_of call.target.namespace call.target.name call.target.status) (from_history m) call)

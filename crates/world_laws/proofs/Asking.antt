@@ -49,7 +49,7 @@ page_is_low size is = let low : size ≤ 500 = leb-true size 500 (and_parts (nat
 module _ (types : List ServedShape) (task : Task) (is : IsTask types task) where
   -- what is asked of: the objects of the type, in the namespace or in all
   abbrev target_is : Target
-  target_is = record { kind = task.settings.kind; namespace = task.settings.namespace; name = None; method = Get }
+  target_is = record { kind = task.settings.kind; namespace = task.settings.namespace; name = None; status = false; method = Get }
 
   abbrev call_with : List ℕ → Call
   call_with query = record { target = target_is; query = query; body = None }

@@ -1,29 +1,35 @@
-use Rattle.std.proofs.Common.{◌≡◌, refl, sym, subst}
+use Rattle.std.proofs.Common.{◌≡◌, refl, sym, ap, subst, ◌∙◌}
 use Rattle.objects.specs.State.{State}
 use Rattle.objects.specs.Managers.{manager_view}
 use Rattle.std.specs.FinSet as set
-use Rattle.objects.specs.Owners.{manager_of, owned_by, update_operation}
+use Rattle.objects.specs.Owners.{manager_by, owned_by, update_operation}
 use Rattle.objects.specs.Views.{state_of}
+use Rattle.ownership.specs.Sides.{beside_others}
 use Rattle.ownership.specs.Update.{updated}
 use Rattle.ownership.proofs.Changing.{updated_is, update_stands, update_leaves}
 use Rattle.objects.specs.Placed.{IsPlacedState}
 use Rattle.ownership.proofs.Placed.{updated_placed}
+use Rattle.ownership.proofs.Sides.{beside_content, update_apart, update_sides}
 use Rattle.ownership.proofs.updating.update.Goals as goal
 
 pub returns : goal.returns
 returns c =
     let live = state_of c.args.live.now in
-    let m = manager_of c.args.manager.now update_operation in
-    let after : State = record { content = c.args.new; owners = c.in_ok-managers.managers } in
+    let x = c.args.subresource in
+    let m = manager_by c.args.manager.now update_operation x in
+    let new = beside_others x c.args.new live.content in
+    let after : State = record { content = c.in_ok-new.new; owners = c.in_ok-managers.managers } in
     let k = manager_view c.in_ok-manager.manager in
     let changed = c.in_ok-changed.changed in
     let gone = c.in_ok-gone.gone in
-    let is : after ≡ updated live c.args.new m =
-    updated_is live c.args.new m k changed gone (set.union changed gone) (set.union (set.difference (owned_by live.owners k) gone) changed) c.in_ok-managers.managers
-    c.in_ok-manager.ensures c.in_ok-changed.ensures c.in_ok-gone.ensures refl refl c.in_ok-managers.ensures in
+    let is : after ≡ updated live new m =
+    updated_is live c.in_ok-new.new m k changed gone (set.union changed gone) (set.union (set.difference (owned_by live.owners k) gone) changed) c.in_ok-managers.managers
+    c.in_ok-manager.ensures c.in_ok-changed.ensures c.in_ok-gone.ensures refl refl c.in_ok-managers.ensures ∙ ap (λ n. updated live n m) c.in_ok-new.ensures in
     record {
       updates = is;
-      stand = update_stands live c.args.new m after is;
-      placed = λ s content placed. subst (IsPlacedState s) (sym is) (updated_placed live c.args.new m s content placed);
-      leaves = update_leaves live c.args.new m after is;
+      sides = update_sides live c.args.new m after is;
+      apart = λ before. update_apart live c.args.new m after is;
+      stand = update_stands live new m after is;
+      placed = λ s content placed. subst (IsPlacedState s) (sym is) (updated_placed live new m s (beside_content x s c.args.new live.content content placed.0) placed);
+      leaves = update_leaves live new m after is;
     }

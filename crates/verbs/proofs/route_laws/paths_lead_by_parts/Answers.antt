@@ -1,4 +1,4 @@
-use Rattle.verbs.proofs.Leading.{paths_of_all, paths_of_collections, paths_of_objects}
+use Rattle.verbs.proofs.Leading.{paths_of_all, paths_of_collections, paths_of_objects, paths_of_status}
 use Rattle.verbs.proofs.route_laws.paths_lead_by_parts.Goals as goal
 
 pub returns-clause-all : goal.returns-clause-all
@@ -9,3 +9,6 @@ returns-clause-collections c = paths_of_collections
 
 pub returns-clause-objects : goal.returns-clause-objects
 returns-clause-objects c = paths_of_objects
+
+pub returns-clause-status : goal.returns-clause-status
+returns-clause-status c = paths_of_status

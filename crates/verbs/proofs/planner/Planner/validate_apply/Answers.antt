@@ -15,5 +15,5 @@ applied_over-requires-clause-content c =
     let q = (asked_of c.args.self).query in
     let d = view c.in_ok-body.body.now in
     let i = intent_seen c.in_ok-intent.intent in
-    intended_content (at_path t (key_of c.args.key) Patch) asked.Apply q d i c.requires.planner.1 c.in_ok-body.ensures.json
+    intended_content (at_path t (key_of c.args.key) Patch c.args.subresource) asked.Apply q d i c.requires.planner.1 c.in_ok-body.ensures.json
     (subst (λ of. intent_of of asked.Apply q d ≡ Ok i) c.at_path-expected.ensures c.in_ok-intent.ensures)

@@ -2,6 +2,7 @@ use Rattle.std.proofs.Common.{None}
 use Rattle.params.specs.declared.params.Asked.TheVariants as asked
 use Rattle.serde_json.specs.View.{view}
 use Rattle.verbs.specs.declared.method.Method.TheVariants.{Post}
+use Rattle.objects.specs.declared.manager.Subresource.TheVariants.{Main}
 use Rattle.verbs.specs.Envelope.{Expected}
 use Rattle.verbs.specs.Planner.{asked_of, type_of}
 use Rattle.verbs.specs.Seen.{intent_seen}
@@ -10,5 +11,5 @@ use Rattle.verbs.proofs.planner.Planner.validate_creation.Goals as goal
 
 pub returns-clause-content : goal.returns-clause-content
 returns-clause-content c =
-    let of : Expected = record { served = type_of c.args.self; namespace = c.args.namespace.now; name = None; method = Post } in
+    let of : Expected = record { served = type_of c.args.self; namespace = c.args.namespace.now; name = None; method = Post; subresource = Main } in
     intended_content of asked.Post (asked_of c.args.self).query (view c.in_ok-body.body.now) (intent_seen c.in_ok-intent.intent) c.requires.planner.1 c.in_ok-body.ensures.json c.in_ok-intent.ensures

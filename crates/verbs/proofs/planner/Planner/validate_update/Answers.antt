@@ -16,5 +16,5 @@ store_unless_same-requires-clause-placed c =
     let d = view c.in_ok-body.body.now in
     let i = intent_seen c.in_ok-intent.intent in
     c.in_ok-owned.ensures.placed t.shape
-    (intended_content (at_path t (key_of c.args.key) Put) asked.Put q d i c.requires.planner.1 c.in_ok-body.ensures.json
+    (intended_content (at_path t (key_of c.args.key) Put c.args.subresource) asked.Put q d i c.requires.planner.1 c.in_ok-body.ensures.json
     (subst (λ of. intent_of of asked.Put q d ≡ Ok i) c.at_path-expected.ensures c.in_ok-intent.ensures)) c.requires.live.1

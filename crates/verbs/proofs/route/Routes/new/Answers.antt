@@ -6,4 +6,4 @@ use Rattle.verbs.proofs.route.Routes.new.Goals as goal
 
 pub invariant_of-result : goal.invariant_of-result
 unfolding routes matchit_on_literals
-invariant_of-result c = record { table = c.in-Ok-insert-2.ensures.1 ∙ ap (placed _) (c.in-Ok-insert.ensures.1 ∙ ap (placed _) (c.in-Ok.ensures.1 ∙ ap (placed _) c.new-router.ensures)) }
+invariant_of-result c = record { table = c.in-Ok-insert-3.ensures.1 ∙ ap (placed _) (c.in-Ok-insert-2.ensures.1 ∙ ap (placed _) (c.in-Ok-insert.ensures.1 ∙ ap (placed _) (c.in-Ok.ensures.1 ∙ ap (placed _) c.new-router.ensures))) }

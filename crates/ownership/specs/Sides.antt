@@ -1,0 +1,46 @@
+-- Who writes which paths of an object (Kubernetes docs, "Custom Resources", "Status subresource"): the subresource `status` writes
+-- the field of that name and what is below it, the main resource all other fields.
+use Rattle.std.specs.Prelude.{◌≡◌, Bool, true, false, not, [], ◌∷◌, codes}
+use Rattle.std.specs.FinMap as fin
+use Rattle.std.specs.FinSet as set
+use Rattle.std.specs.Str.{bytes_eq}
+use Rattle.fieldpath.specs.Elements.{name_text}
+use Rattle.fieldpath.specs.Paths.{PathTexts}
+use Rattle.pathmap.specs.Contents.{Content, over}
+use Rattle.objects.specs.declared.manager.Subresource.{Subresource}
+use Rattle.objects.specs.declared.manager.Subresource.TheVariants.{Main, Status}
+use Rattle.objects.specs.Owners.{Manager, owned_by}
+use Rattle.objects.specs.Placed.{Owns}
+use Rattle.objects.specs.State.{State}
+
+-- whether a path is the field `status`, or below it
+abbrev pub is_of_status : PathTexts → Bool
+is_of_status [] = false
+is_of_status (f ∷ p) = bytes_eq f (name_text (codes "status"))
+
+-- whether a subresource writes a path; none writes the empty one, below which both have paths
+abbrev pub writes : Subresource → PathTexts → Bool
+writes Main [] = false
+writes Main (f ∷ p) = not (bytes_eq f (name_text (codes "status")))
+writes Status p = is_of_status p
+
+-- what a subresource writes of a content, and what it doesn't
+unfoldable pub own_part : Subresource → Content → Content
+own_part s c = fin.retain_keys c (writes s)
+
+unfoldable pub other_part : Subresource → Content → Content
+other_part s c = fin.retain_keys c (λ p. not (writes s p))
+
+-- a subresource's part of a content, beside what it doesn't write of what stands
+abbrev pub beside_others : Subresource → Content → Content → Content
+beside_others s new live = over (own_part s new) (other_part s live)
+
+-- each manager owns paths that its subresource writes
+abbrev pub OwnSides : State → Type 0
+OwnSides state = (k : Manager) (p : PathTexts) → Owns state k p → writes k.subresource p ≡ true
+
+-- each path that a subresource doesn't write has the value and the owners that it had
+abbrev pub OtherSideStays : Subresource → State → State → Type 0
+OtherSideStays s old new =
+    (p : PathTexts) → writes s p ≡ false
+    → (fin.get new.content p ≡ fin.get old.content p) × ((k : Manager) → set.contains (owned_by new.owners k) p ≡ set.contains (owned_by old.owners k) p)
