@@ -31,3 +31,11 @@ pub mod Between
 pub mod Writes
 pub mod Wholes
 pub mod ItemTexts
+pub mod PlainPrinted
+pub mod SameShapes
+pub mod PlainCarried
+pub mod Carrying
+pub mod Carries
+pub mod CarriedPaths
+pub mod CarriedOnce
+pub mod Taken

@@ -9,3 +9,4 @@ pub mod Between
 pub mod Rows
 pub mod Writes
 pub mod Without
+pub mod Carried

@@ -1,13 +1,16 @@
 //! Contents of objects, as trees under a schema. Schemas stand in the crate `schema`, whole objects in `objects`.
 //!
 //! Promises: a value is read as exactly the content that it spells, or as the first fault in its shape with its path;
-//! one content is put over another path by path.
+//! one content is put over another path by path; where lists and maps of its type have become atomic, a content keeps all
+//! its other paths, and prints as before.
 //! Stands on `pathmap` for maps of paths and on `schema` for shapes.
 #![tactic(auto)]
 
 mod borrowed;
 mod borrowed_items;
 mod bounds;
+mod carried;
+mod carried_law;
 mod changes;
 mod fault;
 mod items;
@@ -23,6 +26,7 @@ mod without;
 mod write;
 mod write_items;
 
+pub use carried_law::carried_is_one;
 pub use changes::Changes;
 pub use fault::{Cause, ReadFault};
 pub use omitted::Omitted;
