@@ -19,3 +19,4 @@ pub mod Listed
 pub mod Lent
 pub mod EntryTexts
 pub mod MetadataTexts
+pub mod Moving

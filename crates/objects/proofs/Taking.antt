@@ -48,7 +48,7 @@ owned_less lost None = sym (empty-difference lost)
 owned_less lost (Some s) = owned_kept (set.difference s lost)
 
 -- ---- looking among entries
-tied : (q k : Manager) → eq_by_cmp manager_cmp q k ≡ true → q ≡ k
+pub tied : (q k : Manager) → eq_by_cmp manager_cmp q k ≡ true → q ≡ k
 tied q k e = manager_antisymmetric q k ((Equal-is (manager_cmp q k)).0 e)
 
 pub none_above : (q : Manager) (es : Pairs) → T (below_all manager_cmp q es) → find manager_cmp q es ≡ None

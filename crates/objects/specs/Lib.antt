@@ -13,3 +13,4 @@ pub mod Labels
 pub mod EntryTexts
 pub mod Appended
 pub mod InOrder
+pub mod Carried

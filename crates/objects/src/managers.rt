@@ -5,6 +5,7 @@ ghost use Rattle.std.specs.List.{insert};
 ghost use Rattle.std.specs.FinMap.{find};
 ghost use Rattle.std.specs.FinMap as fin;
 ghost use Rattle.objects.specs.Owners.{HavePaths, is_same, less, manager_cmp, taken_over};
+ghost use Rattle.objects.specs.Carried.{carried_entries, carried_owners, carried_paths};
 ghost use Rattle.objects.specs.Managers.{pairs, manager_view};
 ghost use Rattle.objects.specs.Parts.{owners_of};
 ghost use Rattle.objects.specs.Ranks.{have_paths, rank, rising};
@@ -100,6 +101,42 @@ fn less_others(
     Ok(left)
 }
 
+/// What a manager owns where new paths stand in the place of what was below them: those of its paths that still stand,
+/// and each new one at or below which it owned one.
+fn carried_paths(
+    owned: &FieldSet,
+    alloc: Global,
+    stands: &FieldSet,
+    new: &FieldSet,
+) -> Result<FieldSet, AllocError>
+    ensures { IfOk result (λ s. s ≡ carried_paths stands.now new.now owned.now) }
+{
+    let mine = new.minus(alloc, &new.clear_of(alloc, owned)?)?;
+    owned.common(alloc, stands)?.union(alloc, &mine)
+}
+
+/// All entries, each with what its manager owns then; one that is empty is removed.
+fn carried_entries(
+    entries: &[Entry],
+    alloc: Global,
+    stands: &FieldSet,
+    new: &FieldSet,
+) -> Result<Vec<Entry>, AllocError>
+    ensures { IfOk result (λ v. pairs v.items ≡ carried_entries stands.now new.now (pairs entries.now)) }
+{
+    let mut carried = Vec::new(alloc);
+    for entry in entries {
+        let paths = carried_paths(&entry.paths, alloc, stands, new)?;
+        if !paths.is_empty() {
+            carried.push(Entry {
+                manager: entry.manager.try_copy()?,
+                paths,
+            })?;
+        }
+    }
+    Ok(carried)
+}
+
 fn paths_of<'a>(entries: &'a [Entry], manager: &Manager) -> Option<&'a FieldSet>
     ensures { option_map (λ s. s.now) result ≡ find manager_cmp (manager_view manager.now) (pairs entries.now) }
 {
@@ -178,6 +215,20 @@ impl Managers {
         } else {
             with_entry(left, manager, mine)?
         };
+        Ok(Managers { entries })
+    }
+
+    /// The owners once new paths stand in the place of what was below them; `stands` has all paths that stand then.
+    /// Who owned a path at or below a new one owns the new one.
+    pub fn carried(
+        &self,
+        alloc: Global,
+        stands: &FieldSet,
+        new: &FieldSet,
+    ) -> Result<Managers, AllocError>
+        ensures { IfOk result (λ w. w ≡ carried_owners stands.now new.now self.now) }
+    {
+        let entries = carried_entries(&self.entries, alloc, stands, new)?;
         Ok(Managers { entries })
     }
 }

@@ -8,3 +8,4 @@ pub mod Placed
 pub mod Clauses
 pub mod Changing
 pub mod Sides
+pub mod Carried

@@ -5,3 +5,4 @@ pub mod Keeping
 pub mod Update
 pub mod Outcomes
 pub mod Sides
+pub mod Carry

@@ -8,6 +8,7 @@
 #![tactic(auto)]
 
 mod applying;
+mod carry;
 mod conflict;
 mod outcome;
 mod parts;
@@ -15,6 +16,7 @@ mod same;
 mod updating;
 
 pub use applying::apply;
+pub use carry::Carry;
 pub use conflict::{ApplyFault, Conflict};
 pub use objects::{
     Entry, Identity, Manager, Managers, ObjectFault, Operation, Owned, Subresource,
