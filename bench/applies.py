@@ -3,9 +3,10 @@
 
 Usage: bench/applies.py [PROGRAM]   (default: crates/ssa_replay/out/ssa_replay; build it first by `rt run` in crates/ssa_replay)
 
-For objects of 10, 100 and 1,000 map entries (3,000 would be over the 65,536 bytes that a body may have) it writes scripts
-of apply lines, runs the program over them, each line a request to its hub, and prints the processor time of one apply (one core), its growth from size to size, applies a second and the peak memory of the run. Each line
-applies the whole object with one value changed, so each makes a new version. The time of a run over one line is taken off.
+For objects of 10, 100 and 1,000 map entries it writes scripts of apply lines, runs the program over them, each line a
+request to its hub, and prints the processor time of one apply (one core), its growth from size to size, applies a second
+and the peak memory of the run. Each line applies the whole object with one value changed, so each makes a new version. The
+time of a run over one line is taken off.
 """
 import json
 import os

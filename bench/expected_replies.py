@@ -28,13 +28,13 @@ TABLE = [
         "Apply failed with {} conflict(s)"]),
     (410, "Gone", "Expired", ["too old resource version: {} ({})"]),
     (411, "Length Required", "LengthRequired", ["Content-Length is needed"]),
-    (413, "Payload Too Large", "RequestEntityTooLarge", ["body over 65536 bytes"]),
+    (413, "Payload Too Large", "RequestEntityTooLarge", ["body over 262144 bytes"]),
     (415, "Unsupported Media Type", "UnsupportedMediaType", ["media type not served"]),
     (422, "Unprocessable Entity", "Invalid", [
         "{}: duplicate item", "{}: key field missing", "fieldManager: 1 to 128 printable characters",
         "metadata.name: bad name", "metadata.namespace: bad namespace", "metadata.labels: bad key",
         "metadata.labels: bad value", "metadata.annotations: bad key", "metadata.labels: more than 64",
-        "object over 262144 bytes"]),
+        "object over 1048576 bytes"]),
     (431, "Request Header Fields Too Large", "RequestHeaderFieldsTooLarge", ["request head too large"]),
     (501, "Not Implemented", "NotImplemented", ["Transfer-Encoding is not served"]),
     (504, "Gateway Timeout", "Timeout", ["Too large resource version: {}, current: {}"]),
@@ -295,9 +295,9 @@ def body_limits_and_numbers():
     spec = {"image": "a", "replicas": 3}
     body = compact(body_of(metadata={"name": "w4"}, spec=spec))
     created = widget("w4", next_revision(), [("alice", in_spec("image", "replicas"))], spec)
-    asked(patch(body + " " * (65536 - len(body)), target=WIDGETS + "w4?fieldManager=alice"), (201, created))
+    asked(patch(body + " " * (262144 - len(body)), target=WIDGETS + "w4?fieldManager=alice"), (201, created))
     media = "Content-Type: " + MEDIA
-    asked(request(HOST + [media, "Content-Length: 65537"]), refused("body over 65536 bytes"))
+    asked(request(HOST + [media, "Content-Length: 262145"]), refused("body over 262144 bytes"))
     asked(patch("[" * 1000 + "]" * 1000), refused("body is not JSON"))
     asked(patch("{"), refused("body is not JSON"))
     asked(patch(""), refused("body is not JSON"))
@@ -423,19 +423,19 @@ def sizes():
     apply("labels", body_of(metadata={"labels": labels}), (201, widget("labels", next_revision(), [("alice", fields)], labels=labels)))
     apply("labels", body_of(metadata={"labels": {"more": ""}}), refused("metadata.labels: more than 64"), "bob")
 
-    # A quotation mark in a set's item is two bytes in the body and in the object, and four more in its owner's entry.
-    def large(marks):
-        return body_of(spec={"tags": ['"' * marks]})
+    # An item of a list of ports has 17 bytes in a body and in the object, and 46 more in its owner's entry.
+    def large(names):
+        return body_of(spec={"ports": [{"name": name} for name in names]})
 
-    def fields_of(marks):
-        return {"f:spec": {"f:tags": {"v:" + compact('"' * marks): {}}}}
+    def fields_of(names):
+        return {"f:spec": {"f:ports": {"k:" + compact({"name": name}): {".": {}, "f:name": {}} for name in names}}}
 
-    first, second = 11200, 32600
-    assert len(compact(large(second))) <= 65536
-    apply("large", large(first), (201, widget("large", next_revision(), [("alice", fields_of(first))], {"tags": ['"' * first]})))
+    first, second = ([f"{n:05d}" for n in places] for places in (range(2000), range(2000, 17000)))
+    assert len(compact(large(second))) <= 262144
+    apply("large", large(first), (201, widget("large", next_revision(), [("alice", fields_of(first))], large(first)["spec"])))
     both = [("alice", fields_of(first)), ("bob", fields_of(second))]
-    assert len(widget("large", revision + 1, both, {"tags": ['"' * first, '"' * second]})) > 262144
-    apply("large", large(second), refused("object over 262144 bytes"), "bob")
+    assert len(widget("large", revision + 1, both, large(first + second)["spec"])) > 1048576
+    apply("large", large(second), refused("object over 1048576 bytes"), "bob")
 
 
 class Namespace:

@@ -17,7 +17,7 @@ use Rattle.requests.specs.Heads.{Length, missing, malformed, number, Request}
 
 -- this server's own limit (its refusal: RFC 9110, section 15.5.14)
 abbrev pub max_body : ℕ
-max_body = 65536
+max_body = 262144
 
 -- POST, PUT and PATCH need a body, and DELETE may have one; that of any other method is not read
 abbrev pub writes_by_body : Option Method → Bool

@@ -31,7 +31,7 @@ message_of not_one_host = codes "one Host field is needed"
 message_of transfer_encoding = codes "Transfer-Encoding is not served"
 message_of no_length = codes "Content-Length is needed"
 message_of bad_length = codes "bad Content-Length"
-message_of body_too_large = codes "body over 65536 bytes"
+message_of body_too_large = codes "body over 262144 bytes"
 message_of not_json = codes "body is not JSON"
 message_of too_many_connections = codes "too many connections"
 

@@ -13,10 +13,10 @@ use std::alloc::{AllocError, Global};
 use verbs::{Body, Denied, Method};
 use wire::decimal_value;
 
-pub(crate) const MAX_BODY: usize = 65_536;
+pub(crate) const MAX_BODY: usize = 262_144;
 
 /// The message where a body is longer.
-pub(crate) const BODY_TOO_LARGE: &str = "body over 65536 bytes";
+pub(crate) const BODY_TOO_LARGE: &str = "body over 262144 bytes";
 
 fn needs_body(method: &str) -> bool
     ensures { result ≡ needs_body method.now }

@@ -1,4 +1,4 @@
--- Limits of an object: 64 labels, and 262,144 bytes of its text.
+-- Limits of an object: 64 labels, and 1,048,576 bytes of its text.
 use Rattle.std.specs.Prelude.{ℕ, suc, Bool, not, length, nat_le, nat_lt, Option, Some, None, codes}
 use Rattle.serde_json.specs.Data.{Data, Members, no_members, member}
 use Rattle.serde_json.specs.Written.{compact_text}
@@ -10,7 +10,7 @@ abbrev pub max_labels : ℕ
 max_labels = 64
 
 abbrev pub max_bytes : ℕ
-max_bytes = 262144
+max_bytes = 1048576
 
 abbrev pub count : Members → ℕ
 count no_members = 0
@@ -28,4 +28,4 @@ is_over d = nat_lt max_bytes (length (compact_text d))
 abbrev pub size_validated : Data → Validated (Unit {0})
 size_validated d =
     and_then (require (nat_le (count_if_there (metadata_object (codes "labels") d)) max_labels) Invalid (codes "metadata.labels: more than 64")) (λ u.
-    require (not (is_over d)) Invalid (codes "object over 262144 bytes"))
+    require (not (is_over d)) Invalid (codes "object over 1048576 bytes"))

@@ -16,12 +16,12 @@ use std::alloc::Global;
 const MAX_LABELS: usize = 64;
 
 /// The most bytes of an object's text.
-const MAX_BYTES: usize = 262_144;
+const MAX_BYTES: usize = 1_048_576;
 
 /// The limits of an object of so many labels and of this text.
 pub fn validate_size(alloc: Global, labels: usize, text: &str) -> Result<(), CallError>
     ensures { (object : Data) → text.now ≡ compact_text object → labels ≡ count_if_there (metadata_object (codes "labels") object) → Gives (λ u. u) result (size_validated object) }
 {
     require(alloc, labels <= MAX_LABELS, "metadata.labels: more than 64")?;
-    require(alloc, text.len() <= MAX_BYTES, "object over 262144 bytes")
+    require(alloc, text.len() <= MAX_BYTES, "object over 1048576 bytes")
 }

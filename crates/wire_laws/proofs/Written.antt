@@ -74,7 +74,7 @@ refusal_readable not_one_host = plain reason.BadRequest (codes "one Host field i
 refusal_readable transfer_encoding = plain reason.NotImplemented (codes "Transfer-Encoding is not served") refl
 refusal_readable no_length = plain reason.LengthRequired (codes "Content-Length is needed") refl
 refusal_readable bad_length = plain reason.BadRequest (codes "bad Content-Length") refl
-refusal_readable body_too_large = plain reason.RequestEntityTooLarge (codes "body over 65536 bytes") refl
+refusal_readable body_too_large = plain reason.RequestEntityTooLarge (codes "body over 262144 bytes") refl
 refusal_readable not_json = plain reason.BadRequest (codes "body is not JSON") refl
 refusal_readable too_many_connections = plain reason.ServiceUnavailable (codes "too many connections") refl
 
