@@ -1,9 +1,8 @@
 -- What a carry promises of an object.
-use Rattle.std.proofs.Common.{◌≡◌, Bool, true, false, not, ◌&&◌, ◌||◌, ◌++◌, List, [], ◌∷◌, is_some, None, inl, inr, refl, sym, ap, ap₂, ◌∙◌, subst, true≢false}
+use Rattle.std.proofs.Common.{◌≡◌, Bool, true, false, not, ◌&&◌, ◌||◌, ◌++◌, [], ◌∷◌, is_some, None, refl, sym, ap, ap₂, ◌∙◌, subst, true≢false}
 use Rattle.std.specs.FinMap as fin
 use Rattle.std.specs.FinSet as set
 use Rattle.std.specs.Str.{bytes_eq}
-use Rattle.std.specs.Cmp.Derive.{both_true}
 use Rattle.std.proofs.lemmas.Bool.{and_parts}
 use Rattle.std.proofs.lemmas.Slice.Eq.{bytes_eq-Decides}
 use Rattle.fieldpath.specs.Paths.{PathTexts}
@@ -11,25 +10,45 @@ use Rattle.pathmap.specs.Beside.{has_at_or_below, is_front}
 use Rattle.pathmap.specs.Contents.{Content, PathSet, dom}
 use Rattle.pathmap.proofs.Contents.{path_cmp_total}
 use Rattle.pathmap.proofs.Sets.{contains-dom}
-use Rattle.schema.specs.Lawful.{is_well_formed}
-use Rattle.schema.specs.Shape.{Shape}
-use Rattle.typed.specs.Carried.{IsCarried, IsNewLeaf, LeavesStand}
-use Rattle.typed.specs.Fitting.{IsContent, Stands}
+use Rattle.schema.specs.Lawful.{is_granular_struct, is_well_formed}
+use Rattle.schema.specs.ObjectShape.{IsObjectShape}
+use Rattle.schema.specs.Place.{place_of}
+use Rattle.schema.specs.Shape.{Shape, text, whole, truth, struct_of, map_of, list_of}
+use Rattle.typed.specs.Carried.{IsCarried, IsNewLeaf, LeavesStand, carried}
+use Rattle.typed.specs.Fitting.{IsContent}
 use Rattle.typed.proofs.Fitting.{contents_placed}
 use Rattle.typed.proofs.Places.{places}
-use Rattle.objects.specs.Carried.{carried_owners, carried_paths}
-use Rattle.objects.specs.Owners.{HavePaths, Manager, Owners, owned_by}
-use Rattle.objects.specs.Placed.{IsPlacedState, OwnedStand, Owns}
+use Rattle.objects.specs.Carried.{carried_owners}
+use Rattle.objects.specs.declared.manager.Subresource.{Subresource}
+use Rattle.objects.specs.Owners.{Manager, Owners, owned_by}
+use Rattle.objects.specs.Placed.{IsPlacedState, OwnedStand}
 use Rattle.objects.specs.State.{State}
 use Rattle.objects.proofs.Moving.{carried_have_paths, contains-carried, owned-carried}
-use Rattle.ownership.specs.Carry.{Carries, IsCarriedState, LeavesPass, OthersStay, made}
-use Rattle.ownership.proofs.Keeping.{one_below}
+use Rattle.ownership.specs.Carry.{Carries, LeavesPass, OthersStay, carried_state, made, with_content}
+use Rattle.ownership.specs.Sides.{OwnSides, writes}
+use Rattle.ownership.proofs.CarriedLeaves.{front_of, leaves_owned}
+use Rattle.ownership.proofs.Keeping.{one_below, some_below}
+use Rattle.ownership.proofs.Sides.{first_decides}
 
-front_of : (p q : PathTexts) → is_front p (p ++ q) ≡ true
-front_of [] q = refl
-front_of (e ∷ p) q = both_true ((bytes_eq-Decides e e).1 refl) (front_of p q)
+-- the empty path has no place in an object
+no_root : (t : Shape) → is_granular_struct t ≡ true → place_of t [] ≡ None
+no_root text h = absurd (true≢false (sym h))
+no_root whole h = absurd (true≢false (sym h))
+no_root truth h = absurd (true≢false (sym h))
+no_root (struct_of all true) h = absurd (true≢false (sym h))
+no_root (struct_of all false) h = refl
+no_root (map_of u is_atomic) h = absurd (true≢false (sym h))
+no_root (list_of u kind) h = absurd (true≢false (sym h))
 
-module _ (s t : Shape) (old : State) (c : Content) (formed : is_well_formed s ≡ true) (placed : IsPlacedState s old) (carried : IsCarried s t old.content c) (content : IsContent t c) (stand : LeavesStand s t old.content c) where
+-- who writes a path writes each front of it but the empty one
+front_side : (x : Subresource) (p q : PathTexts) → (p ≡ [] → ⊥) → is_front p q ≡ true → writes x q ≡ true → writes x p ≡ true
+front_side x [] q some front is = absurd (some refl)
+front_side x (f ∷ p) [] some front is = absurd (true≢false (sym front))
+front_side x (f ∷ p) (g ∷ q) some front is =
+    let alike = (bytes_eq-Decides f g).0 (and_parts (bytes_eq f g) (is_front p q) front).0 in
+    ap (λ h. writes x (h ∷ p)) alike ∙ first_decides x g p q ∙ is
+
+module _ (s t : Shape) (old : State) (c : Content) (formed : is_well_formed s ≡ true) (object : IsObjectShape t) (placed : IsPlacedState s old) (is_one : c ≡ carried s t old.content) (parts : IsCarried s t old.content c) (content : IsContent t c) (stand : LeavesStand s t old.content c) where
   contains-owned : (k : Manager) (p : PathTexts) → set.contains (owned_by (carried_owners (dom c) (made old.content c) old.owners) k) p
       ≡ ((set.contains (owned_by old.owners k) p && is_some (fin.get c p)) || ((is_some (fin.get c p) && not (is_some (fin.get old.content p))) && has_at_or_below (owned_by old.owners k) p))
   contains-owned k p =
@@ -37,7 +56,7 @@ module _ (s t : Shape) (old : State) (c : Content) (formed : is_well_formed s �
       ∙ ap₂ (λ a b. (set.contains (owned_by old.owners k) p && a) || (b && has_at_or_below (owned_by old.owners k) p)) (contains-dom c p)
       (set.contains-difference path_cmp_total (dom c) (dom old.content) p ∙ ap₂ (λ a b. a && not b) (contains-dom c p) (contains-dom old.content p))
 
-  owned_stand : OwnedStand (record { content = c; owners = carried_owners (dom c) (made old.content c) old.owners })
+  owned_stand : OwnedStand (with_content old c)
   owned_stand k p owns = by_tests (set.contains (owned_by old.owners k) p) (is_some (fin.get c p)) (is_some (fin.get old.content p)) (has_at_or_below (owned_by old.owners k) p) (sym (contains-owned k p) ∙ owns)
     where
       by_tests : (a b x h : Bool) → ((a && b) || ((b && not x) && h)) ≡ true → b ≡ true
@@ -53,7 +72,7 @@ module _ (s t : Shape) (old : State) (c : Content) (formed : is_well_formed s �
       by_test false there = refl
       by_test true there = absurd (true≢false (sym (places s old.content ((contents_placed s old.content formed).0 placed.0) p there) ∙ ap is_some is.0))
 
-  leaves_pass : LeavesPass s t old (record { content = c; owners = carried_owners (dom c) (made old.content c) old.owners })
+  leaves_pass : LeavesPass s t old (with_content old c)
   leaves_pass k p q is owns =
       contains-owned k p
       ∙ ap₂ (λ a b. (set.contains (owned_by old.owners k) p && a) || ((a && not b) && has_at_or_below (owned_by old.owners k) p)) (stand p q is (placed.1.1 k (p ++ q) owns)) (new_then p is)
@@ -63,22 +82,47 @@ module _ (s t : Shape) (old : State) (c : Content) (formed : is_well_formed s �
       or_true true b h = refl
       or_true false b h = h
 
-  others_stay : OthersStay s t old (record { content = c; owners = carried_owners (dom c) (made old.content c) old.owners })
+  others_stay : OthersStay s t old (with_content old c)
   others_stay k p owns free =
       contains-owned k p
-      ∙ ap₂ (λ a b. (a && b) || ((b && not (is_some (fin.get old.content p))) && has_at_or_below (owned_by old.owners k) p)) owns (ap is_some (carried.kept p free) ∙ placed.1.1 k p owns)
+      ∙ ap₂ (λ a b. (a && b) || ((b && not (is_some (fin.get old.content p))) && has_at_or_below (owned_by old.owners k) p)) owns (ap is_some (parts.kept p free) ∙ placed.1.1 k p owns)
 
-  pub carries : Carries s t old (record { content = c; owners = carried_owners (dom c) (made old.content c) old.owners })
+  -- nothing stands at the empty path of an object
+  none_at_top : is_some (fin.get c []) ≡ true → ⊥
+  none_at_top there =
+      true≢false (sym (places t c ((contents_placed t c (and_parts (is_well_formed t) _ object.1).0).0 content) [] there) ∙ ap is_some (no_root t object.0))
+
+  own_sides : OwnSides old → OwnSides (with_content old c)
+  own_sides sides k p owns =
+      by_tests (set.contains (owned_by old.owners k) p) refl (is_some (fin.get c p)) refl (is_some (fin.get old.content p)) (has_at_or_below (owned_by old.owners k) p) refl (sym (contains-owned k p) ∙ owns)
+    where
+      by_tests : (a : Bool) → set.contains (owned_by old.owners k) p ≡ a → (b : Bool) → is_some (fin.get c p) ≡ b → (x h : Bool) → has_at_or_below (owned_by old.owners k) p ≡ h → ((a && b) || ((b && not x) && h)) ≡ true → writes k.subresource p ≡ true
+      by_tests true own b there x h found is = sides k p own
+      by_tests false own false there x h found is = absurd (true≢false (sym is))
+      by_tests false own true there true h found is = absurd (true≢false (sym is))
+      by_tests false own true there false false found is = absurd (true≢false (sym is))
+      by_tests false own true there false true found is =
+          let inner = some_below (owned_by old.owners k) p found in
+          front_side k.subresource p inner.0 (λ top. none_at_top (sym (ap (λ q. is_some (fin.get c q)) top) ∙ there)) inner.2 (sides k inner.0 inner.1)
+
+  state_is : with_content old c ≡ carried_state s t old
+  unfolding carried_state
+  state_is = ap (with_content old) is_one
+
+  pub carries : Carries s t old (with_content old c)
   carries = record {
-    state = record { content = carried; owners = refl };
+    is = state_is;
+    content = parts;
     placed = (content, (carried_have_paths (dom c) (made old.content c) old.owners, owned_stand));
     leaves = leaves_pass;
     others = others_stay;
+    sides = own_sides;
+    owned = leaves_owned s t old (with_content old c) formed placed parts leaves_pass others_stay;
   }
 
 -- what a carry gave, from its steps
-pub gave : (s t : Shape) (old : State) (c : Content) (w : Owners) (stands new : PathSet) → is_well_formed s ≡ true → IsPlacedState s old → IsCarried s t old.content c → IsContent t c → LeavesStand s t old.content c
+pub gave : (s t : Shape) (old : State) (c : Content) (w : Owners) (stands new : PathSet) → is_well_formed s ≡ true → IsObjectShape t → IsPlacedState s old → c ≡ carried s t old.content → IsCarried s t old.content c → IsContent t c → LeavesStand s t old.content c
     → stands ≡ dom c → new ≡ set.difference stands (dom old.content) → w ≡ carried_owners stands new old.owners → Carries s t old (record { content = c; owners = w })
-gave s t old c w stands new formed placed carried content stand stands_are new_are owners_are =
+gave s t old c w stands new formed object placed is_one parts content stand stands_are new_are owners_are =
     let all : w ≡ carried_owners (dom c) (made old.content c) old.owners = owners_are ∙ ap₂ (λ x y. carried_owners x y old.owners) stands_are (new_are ∙ ap (λ x. set.difference x (dom old.content)) stands_are) in
-    subst (λ x. Carries s t old (record { content = c; owners = x })) (sym all) (carries s t old c formed placed carried content stand)
+    subst (λ x. Carries s t old (record { content = c; owners = x })) (sym all) (carries s t old c formed object placed is_one parts content stand)

@@ -118,7 +118,7 @@ module _ (live : State) (body : Content) (m k : Manager) (other : is_same m k �
   owned_in_all : (p : PathTexts) → Owns live k p → set.contains (all_paths (dom body) (others live.owners m)) p ≡ true
   owned_in_all p is = all_found (dom body) (others live.owners m) k p (ap (λ s. set.contains s p) owned-others ∙ is)
 
-other_manager : (m k : Manager) → ¬ (k ≡ m) → is_same m k ≡ false
+pub other_manager : (m k : Manager) → ¬ (k ≡ m) → is_same m k ≡ false
 other_manager m k apart = by_test (is_same m k) refl
   where
     by_test : (b : Bool) → is_same m k ≡ b → b ≡ false

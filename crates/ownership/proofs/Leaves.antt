@@ -27,14 +27,14 @@ use Rattle.objects.proofs.Taking.{none_above, find-others, sorted-others, owned_
 use Rattle.objects.proofs.Orders.{manager_total, manager_antisymmetric}
 
 -- some entry has the path
-abbrev Found : Pairs → PathTexts → Type 0
+abbrev pub Found : Pairs → PathTexts → Type 0
 Found es q = (k : Manager) × (set.contains (unwrap_or (find manager_cmp k es) set.empty) q ≡ true)
 
-no_path : {A : Type 0} (q : PathTexts) → set.contains (set.empty {R = path_cmp}) q ≡ true → A
+pub no_path : {A : Type 0} (q : PathTexts) → set.contains (set.empty {R = path_cmp}) q ≡ true → A
 no_path q is = absurd (true≢false (sym is ∙ set.contains-empty path_cmp q))
 
 -- a path of all is one of the first set or of an entry
-all_back : (s : PathSet) (es : Pairs) → T (is_sorted manager_cmp es) → (q : PathTexts) → set.contains (all_paths s es) q ≡ true → (set.contains s q ≡ true) ⊎ Found es q
+pub all_back : (s : PathSet) (es : Pairs) → T (is_sorted manager_cmp es) → (q : PathTexts) → set.contains (all_paths s es) q ≡ true → (set.contains s q ≡ true) ⊎ Found es q
 all_back s [] h q is = inl is
 all_back s (e ∷ es) h q is = by_rest (all_back (set.union e.1 s) es (snd _ _ h) q is)
   where

@@ -4,8 +4,12 @@ pub mod Clearing
 pub mod Keeping
 pub mod Ends
 pub mod Leaves
+pub mod Sharing
 pub mod Placed
 pub mod Clauses
 pub mod Changing
 pub mod Sides
+pub mod OneEnd
+pub mod CarriedLeaves
 pub mod Carried
+pub mod CarriedStates

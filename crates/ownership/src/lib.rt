@@ -10,6 +10,7 @@
 mod applying;
 mod carry;
 mod conflict;
+mod laws;
 mod outcome;
 mod parts;
 mod same;
@@ -18,6 +19,7 @@ mod updating;
 pub use applying::apply;
 pub use carry::Carry;
 pub use conflict::{ApplyFault, Conflict};
+pub use laws::same_values_are_shared;
 pub use objects::{
     Entry, Identity, Manager, Managers, ObjectFault, Operation, Owned, Subresource,
     objects_are_one_for_one,

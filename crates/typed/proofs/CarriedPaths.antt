@@ -37,7 +37,7 @@ use Rattle.typed.proofs.Places.{places}
 use Rattle.typed.proofs.Prints.{print-nothing}
 use Rattle.typed.proofs.RoundTrip.{prefix_name, round}
 use Rattle.typed.proofs.Carries.{fields_at, inside-marked, item_top, keyed_to, lawful_carries}
-use Rattle.typed.proofs.Carrying.{array_leaf, by_both, carried, carried-nothing, in_field, in_field-at, in_item, inside-all, inside-bare, inside-there, leaf_of, object_leaf, top-each, under_each}
+use Rattle.typed.proofs.Carrying.{array_leaf, by_both, carried_parts, carried_parts-nothing, in_field, in_field-at, in_item, inside-all, inside-bare, inside-there, leaf_of, object_leaf, top-each, under_each}
 use Rattle.typed.proofs.SameShapes.{Both, both_at, keys_fit_same, never, same_shape, scalar_same}
 
 -- ---- names
@@ -82,7 +82,7 @@ within_next : (spot inner : Spot) (c : Content) (e : List ℕ) → next spot e �
 within_next spot inner c e is within p there = ap is_some (sym (place-next p spot e ∙ ap (λ o. place_next o p) is)) ∙ within (e ∷ p) (ap is_some (sym (get-inside e c p)) ∙ there)
 
 abbrev Rel : Spot → Spot → Content → Content → Type 0
-Rel (value_of s) (value_of t) c r = (is_well_formed s ≡ true) × (is_well_formed t ≡ true) × (becomes true s t ≡ true) × IsPlaced s c × (r ≡ carried s t c)
+Rel (value_of s) (value_of t) c r = (is_well_formed s ≡ true) × (is_well_formed t ≡ true) × (becomes true s t ≡ true) × IsPlaced s c × (r ≡ carried_parts s t c)
 Rel (value_of s) set_item c r = ⊥
 Rel (value_of s) (map_item names all) c r = ⊥
 Rel set_item (value_of t) c r = ⊥
@@ -158,7 +158,7 @@ item_step names all others c r olds news to placed at e = by_read (read_element 
     by_read (Ok (element.value v)) is = nowhere (ap (step_read (map_item names all)) is) (ap (step_read (map_item names others)) is)
     by_read (Ok (element.field f)) is = by_key f (list_any (bytes_eq f) names) (read_name e f is) (ap (step_read (map_item names all)) is) (ap (step_read (map_item names others)) is)
 
-map_step : (s t : Shape) (c r : Content) → is_well_formed s ≡ true → is_well_formed t ≡ true → becomes true s t ≡ true → ((e : List ℕ) → IsPlaced s (inside e c)) → ((e : List ℕ) → inside e r ≡ carried s t (inside e c)) → (e : List ℕ)
+map_step : (s t : Shape) (c r : Content) → is_well_formed s ≡ true → is_well_formed t ≡ true → becomes true s t ≡ true → ((e : List ℕ) → IsPlaced s (inside e c)) → ((e : List ℕ) → inside e r ≡ carried_parts s t (inside e c)) → (e : List ℕ)
     → Step (value_of (map_of s false)) (value_of (map_of t false)) c r e
 map_step s t c r a b to placed at e = by_read (read_element e) refl
   where
@@ -265,7 +265,7 @@ keyed_top names (list_of s was) = refl
 leaf_step : (s t : Shape) (c r : Content) (e : List ℕ) → is_leaf s ≡ true → is_leaf t ≡ true → Step (value_of s) (value_of t) c r e
 leaf_step s t c r e left right = nowhere (leaf_next s left e) (leaf_next t right e)
 
-value_step : (s t : Shape) (c : Content) → is_well_formed s ≡ true → is_well_formed t ≡ true → becomes true s t ≡ true → IsPlaced s c → (e : List ℕ) → Step (value_of s) (value_of t) c (carried s t c) e
+value_step : (s t : Shape) (c : Content) → is_well_formed s ≡ true → is_well_formed t ≡ true → becomes true s t ≡ true → IsPlaced s c → (e : List ℕ) → Step (value_of s) (value_of t) c (carried_parts s t c) e
 value_step text t c a b h placed e = subst (λ u. Step (value_of text) (value_of u) c c e) (same_shape text t a b h) (leaf_step text text c c e refl refl)
 value_step whole t c a b h placed e = subst (λ u. Step (value_of whole) (value_of u) c c e) (same_shape whole t a b h) (leaf_step whole whole c c e refl refl)
 value_step truth t c a b h placed e = subst (λ u. Step (value_of truth) (value_of u) c c e) (same_shape truth t a b h) (leaf_step truth truth c c e refl refl)
@@ -278,7 +278,7 @@ value_step (struct_of all true) (struct_of others true) c a b h placed e = leaf_
 value_step (struct_of all true) (struct_of others false) c a b h placed e = never h
 value_step (struct_of all false) (struct_of others true) c a b h placed e = never h
 value_step (struct_of all false) (struct_of others false) c a b h placed e =
-    struct_step all others c (carried (struct_of all false) (struct_of others false) c) (and_parts (ascend (names_of all)) (are_well_formed all) a).1 (and_parts (ascend (names_of others)) (are_well_formed others) b).1 h placed.1 (fields_at all others c) e
+    struct_step all others c (carried_parts (struct_of all false) (struct_of others false) c) (and_parts (ascend (names_of all)) (are_well_formed all) a).1 (and_parts (ascend (names_of others)) (are_well_formed others) b).1 h placed.1 (fields_at all others c) e
 value_step (map_of s was) text c a b h placed e = never h
 value_step (map_of s was) whole c a b h placed e = never h
 value_step (map_of s was) truth c a b h placed e = never h
@@ -288,7 +288,7 @@ value_step (map_of s true) (map_of t true) c a b h placed e = leaf_step (map_of 
 value_step (map_of s true) (map_of t false) c a b h placed e = never h
 value_step (map_of s false) (map_of t true) c a b h placed e = below_new (refl, refl) (leaf_next (map_of t true) refl e)
 value_step (map_of s false) (map_of t false) c a b h placed e =
-    map_step s t c (carried (map_of s false) (map_of t false) c) a b h placed.1 (inside-all (λ g. carried s t (inside g c)) c (λ g none. ap (carried s t) none ∙ carried-nothing s t)) e
+    map_step s t c (carried_parts (map_of s false) (map_of t false) c) a b h placed.1 (inside-all (λ g. carried_parts s t (inside g c)) c (λ g none. ap (carried_parts s t) none ∙ carried_parts-nothing s t)) e
 value_step (list_of s was) text c a b h placed e = never h
 value_step (list_of s was) whole c a b h placed e = never h
 value_step (list_of s was) truth c a b h placed e = never h
@@ -325,7 +325,7 @@ one_step (map_item names all) (map_item names_then others) c r rel e =
 
 -- ---- at a spot itself
 
-value_here : (s t : Shape) (c : Content) → is_well_formed s ≡ true → is_well_formed t ≡ true → becomes true s t ≡ true → IsPlaced s c → (IsNew (value_of s) (value_of t) → ⊥) → fin.get (carried s t c) [] ≡ fin.get c []
+value_here : (s t : Shape) (c : Content) → is_well_formed s ≡ true → is_well_formed t ≡ true → becomes true s t ≡ true → IsPlaced s c → (IsNew (value_of s) (value_of t) → ⊥) → fin.get (carried_parts s t c) [] ≡ fin.get c []
 value_here text t c a b h placed old = refl
 value_here whole t c a b h placed old = refl
 value_here truth t c a b h placed old = refl
@@ -343,7 +343,7 @@ value_here (map_of s was) (struct_of others is) c a b h placed old = never h
 value_here (map_of s was) (list_of t is) c a b h placed old = never h
 value_here (map_of s true) (map_of t is) c a b h placed old = refl
 value_here (map_of s false) (map_of t true) c a b h placed old = absurd (old (refl, refl))
-value_here (map_of s false) (map_of t false) c a b h placed old = top-each (λ e. carried s t (inside e c)) (heads c) ∙ sym placed.0.0
+value_here (map_of s false) (map_of t false) c a b h placed old = top-each (λ e. carried_parts s t (inside e c)) (heads c) ∙ sym placed.0.0
 value_here (list_of s was) text c a b h placed old = never h
 value_here (list_of s was) whole c a b h placed old = never h
 value_here (list_of s was) truth c a b h placed old = never h
@@ -379,7 +379,7 @@ leaf_get (Some d) full = ap (λ x. fin.get x []) (full d refl) ∙ get-here-top 
 some_none : {A P : Type 0} (x : A) → Some x ≡ None → P
 some_none x h = absurd (true≢false (ap is_some h))
 
-value_new : (s t : Shape) (c : Content) → becomes true s t ≡ true → place_of s [] ≡ None → place_of t [] ≡ Some Leaf → fin.get (carried s t c) [] ≡ option_map text_of (print s c)
+value_new : (s t : Shape) (c : Content) → becomes true s t ≡ true → place_of s [] ≡ None → place_of t [] ≡ Some Leaf → fin.get (carried_parts s t c) [] ≡ option_map text_of (print s c)
 value_new text t c h old new = some_none Leaf old
 value_new whole t c h old new = some_none Leaf old
 value_new truth t c h old new = some_none Leaf old
@@ -477,7 +477,7 @@ kept (e ∷ q) a b c r rel olds news free = by_step (one_step a b c r rel e) (λ
 
 -- ---- a new leaf is there if something stood at or below it
 
-top_stands : (s t : Shape) (c : Content) → is_well_formed s ≡ true → becomes true s t ≡ true → IsPlaced s c → place_of s [] ≡ None → place_of t [] ≡ Some Leaf → (c ≡ nothing → ⊥) → is_some (fin.get (carried s t c) []) ≡ true
+top_stands : (s t : Shape) (c : Content) → is_well_formed s ≡ true → becomes true s t ≡ true → IsPlaced s c → place_of s [] ≡ None → place_of t [] ≡ Some Leaf → (c ≡ nothing → ⊥) → is_some (fin.get (carried_parts s t c) []) ≡ true
 top_stands s t c a h placed old new there = ap is_some (value_new s t c h old new) ∙ by_print (print s c) refl
   where
     by_print : (o : Option Data) → print s c ≡ o → is_some (option_map text_of o) ≡ true
@@ -534,17 +534,17 @@ leaf_below (g ∷ p) b h e q = by_next (next b g) refl (λ y. leaf_below p y)
 
 -- ---- the law
 
-pub is_carried : (s t : Shape) → is_lawful s ≡ true → is_well_formed t ≡ true → becomes true s t ≡ true → (c : Content) → IsPlaced s c → IsCarried s t c (carried s t c)
+pub is_carried : (s t : Shape) → is_lawful s ≡ true → is_well_formed t ≡ true → becomes true s t ≡ true → (c : Content) → IsPlaced s c → IsCarried s t c (carried_parts s t c)
 is_carried s t a b h c placed =
     let formed = (and_parts (is_well_formed s) _ a).0 in
     let carry = lawful_carries s t a b h c placed in
-    let r = carried s t c in
+    let r = carried_parts s t c in
     let rel : Rel (value_of s) (value_of t) c r = (formed, b, h, placed, refl) in record {
       leaves = λ p is. new_leaves p (value_of s) (value_of t) c r rel is.0 is.1;
       below = λ p e q is. outside (value_of t) r (p ++ e ∷ q) (places t r carry.0) (leaf_below p (value_of t) is.1 e q);
       kept = λ p free. kept p (value_of s) (value_of t) c r rel (places s c placed) (places t r carry.0) (λ above rest old new is. free above rest (old, new) is);
     }
 
-pub still_there : (s t : Shape) → is_lawful s ≡ true → is_well_formed t ≡ true → becomes true s t ≡ true → (c : Content) → IsPlaced s c → LeavesStand s t c (carried s t c)
+pub still_there : (s t : Shape) → is_lawful s ≡ true → is_well_formed t ≡ true → becomes true s t ≡ true → (c : Content) → IsPlaced s c → LeavesStand s t c (carried_parts s t c)
 still_there s t a b h c placed p q is there =
-    leaves_stand p (value_of s) (value_of t) c (carried s t c) ((and_parts (is_well_formed s) _ a).0, b, h, placed, refl) is.0 is.1 q there
+    leaves_stand p (value_of s) (value_of t) c (carried_parts s t c) ((and_parts (is_well_formed s) _ a).0, b, h, placed, refl) is.0 is.1 q there

@@ -33,7 +33,7 @@ use Rattle.typed.proofs.Fitting.{contents_placed}
 use Rattle.typed.proofs.KeyFields.{ascend_rising}
 use Rattle.typed.proofs.Prints.{print_fields-nothing}
 use Rattle.typed.proofs.Spelling.{printed_textual}
-use Rattle.typed.proofs.Carrying.{Carries, by_both, carried, carried-nothing, field-none, heads_same, in_field, in_field-at, in_item, inside-all, inside-bare, inside-there, new_leaf, array_leaf, object_leaf, path_same, top-each, under_each}
+use Rattle.typed.proofs.Carrying.{Carries, by_both, carried_parts, carried_parts-nothing, field-none, heads_same, in_field, in_field-at, in_item, inside-all, inside-bare, inside-there, new_leaf, array_leaf, object_leaf, path_same, top-each, under_each}
 use Rattle.typed.proofs.PlainCarried.{atomic_stays, shape_follows}
 use Rattle.typed.proofs.PlainPrinted.{AllAt, all_at, printed_plain}
 use Rattle.typed.proofs.SameShapes.{both_at, either_so, keyed_ascend, keys_fit_same, names_same, names_stay, never, same_shape, scalar_same}
@@ -62,10 +62,10 @@ same_carries s t is c placed = subst (λ u. IsPlaced u c × (print u c ≡ print
 abbrev FieldsCarry : Fields → Fields → Content → Type 0
 FieldsCarry no_fields gs c = Unit {0}
 FieldsCarry (field f s more) no_fields c = Unit {0}
-FieldsCarry (field f s more) (field g t rest) c = Carries s t (inside (name_text f) c) (carried s t (inside (name_text f) c)) × FieldsCarry more rest c
+FieldsCarry (field f s more) (field g t rest) c = Carries s t (inside (name_text f) c) (carried_parts s t (inside (name_text f) c)) × FieldsCarry more rest c
 
 module _ (all others : Fields) (c r : Content) (to : fields_become true all others ≡ true) (at : (e : List ℕ) → inside e r ≡ in_field all others (field_name e) (inside e c)) where
-  field_is : (f : List ℕ) (s t : Shape) → shape_at f all ≡ Some s → shape_at f others ≡ Some t → inside (name_text f) r ≡ carried s t (inside (name_text f) c)
+  field_is : (f : List ℕ) (s t : Shape) → shape_at f all ≡ Some s → shape_at f others ≡ Some t → inside (name_text f) r ≡ carried_parts s t (inside (name_text f) c)
   field_is f s t old new =
       at (name_text f) ∙ ap (λ o. in_field all others o (inside (name_text f) c)) (name_field f) ∙ in_field-at all others to f (inside (name_text f) c)
       ∙ ap₂ (λ o p. by_both o p (inside (name_text f) c)) old new
@@ -194,14 +194,14 @@ module _ (names : List (List ℕ)) (s t : Shape) (c : Content) (placed : (e : Li
 
 -- ---- maps
 
-map_carries : (s t : Shape) → is_well_formed s ≡ true → (c : Content) → IsPlaced (map_of s false) c → ((e : List ℕ) → Carries s t (inside e c) (carried s t (inside e c)))
-    → Carries (map_of s false) (map_of t false) c (under_each (λ e. carried s t (inside e c)) (heads c))
+map_carries : (s t : Shape) → is_well_formed s ≡ true → (c : Content) → IsPlaced (map_of s false) c → ((e : List ℕ) → Carries s t (inside e c) (carried_parts s t (inside e c)))
+    → Carries (map_of s false) (map_of t false) c (under_each (λ e. carried_parts s t (inside e c)) (heads c))
 map_carries s t a c placed each =
-    let g = λ (e : List ℕ). carried s t (inside e c) in
+    let g = λ (e : List ℕ). carried_parts s t (inside e c) in
     let r = under_each g (heads c) in
-    let at = inside-all g c (λ e bare. ap (carried s t) bare ∙ carried-nothing s t) in (
+    let at = inside-all g c (λ e bare. ap (carried_parts s t) bare ∙ carried_parts-nothing s t) in (
       (
-        (top-each g (heads c), λ e q out. get_bare r e q (at e ∙ ap (carried s t) (bare_inside c e (λ p. placed.0.1 e p out)) ∙ carried-nothing s t)),
+        (top-each g (heads c), λ e q out. get_bare r e q (at e ∙ ap (carried_parts s t) (bare_inside c e (λ p. placed.0.1 e p out)) ∙ carried_parts-nothing s t)),
         λ e. subst (IsPlaced t) (sym (at e)) (each e).0,
       ),
       ap₂ (λ (f : List ℕ → Option Data) (hs : List (List ℕ)). object_or_none (each_member f hs no_members)) (λ i e. (ap (print t) (at e) ∙ (each e).1) i)
@@ -234,7 +234,7 @@ keyed_to names others s t a b h =
     (λ same later. (names_same names others (keyed_ascend names s (and_parts (item_is_lawful (keyed names) s) (is_well_formed s) a).0) (keyed_ascend others t (and_parts (item_is_lawful (keyed others) t) (is_well_formed t) b).0) same, later)) never
 
 mutual
-  pub carries : (s t : Shape) → is_well_formed s ≡ true → is_well_formed t ≡ true → depth_of s ≤ 15 → becomes true s t ≡ true → (c : Content) → IsPlaced s c → Carries s t c (carried s t c)
+  pub carries : (s t : Shape) → is_well_formed s ≡ true → is_well_formed t ≡ true → depth_of s ≤ 15 → becomes true s t ≡ true → (c : Content) → IsPlaced s c → Carries s t c (carried_parts s t c)
   carries text t a b deep h c placed = same_carries text t (same_shape text t a b h) c placed
   carries whole t a b deep h c placed = same_carries whole t (same_shape whole t a b h) c placed
   carries truth t a b deep h c placed = same_carries truth t (same_shape truth t a b h) c placed
@@ -330,7 +330,7 @@ is_le : (m n : ℕ) → nat_le m n ≡ true → m ≤ n
 is_le m n h = grind (arith, nat_tests)
 
 -- a type's schema is a granular struct, and may nest one deeper
-pub lawful_carries : (s t : Shape) → is_lawful s ≡ true → is_well_formed t ≡ true → becomes true s t ≡ true → (c : Content) → IsPlaced s c → Carries s t c (carried s t c)
+pub lawful_carries : (s t : Shape) → is_lawful s ≡ true → is_well_formed t ≡ true → becomes true s t ≡ true → (c : Content) → IsPlaced s c → Carries s t c (carried_parts s t c)
 lawful_carries text t a b h c placed = carries text t refl b (omega arith) h c placed
 lawful_carries whole t a b h c placed = carries whole t refl b (omega arith) h c placed
 lawful_carries truth t a b h c placed = carries truth t refl b (omega arith) h c placed

@@ -109,15 +109,15 @@ field_carried inner rest found no_fields = nothing
 field_carried inner rest found (field g t more) = cond found (inner t) (rest more)
 
 abbrev mutual
-  pub carried : Shape → Shape → Content → Content
-  carried text t c = c
-  carried whole t c = c
-  carried truth t c = c
-  carried (struct_of all was) t c = struct_carried was (λ others. under_each (λ e. in_field all others (field_name e) (inside e c)) (heads c)) t c
-  carried (map_of s was) t c = map_carried was (print (map_of s was) c) (λ u. under_each (λ e. carried s u (inside e c)) (heads c)) t c
-  carried (list_of s atomic) t c = c
-  carried (list_of s set) t c = set_carried (print (list_of s set) c) t c
-  carried (list_of s (keyed names)) t c = keyed_carried (print (list_of s (keyed names)) c) (λ u. under_each (λ e. in_item s u (inside e c)) (heads c)) t c
+  pub carried_parts : Shape → Shape → Content → Content
+  carried_parts text t c = c
+  carried_parts whole t c = c
+  carried_parts truth t c = c
+  carried_parts (struct_of all was) t c = struct_carried was (λ others. under_each (λ e. in_field all others (field_name e) (inside e c)) (heads c)) t c
+  carried_parts (map_of s was) t c = map_carried was (print (map_of s was) c) (λ u. under_each (λ e. carried_parts s u (inside e c)) (heads c)) t c
+  carried_parts (list_of s atomic) t c = c
+  carried_parts (list_of s set) t c = set_carried (print (list_of s set) c) t c
+  carried_parts (list_of s (keyed names)) t c = keyed_carried (print (list_of s (keyed names)) c) (λ u. under_each (λ e. in_item s u (inside e c)) (heads c)) t c
 
   pub in_item : Shape → Shape → Content → Content
   in_item (struct_of all was) u c = item_carried (λ others. over (here standing.mark) (under_each (λ e. in_field all others (field_name e) (inside e c)) (heads c))) u
@@ -125,7 +125,7 @@ abbrev mutual
 
   pub in_field : Fields → Fields → Option (List ℕ) → Content → Content
   in_field no_fields others f c = nothing
-  in_field (field known s more) others f c = field_carried (λ u. carried s u c) (λ rest. in_field more rest f c) (is_named known f) others
+  in_field (field known s more) others f c = field_carried (λ u. carried_parts s u c) (λ rest. in_field more rest f c) (is_named known f) others
 
 -- ---- of nothing
 
@@ -180,30 +180,30 @@ field-nothing inner rest true one more (field g t others) = one t
 field-nothing inner rest false one more (field g t others) = more others
 
 mutual
-  pub carried-nothing : (s t : Shape) → carried s t nothing ≡ nothing
-  carried-nothing text t = refl
-  carried-nothing whole t = refl
-  carried-nothing truth t = refl
-  carried-nothing (struct_of all was) t =
+  pub carried_parts-nothing : (s t : Shape) → carried_parts s t nothing ≡ nothing
+  carried_parts-nothing text t = refl
+  carried_parts-nothing whole t = refl
+  carried_parts-nothing truth t = refl
+  carried_parts-nothing (struct_of all was) t =
       struct-nothing was (λ others. under_each (λ e. in_field all others (field_name e) (inside e nothing)) (heads nothing)) (λ others. each-nothing (λ e. in_field all others (field_name e) (inside e nothing))) t
-  carried-nothing (map_of s was) t =
-      map-nothing was (print (map_of s was) nothing) (λ u. under_each (λ e. carried s u (inside e nothing)) (heads nothing)) (leaf-nothing (map_of s was)) (λ u. each-nothing (λ e. carried s u (inside e nothing))) t
-  carried-nothing (list_of s atomic) t = refl
-  carried-nothing (list_of s set) t = set-nothing (print (list_of s set) nothing) (leaf-nothing (list_of s set)) t
-  carried-nothing (list_of s (keyed names)) t =
+  carried_parts-nothing (map_of s was) t =
+      map-nothing was (print (map_of s was) nothing) (λ u. under_each (λ e. carried_parts s u (inside e nothing)) (heads nothing)) (leaf-nothing (map_of s was)) (λ u. each-nothing (λ e. carried_parts s u (inside e nothing))) t
+  carried_parts-nothing (list_of s atomic) t = refl
+  carried_parts-nothing (list_of s set) t = set-nothing (print (list_of s set) nothing) (leaf-nothing (list_of s set)) t
+  carried_parts-nothing (list_of s (keyed names)) t =
       keyed-nothing (print (list_of s (keyed names)) nothing) (λ u. under_each (λ e. in_item s u (inside e nothing)) (heads nothing)) (leaf-nothing (list_of s (keyed names))) (λ u. each-nothing (λ e. in_item s u (inside e nothing))) t
 
 pub field-none : (fs gs : Fields) (f : Option (List ℕ)) → in_field fs gs f nothing ≡ nothing
 field-none no_fields gs f = refl
 field-none (field known s more) gs f =
-    field-nothing (λ u. carried s u nothing) (λ rest. in_field more rest f nothing) (is_named known f) (λ u. carried-nothing s u) (λ rest. field-none more rest f) gs
+    field-nothing (λ u. carried_parts s u nothing) (λ rest. in_field more rest f nothing) (is_named known f) (λ u. carried_parts-nothing s u) (λ rest. field-none more rest f) gs
 
 -- ---- a field by its name
 
 abbrev pub by_both : Option Shape → Option Shape → Content → Content
 by_both None o c = nothing
 by_both (Some s) None c = nothing
-by_both (Some s) (Some t) c = carried s t c
+by_both (Some s) (Some t) c = carried_parts s t c
 
 pub in_field-at : (fs gs : Fields) → fields_become true fs gs ≡ true → (f : List ℕ) (c : Content) → in_field fs gs (Some f) c ≡ by_both (shape_at f fs) (shape_at f gs) c
 in_field-at no_fields gs h f c = refl
@@ -211,10 +211,10 @@ in_field-at (field known s more) no_fields h f c = never h
 in_field-at (field known s more) (field g t rest) h f c =
     let named = and_parts (bytes_eq known g) (becomes true s t && fields_become true more rest) h in
     let later = in_field-at more rest (and_parts (becomes true s t) (fields_become true more rest) named.1).1 f c in
-    subst (λ n. cond (bytes_eq known f) (carried s t c) (in_field more rest (Some f) c) ≡ by_both (shape_at f (field known s more)) (shape_at f (field n t rest)) c) ((bytes_eq-Decides known g).0 named.0) (by_test (bytes_eq known f) later)
+    subst (λ n. cond (bytes_eq known f) (carried_parts s t c) (in_field more rest (Some f) c) ≡ by_both (shape_at f (field known s more)) (shape_at f (field n t rest)) c) ((bytes_eq-Decides known g).0 named.0) (by_test (bytes_eq known f) later)
   where
     by_test : (b : Bool) → in_field more rest (Some f) c ≡ by_both (shape_at f more) (shape_at f rest) c
-        → cond b (carried s t c) (in_field more rest (Some f) c) ≡ by_both (cond b (Some s) (shape_at f more)) (cond b (Some t) (shape_at f rest)) c
+        → cond b (carried_parts s t c) (in_field more rest (Some f) c) ≡ by_both (cond b (Some s) (shape_at f more)) (cond b (Some t) (shape_at f rest)) c
     by_test true later = refl
     by_test false later = later
 
@@ -224,15 +224,15 @@ abbrev pub Carries : Shape → Shape → Content → Content → Type 0
 Carries s t c r = IsPlaced t r × (print t r ≡ print s c)
 
 -- something stands where something stood
-pub path_same : (s t : Shape) (c : Content) → is_well_formed s ≡ true → IsPlaced s c → Carries s t c (carried s t c) → has_path (carried s t c) ≡ has_path c
-path_same s t c lawful placed carries = by_test (has_path c) refl (has_path (carried s t c)) refl
+pub path_same : (s t : Shape) (c : Content) → is_well_formed s ≡ true → IsPlaced s c → Carries s t c (carried_parts s t c) → has_path (carried_parts s t c) ≡ has_path c
+path_same s t c lawful placed carries = by_test (has_path c) refl (has_path (carried_parts s t c)) refl
   where
-    by_test : (b : Bool) → has_path c ≡ b → (x : Bool) → has_path (carried s t c) ≡ x → x ≡ b
+    by_test : (b : Bool) → has_path c ≡ b → (x : Bool) → has_path (carried_parts s t c) ≡ x → x ≡ b
     by_test true is true new = refl
     by_test false is false new = refl
-    by_test false is true new = absurd (true≢false (sym new ∙ ap (λ d. has_path (carried s t d)) (no_path c is) ∙ ap has_path (carried-nothing s t) ∙ nothing_path))
+    by_test false is true new = absurd (true≢false (sym new ∙ ap (λ d. has_path (carried_parts s t d)) (no_path c is) ∙ ap has_path (carried_parts-nothing s t) ∙ nothing_path))
     by_test true is false new =
-        let none : print s c ≡ None = sym carries.1 ∙ ap (print t) (no_path (carried s t c) new) ∙ print-nothing t in
+        let none : print s c ≡ None = sym carries.1 ∙ ap (print t) (no_path (carried_parts s t c) new) ∙ print-nothing t in
         absurd (true≢false (sym is ∙ ap has_path (subst (λ o. ReadsBack s o c) none (round s c lawful placed)) ∙ nothing_path))
 
 -- ---- a new leaf

@@ -8,14 +8,32 @@ use Rattle.serde_json.specs.Data.{Data}
 use Rattle.serde_json.specs.Written.{compact_text}
 use Rattle.fieldpath.specs.Elements.{Element, NoElement, read_element}
 use Rattle.fieldpath.specs.Paths.{PathTexts}
-use Rattle.pathmap.specs.Contents.{Content, plain}
+use Rattle.pathmap.specs.Contents.{Content, nothing, plain}
 use Rattle.pathmap.specs.Insides.{inside}
 use Rattle.schema.specs.Place.{place_of}
 use Rattle.schema.specs.Shape.{Shape}
 use Rattle.schema.specs.Steps.{Spot, value_of, step}
 use Rattle.schema.specs.declared.place.Place.TheVariants.{Leaf}
+use Rattle.typed.specs.Faults.{Read}
 use Rattle.typed.specs.Fitting.{Stands}
 use Rattle.typed.specs.Printing.{print}
+use Rattle.typed.specs.Reading.{content_of}
+
+-- ---- the content carried
+
+abbrev pub content_or_nothing : Read Content → Content
+content_or_nothing (Ok c) = c
+content_or_nothing (Err e) = nothing
+
+abbrev pub content_printed : Shape → Option Data → Content
+content_printed t None = nothing
+content_printed t (Some d) = content_or_nothing (content_of t d)
+
+-- what is printed under the old shape is read under the new one
+unfoldable pub carried : Shape → Shape → Content → Content
+carried s t c = content_printed t (print s c)
+
+-- ---- what that makes of it
 
 -- where a set, map list or granular map has become an atomic value
 abbrev pub IsNewLeaf : Shape → Shape → PathTexts → Type 0

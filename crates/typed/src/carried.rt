@@ -2,7 +2,7 @@
 //! a schema is lawful stands in the crate `schema`; contents are printed in `print` and read in `read`.
 
 ghost use Rattle.schema.specs.Shape.{shape};
-ghost use Rattle.typed.specs.Carried.{IsCarried, LeavesStand};
+ghost use Rattle.typed.specs.Carried.{IsCarried, LeavesStand, carried};
 ghost use Rattle.typed.specs.Fitting.{IsContent};
 ghost use Rattle.typed.specs.Printing.{print};
 
@@ -18,6 +18,7 @@ impl Tree {
     /// that was printed there; all else stays (Server-Side Apply, "Compatibility across topology changes").
     pub fn carried(&self, alloc: Global, schemas: NewSchema<'_>) -> Result<Tree, AllocError>
         requires { IsContent (shape schemas.old.now) self.now }
+        ensures is { IfOk result (λ t. t ≡ carried (shape schemas.entry.old.now) (shape schemas.entry.new.now) self.now) }
         ensures carried { IfOk result (λ t. IsCarried (shape schemas.entry.old.now) (shape schemas.entry.new.now) self.now t) }
         ensures stand { IfOk result (λ t. LeavesStand (shape schemas.entry.old.now) (shape schemas.entry.new.now) self.now t) }
         ensures content { IfOk result (λ t. IsContent (shape schemas.entry.new.now) t) }

@@ -1,0 +1,106 @@
+-- Who owns the leaves and the set items of a carried object.
+use Rattle.std.proofs.Common.{◌≡◌, Bool, true, false, [], ◌∷◌, ◌++◌, Option, Some, None, is_some, inl, inr, ◌⊎◌, refl, sym, ap, ap₂, ◌∙◌, subst, true≢false, append-nil}
+use Rattle.std.specs.FinMap as fin
+use Rattle.std.specs.FinSet as set
+use Rattle.std.specs.Cmp.Derive.{both_true}
+use Rattle.std.specs.Option.{unwrap_or}
+use Rattle.std.specs.Str.{bytes_eq}
+use Rattle.std.proofs.lemmas.Bool.{and_parts}
+use Rattle.std.proofs.lemmas.Slice.Eq.{bytes_eq-Decides}
+use Rattle.fieldpath.specs.Paths.{PathTexts, path_cmp}
+use Rattle.pathmap.specs.Beside.{has_at_or_below, is_front}
+use Rattle.pathmap.specs.Contents.{PathSet}
+use Rattle.schema.specs.Lawful.{is_well_formed}
+use Rattle.schema.specs.Place.{place_of}
+use Rattle.schema.specs.Shape.{Shape}
+use Rattle.schema.specs.declared.place.Place.{Place}
+use Rattle.schema.specs.declared.place.Place.TheVariants.{Leaf, SetItem, MapItem}
+use Rattle.typed.specs.Carried.{IsCarried, IsNewLeaf}
+use Rattle.typed.specs.Fitting.{Stands}
+use Rattle.typed.proofs.Fitting.{contents_placed}
+use Rattle.typed.proofs.Places.{places}
+use Rattle.objects.specs.Owners.{Manager, owned_by}
+use Rattle.objects.specs.Placed.{IsPlacedState, Owns}
+use Rattle.objects.specs.State.{State}
+use Rattle.ownership.specs.Apply.{all_paths}
+use Rattle.ownership.specs.Carry.{LeavesOwnedStill, LeavesPass, NobodyOwned, OthersStay}
+use Rattle.ownership.specs.Keeping.{LeavesOwned, is_end}
+use Rattle.ownership.proofs.Keeping.{all_found, one_below, some_below}
+use Rattle.ownership.proofs.Leaves.{Found, all_back}
+use Rattle.ownership.proofs.OneEnd.{one_end}
+
+pub front_of : (p q : PathTexts) → is_front p (p ++ q) ≡ true
+front_of [] q = refl
+front_of (e ∷ p) q = both_true ((bytes_eq-Decides e e).1 refl) (front_of p q)
+
+rest_of : (p r : PathTexts) → is_front p r ≡ true → (q : PathTexts) × (r ≡ p ++ q)
+rest_of [] r front = (r, refl)
+rest_of (e ∷ p) [] front = absurd (true≢false (sym front))
+rest_of (e ∷ p) (f ∷ r) front =
+    let parts = and_parts (bytes_eq e f) (is_front p r) front in
+    let rest = rest_of p r parts.1 in
+    (rest.0, ap₂ (λ x xs. x ∷ xs) (sym ((bytes_eq-Decides e f).0 parts.0)) rest.1)
+
+-- all that anybody owns
+abbrev owned_paths : State → PathSet
+owned_paths state = all_paths set.empty (fin.entries state.owners)
+
+is_owned : (state : State) (k : Manager) (p : PathTexts) → Owns state k p → set.contains (owned_paths state) p ≡ true
+unfolding owned_by
+is_owned state k p owns = all_found set.empty (fin.entries state.owners) k p (ap (λ o. set.contains (unwrap_or o set.empty) p) (sym (fin.get-entries state.owners k)) ∙ owns)
+
+owner_of : (state : State) (p : PathTexts) → set.contains (owned_paths state) p ≡ true → (k : Manager) × Owns state k p
+unfolding owned_by
+owner_of state p is = by_start (all_back set.empty (fin.entries state.owners) (fin.entries_sorted state.owners) p is)
+  where
+    by_start : (set.contains (set.empty {R = path_cmp}) p ≡ true) ⊎ Found (fin.entries state.owners) p → (k : Manager) × Owns state k p
+    by_start (inl bare) = absurd (true≢false (sym bare ∙ set.contains-empty path_cmp p))
+    by_start (inr found) = (found.0, ap (λ o. set.contains (unwrap_or o set.empty) p) (fin.get-entries state.owners found.0) ∙ found.1)
+
+end_is_some : (o : Option Place) → is_end o ≡ true → is_some o ≡ true
+end_is_some None h = absurd (true≢false (sym h))
+end_is_some (Some place) h = refl
+
+module _ (s t : Shape) (old new : State) (formed : is_well_formed s ≡ true) (placed : IsPlacedState s old) (carried : IsCarried s t old.content new.content) (pass : LeavesPass s t old new) (stay : OthersStay s t old new) where
+  module _ (p : PathTexts) where
+    at_new_leaf : IsNewLeaf s t p → ((k : Manager) × Owns new k p) ⊎ IsNewLeaf s t p × NobodyOwned old p
+    at_new_leaf is = by_test (has_at_or_below (owned_paths old) p) refl
+      where
+        by_test : (b : Bool) → has_at_or_below (owned_paths old) p ≡ b → ((k : Manager) × Owns new k p) ⊎ IsNewLeaf s t p × NobodyOwned old p
+        by_test true h =
+            let inner = some_below (owned_paths old) p h in
+            let owner = owner_of old inner.0 inner.1 in
+            let rest = rest_of p inner.0 inner.2 in
+            inl (owner.0, pass owner.0 p rest.0 is (ap (λ r. set.contains (owned_by old.owners owner.0) r) (sym rest.1) ∙ owner.1))
+        by_test false h = inr (is, (λ k q owns. true≢false (sym (one_below (owned_paths old) p (p ++ q) (is_owned old k (p ++ q) owns) (front_of p q)) ∙ h)))
+
+    -- what stands and is no new leaf is below none
+    is_apart : (IsNewLeaf s t p → ⊥) → Stands new.content p → (above rest : PathTexts) → IsNewLeaf s t above → p ≡ above ++ rest → ⊥
+    is_apart other there above [] is same = other (subst (IsNewLeaf s t) (sym (same ∙ append-nil above)) is)
+    is_apart other there above (e ∷ q) is same = true≢false (sym there ∙ ap (λ r. is_some (fin.get new.content r)) same ∙ ap is_some (carried.below above e q is))
+
+    elsewhere : (IsNewLeaf s t p → ⊥) → LeavesOwned s old → Stands new.content p → is_end (place_of t p) ≡ true → (k : Manager) × Owns new k p
+    elsewhere other owned there end =
+        let apart = is_apart other there in
+        let stood : Stands old.content p = ap is_some (sym (carried.kept p apart)) ∙ there in
+        let had : is_some (place_of s p) ≡ true = places s old.content ((contents_placed s old.content formed).0 placed.0) p stood in
+        let owner = owned p stood (one_end s t p had (end_is_some (place_of t p) end) ∙ end) in
+        (owner.0, stay owner.0 p owner.1 apart)
+
+    by_places : (o n : Option Place) → place_of s p ≡ o → place_of t p ≡ n → IsNewLeaf s t p ⊎ (IsNewLeaf s t p → ⊥)
+    by_places (Some place) n was is = inr (λ new. true≢false (sym (ap is_some was) ∙ ap is_some new.0))
+    by_places None (Some Leaf) was is = inl (was, is)
+    by_places None (Some SetItem) was is = inr (λ new. true≢false (sym (ap is_leaf new.1) ∙ ap is_leaf is))
+      where
+        is_leaf : Option Place → Bool
+        is_leaf (Some Leaf) = true
+        is_leaf _ = false
+    by_places None (Some MapItem) was is = inr (λ new. true≢false (sym (ap is_end new.1) ∙ ap is_end is))
+    by_places None None was is = inr (λ new. true≢false (sym (ap is_some new.1) ∙ ap is_some is))
+
+  pub leaves_owned : LeavesOwnedStill s t old new
+  leaves_owned owned p there end = by_test (by_places p (place_of s p) (place_of t p) refl refl)
+    where
+      by_test : IsNewLeaf s t p ⊎ (IsNewLeaf s t p → ⊥) → ((k : Manager) × Owns new k p) ⊎ IsNewLeaf s t p × NobodyOwned old p
+      by_test (inl is) = at_new_leaf p is
+      by_test (inr other) = inl (elsewhere p other owned there end)
