@@ -17,6 +17,8 @@ pub mod Size
 pub mod Stored
 pub mod Step
 pub mod Watching
+pub mod Retyping
+pub mod Gathered
 pub mod Promise
 pub mod TypeCodes
 pub mod Remembered

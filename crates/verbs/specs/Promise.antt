@@ -1,17 +1,19 @@
 -- What a call leaves to the managers of other fields (Kubernetes docs, "Server-Side Apply", "Conflicts", "Transferring ownership"; "Custom
 -- Resources", "Status subresource"), and what it leaves of the machine.
-use Rattle.std.specs.Prelude.{◌≡◌, ◌⊎◌, ◌≤◌, ℕ, false, List, length, Some, IfSome}
+use Rattle.std.specs.Prelude.{◌≡◌, ◌⊎◌, ◌≤◌, ℕ, false, List, length, Some, IfSome, slice_get}
 use Rattle.std.specs.declared.result.Result.TheVariants.{Ok, Err}
 use Rattle.std.specs.FinMap as fin
 use Rattle.std.specs.List.{AllByRecursion}
 use Rattle.params.specs.Values.{Values}
 use Rattle.params.specs.declared.params.Asked.TheVariants as asked
-use Rattle.schema.specs.TypesFile.{ServedShape}
+use Rattle.serde_json.specs.Data.{Data}
+use Rattle.schema.specs.TypesFile.{ServedShape, declared_types}
 use Rattle.fieldpath.specs.Paths.{PathTexts}
 use Rattle.history.specs.History.{Change, Key, Object, History, compacted_to, fresh, last_revision, standing, state_at}
 use Rattle.history.specs.View.{view}
 use Rattle.objects.specs.Owners.{Manager, manager_by, apply_operation, update_operation}
 use Rattle.objects.specs.State.{State}
+use Rattle.ownership.specs.Carry.{carried_state}
 use Rattle.ownership.specs.Keeping.{OthersKeep}
 use Rattle.ownership.specs.Sides.{OtherSideStays, OwnSides}
 use Rattle.objects.specs.Placed.{Owns}
@@ -20,6 +22,7 @@ use Rattle.verbs.specs.Calls.{Call, Target, subresource_of}
 use Rattle.verbs.specs.Json.{IsJsonBody}
 use Rattle.verbs.specs.Machine.{AreObjectTypes, IsMachine, IsNext, IsSomeTextAt, IsTextAt, state_said, state_under}
 use Rattle.verbs.specs.Parameters.{parameters_validated}
+use Rattle.verbs.specs.Retyping.{is_changed, retyped, retyping}
 use Rattle.verbs.specs.Size.{max_bytes}
 use Rattle.lists.specs.declared.refusal.Refusal.TheVariants.{Expired}
 use Rattle.watchline.specs.Lines.{expired_message, expired_value}
@@ -133,3 +136,27 @@ abbrev pub CallsChangeOneObject : Type 0
 CallsChangeOneObject =
     (types : List ServedShape) (m : History) (call : Call) (c : Change) → IsMachine types m → IsJsonBody call.body → (planned types m call).change ≡ Some c
     → IsCalled call.target c.key × ((k : Key) → ¬ (k ≡ c.key) → fin.get (standing (step types m call).1) k ≡ fin.get (standing m) k)
+
+-- ---- what other types leave
+
+-- where other types take the place of these, the machine is one of the others
+abbrev pub RetypingsKeepMachines : Type 0
+RetypingsKeepMachines =
+    (types others : List ServedShape) (m : History) (file : Data) → IsMachine types m → retyping types m file ≡ Ok others → IsMachine others (retyped types others m)
+
+-- each object that stands is carried: its content, and who owns what, also where its text stays
+abbrev pub RetypingsCarryObjects : Type 0
+RetypingsCarryObjects =
+    (types others : List ServedShape) (m : History) (file : Data) → IsMachine types m → retyping types m file ≡ Ok others
+    → (k : Key) (o : Object) (t u : ServedShape) → fin.get (standing m) k ≡ Some o → slice_get types k.kind ≡ Some t → slice_get others k.kind ≡ Some u
+    → state_under others (standing (retyped types others m)) k ≡ carried_state t.shape u.shape (state_under types (standing m) k)
+
+-- what stands under a key stays where its text does; no object comes or goes
+abbrev pub RetypingsLeaveTexts : Type 0
+RetypingsLeaveTexts =
+    (types others : List ServedShape) (m : History) (file : Data) → IsMachine types m → retyping types m file ≡ Ok others
+    → (k : Key) (o : Object) → fin.get (standing m) k ≡ Some o → is_changed types others (k, o) ≡ false → fin.get (standing (retyped types others m)) k ≡ Some o
+
+-- types may stay as they are, and then nothing changes
+abbrev pub SameTypesChangeNothing : Type 0
+SameTypesChangeNothing = (types : List ServedShape) (m : History) (file : Data) → IsMachine types m → declared_types file ≡ Ok types → (retyping types m file ≡ Ok types) × (retyped types types m ≡ m)

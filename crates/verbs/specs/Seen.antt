@@ -1,5 +1,5 @@
 -- What the crate's values stand for.
-use Rattle.std.specs.Prelude.{◌≡◌, ℕ, List, Option, codes, option_and_then, option_map, string_bytes}
+use Rattle.std.specs.Prelude.{◌≡◌, ℕ, List, Option, Some, None, codes, option_and_then, option_map, string_bytes}
 use Rattle.std.specs.declared.result.Result.{Result}
 use Rattle.std.specs.declared.result.Result.TheVariants.{Ok, Err}
 use Rattle.serde_json.specs.Find.{as_object, get_member}
@@ -20,6 +20,8 @@ use Rattle.verbs.specs.declared.admitting.AdmitFault.{AdmitFault}
 use Rattle.verbs.specs.declared.admitting.AdmitFault.TheVariants as refusal
 use Rattle.verbs.specs.declared.call_refusal.CallRefusal.{CallRefusal as TheCallRefusal}
 use Rattle.verbs.specs.declared.fault.CallError.{CallError}
+use Rattle.verbs.specs.declared.fault.RetypeFault.{RetypeFault}
+use Rattle.verbs.specs.declared.fault.RetypeFault.TheVariants as retype_fault
 use Rattle.verbs.specs.declared.fault.CallError.TheVariants as call_error
 use Rattle.verbs.specs.declared.api.Api.{Api}
 use Rattle.verbs.specs.declared.envelope.Expected.{Expected as TheExpected}
@@ -32,6 +34,7 @@ use Rattle.verbs.specs.Admit.{Parts, Place}
 use Rattle.matchit.specs.Params.{walk}
 use Rattle.matchit.specs.declared.params.Params.{Params}
 use Rattle.verbs.specs.Status.{CallRefusal}
+use Rattle.verbs.specs.Retyping.{RetypeRefusal, not_types, not_lawful, too_few_revisions}
 use Rattle.verbs.specs.Validated.{Validated, call_refusal}
 use Rattle.verbs.specs.declared.reason.Reason.{Reason}
 use Rattle.history.specs.History.{Change, Object, Objects, History}
@@ -98,6 +101,13 @@ abbrev pub Admits : Result TheTarget AdmitFault → Result Target Denied → Typ
 Admits (Ok t) answer = answer ≡ Ok (target_of t)
 Admits (Err (refusal.Denied d)) answer = answer ≡ Err (denied_of d)
 Admits (Err refusal.Memory) answer = Unit {0}
+
+-- why other types are refused, unless memory ran out or the store failed
+abbrev pub retype_refusal : RetypeFault → Option RetypeRefusal
+retype_refusal (retype_fault.NotTypes fault) = Some not_types
+retype_refusal retype_fault.NotLawful = Some not_lawful
+retype_refusal retype_fault.TooFewRevisions = Some too_few_revisions
+retype_refusal (retype_fault.Failed fault) = None
 
 -- ---- what checks find
 

@@ -7,14 +7,16 @@ ghost use Rattle.history.specs.View.{view};
 use crate::admitting::{AdmitFault, admitted};
 use crate::calls::{Call, Plan, Target};
 use crate::catalog::Catalog;
-use crate::fault::Fault;
+use crate::fault::{Fault, RetypeFault};
 use crate::plans::planned;
+use crate::retyping::{catalog_in, writes_under};
 use crate::route::Routes;
 use crate::watching::bookmarked;
-use crate::writing::write_change;
+use crate::writing::{write_all, write_change};
 use revstore::{CompactFault, Store};
 use revtable::Table;
 use schema::Types;
+use serde_json::Value;
 use std::alloc::Global;
 use watchline::{Pumped, WatchCursor, watches_by_views};
 
@@ -51,14 +53,16 @@ impl Drop for Api {
 }
 
 impl Api {
-    ghost use Rattle.std.specs.Prelude.{◌≡◌, ◌≢◌, ◌↔◌, ◌<◌, ◌≤◌, List, Ok, Err, IfOk, IfSome, None, OnOk, OnErr, false, option_map};
+    ghost use Rattle.std.specs.Prelude.{◌≡◌, ◌≢◌, ◌↔◌, ◌<◌, ◌≤◌, List, Ok, Err, IfErr, IfOk, IfSome, None, OnOk, OnErr, false, option_map};
     ghost use Rattle.schema.specs.Served as types;
     ghost use Rattle.schema.specs.Served.{types_view};
     ghost use Rattle.schema.specs.TypesFile.{ServedShape};
     ghost use Rattle.verbs.specs.Admit.{admitted};
     ghost use Rattle.history.specs.History.{History, compacted_to, fresh, last_revision};
     ghost use Rattle.verbs.specs.Machine.{IsNext, after};
-    ghost use Rattle.verbs.specs.Seen.{Admits, ComesNext, Stands, call_of, change_of, plan_of, types_of};
+    ghost use Rattle.serde_json.specs.View as value;
+    ghost use Rattle.verbs.specs.Retyping.{retyped, retyping};
+    ghost use Rattle.verbs.specs.Seen.{Admits, ComesNext, Stands, call_of, change_of, plan_of, retype_refusal, types_of};
     ghost use Rattle.verbs.specs.Step.{planned};
     ghost use Rattle.verbs.specs.Watching.{bookmarked_in};
     ghost use Rattle.watchline.specs.Views.{marking_of, turn_of};
@@ -168,6 +172,26 @@ impl Api {
         ensures unchanged { OnErr result (self.new ≡ self.old) }
     {
         self.store.compact(revision)
+    }
+
+    /// Serves other types from here on, those of a types file: what is said of each may differ in sets, map lists and granular
+    /// maps that have become atomic, and in nothing else. Each object whose text changes gets the next revision, in the order
+    /// of types, namespaces and names. Refused, or out of memory, it changes nothing.
+    pub fn retype(&mut self, file: &Value) -> Result<(), RetypeFault>
+        ensures ok { (types : List ServedShape) (m : History) → Stands self.old types m
+            → OnOk result ((others : List ServedShape) × (retyping types m (value.view file.now) ≡ Ok others) × Stands self.new others (retyped types others m)) }
+        ensures refused { (types : List ServedShape) (m : History) → Stands self.old types m
+            → IfErr result (λ e. IfSome (retype_refusal e) (λ why. retyping types m (value.view file.now) ≡ Err why)) }
+        ensures err { (types : List ServedShape) (m : History) → Stands self.old types m → OnErr result (Stands self.new types m) }
+        ensures readable { (types : List ServedShape) (m : History) → Stands self.old types m → result ≢ Err (RetypeFault.Failed Fault.Unreadable) }
+        ensures unchanged { OnErr result (self.new ≡ self.old) }
+    {
+        let catalog = catalog_in(self.alloc, file)?;
+        let (old, new) = (self.catalog.types(), catalog.types());
+        let writes = writes_under(self.alloc, &mut self.store, old, new)?;
+        write_all(&mut self.store, &writes)?;
+        self.catalog = catalog;
+        Ok(())
     }
 
     /// The current revision and the compacted number.

@@ -6,6 +6,7 @@ ghost use Rattle.verbs.specs.Seen.{RefusesFor};
 
 use crate::call_refusal::CallRefusal;
 use crate::reason::Reason;
+use schema::TypesFault;
 use std::alloc::{AllocError, Global};
 use thiserror::Error;
 
@@ -84,5 +85,33 @@ impl From<revtable::Fault> for Fault {
             revtable::Fault::Memory => Fault::Memory,
             revtable::Fault::Store => Fault::Store,
         }
+    }
+}
+
+/// Why the types stay that are served. Nothing was changed.
+#[derive(Clone, Copy, Debug, PartialEq, Eq, Error)]
+pub enum RetypeFault {
+    /// The value is no types file.
+    #[error("{0}")]
+    NotTypes(TypesFault),
+    /// Something differs beside sets, map lists and granular maps that have become atomic.
+    #[error("not a lawful change of types")]
+    NotLawful,
+    /// Fewer revisions are left than objects whose text changes.
+    #[error("fewer revisions are left than objects change")]
+    TooFewRevisions,
+    /// Out of memory, or the store failed.
+    #[error("{0}")]
+    Failed(Fault),
+}
+
+impl From<Fault> for RetypeFault {
+    ghost use Rattle.std.specs.Prelude.{◌≡◌};
+    ghost use Rattle.verbs.specs.declared.fault.RetypeFault.TheVariants.{Failed};
+
+    ghost from_gives = { λ fault e. e ≡ Failed fault };
+
+    fn from(fault: Fault) -> RetypeFault {
+        RetypeFault::Failed(fault)
     }
 }

@@ -1,7 +1,7 @@
 //! Laws of calls (the step of a machine); paths stand in `route_laws`. Each function does nothing; what it promises is
 //! the law.
 
-ghost use Rattle.verbs.specs.Promise.{AppliesKeepOthers, BodiesSayStates, CallsChangeOneObject, CallsKeepMachines, CompactionsKeepMachines, ErrorsAreRefusals, GetsChangeNothing, MachinesBegin, ManagersOwnTheirSides, PlansAreShort, PlansByViews, PlansComeNext, RefusalsChangeNothing, StandingTextsSayStates, StepsKeepMachines, TextsSayStates, UpdatesTakeChanges, WritesLeaveOtherSide};
+ghost use Rattle.verbs.specs.Promise.{AppliesKeepOthers, BodiesSayStates, CallsChangeOneObject, CallsKeepMachines, CompactionsKeepMachines, ErrorsAreRefusals, GetsChangeNothing, MachinesBegin, ManagersOwnTheirSides, PlansAreShort, PlansByViews, PlansComeNext, RefusalsChangeNothing, RetypingsCarryObjects, RetypingsKeepMachines, RetypingsLeaveTexts, SameTypesChangeNothing, StandingTextsSayStates, StepsKeepMachines, TextsSayStates, UpdatesTakeChanges, WritesLeaveOtherSide};
 
 /// A machine begins without a change. What a call plans may come next, and a text in it is no longer than an object may
 /// be; a machine stays one over each call, over calls one after the other, and over a compaction.
@@ -54,4 +54,13 @@ pub fn calls_change_one_object()
 /// The error that ends a watch has the Status with which a list of the same revision is refused.
 pub fn errors_are_refusals()
     ensures { ErrorsAreRefusals }
+{}
+
+/// Where other types are served from here on the machine is one of theirs. Each object is carried to its new type; one whose
+/// text stays keeps its revision, and under the same types nothing changes.
+pub fn other_types_carry()
+    ensures keep { RetypingsKeepMachines }
+    ensures carry { RetypingsCarryObjects }
+    ensures stay { RetypingsLeaveTexts }
+    ensures same { SameTypesChangeNothing }
 {}

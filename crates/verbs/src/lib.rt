@@ -36,6 +36,7 @@ mod reading;
 mod reason;
 mod remembered;
 mod resource;
+mod retyping;
 mod route;
 mod route_laws;
 mod size;
@@ -51,10 +52,10 @@ pub use api::Api;
 pub use body::{Body, NOT_JSON};
 pub use calls::{Answer, Call, Plan, Target};
 pub use change::Change;
-pub use fault::{Fault, STORE_FAILED};
+pub use fault::{Fault, RetypeFault, STORE_FAILED};
 pub use laws::{
     applies_keep_others, calls_change_one_object, errors_are_refusals, machines_stay,
-    plans_by_views, status_is_apart, texts_say_states, updates_take_changes,
+    other_types_carry, plans_by_views, status_is_apart, texts_say_states, updates_take_changes,
 };
 pub use media::{APPLY_TYPE, JSON_TYPE};
 pub use method::Method;

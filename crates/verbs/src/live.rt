@@ -53,7 +53,12 @@ impl Live {
 }
 
 /// The state that an object's text says.
-fn read_stored(alloc: Global, served: &Served, key: &Key, stored: &Object) -> Result<Owned, Fault>
+pub(crate) fn read_stored(
+    alloc: Global,
+    served: &Served,
+    key: &Key,
+    stored: &Object,
+) -> Result<Owned, Fault>
     requires { IsObjectShape (types.served served.now).shape }
     ensures state { IfOk result (λ o. state_of o ≡ state_said (types.served served.now).shape (object_of stored.now).body) }
     ensures placed { IfOk result (λ o. IsPlacedState (types.served served.now).shape (state_of o)) }

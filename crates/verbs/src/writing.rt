@@ -1,13 +1,18 @@
-//! Writes the change of a plan to the store. What is stored is decided in `validating`.
+//! Writes the change of a plan to the store, or those that other types make. What is stored is decided in `validating`, and in
+//! `retyping`.
 
-ghost use Rattle.std.specs.Prelude.{◌≡◌, ◌≢◌, Err, OnErr, OnOk};
+ghost use Rattle.std.specs.Prelude.{◌≡◌, ◌≢◌, Err, OnErr, OnOk, map};
+ghost use Rattle.history.specs.Read.{write_of};
 ghost use Rattle.history.specs.View.{written_in};
+ghost use Rattle.history.specs.Writes.{written_all_in};
+ghost use Rattle.verbs.specs.Gathered.{AreWritable};
 ghost use Rattle.verbs.specs.Machine.{ComesAfter};
 ghost use Rattle.verbs.specs.Seen.{change_of};
 ghost use Rattle.verbs.specs.Stored.{Stores};
 
 use crate::change::Change;
 use crate::fault::Fault;
+use history::Write;
 use revstore::{Store, WriteFault};
 
 /// Adds a change that comes next, whose text is this. On an error nothing is changed.
@@ -23,6 +28,20 @@ pub(crate) fn write_change(store: &mut Store, change: &Change, text: &str) -> Re
         None => None,
     };
     match store.write(&change.key, body) {
+        Ok(_) => Ok(()),
+        Err(WriteFault::Exhausted) => unreachable!(),
+        Err(WriteFault::Failed(fault)) => Err(Fault::from(fault)),
+    }
+}
+
+/// Adds these, each at the next revision: all of them, or on an error none.
+pub(crate) fn write_all(store: &mut Store, writes: &[Write]) -> Result<(), Fault>
+    requires { AreWritable store.old.current (map write_of writes.now) }
+    ensures ok { OnOk result (store.new ≡ written_all_in store.old (map write_of writes.now)) }
+    ensures err { OnErr result (store.new ≡ store.old) }
+    ensures readable { result ≢ Err Fault.Unreadable }
+{
+    match store.write_all(writes) {
         Ok(_) => Ok(()),
         Err(WriteFault::Exhausted) => unreachable!(),
         Err(WriteFault::Failed(fault)) => Err(Fault::from(fault)),

@@ -1,0 +1,18 @@
+use Rattle.std.proofs.Common.{◌∙◌, ap, sym}
+use Rattle.std.proofs.lemmas.Result.{IfOk-weaker}
+use Rattle.schema.specs.Served.{served}
+use Rattle.history.specs.Read.{key_of}
+use Rattle.objects.specs.ObjectText.{Identity, object_text}
+use Rattle.objects.specs.Views.{state_of}
+use Rattle.verbs.proofs.Said.{text_is}
+use Rattle.verbs.proofs.retyping.printed.Goals as goal
+
+pub returns : goal.returns
+returns c =
+    let t = served c.args.served.now in
+    let k = key_of c.args.key.now in
+    let state = state_of c.args.owned.now in
+    let of = c.identity_of-identity.ensures (c.as_str.ensures.value ∙ c.in_ok-api_version.ensures) in
+    IfOk-weaker c.to_object.result _ _
+    (λ s is. is ∙ ap (λ (i : Identity). object_text t.shape i c.args.revision state) of ∙ sym (text_is t k c.args.revision state))
+    (c.to_object.ensures c.requires.shaped.1 c.requires.content)

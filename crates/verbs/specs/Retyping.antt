@@ -1,0 +1,76 @@
+-- What becomes of the machine where other types are served from here on: each object whose text changes gets the next revision
+-- (Kubernetes docs, "Server-Side Apply", "Compatibility across topology changes").
+use Rattle.std.specs.Prelude.{ℕ, suc, ◌+◌, Bool, false, not, nat_le, if◌then◌else◌, List, [], ◌∷◌, filter, length, Option, Some, None, option_and_then, option_map, slice_get}
+use Rattle.std.specs.declared.result.Result.{Result}
+use Rattle.std.specs.declared.result.Result.TheVariants.{Ok, Err}
+use Rattle.std.specs.FinMap as fin
+use Rattle.std.specs.List.{list_all}
+use Rattle.std.specs.Str.{bytes_eq}
+use Rattle.serde_json.specs.Data.{Data}
+use Rattle.schema.specs.Becoming.{types_may_become}
+use Rattle.schema.specs.ObjectTest.{is_object_shape}
+use Rattle.schema.specs.Refusals as schemas
+use Rattle.schema.specs.TypesFile.{ServedShape, declared_types}
+use Rattle.history.specs.History.{Key, Object, Objects, History, last_revision, standing}
+use Rattle.history.specs.Writes.{written_all}
+use Rattle.ownership.specs.Carry.{carried_state}
+use Rattle.verbs.specs.Machine.{state_said}
+use Rattle.verbs.specs.Step.{text_at}
+
+-- ---- what changes
+
+-- an object's text under its new type, at a revision
+abbrev pub carried_text : ServedShape → ServedShape → ℕ → Key → Object → List ℕ
+carried_text t u revision k o = text_at u k revision (carried_state t.shape u.shape (state_said t.shape o.body))
+
+-- by the types that were served and the others
+abbrev pub text_under : List ServedShape → List ServedShape → ℕ → Key → Object → Option (List ℕ)
+text_under types others revision k o = option_and_then (λ t. option_map (λ u. carried_text t u revision k o) (slice_get others k.kind)) (slice_get types k.kind)
+
+abbrev pub is_text : Option (List ℕ) → List ℕ → Bool
+is_text None text = false
+is_text (Some other) text = bytes_eq other text
+
+-- the text that stands is another than its new one at the same revision
+abbrev pub is_changed : List ServedShape → List ServedShape → Key × Object → Bool
+is_changed types others e = not (is_text (text_under types others e.1.revision e.0 e.1) e.1.body)
+
+-- in the order of keys: by the number of the type, then by namespace, then by name
+abbrev pub changed_objects : List ServedShape → List ServedShape → Objects → List (Key × Object)
+changed_objects types others s = filter (is_changed types others) (fin.entries s)
+
+-- each gets its new text at the next revision
+abbrev pub writes_from : List ServedShape → List ServedShape → ℕ → List (Key × Object) → List (Key × Option (List ℕ))
+writes_from types others r [] = []
+writes_from types others r (e ∷ es) = (e.0, text_under types others (suc r) e.0 e.1) ∷ writes_from types others (suc r) es
+
+abbrev pub retyping_writes : List ServedShape → List ServedShape → History → List (Key × Option (List ℕ))
+retyping_writes types others m = writes_from types others m.current (changed_objects types others (standing m))
+
+-- the machine where the others are served
+unfoldable pub retyped : List ServedShape → List ServedShape → History → History
+retyped types others m = written_all m (retyping_writes types others m)
+
+-- ---- why types stay
+
+-- a value that is no types file; another change than of sets, map lists and granular maps that have become atomic; fewer revisions left than
+-- objects that change. They stand in their order: of several causes the first counts
+pub data RetypeRefusal : Type 0 where
+  not_types : RetypeRefusal
+  not_lawful : RetypeRefusal
+  too_few_revisions : RetypeRefusal
+
+abbrev pub if_left : ℕ → List ServedShape → Result (List ServedShape) RetypeRefusal
+if_left revision others = if nat_le revision last_revision then Ok others else Err too_few_revisions
+
+abbrev pub if_lawful : List ServedShape → History → List ServedShape → Result (List ServedShape) RetypeRefusal
+if_lawful types m others = if types_may_become types others then if_left (m.current + length (changed_objects types others (standing m))) others else Err not_lawful
+
+-- a types file, whose members stand in order, declares types of objects alone
+abbrev pub if_declared : List ServedShape → History → Result (List ServedShape) schemas.Refusal → Result (List ServedShape) RetypeRefusal
+if_declared types m (Ok others) = if list_all (λ t. is_object_shape t.shape) others then if_lawful types m others else Err not_types
+if_declared types m (Err e) = Err not_types
+
+-- the types that are served where a types file is to take the place of these
+unfoldable pub retyping : List ServedShape → History → Data → Result (List ServedShape) RetypeRefusal
+retyping types m file = if_declared types m (declared_types file)
