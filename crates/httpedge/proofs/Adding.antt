@@ -1,18 +1,25 @@
 -- A hub's history only grows.
-use Rattle.std.proofs.Common.{arith, ◌≡◌, ◌≤◌, ℕ, suc, Bool, true, false, cond, List, [], ◌∷◌, ◌++◌, Option, Some, None, refl, sym, ap, subst, ◌∙◌, append_assoc, append-nil, leb-true}
+use Rattle.std.proofs.Common.{arith, ◌≡◌, ◌≤◌, ℕ, suc, ◌+◌, Bool, true, false, cond, List, [], ◌∷◌, ◌++◌, length, map, Option, Some, None, Result, Ok, Err, refl, sym, ap, subst, ◌∙◌, append_assoc, append-nil, leb-true}
 use Rattle.std.specs.Prelude.{◌&&◌, nat_le}
 use Rattle.std.specs.FinMap as fin
 use Rattle.std.proofs.lemmas.List.Elements.{filter-append}
-use Rattle.history.specs.History.{Change, History, IsRising, up_to}
+use Rattle.serde_json.specs.Data.{Data}
+use Rattle.schema.specs.Becoming.{types_may_become}
+use Rattle.schema.specs.TypesFile.{ServedShape}
+use Rattle.history.specs.History.{Change, History, IsRising, Key, up_to}
 use Rattle.history.specs.Whole.{IsGapless}
+use Rattle.history.specs.Writes.{changes_by, written_all}
 use Rattle.history.proofs.Revisions.{up_to-below}
+use Rattle.history.proofs.Writes.{changes_all, compacted_all, current_all}
 use Rattle.verbs.specs.Machine.{after}
+use Rattle.verbs.specs.Retyping.{RetypeRefusal, retyped, retyping, retyping_writes}
 use Rattle.verbs.specs.Step.{planned}
 use Rattle.requests.specs.Asks.{CallDecision}
 use Rattle.requests.specs.Decision.{undecided, refused, accepted}
 use Rattle.httpedge.specs.Connections.{Connection, Connections, Standing, waiting, watching, ended, gone}
-use Rattle.httpedge.specs.Runs.{Follows, Happening, HasGrown, Runs, happens, starves, takes}
-use Rattle.httpedge.specs.Steps.{Event, Refusal, State, opens, comes, goes, pumps, ticks, compacts, by_connection, carried_out, compaction_refused, machine_after, received_by, refusal, starved, unless_refused, with_connections, with_machine}
+use Rattle.httpedge.specs.Runs.{Follows, Happening, HasGrown, Runs, happens, lasting, starves, takes}
+use Rattle.httpedge.specs.Steps.{Event, Refusal, State, opens, comes, goes, pumps, ticks, compacts, retypes, by_connection, carried_out, compaction_refused, machine_after, received_by, refusal, starved, unless_refused, with_connections, with_machine, with_types}
+use Rattle.httpedge.proofs.OtherTypes.{is_lawful, types_last}
 
 -- ---- changes that are added
 
@@ -33,7 +40,7 @@ not_less n = omega arith
 
 still : (s t : State) → t.types ≡ s.types → t.machine ≡ s.machine → HasGrown s t
 still s t types same = record {
-  types = types;
+  types = ap (map lasting) types;
   changes = ([], ap (λ (m : History). m.changes) same ∙ sym (append-nil s.machine.changes), sym (ap (λ (m : History). m.current) same));
   current = subst (λ (m : History). s.machine.current ≤ m.current) (sym same) (not_less s.machine.current);
   compacted = subst (λ (m : History). s.machine.compacted ≤ m.compacted) (sym same) (not_less s.machine.compacted);
@@ -76,6 +83,30 @@ compacted_grown s c low = record {
   compacted = low;
 }
 
+-- writes in turn are each of the next revision
+gapless_by : (r : ℕ) (ws : List (Key × Option (List ℕ))) → IsGapless r (changes_by r ws) (r + length ws)
+gapless_by r [] = omega arith
+gapless_by r (w ∷ ws) =
+    let more : suc r + length ws ≡ r + suc (length ws) = omega arith in
+    (refl, subst (λ (n : ℕ). IsGapless (suc r) (changes_by (suc r) ws) n) more (gapless_by (suc r) ws))
+
+retyped_grown : (s : State) (others : List ServedShape) → types_may_become s.types others ≡ true → HasGrown s (with_types s (Ok others))
+unfolding retyped
+retyped_grown s others lawful =
+    let ws = retyping_writes s.types others s.machine in
+    let to : (written_all s.machine ws).current ≡ s.machine.current + length ws = current_all s.machine ws in
+    let by = changes_by s.machine.current ws in
+    record {
+      types = types_last s.types others lawful;
+      changes = (by, changes_all s.machine ws, subst (λ (n : ℕ). IsGapless s.machine.current by n) (sym to) (gapless_by s.machine.current ws));
+      current = omega (arith, to);
+      compacted = subst (λ (n : ℕ). s.machine.compacted ≤ n) (sym (compacted_all s.machine ws)) (not_less s.machine.compacted);
+    }
+
+types_grown : (s : State) (file : Data) (r : Result (List ServedShape) RetypeRefusal) → retyping s.types s.machine file ≡ r → HasGrown s (with_types s r)
+types_grown s file (Ok others) is = retyped_grown s others (is_lawful s.types others s.machine file is)
+types_grown s file (Err why) is = still s s refl refl
+
 carried_grown : (s : State) (e : Event) (asked : CallDecision) → refusal s e ≡ None → HasGrown s (carried_out s e asked)
 carried_grown s (opens id) asked free = still s _ refl refl
 carried_grown s (comes id bytes) asked free = by_grown s (fin.get s.connections id) _ (λ c. received_grown s id c c.standing bytes asked)
@@ -83,6 +114,7 @@ carried_grown s (goes id) asked free = by_grown s (fin.get s.connections id) _ (
 carried_grown s (pumps id max) asked free = by_grown s (fin.get s.connections id) _ (λ c. still s _ refl refl)
 carried_grown s (ticks ms) asked free = still s _ refl refl
 carried_grown s (compacts c) asked free = compacted_grown s c (leb-true s.machine.compacted c (first_of (nat_le s.machine.compacted c) (nat_le c s.machine.current) free))
+carried_grown s (retypes file) asked free = types_grown s file (retyping s.types s.machine file) refl
 
 unless_grown : (s t : State) (o : Option Refusal) → (o ≡ None → HasGrown s t) → HasGrown s (unless_refused o s t)
 unless_grown s t None grown = grown refl
@@ -95,6 +127,7 @@ starved_grown s (goes id) which = still s s refl refl
 starved_grown s (pumps id max) which = by_grown s (fin.get s.connections id) _ (λ c. still s _ refl refl)
 starved_grown s (ticks ms) which = still s _ refl refl
 starved_grown s (compacts c) which = still s s refl refl
+starved_grown s (retypes file) which = still s s refl refl
 
 -- ---- all that happens
 

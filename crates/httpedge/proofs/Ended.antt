@@ -4,9 +4,9 @@ use Rattle.std.specs.Prelude.{is_some}
 use Rattle.std.specs.FinMap as fin
 use Rattle.httpedge.specs.declared.hub.Hub.{Hub}
 use Rattle.httpedge.specs.Connections.{Connection}
-use Rattle.httpedge.specs.HubSeen.{Handles, Happened, IsIn, Outcome, done, refused, starved, refusal_in}
+use Rattle.httpedge.specs.HubSeen.{Handles, Happened, IsIn, Outcome, Tells, done, refused, starved, refusal_in}
 use Rattle.httpedge.specs.Runs.{Follows, Happening, Runs, Steps, happens, starves}
-use Rattle.httpedge.specs.Steps.{Event, Refusal, State, opens, comes, goes, pumps, ticks, compacts, carried_out, refusal, unknown_id, unless_refused}
+use Rattle.httpedge.specs.Steps.{Event, Refusal, State, opens, comes, goes, pumps, ticks, compacts, retypes, carried_out, refusal, unknown_id, unless_refused}
 use Rattle.requests.specs.Decision.{undecided}
 use Rattle.httpedge.proofs.Outcomes.{ComesBy}
 
@@ -27,6 +27,7 @@ refused_stays s (goes id) why is = (undecided, refl, stays_by s (goes id) why is
 refused_stays s (pumps id max) why is = (undecided, refl, stays_by s (pumps id max) why is)
 refused_stays s (ticks ms) why is = (undecided, refl, stays_by s (ticks ms) why is)
 refused_stays s (compacts c) why is = (undecided, refl, stays_by s (compacts c) why is)
+refused_stays s (retypes file) why is = (undecided, refl, stays_by s (retypes file) why is)
 
 -- ---- events in turn
 
@@ -56,10 +57,10 @@ runs_in old new e o handles r s before ran is =
     let one = follows_in old new e o handles s is in
     (one.0, one.1, one.2, runs_on r s one.1 before one.0 ran one.3, one.4)
 
-pub refused_in : (old new : Hub) (e : Event) (o : Outcome) → Handles old e o new → (s : State) → IsIn old s → refusal_in o ≡ refusal s e
-refused_in old new e done handles s is = sym (handles s is).0
-refused_in old new e (refused why) handles s is = sym (handles.1 s is)
-refused_in old new e starved handles s is = sym (handles s is).2.0
+pub told_in : (old new : Hub) (e : Event) (o : Outcome) → Handles old e o new → (s : State) → IsIn old s → Tells s e o
+told_in old new e done handles s is = (handles s is).0
+told_in old new e (refused why) handles s is = handles.1 s is
+told_in old new e starved handles s is = (handles s is).2.0
 
 pub unchanged_in : (old new : Hub) (e : Event) (o : Outcome) → Handles old e o new → refusal_in o ≢ None → new ≡ old
 unchanged_in old new e done handles denied = absurd (denied refl)

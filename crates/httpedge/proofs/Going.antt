@@ -5,11 +5,13 @@ use Rattle.std.specs.Cmp.{nat_cmp_total}
 use Rattle.std.specs.FinMap as fin
 use Rattle.std.specs.Ordering.{nat_cmp, eq_by_cmp}
 use Rattle.requests.specs.Asks.{CallDecision}
+use Rattle.verbs.specs.Retyping.{retyping}
 use Rattle.httpedge.specs.Connections.{Connection, Connections, Standing, waiting, watching, ended, gone, each, gone_on, has_ended, has_gone, is_new, is_open, is_watching, left_out, out_of, out_on, with_standing, with_taken}
 use Rattle.httpedge.specs.Runs.{Follows, Happening, happens, starves, takes}
-use Rattle.httpedge.specs.Steps.{Event, Refusal, State, id_not_above, opens, comes, goes, pumps, ticks, compacts, by_connection, dead, dead_or_ticked, opening, received_by, refusal, starved, carried_out, unless_refused, with_connection, with_turn}
+use Rattle.httpedge.specs.Steps.{Event, Refusal, State, id_not_above, opens, comes, goes, pumps, ticks, compacts, retypes, by_connection, dead, dead_or_ticked, opening, received_by, refusal, starved, carried_out, unless_refused, with_connection, with_turn}
 use Rattle.httpedge.specs.Watches.{pumped, ticked}
 use Rattle.httpedge.proofs.Connected.{got_each, tied_same, unknown}
+use Rattle.httpedge.proofs.OtherTypes.{same_connections}
 use Rattle.httpedge.proofs.Staying.{dead_idle, turn_idle}
 
 -- ---- one connection
@@ -121,6 +123,8 @@ stepped_still s (ticks ms) asked q c is got =
     unless_still s _ (refusal s (ticks ms)) q c
     (each_still (λ id d. with_turn (ticked s.types ms) d) s.connections q c (turn_idle (ticked s.types ms) c c.standing (isnt_watching c.standing is)) got) got
 stepped_still s (compacts r) asked q c is got = unless_still s _ (refusal s (compacts r)) q c got got
+stepped_still s (retypes file) asked q c is got =
+    unless_still s _ (refusal s (retypes file)) q c (ap (λ (all : Connections). fin.get all q) (same_connections s (retyping s.types s.machine file)) ∙ got) got
 
 starved_still : (s : State) (e : Event) (which : ℕ → Bool) (q : ℕ) (c : Connection) → has_gone c.standing ≡ true → Stays s q c → Stays (starved s e which) q c
 starved_still s (opens id) which q c is got = got
@@ -130,6 +134,7 @@ starved_still s (pumps id max) which q c is got = there_still s id q c dead (dea
 starved_still s (ticks ms) which q c is got =
     each_still (λ id d. dead_or_ticked s.types ms (which id) d) s.connections q c (dead_idle s.types ms (which q) c (isnt_watching c.standing is)) got
 starved_still s (compacts r) which q c is got = got
+starved_still s (retypes file) which q c is got = got
 
 pub goes_stay : (s t : State) (h : Happening) (q : ℕ) (c : Connection) → Follows s h t → fin.get s.connections q ≡ Some c → has_gone c.standing ≡ true → fin.get t.connections q ≡ Some c
 goes_stay s t (happens e) q c (asked, asks, then) got is = ap (λ (x : State). fin.get x.connections q) then ∙ stepped_still s e asked q c is got

@@ -11,11 +11,13 @@ use Rattle.requests.specs.Asks.{CallDecision}
 use Rattle.httpedge.specs.Connections.{Connection, Connections, Standing, waiting, watching, ended, gone, each, has_gone, is_new, is_open, left_out, out_of, out_on, with_standing, written_on}
 use Rattle.requests.specs.Decision.{undecided, refused, accepted}
 use Rattle.httpedge.specs.Runs.{Follows, Happening, happens, starves, takes}
-use Rattle.httpedge.specs.Steps.{Event, Refusal, State, id_not_above, opens, comes, goes, pumps, ticks, compacts, after_turn, by_connection, connection_after, dead, dead_or_ticked, opening, received_by, refusal, carried_out, starved, unless_refused, turn_bytes, with_connection, with_turn, writes_at}
+use Rattle.httpedge.specs.Steps.{Event, Refusal, State, id_not_above, opens, comes, goes, pumps, ticks, compacts, retypes, after_turn, by_connection, connection_after, dead, dead_or_ticked, opening, received_by, refusal, carried_out, starved, unless_refused, turn_bytes, with_connection, with_turn, writes_at}
 use Rattle.requests.specs.Replies.{answer_bytes, refusal_reply}
 use Rattle.httpedge.specs.Watches.{Turn, Watch, pumped, ticked}
+use Rattle.verbs.specs.Retyping.{retyping}
 use Rattle.verbs.specs.Step.{planned}
 use Rattle.httpedge.proofs.Connected.{got_each, tied_same, unknown}
+use Rattle.httpedge.proofs.OtherTypes.{same_connections}
 
 -- ---- one connection
 
@@ -104,6 +106,9 @@ stepped_grows s (pumps id max) asked q =
 stepped_grows s (ticks ms) asked q =
     unless_grows s _ (refusal s (ticks ms)) q (each_grows (λ id c. with_turn (ticked s.types ms) c) s.connections q (λ c. turn_grows (ticked s.types ms) c c.standing))
 stepped_grows s (compacts c) asked q = unless_grows s _ (refusal s (compacts c)) q (same (fin.get s.connections q))
+stepped_grows s (retypes file) asked q =
+    unless_grows s _ (refusal s (retypes file)) q
+    (subst (λ (all : Connections). Grows (fin.get s.connections q) (fin.get all q)) (sym (same_connections s (retyping s.types s.machine file))) (same (fin.get s.connections q)))
 
 starved_grows : (s : State) (e : Event) (which : ℕ → Bool) (q : ℕ) → Grows (fin.get s.connections q) (fin.get (starved s e which).connections q)
 starved_grows s (opens id) which q = same (fin.get s.connections q)
@@ -112,6 +117,7 @@ starved_grows s (goes id) which q = same (fin.get s.connections q)
 starved_grows s (pumps id max) which q = there_grows s id q dead (λ c. dead_grows (is_open c.standing) c)
 starved_grows s (ticks ms) which q = each_grows (λ id c. dead_or_ticked s.types ms (which id) c) s.connections q (λ c. dead_or s.types ms (which q && writes_at ms c.standing) c)
 starved_grows s (compacts c) which q = same (fin.get s.connections q)
+starved_grows s (retypes file) which q = same (fin.get s.connections q)
 
 pub grows : (s t : State) (h : Happening) (q : ℕ) → Follows s h t → (more : List ℕ) × (written_on t.connections q ≡ written_on s.connections q ++ more)
 grows s t (happens e) q (asked, asks, is) = subst (λ (x : State). Grows (fin.get s.connections q) (fin.get x.connections q)) (sym is) (stepped_grows s e asked q)

@@ -3,9 +3,9 @@ use Rattle.std.proofs.Common.{◌≡◌, ◌<◌, ◌≤◌, ◌∙◌, ℕ, Boo
 use Rattle.std.specs.Prelude.{◌-◌, nat_lt, unwrap_or}
 use Rattle.std.specs.Result.{is_ok}
 use Rattle.std.proofs.lemmas.Bool.{le-ltb, lt-ltb}
-use Rattle.httpedge.specs.HubSeen.{Happened, IsIn, Outcome, done, refused, starved, outcome_of, refusal_in}
+use Rattle.httpedge.specs.HubSeen.{Happened, IsIn, Outcome, Tells, done, refused, starved, outcome_of}
 use Rattle.httpedge.specs.Runs.{Follows, Happening, Runs, happens, starves, takes}
-use Rattle.httpedge.specs.Steps.{Event, State, compacts, refusal}
+use Rattle.httpedge.specs.Steps.{Event, State, compacts}
 use Rattle.httpedge.specs.Streams.{Compacts, MovesBy, Hands, HandsIf, IsDone, event_in}
 use Rattle.httpedge.specs.declared.fault.HubFault.{HubFault}
 use Rattle.httpedge.specs.declared.hub.Hub.{Hub}
@@ -33,12 +33,12 @@ hands_event x y e r follows = λ s is.
     let one = follows s is in
     (one.1, (one.0, by_event e (outcome_of r) one.0 (λ h. event_in h ≡ Some e) refl (λ which. refl) one.2, one.3), one.4)
 
-pub done_event : {A : Type 0} (x y : Hub) (e : Event) (r : Result A HubFault) → ((s : State) → IsIn x s → refusal_in (outcome_of r) ≡ refusal s e) → FollowsBy x e r y → is_ok r ≡ true
+pub done_event : {A : Type 0} (x y : Hub) (e : Event) (r : Result A HubFault) → ((s : State) → IsIn x s → Tells s e (outcome_of r)) → FollowsBy x e r y → is_ok r ≡ true
     → MovesBy (IsDone e) x y
-done_event x y e (Ok a) denied follows well = λ s is.
+done_event x y e (Ok a) told follows well = λ s is.
     let one = follows s is in
-    (one.1, (sym (denied s is), subst (λ h. Follows s h one.1) one.2 one.3), one.4)
-done_event x y e (Err f) denied follows well = absurd cc
+    (one.1, (told s is, subst (λ h. Follows s h one.1) one.2 one.3), one.4)
+done_event x y e (Err f) told follows well = absurd cc
 
 same_event : (d e : Event) → Some d ≡ Some e → d ≡ e
 same_event d e same = ap (λ (o : Option Event). unwrap_or o e) same

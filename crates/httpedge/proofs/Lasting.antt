@@ -1,5 +1,5 @@
 -- A hub's machine stays one, whatever happens.
-use Rattle.std.proofs.Common.{◌≡◌, ℕ, Bool, true, false, cond, List, [], ◌∷◌, Option, Some, None, refl, sym, ap, subst, ◌∙◌, true≢false, leb-true}
+use Rattle.std.proofs.Common.{◌≡◌, ℕ, Bool, true, false, cond, List, [], ◌∷◌, Option, Some, None, Result, Ok, Err, refl, sym, ap, subst, ◌∙◌, true≢false, leb-true}
 use Rattle.std.specs.Prelude.{◌&&◌, length, nat_le, nat_lt, take}
 use Rattle.std.specs.FinMap as fin
 use Rattle.std.specs.Str.{is_utf8}
@@ -12,15 +12,17 @@ use Rattle.verbs.specs.Admit.{admitted}
 use Rattle.verbs.specs.Calls.{Call}
 use Rattle.verbs.specs.Json.{IsJsonBody}
 use Rattle.verbs.specs.Machine.{IsMachine}
+use Rattle.verbs.specs.Retyping.{RetypeRefusal, retyping}
 use Rattle.verbs.proofs.Machines.{compactions_keep_machines}
 use Rattle.verbs.proofs.Promise.{steps_keep_machines}
+use Rattle.verbs.proofs.Retypings.{retypings_keep_machines}
 use Rattle.requests.specs.Asks.{CallDecision, asked_by, call_in}
 use Rattle.requests.specs.Bodies.{body_in, body_of, checked_media, declared_body, declared_length, json_in, path_of, query_of, some_json}
 use Rattle.httpedge.specs.Connections.{Connection, Standing, waiting, watching, ended, gone}
 use Rattle.requests.specs.Decision.{Decision, undecided, refused, accepted, and_then, decided_by}
 use Rattle.requests.specs.Heads.{HeadDecision, Request}
 use Rattle.httpedge.specs.Runs.{AsksIf, Follows, Happening, Runs, bytes_at, happens, starves, takes}
-use Rattle.httpedge.specs.Steps.{Event, Refusal, State, compaction_refused, opens, comes, goes, pumps, ticks, compacts, by_connection, carried_out, machine_after, received_by, refusal, starved, unless_refused}
+use Rattle.httpedge.specs.Steps.{Event, Refusal, State, compaction_refused, opens, comes, goes, pumps, ticks, compacts, retypes, by_connection, carried_out, machine_after, received_by, refusal, starved, unless_refused, with_types}
 
 -- ---- the body of a call that bytes ask is a value that a JSON text spells
 
@@ -115,6 +117,10 @@ in_range : (b : Bool) → cond {A = Option Refusal} b None (Some compaction_refu
 in_range true e = refl
 in_range false e = absurd (true≢false (sym (ap is_none e)))
 
+retyped_lasts : (s : State) (file : Data) (r : Result (List ServedShape) RetypeRefusal) → retyping s.types s.machine file ≡ r → Lasts s → Lasts (with_types s r)
+retyped_lasts s file (Ok others) got is = retypings_keep_machines s.types others s.machine file is got
+retyped_lasts s file (Err why) got is = is
+
 carried_lasts : (s : State) (e : Event) (asked : CallDecision) → ((call : Call) → asked ≡ accepted call → IsJsonBody call.body) → refusal s e ≡ None → Lasts s → Lasts (carried_out s e asked)
 carried_lasts s (opens id) asked json free is = is
 carried_lasts s (comes id bytes) asked json free is = by_lasts s (fin.get s.connections id) _ (λ c. received_lasts s id c c.standing bytes asked json is) is
@@ -124,6 +130,7 @@ carried_lasts s (ticks ms) asked json free is = is
 carried_lasts s (compacts c) asked json free is =
     let range = both (nat_le s.machine.compacted c) (nat_le c s.machine.current) (in_range _ free) in
     compactions_keep_machines s.types s.machine c is (leb-true _ _ range.0) (leb-true _ _ range.1)
+carried_lasts s (retypes file) asked json free is = retyped_lasts s file (retyping s.types s.machine file) refl is
 
 unless_lasts : (s t : State) (o : Option Refusal) → (o ≡ None → Lasts t) → Lasts s → Lasts (unless_refused o s t)
 unless_lasts s t None stays is = stays refl
@@ -136,6 +143,7 @@ starved_lasts s (goes id) which is = is
 starved_lasts s (pumps id max) which is = by_lasts s (fin.get s.connections id) _ (λ c. is) is
 starved_lasts s (ticks ms) which is = is
 starved_lasts s (compacts c) which is = is
+starved_lasts s (retypes file) which is = is
 
 -- ---- all that happens
 

@@ -9,9 +9,11 @@ pub mod Going
 pub mod Turning
 pub mod Ticked
 pub mod Lasting
+pub mod OtherTypes
 pub mod Outcomes
 pub mod Representing
 pub mod Results
+pub mod Retyped
 pub mod Staying
 pub mod Taking
 pub mod Untaken

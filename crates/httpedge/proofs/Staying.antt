@@ -5,12 +5,14 @@ use Rattle.std.specs.Cmp.{nat_cmp_total}
 use Rattle.std.specs.FinMap as fin
 use Rattle.std.specs.Ordering.{nat_cmp, eq_by_cmp}
 use Rattle.schema.specs.TypesFile.{ServedShape}
+use Rattle.verbs.specs.Retyping.{retyping}
 use Rattle.requests.specs.Asks.{CallDecision}
 use Rattle.httpedge.specs.Connections.{Connection, Connections, Standing, waiting, watching, ended, gone, each, ended_on, has_ended, is_new, is_open, is_watching, watching_on, with_standing, with_taken}
 use Rattle.httpedge.specs.Runs.{Follows, Happening, HappensElsewhere, IsElsewhere, Steps, happens, starves, subject, takes}
-use Rattle.httpedge.specs.Steps.{Event, Refusal, State, id_not_above, opens, comes, goes, pumps, ticks, compacts, after_turn, by_connection, dead, dead_or_ticked, opening, received_by, refusal, starved, carried_out, unless_refused, with_connection, with_turn, writes_at, Starves}
+use Rattle.httpedge.specs.Steps.{Event, Refusal, State, id_not_above, opens, comes, goes, pumps, ticks, compacts, retypes, after_turn, by_connection, dead, dead_or_ticked, opening, received_by, refusal, starved, carried_out, unless_refused, with_connection, with_turn, writes_at, Starves}
 use Rattle.httpedge.specs.Watches.{Turn, Watch, pumped, ticked}
 use Rattle.httpedge.proofs.Connected.{got_each, tied_same, unknown}
+use Rattle.httpedge.proofs.OtherTypes.{same_connections}
 
 -- ---- on another connection
 
@@ -44,6 +46,7 @@ carried_elsewhere s (goes id) asked q isnt = by_elsewhere s q (fin.get s.connect
 carried_elsewhere s (pumps id max) asked q isnt = by_elsewhere s q (fin.get s.connections id) _ (λ c. put_elsewhere s.connections id q _ isnt)
 carried_elsewhere s (ticks ms) asked q isnt = absurd isnt
 carried_elsewhere s (compacts c) asked q isnt = refl
+carried_elsewhere s (retypes file) asked q isnt = ap (λ (all : Connections). fin.get all q) (same_connections s (retyping s.types s.machine file))
 
 unless_elsewhere : (s t : State) (o : Option Refusal) (q : ℕ) → fin.get t.connections q ≡ fin.get s.connections q → fin.get (unless_refused o s t).connections q ≡ fin.get s.connections q
 unless_elsewhere s t None q same = same
@@ -56,6 +59,7 @@ starved_elsewhere s (goes id) which q isnt = refl
 starved_elsewhere s (pumps id max) which q isnt = by_elsewhere s q (fin.get s.connections id) _ (λ c. put_elsewhere s.connections id q _ isnt)
 starved_elsewhere s (ticks ms) which q isnt = absurd isnt
 starved_elsewhere s (compacts c) which q isnt = refl
+starved_elsewhere s (retypes file) which q isnt = refl
 
 pub others : (s t : State) (h : Happening) (q : ℕ) → HappensElsewhere h q → Follows s h t → fin.get t.connections q ≡ fin.get s.connections q
 others s t (happens e) q elsewhere (asked, asks, is) =
@@ -186,6 +190,9 @@ stepped_ended s (ticks ms) asked q is =
     unless_ended s (carried_out s (ticks ms) asked) (refusal s (ticks ms)) q
     (in_each (λ id c. with_turn (ticked s.types ms) c) s.connections q (λ c e. turn_ended (ticked s.types ms) c c.standing refl e) is) is
 stepped_ended s (compacts c) asked q is = unless_ended s (carried_out s (compacts c) asked) (refusal s (compacts c)) q is is
+stepped_ended s (retypes file) asked q is =
+    unless_ended s (carried_out s (retypes file) asked) (refusal s (retypes file)) q
+    (ap (λ (all : Connections). ended_on all q) (same_connections s (retyping s.types s.machine file)) ∙ is) is
 
 starved_ended : (s : State) (e : Event) (which : ℕ → Bool) (q : ℕ) → ended_on s.connections q ≡ true → ended_on (starved s e which).connections q ≡ true
 starved_ended s (opens id) which q is = is
@@ -197,6 +204,7 @@ starved_ended s (pumps id max) which q is =
 starved_ended s (ticks ms) which q is =
     in_each (λ id c. dead_or_ticked s.types ms (which id) c) s.connections q (λ c e. ticked_ended s.types ms (which q && writes_at ms c.standing) c e) is
 starved_ended s (compacts c) which q is = is
+starved_ended s (retypes file) which q is = is
 
 pub ends : (s t : State) (h : Happening) (q : ℕ) → Follows s h t → ended_on s.connections q ≡ true → ended_on t.connections q ≡ true
 ends s t (happens e) q (asked, asks, then) is = ap (λ (x : State). ended_on x.connections q) then ∙ stepped_ended s e asked q is

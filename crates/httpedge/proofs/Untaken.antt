@@ -11,12 +11,14 @@ use Rattle.httpedge.specs.Connections.{AllIsOut, Connection, Connections, IsUnta
 use Rattle.requests.specs.Decision.{undecided, refused, accepted}
 use Rattle.requests.specs.Refusals.{as_denied, too_many_connections}
 use Rattle.httpedge.specs.Runs.{Follows, Happening, LeavesOut, Steps, happens, peer_goes, starves, takes}
-use Rattle.httpedge.specs.Steps.{Event, Refusal, State, opens, comes, goes, pumps, ticks, compacts, after_turn, answer_standing, by_connection, connection_after, dead, dead_or_ticked, opening, received_by, refusal, standing_after, start, starved, carried_out, unless_refused, with_turn, writes_at}
+use Rattle.httpedge.specs.Steps.{Event, Refusal, State, opens, comes, goes, pumps, ticks, compacts, retypes, after_turn, answer_standing, by_connection, connection_after, dead, dead_or_ticked, opening, received_by, refusal, standing_after, start, starved, carried_out, unless_refused, with_turn, writes_at}
 use Rattle.requests.specs.Replies.{refusal_reply}
 use Rattle.httpedge.specs.Watches.{Turn, Watch, pumped, ticked}
 use Rattle.watchline.specs.Opening.{WatchFrom}
+use Rattle.verbs.specs.Retyping.{retyping}
 use Rattle.verbs.specs.Step.{planned}
 use Rattle.httpedge.proofs.Connected.{got_each, tied_same}
+use Rattle.httpedge.proofs.OtherTypes.{same_connections}
 
 -- ---- one connection
 
@@ -98,6 +100,7 @@ carried_one s (pumps id max) asked q stays out =
     by_one s q (fin.get s.connections id) _ out (λ c got. put_one s.connections id q (with_turn turn c) (λ same. turn_untaken turn c c.standing (this_one s.connections id q c got out same)) out)
 carried_one s (ticks ms) asked q stays out = each_one (λ id c. with_turn (ticked s.types ms) c) s.connections q (λ c is. turn_untaken (ticked s.types ms) c c.standing is) out
 carried_one s (compacts c) asked q stays out = out
+carried_one s (retypes file) asked q stays out = subst (λ (all : Connections). IsUntaken (fin.get all q)) (sym (same_connections s (retyping s.types s.machine file))) out
 
 unless_one : (s t : State) (o : Option Refusal) (q : ℕ) → IsUntaken (fin.get t.connections q) → IsUntaken (fin.get s.connections q) → IsUntaken (fin.get (unless_refused o s t).connections q)
 unless_one s t None q then out = then
@@ -120,6 +123,7 @@ starved_one s (pumps id max) which q out =
     by_one s q (fin.get s.connections id) _ out (λ c got. put_one s.connections id q _ (λ same. dead_by (is_open c.standing) c (this_one s.connections id q c got out same)) out)
 starved_one s (ticks ms) which q out = each_one (λ id c. dead_or_ticked s.types ms (which id) c) s.connections q (λ c is. dead_or s.types ms (which q && writes_at ms c.standing) c is) out
 starved_one s (compacts c) which q out = out
+starved_one s (retypes file) which q out = out
 
 pub one_out : (s t : State) (h : Happening) (q : ℕ) → LeavesOut h q → IsUntaken (fin.get s.connections q) → Follows s h t → IsUntaken (fin.get t.connections q)
 one_out s t (happens e) q stays out (asked, asks, is) =

@@ -2,6 +2,8 @@
 use Rattle.std.specs.Prelude.{◌≡◌, ℕ, Bool, true, false, Option, Some, None}
 use Rattle.std.specs.declared.result.Result.{Result}
 use Rattle.std.specs.declared.result.Result.TheVariants.{Ok, Err}
+use Rattle.serde_json.specs.View.{view}
+use Rattle.verbs.specs.Retyping.{not_types, not_lawful, too_few_revisions}
 use Rattle.httpedge.specs.declared.event.Event as events
 use Rattle.httpedge.specs.declared.event.Event.TheVariants as event
 use Rattle.httpedge.specs.declared.fault.HubFault as faults
@@ -9,7 +11,7 @@ use Rattle.httpedge.specs.declared.fault.HubFault.TheVariants as fault
 use Rattle.httpedge.specs.declared.hub.Hub as hubs
 use Rattle.httpedge.specs.Held.{Represents}
 use Rattle.httpedge.specs.Runs.{Happening, Steps, happens, starves}
-use Rattle.httpedge.specs.Steps.{Event, Refusal, Starves, State, refusal, opens, comes, goes, pumps, ticks, compacts, id_not_above, unknown_id, no_lines, tick_back, compaction_refused}
+use Rattle.httpedge.specs.Steps.{Event, Refusal, Starves, State, early_refusal, refusal, opens, comes, goes, pumps, ticks, compacts, retypes, id_not_above, unknown_id, no_lines, tick_back, compaction_refused, types_refused}
 
 abbrev pub event_of : events.Event → Event
 event_of (event.Open id) = opens id
@@ -18,12 +20,13 @@ event_of (event.Gone id) = goes id
 event_of (event.Pump id max) = pumps id max
 event_of (event.Tick ms) = ticks ms
 event_of (event.Compact c) = compacts c
+event_of (event.Retype file) = retypes (view file)
 
 -- the hub is in this state
 abbrev pub IsIn : hubs.Hub → State → Type 0
 IsIn hub s = Represents hub.api hub.connections s × (hub.last_tick ≡ s.last_tick)
 
--- which events ask the store: bytes, which may be a call, a pump, a compaction
+-- which events ask the store: bytes, which may be a call, a pump, a compaction, other types
 abbrev pub asks_store : Event → Bool
 asks_store (opens id) = false
 asks_store (comes id bytes) = true
@@ -31,6 +34,7 @@ asks_store (goes id) = false
 asks_store (pumps id max) = true
 asks_store (ticks ms) = false
 asks_store (compacts c) = true
+asks_store (retypes file) = true
 
 -- how a call of the hub ends: the event was not refused; it was; no memory was found, or the store failed
 pub data Outcome : Type 0 where
@@ -45,6 +49,9 @@ outcome_of (Err fault.UnknownId) = refused unknown_id
 outcome_of (Err fault.NoLines) = refused no_lines
 outcome_of (Err fault.TickBack) = refused tick_back
 outcome_of (Err fault.CompactionRefused) = refused compaction_refused
+outcome_of (Err (fault.NotTypes why)) = refused (types_refused not_types)
+outcome_of (Err fault.NotLawful) = refused (types_refused not_lawful)
+outcome_of (Err fault.TooFewRevisions) = refused (types_refused too_few_revisions)
 outcome_of (Err fault.Memory) = starved
 outcome_of (Err fault.Store) = starved
 
@@ -52,6 +59,12 @@ abbrev pub refusal_in : Outcome → Option Refusal
 refusal_in done = None
 refusal_in (refused why) = Some why
 refusal_in starved = None
+
+-- the call tells why the event is refused, and that it isn't; without memory a refusal may not be found
+abbrev pub Tells : State → Event → Outcome → Type 0
+Tells s e done = refusal s e ≡ None
+Tells s e (refused why) = refusal s e ≡ Some why
+Tells s e starved = early_refusal s e ≡ None
 
 -- what happened, by the event and how the call of it ended: the event, refused or not, or one that found no memory, at a tick on some
 -- connections

@@ -1,12 +1,15 @@
 -- Events in turn: what the bytes of each ask, and the state after all of them.
-use Rattle.std.specs.Prelude.{◌≡◌, ◌≢◌, ◌≤◌, ℕ, Bool, true, false, List, [], ◌∷◌, ◌++◌, Option, Some, None, option_and_then, ⊤}
+use Rattle.std.specs.Prelude.{◌≡◌, ◌≢◌, ◌≤◌, ℕ, Bool, true, false, List, [], ◌∷◌, ◌++◌, map, Option, Some, None, codes, is_some, option_and_then, ⊤}
 use Rattle.std.specs.FinMap as fin
+use Rattle.schema.specs.ObjectShape.{field_of}
+use Rattle.schema.specs.Shape.{text}
+use Rattle.schema.specs.TypesFile.{ServedShape}
 use Rattle.history.specs.History.{Change}
 use Rattle.history.specs.Whole.{IsGapless}
 use Rattle.requests.specs.Asks.{CallDecision, Asks}
 use Rattle.httpedge.specs.Connections.{Standing, waiting}
 use Rattle.requests.specs.Decision.{undecided}
-use Rattle.httpedge.specs.Steps.{State, Event, opens, comes, goes, pumps, ticks, compacts, stepped, Starves, with_bytes_taken}
+use Rattle.httpedge.specs.Steps.{State, Event, opens, comes, goes, pumps, ticks, compacts, retypes, stepped, Starves, with_bytes_taken}
 
 -- ---- what an event asks
 
@@ -63,6 +66,7 @@ subject (goes id) = connection id
 subject (pumps id max) = connection id
 subject (ticks ms) = all_connections
 subject (compacts c) = no_connection
+subject (retypes file) = no_connection
 
 -- the bytes that it brings
 abbrev pub bytes_of : Event → List ℕ
@@ -104,10 +108,14 @@ peer_goes _ = false
 
 -- ---- what it adds
 
--- t is a later state of the hub: its types are the same, changes were added, each of the next revision, none is lost, and neither number
--- went down
+-- what stays of a type that is served, whatever becomes of its lists and maps: its names, and whether it has a status
+abbrev pub lasting : ServedShape → ServedShape × Bool
+lasting t = (record t { shape = text }, is_some (field_of (codes "status") t.shape))
+
+-- t is a later state of the hub: its types have stayed but for lists and maps that have become atomic, changes were added, each of the next
+-- revision, none is lost, and neither number went down
 pub record HasGrown (s t : State) : Type 0 where
-  pub types : t.types ≡ s.types
+  pub types : map lasting t.types ≡ map lasting s.types
   pub changes : (more : List Change) × (t.machine.changes ≡ s.machine.changes ++ more) × IsGapless s.machine.current more t.machine.current
   pub current : s.machine.current ≤ t.machine.current
   pub compacted : s.machine.compacted ≤ t.machine.compacted

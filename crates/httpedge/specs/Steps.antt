@@ -1,11 +1,15 @@
 -- The hub: what each event makes of its machine and its connections.
 use Rattle.std.specs.Prelude.{◌≡◌, ℕ, Bool, true, false, ◌&&◌, ◌==◌, nat_lt, nat_le, if◌then◌else◌, List, ◌++◌, Option, Some, None}
+use Rattle.std.specs.declared.result.Result.{Result}
+use Rattle.std.specs.declared.result.Result.TheVariants.{Ok, Err}
 use Rattle.std.specs.List.{list_any}
 use Rattle.std.specs.FinMap as fin
+use Rattle.serde_json.specs.Data.{Data}
 use Rattle.schema.specs.TypesFile.{ServedShape}
 use Rattle.history.specs.History.{History, compacted_to}
 use Rattle.verbs.specs.Calls.{Answer}
 use Rattle.verbs.specs.Machine.{after}
+use Rattle.verbs.specs.Retyping.{RetypeRefusal, retyped, retyping}
 use Rattle.verbs.specs.Step.{planned}
 use Rattle.requests.specs.Asks.{CallDecision}
 use Rattle.httpedge.specs.Connections.{Connection, Connections, Standing, waiting, watching, ended, gone, opened, with_standing, with_written, with_taken, has_ended, is_known, is_new, is_open, open_count, max_open, each, waiting_on, watching_on}
@@ -27,7 +31,7 @@ abbrev pub start : List ServedShape → History → State
 start types m = record { types = types; machine = m; last_tick = 0; connections = fin.empty }
 
 -- a connection opens; bytes come on it; its peer goes; a watch may write so many lines; so many milliseconds have passed since the start;
--- changes up to a revision may be forgotten
+-- changes up to a revision may be forgotten; the types of a types file are served from here on
 pub data Event : Type 0 where
   opens : ℕ → Event
   comes : ℕ → List ℕ → Event
@@ -35,20 +39,26 @@ pub data Event : Type 0 where
   pumps : ℕ → ℕ → Event
   ticks : ℕ → Event
   compacts : ℕ → Event
+  retypes : Data → Event
 
 -- ---- why an event is refused
 
 -- the id is not above all earlier ones; it is unknown; a pump of no lines; a tick that goes back; a compaction below the compacted number or
--- past the current one. They stand in their order: of several causes the first counts
+-- past the current one; why other types are refused. They stand in their order: of several causes the first counts
 pub data Refusal : Type 0 where
   id_not_above : Refusal
   unknown_id : Refusal
   no_lines : Refusal
   tick_back : Refusal
   compaction_refused : Refusal
+  types_refused : RetypeRefusal → Refusal
 
 abbrev pub unless_known : Connections → ℕ → Option Refusal → Option Refusal
 unless_known all id other = if is_known all id then other else Some unknown_id
+
+abbrev pub unless_retyped : Result (List ServedShape) RetypeRefusal → Option Refusal
+unless_retyped (Ok others) = None
+unless_retyped (Err why) = Some (types_refused why)
 
 abbrev pub refusal : State → Event → Option Refusal
 refusal s (opens id) = if is_new s.connections id then None else Some id_not_above
@@ -57,6 +67,7 @@ refusal s (goes id) = unless_known s.connections id None
 refusal s (pumps id max) = unless_known s.connections id (if max == 0 then Some no_lines else None)
 refusal s (ticks ms) = if nat_lt ms s.last_tick then Some tick_back else None
 refusal s (compacts c) = if nat_le s.machine.compacted c && nat_le c s.machine.current then None else Some compaction_refused
+refusal s (retypes file) = unless_retyped (retyping s.types s.machine file)
 
 -- ---- parts of a state
 
@@ -136,6 +147,13 @@ after_turn turn c _ = c
 abbrev pub with_turn : (Watch → Turn) → Connection → Connection
 with_turn turn c = after_turn turn c c.standing
 
+-- ---- other types
+
+-- each connection stays; what waits is decided by the types that are served then
+abbrev pub with_types : State → Result (List ServedShape) RetypeRefusal → State
+with_types s (Ok others) = record s { types = others; machine = retyped s.types others s.machine }
+with_types s (Err why) = s
+
 -- ---- one event
 
 abbrev pub with_tick : State → ℕ → Connections → State
@@ -150,6 +168,7 @@ carried_out s (pumps id max) asked = on_connection s id (λ c. with_connection s
 carried_out s (ticks ms) asked = with_tick s ms (each (λ id c. with_turn (ticked s.types ms) c) s.connections)
 -- no change is lost: the compacted number alone is another
 carried_out s (compacts c) asked = with_machine s (compacted_to c s.machine)
+carried_out s (retypes file) asked = with_types s (retyping s.types s.machine file)
 
 abbrev pub unless_refused : Option Refusal → State → State → State
 unless_refused None s t = t
@@ -182,6 +201,7 @@ starved s (goes id) found_none = s
 starved s (pumps id max) found_none = on_connection s id (λ c. with_connection s id (dead c))
 starved s (ticks ms) found_none = with_tick s ms (each (λ id c. dead_or_ticked s.types ms (found_none id) c) s.connections)
 starved s (compacts c) found_none = s
+starved s (retypes file) found_none = s
 
 -- which events take memory: bytes only where the connection waits for them, a pump only where it watches, a tick only where a watch found none
 -- whose turn writes something
@@ -192,10 +212,16 @@ takes_memory s (goes id) found_none = false
 takes_memory s (pumps id max) found_none = watching_on s.connections id
 takes_memory s (ticks ms) found_none = list_any (λ e. found_none e.0 && writes_at ms e.1.standing) (fin.entries s.connections)
 takes_memory s (compacts c) found_none = true
+takes_memory s (retypes file) found_none = true
 
--- an event that is not refused finds no memory, and leads to this state
+-- why an event is refused that takes no memory before: types are read first, whatever then becomes of them
+abbrev pub early_refusal : State → Event → Option Refusal
+early_refusal s (retypes file) = None
+early_refusal s e = refusal s e
+
+-- an event that is not refused before finds no memory, and leads to this state
 abbrev pub Starves : State → Event → (ℕ → Bool) → State → Type 0
-Starves s e found_none t = (refusal s e ≡ None) × (takes_memory s e found_none ≡ true) × (t ≡ starved s e found_none)
+Starves s e found_none t = (early_refusal s e ≡ None) × (takes_memory s e found_none ≡ true) × (t ≡ starved s e found_none)
 
 -- ---- bytes that are taken
 

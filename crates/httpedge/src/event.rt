@@ -1,5 +1,7 @@
 //! The events that the hub handles; what each of them changes stands in `hub`, why one is refused in `fault`.
 
+use serde_json::Value;
+
 /// An event; the hub handles them in the order in which they come.
 #[derive(Debug, Drop)]
 pub enum Event {
@@ -16,6 +18,9 @@ pub enum Event {
     /// What no answer from this revision on can show may be forgotten: a revision from the compacted number to the
     /// current one.
     Compact(u64),
+    /// The types of a types file are served from here on: a JSON value, `{"types":[..]}`. Beside those that are served, some sets,
+    /// map lists and granular maps have become atomic.
+    Retype(Value),
 }
 
 /// What an event changes one connection by.

@@ -1,8 +1,9 @@
 //! Why an event is refused, or what failed. Refusals of requests stand in the crate `requests`.
 
+use schema::TypesFault;
 use std::alloc::{AllocError, AllocFailed};
 use thiserror::Error;
-use verbs::STORE_FAILED;
+use verbs::{RetypeFault, STORE_FAILED};
 
 /// Why the hub refuses an event, or what failed in the machine.
 #[derive(Clone, Copy, Debug, PartialEq, Eq, Error)]
@@ -22,6 +23,16 @@ pub enum HubFault {
     /// A compaction below the compacted number, or past the current revision.
     #[error("the revision is compacted already, or still to come")]
     CompactionRefused,
+    /// Other types, by a value that is no types file.
+    #[error("{0}")]
+    NotTypes(TypesFault),
+    /// Other types, which differ from those that are served in more than sets, map lists and granular maps that have become
+    /// atomic.
+    #[error("not a lawful change of types")]
+    NotLawful,
+    /// Other types, under which more objects change than revisions are left.
+    #[error("fewer revisions are left than objects change")]
+    TooFewRevisions,
     /// Out of memory.
     #[error("out of memory")]
     Memory,
@@ -62,6 +73,22 @@ impl From<verbs::Fault> for HubFault {
         match fault {
             verbs::Fault::Memory => HubFault::Memory,
             verbs::Fault::Store | verbs::Fault::Unreadable => HubFault::Store,
+        }
+    }
+}
+
+impl From<RetypeFault> for HubFault {
+    ghost use Rattle.std.specs.Prelude.{◌≡◌};
+    ghost use Rattle.httpedge.specs.Faults.{retyping_fault_of};
+
+    ghost from_gives = { λ f e. e ≡ retyping_fault_of f };
+
+    fn from(fault: RetypeFault) -> HubFault {
+        match fault {
+            RetypeFault::NotTypes(fault) => HubFault::NotTypes(fault),
+            RetypeFault::NotLawful => HubFault::NotLawful,
+            RetypeFault::TooFewRevisions => HubFault::TooFewRevisions,
+            RetypeFault::Failed(fault) => HubFault::from(fault),
         }
     }
 }

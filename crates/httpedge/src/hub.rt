@@ -7,16 +7,18 @@ ghost use Rattle.verbs.specs.Seen.{Stands};
 ghost use Rattle.httpedge.specs.Changes.{event_on};
 ghost use Rattle.httpedge.specs.Connections.{ended_on, next_id, out_on, waiting_on};
 ghost use Rattle.httpedge.specs.Held.{is_above, kept_in};
-ghost use Rattle.httpedge.specs.HubSeen.{Handles, Happened, IsIn, asks_store, event_of, outcome_of, refusal_in};
+ghost use Rattle.serde_json.specs.View.{view};
+ghost use Rattle.httpedge.specs.HubSeen.{Handles, Happened, IsIn, Tells, asks_store, event_of, outcome_of, refusal_in};
 ghost use Rattle.httpedge.specs.Runs.{Follows, Happening, Runs, Steps, takes};
 ghost use Rattle.httpedge.specs.declared.event.Change.TheVariants as changes;
-ghost use Rattle.httpedge.specs.Steps.{State, compacts, opens, pumps, refusal, start, ticks, with_bytes_taken};
+ghost use Rattle.httpedge.specs.Steps.{State, compacts, opens, pumps, retypes, start, ticks, with_bytes_taken};
 
 use crate::connection::opening;
 use crate::connections::Connections;
 use crate::event::{Change, Event};
 use crate::fault::HubFault;
 use revstore::CompactFault;
+use serde_json::Value;
 use std::alloc::{AllocError, Global};
 use verbs::{Api, Fault};
 
@@ -133,16 +135,26 @@ impl Hub {
         }
     }
 
+    fn retype(&mut self, file: &Value) -> Result<(), HubFault>
+        ensures { Handles self.old (retypes (view file.now)) (outcome_of result) self.new }
+    {
+        match self.api.retype(file) {
+            Ok(()) => Ok(()),
+            Err(fault) => Err(HubFault::from(fault)),
+        }
+    }
+
     /// Handles an event. Once the bytes of a connection decide what is asked, the reply is written, and the connection has
     /// ended, or watches. Refused, an event changes nothing; out of memory, an opening changes nothing,
     /// and a connection that waits is dead where bytes come on it, a watch where it is pumped. At a tick each watch has
     /// its turn, and only one that was out of memory for what it writes is dead. Bytes on one that has ended need no
-    /// memory. A compaction that fails changes nothing. The store is asked where bytes come, at a pump and at a
-    /// compaction: no other event fails by it.
+    /// memory. A compaction that fails changes nothing, and so do other types; these are read before they are refused, so
+    /// that memory may run out in place of a refusal. The store is asked where bytes come, at a pump, at a compaction and for
+    /// other types: no other event fails by it.
     pub fn on(&mut self, event: &Event) -> Result<(), HubFault>
         ensures follows { (s : State) → IsIn self.old s → (h : Happening) × (t : State) × Happened (event_of event.now) (outcome_of result) h × Follows s h t × IsIn self.new t }
         ensures runs { (r s : State) (before : List Happening) → Runs r before s → IsIn self.old s → (h : Happening) × (t : State) × Happened (event_of event.now) (outcome_of result) h × Runs r (before ++ h ∷ []) t × IsIn self.new t }
-        ensures refused { (s : State) → IsIn self.old s → refusal_in (outcome_of result) ≡ refusal s (event_of event.now) }
+        ensures refused { (s : State) → IsIn self.old s → Tells s (event_of event.now) (outcome_of result) }
         ensures unchanged { refusal_in (outcome_of result) ≢ None → self.new ≡ self.old }
         ensures store { asks_store (event_of event.now) ≡ false → result ≢ Err HubFault.Store }
     {
@@ -153,6 +165,7 @@ impl Hub {
             Event::Pump(id, max) => self.pump(*id, *max),
             Event::Tick(ms) => self.tick(*ms),
             Event::Compact(revision) => self.compact(*revision),
+            Event::Retype(file) => self.retype(file),
         }
     }
 

@@ -6,6 +6,7 @@ use Rattle.std.specs.FinMap as fin
 use Rattle.std.specs.Ordering.{eq_by_cmp, is_eq, nat_cmp}
 use Rattle.std.specs.declared.cmp.Ordering.{Ordering}
 use Rattle.std.specs.declared.cmp.Ordering.TheVariants.{Less, Equal, Greater}
+use Rattle.serde_json.specs.declared.value.Value.{Value}
 use Rattle.requests.specs.Asks.{CallDecision}
 use Rattle.httpedge.specs.Connections.{Connection, Connections, IsUntaken, gone, has_ended, has_gone, with_standing, written_on}
 use Rattle.httpedge.specs.HubSeen.{event_of}
@@ -58,13 +59,14 @@ no_going e q stays is = goes_not (sym (ap peer_goes is) ∙ stays)
 
 -- an event of the code, other than that a peer goes
 pub none_goes : (e : events.Event)
-    → ((id : ℕ) × (e ≡ event.Open id)) ⊎ (((id : ℕ) × (bytes : Vec ℕ Global) × (e ≡ event.In id bytes)) ⊎ (((id : ℕ) × (max : ℕ) × (e ≡ event.Pump id max)) ⊎ (((ms : ℕ) × (e ≡ event.Tick ms)) ⊎ ((c : ℕ) × (e ≡ event.Compact c)))))
+    → ((id : ℕ) × (e ≡ event.Open id)) ⊎ (((id : ℕ) × (bytes : Vec ℕ Global) × (e ≡ event.In id bytes)) ⊎ (((id : ℕ) × (max : ℕ) × (e ≡ event.Pump id max)) ⊎ (((ms : ℕ) × (e ≡ event.Tick ms)) ⊎ (((c : ℕ) × (e ≡ event.Compact c)) ⊎ ((file : Value) × (e ≡ event.Retype file))))))
     → peer_goes (event_of e) ≡ false
 none_goes e (inl (id, is)) = ap (λ (x : events.Event). peer_goes (event_of x)) is
 none_goes e (inr (inl (id, bytes, is))) = ap (λ (x : events.Event). peer_goes (event_of x)) is
 none_goes e (inr (inr (inl (id, max, is)))) = ap (λ (x : events.Event). peer_goes (event_of x)) is
 none_goes e (inr (inr (inr (inl (ms, is))))) = ap (λ (x : events.Event). peer_goes (event_of x)) is
-none_goes e (inr (inr (inr (inr (c, is))))) = ap (λ (x : events.Event). peer_goes (event_of x)) is
+none_goes e (inr (inr (inr (inr (inl (c, is)))))) = ap (λ (x : events.Event). peer_goes (event_of x)) is
+none_goes e (inr (inr (inr (inr (inr (file, is)))))) = ap (λ (x : events.Event). peer_goes (event_of x)) is
 
 -- what is kept of a connection, or is out on it, is so after an event by which no peer goes
 pub kept_stays : OneStays → GoneStays → (s t : State) (e : Event) → peer_goes e ≡ false → Steps s e t → (q : ℕ) (o : Option (List ℕ)) → IsKept o (fin.get s.connections q) → IsKept o (fin.get t.connections q)

@@ -28,6 +28,9 @@ fn is_taken(hub: &mut Hub, event: &Event) -> Result<bool, RecorderFault>
         Err(HubFault::NoLines) => Ok(false),
         Err(HubFault::TickBack) => Ok(false),
         Err(HubFault::CompactionRefused) => Ok(false),
+        Err(HubFault::NotTypes(_)) => Ok(false),
+        Err(HubFault::NotLawful) => Ok(false),
+        Err(HubFault::TooFewRevisions) => Ok(false),
         Err(HubFault::Memory) => Err(RecorderFault::Memory),
         Err(HubFault::Store) => Err(RecorderFault::Store),
     }
@@ -74,7 +77,8 @@ impl Recorder {
             | Event::In(_, _)
             | Event::Pump(_, _)
             | Event::Tick(_)
-            | Event::Compact(_) => self.hand(event),
+            | Event::Compact(_)
+            | Event::Retype(_) => self.hand(event),
         }
     }
 

@@ -14,7 +14,7 @@ use Rattle.std.proofs.lemmas.Slice.Eq.{bytes_eq-Decides}
 use Rattle.serde_json.specs.Data.{unsigned, negative, float, Data, null, boolean, number, string, array, object, Items, no_items, item, Members, no_members, member}
 use Rattle.serde_json.specs.Find.{as_array, as_bool, as_object, as_str}
 use Rattle.serde_json.specs.Read.{read as read_json}
-use Rattle.httpedge.specs.Steps.{opens, comes, goes, pumps, ticks, compacts}
+use Rattle.httpedge.specs.Steps.{opens, comes, goes, pumps, ticks, compacts, retypes}
 use Rattle.world_laws.specs.World.{WorldEvent, other, request, send, to_server, to_client, cut, restart, reconcile}
 use Rattle.scripts.specs.Requests.{Apply}
 use Rattle.scripts.specs.Script.{AreEvents, IsFirstBad, IsTarget, IsEventLine, IsEventObject, apply_object, is_filled, only, pair, whole}
@@ -266,18 +266,23 @@ named_is name d e is = go (bytes_eq name (codes "in")) (bytes_eq name (codes "pu
         subst (λ (v : Data). IsEventObject (only name v) e) (sym (counted d n.0 n.1)) (numbered_is name n.0 e n.2)
 
 named_line_is : (name : List ℕ) (d : Data) (l : Line) (e : WorldEvent) → line_named name d ≡ Some l → Makes l e → IsEventObject (only name d) e
-named_line_is name d l e is makes = go (bytes_eq name (codes "apply")) refl is
+named_line_is name d l e is makes = go (bytes_eq name (codes "apply")) (bytes_eq name (codes "types")) refl refl is
   where
-    go : (a : Bool) → bytes_eq name (codes "apply") ≡ a → cond a (option_map applies (option_and_then apply_in (as_object d))) (option_map happens (event_named name d)) ≡ Some l
+    go : (a t : Bool) → bytes_eq name (codes "apply") ≡ a → bytes_eq name (codes "types") ≡ t
+        → cond a (option_map applies (option_and_then apply_in (as_object d))) (cond t (Some (happens (other (retypes d)))) (option_map happens (event_named name d))) ≡ Some l
         → IsEventObject (only name d) e
-    go true at h =
+    go true t at yt h =
         let a = map-Some applies _ l h in
         let ms = and_then-Some apply_in _ a.0 a.1 in
         let said = apply_is ms.0 a.0 ms.2 in
         let made = subst (λ (x : Line). Makes x e) (sym a.2) makes in
         subst (IsEventObject (only name d)) (sym made.2)
         (named_so name (codes "apply") d (apply_object a.0) (request made.0) at (inner d ms.0 ms.1 ∙ ap object said.0) (a.0, refl, said.1, made.1))
-    go false at h =
+    go false true at yt h =
+        let same : happens (other (retypes d)) ≡ l = cc in
+        let made = subst (λ (x : Line). Makes x e) (sym same) makes in
+        subst (IsEventObject (only name d)) (sym made) (ap (λ (n : List ℕ). only n d) ((bytes_eq-Decides name (codes "types")).0 yt))
+    go false false at yt h =
         let x = map-Some happens _ l h in
         let made = subst (λ (y : Line). Makes y e) (sym x.2) makes in
         subst (IsEventObject (only name d)) (sym made) (named_is name d x.0 x.1)
@@ -300,6 +305,7 @@ event_said text (other (goes k)) (d, reads, is) = (happens (other (goes k)), rw 
 event_said text (other (pumps k max)) (d, reads, is) = (happens (other (pumps k max)), rw (reads, is) refl)
 event_said text (other (ticks ms)) (d, reads, is) = (happens (other (ticks ms)), rw (reads, is) refl)
 event_said text (other (compacts c)) (d, reads, is) = (happens (other (compacts c)), rw (reads, is) refl)
+event_said text (other (retypes file)) (d, reads, is) = (happens (other (retypes file)), rw (reads, is) refl)
 event_said text (request bytes) (d, reads, (a, is, target, asked)) = (applies a, rw (reads, is, is_target_of a.target target) refl)
 event_said text send (d, reads, is) = (happens send, rw (reads, is) refl)
 event_said text (to_server n) (d, reads, is) = (happens (to_server n), rw (reads, is) refl)

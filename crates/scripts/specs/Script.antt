@@ -3,7 +3,7 @@ use Rattle.std.specs.Prelude.{◌≡◌, ◌≢◌, ◌≤◌, ◌+◌, ◌==◌
 use Rattle.std.specs.List.{All, AllZip, filter, slice_split}
 use Rattle.serde_json.specs.Data.{Data, unsigned, boolean, number, string, array, object, no_items, item, no_members, member}
 use Rattle.serde_json.specs.Read.{read as read_json}
-use Rattle.httpedge.specs.Steps.{opens, comes, goes, pumps, ticks, compacts}
+use Rattle.httpedge.specs.Steps.{opens, comes, goes, pumps, ticks, compacts, retypes}
 use Rattle.world_laws.specs.World.{WorldEvent, other, request, send, to_server, to_client, cut, restart, reconcile}
 use Rattle.scripts.specs.Requests.{Apply, IsRequestOf}
 
@@ -39,6 +39,7 @@ IsEventObject d (other (goes k)) = d ≡ only (codes "gone") (whole k)
 IsEventObject d (other (pumps k max)) = d ≡ only (codes "pump") (pair (whole k) (whole max))
 IsEventObject d (other (ticks ms)) = d ≡ only (codes "tick") (whole ms)
 IsEventObject d (other (compacts c)) = d ≡ only (codes "compact") (whole c)
+IsEventObject d (other (retypes file)) = d ≡ only (codes "types") file
 IsEventObject d send = d ≡ only (codes "client") (string (codes "send"))
 IsEventObject d (to_server n) = d ≡ only (codes "toServer") (whole n)
 IsEventObject d (to_client n) = d ≡ only (codes "toClient") (whole n)

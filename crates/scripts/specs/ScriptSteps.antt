@@ -5,7 +5,7 @@ use Rattle.std.specs.Str.{bytes_eq}
 use Rattle.serde_json.specs.Data.{Data, Items, no_items, item, Members, no_members, member}
 use Rattle.serde_json.specs.Find.{as_array, as_bool, as_number, as_object, as_str, as_u64}
 use Rattle.serde_json.specs.Read.{read as read_json}
-use Rattle.httpedge.specs.Steps.{opens, comes, goes, pumps, ticks, compacts}
+use Rattle.httpedge.specs.Steps.{opens, comes, goes, pumps, ticks, compacts, retypes}
 use Rattle.world_laws.specs.World.{WorldEvent, other, request, send, to_server, to_client, cut, restart, reconcile}
 use Rattle.scripts.specs.Requests.{Apply, IsRequestOf}
 
@@ -103,6 +103,7 @@ pub data Line : Type 0 where
 abbrev pub line_named : List ℕ → Data → Option Line
 line_named name d =
     if bytes_eq name (codes "apply") then option_map applies (option_and_then apply_in (as_object d))
+    else if bytes_eq name (codes "types") then Some (happens (other (retypes d)))
     else option_map happens (event_named name d)
 
 abbrev pub line_in : Data → Option Line

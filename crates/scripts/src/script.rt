@@ -185,6 +185,7 @@ fn line_named(name: &str, value: Value) -> Option<Line>
 {
     match name {
         "apply" => Some(Line::Apply(apply_in(into_object(value)?)?)),
+        "types" => Some(Line::Event(WorldEvent::Other(Event::Retype(value)))),
         _ => Some(Line::Event(event_named(name, value)?)),
     }
 }

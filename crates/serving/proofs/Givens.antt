@@ -8,16 +8,18 @@ use Rattle.std.proofs.lemmas.List.{length-append, length-take, take-append-drop}
 use Rattle.std.proofs.Math.Seq.{drop-append_seam}
 use Rattle.schema.specs.TypesFile.{ServedShape}
 use Rattle.history.specs.History.{History}
+use Rattle.verbs.specs.Retyping.{retyping}
 use Rattle.verbs.specs.Step.{planned}
 use Rattle.requests.specs.Asks.{CallDecision}
 use Rattle.httpedge.specs.Connections.{Connection, Connections, Standing, waiting, watching, ended, gone, each, has_ended, is_new, is_open, left_out, opened, out_of, out_on, with_standing, with_taken, with_written}
 use Rattle.requests.specs.Decision.{undecided, refused, accepted}
 use Rattle.requests.specs.Refusals.{as_denied, too_many_connections}
 use Rattle.httpedge.specs.Runs.{Follows, Happening, happens, starves, takes}
-use Rattle.httpedge.specs.Steps.{Event, Refusal, State, id_not_above, opens, comes, goes, pumps, ticks, compacts, after_turn, answer_standing, standing_after, turn_bytes, by_connection, carried_out, connection_after, dead, dead_or_ticked, opening, received_by, refusal, starved, unless_refused, with_bytes_taken, with_connection, with_turn, writes_at}
+use Rattle.httpedge.specs.Steps.{Event, Refusal, State, id_not_above, opens, comes, goes, pumps, ticks, compacts, retypes, after_turn, answer_standing, standing_after, turn_bytes, by_connection, carried_out, connection_after, dead, dead_or_ticked, opening, received_by, refusal, starved, unless_refused, with_bytes_taken, with_connection, with_turn, writes_at}
 use Rattle.requests.specs.Replies.{answer_bytes, refusal_reply}
 use Rattle.httpedge.specs.Watches.{Turn, Watch, pumped, ticked}
 use Rattle.httpedge.proofs.Connected.{got_each, put_there, tied_same, unknown}
+use Rattle.httpedge.proofs.OtherTypes.{same_connections}
 use Rattle.serving.specs.Turns.{IsGiven}
 
 -- nothing is taken of this connection
@@ -127,6 +129,8 @@ stepped_one given s (ticks ms) asked q out =
     unless_one given s (carried_out s (ticks ms) asked) (refusal s (ticks ms)) q
     (each_one given (λ id c. with_turn (ticked s.types ms) c) s.connections q (λ c is. turn_given given (ticked s.types ms) c c.standing is) out) out
 stepped_one given s (compacts c) asked q out = unless_one given s (carried_out s (compacts c) asked) (refusal s (compacts c)) q out out
+stepped_one given s (retypes file) asked q out =
+    unless_one given s (carried_out s (retypes file) asked) (refusal s (retypes file)) q (subst (λ (all : Connections). IsGiven given (fin.get all q)) (sym (same_connections s (retyping s.types s.machine file))) out) out
 
 starved_one : (given : List ℕ) (s : State) (e : Event) (which : ℕ → Bool) (q : ℕ) → IsGiven given (fin.get s.connections q) → IsGiven given (fin.get (starved s e which).connections q)
 starved_one given s (opens id) which q out = out
@@ -140,6 +144,7 @@ starved_one given s (pumps id max) which q out =
 starved_one given s (ticks ms) which q out =
     each_one given (λ id c. dead_or_ticked s.types ms (which id) c) s.connections q (λ c is. dead_or given s.types ms (which q && writes_at ms c.standing) c is) out
 starved_one given s (compacts c) which q out = out
+starved_one given s (retypes file) which q out = out
 
 pub given_stays : (given : List ℕ) (s t : State) (h : Happening) (q : ℕ) → TakesNone h q → IsGiven given (fin.get s.connections q) → Follows s h t → IsGiven given (fin.get t.connections q)
 given_stays given s t (happens e) q none out (asked, asks, is) = subst (λ (x : State). IsGiven given (fin.get x.connections q)) (sym is) (stepped_one given s e asked q out)

@@ -4,12 +4,15 @@ use Rattle.std.specs.Prelude.{◌&&◌, option_map}
 use Rattle.std.specs.Cmp.{nat_cmp_total}
 use Rattle.std.specs.FinMap as fin
 use Rattle.std.specs.Ordering.{nat_cmp, eq_by_cmp}
+use Rattle.std.specs.declared.result.Result.{Result}
+use Rattle.std.specs.declared.result.Result.TheVariants.{Ok, Err}
 use Rattle.schema.specs.TypesFile.{ServedShape}
 use Rattle.history.specs.History.{History}
+use Rattle.verbs.specs.Retyping.{RetypeRefusal, retyping}
 use Rattle.requests.specs.Asks.{CallDecision}
 use Rattle.httpedge.specs.Connections.{Connection, Connections, Standing, waiting, watching, ended, gone, each, has_ended, is_new, with_standing, with_taken}
 use Rattle.httpedge.specs.Runs.{Follows, Happening, happens, starves, takes}
-use Rattle.httpedge.specs.Steps.{Event, Refusal, State, id_not_above, opens, comes, goes, pumps, ticks, compacts, by_connection, connection_after, dead, dead_or_ticked, opening, received_by, refusal, starved, carried_out, unless_refused, with_connection, with_turn, writes_at}
+use Rattle.httpedge.specs.Steps.{Event, Refusal, State, id_not_above, opens, comes, goes, pumps, ticks, compacts, retypes, by_connection, connection_after, dead, dead_or_ticked, opening, received_by, refusal, starved, carried_out, unless_refused, with_connection, with_turn, with_types, writes_at}
 use Rattle.httpedge.specs.Watches.{Turn, Watch, pumped, ticked}
 use Rattle.httpedge.proofs.Connected.{got_each, tied_same, unknown}
 
@@ -72,6 +75,10 @@ unless_holds : (R : Between) → Holds R → (s t : State) (o : Option Refusal) 
 unless_holds R is s t None q then = then
 unless_holds R is s t (Some why) q then = is.same (fin.get s.connections q)
 
+types_hold : (R : Between) → Holds R → (s : State) (q : ℕ) (r : Result (List ServedShape) RetypeRefusal) → R (fin.get s.connections q) (fin.get (with_types s r).connections q)
+types_hold R is s q (Ok others) = is.same (fin.get s.connections q)
+types_hold R is s q (Err why) = is.same (fin.get s.connections q)
+
 dead_or : (R : Between) → Holds R → (types : List ServedShape) (ms : ℕ) (b : Bool) (c : Connection) → R (Some c) (Some (cond b (dead c) (with_turn (ticked types ms) c)))
 dead_or R is types ms true c = is.died c
 dead_or R is types ms false c = is.turned (ticked types ms) c
@@ -86,6 +93,7 @@ stepped_holds R is s (pumps id max) asked q =
 stepped_holds R is s (ticks ms) asked q =
     unless_holds R is s _ (refusal s (ticks ms)) q (each_holds R is (λ id c. with_turn (ticked s.types ms) c) s.connections q (is.turned (ticked s.types ms)))
 stepped_holds R is s (compacts c) asked q = unless_holds R is s _ (refusal s (compacts c)) q (is.same (fin.get s.connections q))
+stepped_holds R is s (retypes file) asked q = unless_holds R is s _ (refusal s (retypes file)) q (types_hold R is s q (retyping s.types s.machine file))
 
 starved_holds : (R : Between) → Holds R → (s : State) (e : Event) (which : ℕ → Bool) (q : ℕ) → R (fin.get s.connections q) (fin.get (starved s e which).connections q)
 starved_holds R is s (opens id) which q = is.same (fin.get s.connections q)
@@ -95,6 +103,7 @@ starved_holds R is s (pumps id max) which q = there_holds R is s id q dead is.di
 starved_holds R is s (ticks ms) which q =
     each_holds R is (λ id c. dead_or_ticked s.types ms (which id) c) s.connections q (λ c. dead_or R is s.types ms (which q && writes_at ms c.standing) c)
 starved_holds R is s (compacts c) which q = is.same (fin.get s.connections q)
+starved_holds R is s (retypes file) which q = is.same (fin.get s.connections q)
 
 pub follows_hold : (R : Between) → Holds R → (s t : State) (h : Happening) (q : ℕ) → Follows s h t → R (fin.get s.connections q) (fin.get t.connections q)
 follows_hold R is s t (happens e) q (asked, asks, then) = subst (λ (x : State). R (fin.get s.connections q) (fin.get x.connections q)) (sym then) (stepped_holds R is s e asked q)

@@ -11,11 +11,13 @@ use Rattle.std.specs.declared.cmp.Ordering.TheVariants.{Greater}
 use Rattle.std.proofs.lemmas.Bool.{and_parts, ltb-true}
 use Rattle.schema.specs.TypesFile.{ServedShape}
 use Rattle.history.specs.History.{History}
+use Rattle.verbs.specs.Retyping.{retyping}
 use Rattle.requests.specs.Asks.{CallDecision}
 use Rattle.httpedge.specs.Connections.{Connection, Connections, Standing, waiting, watching, ended, gone, each, is_new, written_on}
 use Rattle.httpedge.specs.Runs.{Steps}
-use Rattle.httpedge.specs.Steps.{Event, Refusal, State, opens, comes, goes, pumps, ticks, compacts, by_connection, carried_out, id_not_above, opening, received_by, refusal, start, unless_refused}
+use Rattle.httpedge.specs.Steps.{Event, Refusal, State, opens, comes, goes, pumps, ticks, compacts, retypes, by_connection, carried_out, id_not_above, opening, received_by, refusal, start, unless_refused}
 use Rattle.httpedge.proofs.Connected.{tied_same}
+use Rattle.httpedge.proofs.OtherTypes.{same_connections}
 use Rattle.recorder.proofs.Kept.{refused_same}
 use Rattle.world.specs.Seen.{reply_seen}
 use Rattle.world.specs.Serving.{all_written, opened_by, written_at}
@@ -142,6 +144,7 @@ carried_keys law s (pumps id max) asked free = by_known s id (fin.get s.connecti
 carried_keys law s (ticks ms) asked free =
     same_keys (carried_out s (ticks ms) asked).connections s.connections (λ q. ap is_some (law _ s.connections q) ∙ still_some _ (fin.get s.connections q)) ∙ sym (append-nil (fin.keys s.connections))
 carried_keys law s (compacts c) asked free = sym (append-nil (fin.keys s.connections))
+carried_keys law s (retypes file) asked free = ap fin.keys (same_connections s (retyping s.types s.machine file)) ∙ sym (append-nil (fin.keys s.connections))
 
 unrefused : (s t : State) (o : Option Refusal) → is_none o ≡ true → unless_refused o s t ≡ t
 unrefused s t None is = refl

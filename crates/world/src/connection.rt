@@ -34,6 +34,7 @@ pub(crate) fn is_by_peer_on(own: &Option<ClientConnection>, event: &Event) -> bo
         Event::Pump(_, _) => false,
         Event::Tick(_) => false,
         Event::Compact(_) => false,
+        Event::Retype(_) => false,
     }
 }
 

@@ -5,8 +5,8 @@ use httpedge::Event;
 /// What happens next.
 #[derive(Debug, Drop)]
 pub enum WorldEvent {
-    /// An event of the hub: of another peer's connection, of a watch, of the clock, or a compaction. One that would open,
-    /// use or leave the client's connection does nothing.
+    /// An event of the hub: of another peer's connection, of a watch, of the clock, a compaction, or other types. One that
+    /// would open, use or leave the client's connection does nothing.
     Other(Event),
     /// Another peer's bytes come in one piece on a new connection.
     Request(Vec<u8>),

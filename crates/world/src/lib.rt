@@ -1,6 +1,6 @@
 //! A server and a client in one process, event by event: requests of others, the client's request and its reply in pieces,
-//! watches, ticks, compactions, cuts, restarts, and counts that are applied. What an event makes of both is defined in
-//! `world_laws`.
+//! watches, ticks, compactions, other types, cuts, restarts, and counts that are applied. What an event makes of both is
+//! defined in `world_laws`.
 //!
 //! Promises: the trace of a run is that of its definition: what was written on each connection, and a report for each
 //! event after which the client's revision is the first, or has risen, with the client's objects, each index of them and

@@ -32,7 +32,7 @@ use Rattle.world_laws.proofs.Passes.{AsksFor, IsListCall, IsNextCall, IsWatchCal
 use Rattle.world_laws.proofs.Laws.{Laws}
 use Rattle.world_laws.proofs.Telling.{refusal_comes}
 use Rattle.world_laws.proofs.Turns.{watch_begins}
-use Rattle.world_laws.specs.Tasks.{IsTask, Task, client_settings, wanted_by}
+use Rattle.world_laws.specs.Tasks.{IsStillTask, Task, client_settings, wanted_by, with_shape}
 
 -- what was written on the connection answers a client that asks so
 pub record IsAnswered (task : Task) (h : History) (m : ℕ) (asks : client.Asks) (cache : Option Cache) (c : Client) (unsent : List ℕ) (d : Connection) : Type 0 where
@@ -42,8 +42,12 @@ pub record IsAnswered (task : Task) (h : History) (m : ℕ) (asks : client.Asks)
   pub comes : Comes (server_of task h) (wanted_by task) m asks cache items to
   pub stands : Stands task h c unsent to items d.written d.standing
 
-module _ (laws : Laws) (types : List ServedShape) (task : Task) (h : History) (m last_tick : ℕ) (c : Client) (unsent : List ℕ) (conn : Connection) (now whole : List ℕ) (asked : CallDecision) (is : IsTask types task)
+module _ (laws : Laws) (types : List ServedShape) (task : Task) (h : History) (m last_tick : ℕ) (c : Client) (unsent : List ℕ) (conn : Connection) (now whole : List ℕ) (asked : CallDecision) (is : IsStillTask types task)
     (is_machine : IsMachine types h) (unicode : AreUnicode h.changes) (begun : 1 ≤ m) (low : m ≤ h.current) (unwritten : conn.written ≡ []) where
+  -- the task as its type is now
+  abbrev task_now : Task
+  task_now = with_shape task is.0
+
   abbrev Answers : client.Asks → Option Cache → CallDecision → Type 0
   Answers asks cache asked = IsAnswered task h m asks cache c unsent (connection_after types h last_tick conn now asked)
 
@@ -73,7 +77,7 @@ module _ (laws : Laws) (types : List ServedShape) (task : Task) (h : History) (m
   plain_answer asks cache call items to unwatched read comes =
       subst (AnswersBy asks cache (planned types h call).answer) (sym unwatched) (record { items = items; to = to; read = first_bytes _ items read; comes = comes; stands = tt })
 
-  watch_answer : (call : Call) (now : Cache) → c.asks ≡ follow → now.revision ≤ h.current → WatchOpens types task h now.revision call → Answers follow (Some now) (accepted call)
+  watch_answer : (call : Call) (now : Cache) → c.asks ≡ follow → now.revision ≤ h.current → WatchOpens types task_now h now.revision call → Answers follow (Some now) (accepted call)
   watch_answer call now asks come opens =
       let a : Answer = (planned types h call).answer in
       let r : ℕ = now.revision in
@@ -104,24 +108,24 @@ module _ (laws : Laws) (types : List ServedShape) (task : Task) (h : History) (m
   answers_by : (asks : client.Asks) (cache : Option Cache) → c.asks ≡ asks → IsCache (server_of task h) m cache → IsAsked (server_of task h) m asks cache → Asks types whole asked
       → whole ≡ request_with task (query_at (client_settings task) asks (option_map (λ now. now.revision) cache)) → Answers asks cache asked
   answers_by first cache asks cached able one is_whole =
-      by_asked first cache (IsListCall types task None) one (subst (λ (l : List ℕ). AsksFor types l (IsListCall types task None)) (sym is_whole) (asks_first types task is))
-      (λ call such. let comes = first_page_comes types task h m call is is_machine unicode low such in plain_answer first cache call comes.items 0 comes.unwatched comes.read comes.lists)
+      by_asked first cache (IsListCall types task_now None) one (subst (λ (l : List ℕ). AsksFor types l (IsListCall types task_now None)) (sym is_whole) (asks_first types task_now is.1))
+      (λ call such. let comes = first_page_comes types task_now h m call is.1 is_machine unicode low such in plain_answer first cache call comes.items 0 comes.unwatched comes.read comes.lists)
   answers_by (next r token aside) cache asks cached able one is_whole =
-      by_asked (next r token aside) cache (IsNextCall types task r aside) one
-      (subst (λ (l : List ℕ). AsksFor types l (IsNextCall types task r aside)) (sym is_whole) (asks_next types task h r token aside is is_machine unicode able.1 able.2))
+      by_asked (next r token aside) cache (IsNextCall types task_now r aside) one
+      (subst (λ (l : List ℕ). AsksFor types l (IsNextCall types task_now r aside)) (sym is_whole) (asks_next types task_now h r token aside is.1 is_machine unicode able.1 able.2))
       (λ call such.
-      let comes = next_page_comes types task h m r token aside call is is_machine unicode able.0 able.1 able.2 such in
+      let comes = next_page_comes types task_now h m r token aside call is.1 is_machine unicode able.0 able.1 able.2 such in
       plain_answer (next r token aside) cache call comes.items 0 comes.unwatched comes.read comes.lists)
   answers_by follow None asks cached able one is_whole = absurd (true≢false (sym able))
   answers_by follow (Some now) asks cached able one is_whole =
       let same : now.revision ≡ m = cached.0 in
       let top : h.current ≤ last_revision = is_machine.whole.high in
       let come : now.revision ≤ h.current = omega (arith, same, low) in
-      by_asked follow (Some now) (IsWatchCall types task now.revision) one
-      (subst (λ (l : List ℕ). AsksFor types l (IsWatchCall types task now.revision)) (sym is_whole) (asks_watch types task now.revision is (omega (arith, come, top))))
-      (λ call such. begins now asks come call (watch_begins types task h now.revision call is is_machine (omega (arith, same, begun)) come such))
+      by_asked follow (Some now) (IsWatchCall types task_now now.revision) one
+      (subst (λ (l : List ℕ). AsksFor types l (IsWatchCall types task_now now.revision)) (sym is_whole) (asks_watch types task_now now.revision is.1 (omega (arith, come, top))))
+      (λ call such. begins now asks come call (watch_begins types task_now h now.revision call is.1 is_machine (omega (arith, same, begun)) come such))
     where
-      begins : (now : Cache) → c.asks ≡ follow → now.revision ≤ h.current → (call : Call) → WatchOpens types task h now.revision call ⊎ WatchRefused types task h now.revision call → Answers follow (Some now) (accepted call)
+      begins : (now : Cache) → c.asks ≡ follow → now.revision ≤ h.current → (call : Call) → WatchOpens types task_now h now.revision call ⊎ WatchRefused types task_now h now.revision call → Answers follow (Some now) (accepted call)
       begins now asks come call (inl opens) = watch_answer call now asks come opens
       begins now asks come call (inr refused) = plain_answer follow (Some now) call refused.items refused.to refused.unwatched refused.read refused.watches
 

@@ -9,7 +9,7 @@ use Rattle.httpedge.proofs.Outcomes.{ComesBy, ComesOn}
 use Rattle.httpedge.proofs.Staying.{others}
 use Rattle.httpedge.specs.Connections.{Connection, Standing, ended, gone, is_new, waiting, watching, with_written}
 use Rattle.httpedge.specs.Runs.{Steps, happens}
-use Rattle.httpedge.specs.Steps.{Event, State, after_turn, by_connection, carried_out, comes, compacts, connection_after, goes, opens, pumps, refusal, standing_after, ticks, turn_bytes, unless_refused, with_connection, with_turn}
+use Rattle.httpedge.specs.Steps.{Event, State, after_turn, by_connection, carried_out, comes, compacts, connection_after, goes, opens, pumps, refusal, retypes, standing_after, ticks, turn_bytes, unless_refused, with_connection, with_turn}
 use Rattle.httpedge.specs.Watches.{Turn, Watch, pumped, ticked}
 use Rattle.world_laws.specs.World.{ClientConnection, is_by_peer_on}
 
@@ -63,7 +63,7 @@ came s t id c bytes got steps =
     let by : ComesBy s id (Some c) bytes t = subst (λ (o : Option Connection). ComesBy s id o bytes t) got steps in
     came_by s t id c bytes c.standing got (by.0, by.1, by.2)
 
--- ---- events of other peers, of watches, of the clock, and compactions
+-- ---- events of other peers, of watches, of the clock, compactions, and other types
 
 abbrev pub IsTurn : State → Watch → Turn → Type 0
 IsTurn s w turn = ((max : ℕ) × (turn ≡ pumped s.machine max w)) ⊎ ((ms : ℕ) × (turn ≡ ticked s.types ms w))
@@ -110,6 +110,7 @@ stays_or_turns s t own (opens id) c isnt got steps = inl (others s t (happens (o
 stays_or_turns s t own (comes id bytes) c isnt got steps = inl (others s t (happens (comes id bytes)) own.id (apart own.id id isnt) steps ∙ got)
 stays_or_turns s t own (goes id) c isnt got steps = inl (others s t (happens (goes id)) own.id (apart own.id id isnt) steps ∙ got)
 stays_or_turns s t own (compacts r) c isnt got steps = inl (others s t (happens (compacts r)) own.id tt steps ∙ got)
+stays_or_turns s t own (retypes file) c isnt got steps = inl (others s t (happens (retypes file)) own.id tt steps ∙ got)
 stays_or_turns s t own (ticks ms) c isnt got steps = ticks_by s t own.id ms c got (by_refusal s t (ticks ms) steps)
 stays_or_turns s t own (pumps id max) c isnt got steps = go (own.id == id) refl
   where

@@ -2,7 +2,6 @@
 use Rattle.std.proofs.Common.{◌≡◌, inl, inr, ℕ, ◌+◌, ◌≤◌, Bool, true, false, List, [], ◌∷◌, ◌++◌, length, take, drop, Option, Some, None, refl, sym, ap, subst, ◌∙◌, arith}
 use Rattle.std.specs.FinMap as fin
 use Rattle.std.specs.Prelude.{nat_le, if◌then◌else◌}
-use Rattle.schema.specs.TypesFile.{ServedShape}
 use Rattle.history.specs.History.{History}
 use Rattle.verbs.specs.Machine.{AreUnicode}
 use Rattle.verbs.specs.Reasons.{code_of}
@@ -26,7 +25,7 @@ use Rattle.world_laws.proofs.Mirror.{server_of}
 use Rattle.world_laws.proofs.Moving.{GoesHigher, NotBy, closed_goes, closed_silent, goes_follows, goes_heard, holds_after, holds_by_others, holds_came, new_apart, not_by, silent_goes, told_goes, unicode_before}
 use Rattle.world_laws.proofs.Laws.{Laws}
 use Rattle.world_laws.proofs.Telling.{nothing_comes, nothing_read, refusal_comes}
-use Rattle.world_laws.specs.Tasks.{IsTask, Task, client_settings, wanted_by}
+use Rattle.world_laws.specs.Tasks.{Task, client_settings, wanted_by}
 use Rattle.world_laws.specs.World.{ClientConnection, ComesInOnePiece, Cuts, Delivers, Hands, Happens, HubTakes, Leaves, Reconciles, Requests, Sends, Steps, TakesUnless, ToClient, ToServer, World, WorldEvent, after_move, cut, is_by_peer_on, is_over, other, reconcile, reply_on, request, restart, send, to_client, to_server}
 
 -- ---- what is Unicode was so before
@@ -97,34 +96,34 @@ steps_before laws task w v e (mid, happens, is) unicode = happens_before laws ta
 
 -- ---- the events
 
-module _ (laws : Laws) (types : List ServedShape) (task : Task) (is_task : IsTask types task) where
+module _ (laws : Laws) (task : Task) where
   -- it holds on, from a revision that isn't below
   abbrev pub HoldsOn : ℕ → World → Type 0
-  HoldsOn m v = (n : ℕ) × (m ≤ n) × Holds types task n v
+  HoldsOn m v = (n : ℕ) × (m ≤ n) × Holds task n v
 
-  on_as_before : (m : ℕ) (v : World) → Holds types task m v → HoldsOn m v
+  on_as_before : (m : ℕ) (v : World) → Holds task m v → HoldsOn m v
   on_as_before m v is = (m, omega arith, is)
 
-  same_holds : (m : ℕ) (w v : World) → v ≡ w → Holds types task m w → Holds types task m v
-  same_holds m w v same is = subst (Holds types task m) (sym same) is
+  same_holds : (m : ℕ) (w v : World) → v ≡ w → Holds task m w → Holds task m v
+  same_holds m w v same is = subst (Holds task m) (sym same) is
 
   -- other peers
 
-  takes_hold : (m : ℕ) (w v : World) (e : edge.Event) → is_by_peer_on w.connection e ≡ false → Holds types task m w → IsUnicode w → HubTakes w e v → Holds types task m v
+  takes_hold : (m : ℕ) (w v : World) (e : edge.Event) → is_by_peer_on w.connection e ≡ false → Holds task m w → IsUnicode w → HubTakes w e v → Holds task m v
   takes_hold m w v e isnt is unicode (t, steps, same) =
-      same_holds m (record w { hub = t }) v same (holds_by_others laws types task is_task m w e t w.requested is unicode (not_by w.client.is_asking w.connection e isnt) steps)
+      same_holds m (record w { hub = t }) v same (holds_by_others laws task m w e t w.requested is unicode (not_by w.client.is_asking w.connection e isnt) steps)
 
-  unless_hold : (m : ℕ) (w v : World) (b : Bool) (e : edge.Event) → is_by_peer_on w.connection e ≡ b → Holds types task m w → IsUnicode w → TakesUnless b w e v → Holds types task m v
+  unless_hold : (m : ℕ) (w v : World) (b : Bool) (e : edge.Event) → is_by_peer_on w.connection e ≡ b → Holds task m w → IsUnicode w → TakesUnless b w e v → Holds task m v
   unless_hold m w v true e by is unicode same = same_holds m w v same is
   unless_hold m w v false e by is unicode takes = takes_hold m w v e by is unicode takes
 
   -- the client's connection is another one
-  comes_hold : (m : ℕ) (w v : World) (id : ℕ) (bytes : List ℕ) → is_new w.hub.connections id ≡ true → Holds types task m w → IsUnicode v → ComesInOnePiece w id bytes v → Holds types task m v
+  comes_hold : (m : ℕ) (w v : World) (id : ℕ) (bytes : List ℕ) → is_new w.hub.connections id ≡ true → Holds task m w → IsUnicode v → ComesInOnePiece w id bytes v → Holds task m v
   comes_hold m w v id bytes new is unicode (mid, (s, opens, is_mid), (t, comes, same)) =
       let apart = new_apart task w.hub.machine m w.client w.client.is_asking w.connection w.hub.connections id new is.goes in
       let mid_unicode : AreUnicode s.machine.changes = unicode_before laws s t (edge.comes id bytes) (subst (λ (x : World). runs.Steps x.hub (edge.comes id bytes) t) is_mid comes) (subst IsUnicode same unicode) in
-      let first : Holds types task m (record w { hub = s }) = holds_by_others laws types task is_task m w (edge.opens id) s w.requested is (unicode_before laws w.hub s (edge.opens id) opens mid_unicode) apart opens in
-      let second : Holds types task m (record w { hub = t }) = holds_by_others laws types task is_task m (record w { hub = s }) (edge.comes id bytes) t w.requested first mid_unicode
+      let first : Holds task m (record w { hub = s }) = holds_by_others laws task m w (edge.opens id) s w.requested is (unicode_before laws w.hub s (edge.opens id) opens mid_unicode) apart opens in
+      let second : Holds task m (record w { hub = t }) = holds_by_others laws task m (record w { hub = s }) (edge.comes id bytes) t w.requested first mid_unicode
       (apart_comes w.client.is_asking w.connection apart) (subst (λ (x : World). runs.Steps x.hub (edge.comes id bytes) t) is_mid comes) in
       same_holds m (record w { hub = t }) v (same ∙ ap (λ (x : World). record x { hub = t }) is_mid) second
     where
@@ -133,13 +132,13 @@ module _ (laws : Laws) (types : List ServedShape) (task : Task) (is_task : IsTas
       apart_comes true None isnt = tt
       apart_comes true (Some own) isnt = isnt
 
-  requests_hold : (m : ℕ) (w v : World) (id : Option ℕ) (bytes : List ℕ) → next_id w.hub.connections ≡ id → Holds types task m w → IsUnicode v → Requests w id bytes v → Holds types task m v
+  requests_hold : (m : ℕ) (w v : World) (id : Option ℕ) (bytes : List ℕ) → next_id w.hub.connections ≡ id → Holds task m w → IsUnicode v → Requests w id bytes v → Holds task m v
   requests_hold m w v None bytes is_next is unicode same = same_holds m w v same is
   requests_hold m w v (Some id) bytes is_next is unicode comes =
       comes_hold m (record w { requested = w.requested ++ id ∷ [] }) v id bytes (next_is_new w.hub.connections id is_next)
-      (record { begun = is.begun; types_are = is.types_are; machine = is.machine; goes = is.goes }) unicode comes
+      (record { begun = is.begun; task_is = is.task_is; machine = is.machine; goes = is.goes }) unicode comes
 
-  reconciles_hold : (m : ℕ) (w v : World) (now : Option Cache) (id : Option ℕ) → next_id w.hub.connections ≡ id → Holds types task m w → IsUnicode v → Reconciles task w now id v → Holds types task m v
+  reconciles_hold : (m : ℕ) (w v : World) (now : Option Cache) (id : Option ℕ) → next_id w.hub.connections ≡ id → Holds task m w → IsUnicode v → Reconciles task w now id v → Holds task m v
   reconciles_hold m w v None id is_next is unicode same = same_holds m w v same is
   reconciles_hold m w v (Some now) None is_next is unicode same = same_holds m w v same is
   reconciles_hold m w v (Some now) (Some id) is_next is unicode comes = comes_hold m w v id _ (next_is_new w.hub.connections id is_next) is unicode comes
@@ -148,31 +147,31 @@ module _ (laws : Laws) (types : List ServedShape) (task : Task) (is_task : IsTas
 
   -- a client that asks nothing follows on
   pub record Left (m : ℕ) (w v : World) : Type 0 where
-    holds : Holds types task m v
+    holds : Holds task m v
     same : v.client ≡ w.client
     new : (id : ℕ) → is_new v.hub.connections id ≡ is_new w.hub.connections id
 
-  leaves_hold : (m : ℕ) (w v : World) (own : Option ClientConnection) → w.client.is_asking ≡ false → Holds types task m w → Leaves w own v → Left m w v
+  leaves_hold : (m : ℕ) (w v : World) (own : Option ClientConnection) → w.client.is_asking ≡ false → Holds task m w → Leaves w own v → Left m w v
   leaves_hold m w v None silent is same = record { holds = same_holds m w v same is; same = ap (λ (x : World). x.client) same; new = λ id. ap (λ (x : World). is_new x.hub.connections id) same }
   leaves_hold m w v (Some own) silent is (t, steps, same) =
       let any = goes_follows task w.hub.machine m w.client w.client.is_asking w.connection w.hub.connections is.goes in
       record {
-        holds = same_holds m (record w { connection = None; hub = t }) v same (holds_after laws types task m m w (edge.goes own.id) t w.client None w.requested is (omega arith) steps
+        holds = same_holds m (record w { connection = None; hub = t }) v same (holds_after laws task m m w (edge.goes own.id) t w.client None w.requested is (omega arith) steps
             (silent_goes task w.hub.machine m w.client None t.connections any.0 any.1 silent any.2));
         same = ap (λ (x : World). x.client) same;
         new = λ id. ap (λ (x : World). is_new x.hub.connections id) same ∙ goes_new w.hub t own.id id steps;
       }
 
-  with_client : (m : ℕ) (w : World) (c : Client) → Holds types task m w → Goes task w.hub.machine m c c.is_asking w.connection w.hub.connections → Holds types task m (record w { client = c })
-  with_client m w c is goes = record { begun = is.begun; types_are = is.types_are; machine = is.machine; goes = goes }
+  with_client : (m : ℕ) (w : World) (c : Client) → Holds task m w → Goes task w.hub.machine m c c.is_asking w.connection w.hub.connections → Holds task m (record w { client = c })
+  with_client m w c is goes = record { begun = is.begun; task_is = is.task_is; machine = is.machine; goes = goes }
 
-  cuts_hold : (m : ℕ) (w v : World) (own : Option ClientConnection) → Holds types task m w → Cuts w own v → Holds types task m v
+  cuts_hold : (m : ℕ) (w v : World) (own : Option ClientConnection) → Holds task m w → Cuts w own v → Holds task m v
   cuts_hold m w v None is same = same_holds m w v same is
   cuts_hold m w v (Some own) is leaves =
       (leaves_hold m (record w { client = closed w.client }) v (Some own) (closed_silent w.client)
       (with_client m w (closed w.client) is (closed_goes task w.hub.machine m w.client w.client.is_asking w.connection w.connection w.hub.connections w.hub.connections is.goes)) leaves).holds
 
-  restarts_hold : (m : ℕ) (w v : World) → Holds types task m w → Leaves (record w { client = restarted w.client }) w.connection v → Holds types task m v
+  restarts_hold : (m : ℕ) (w v : World) → Holds task m w → Leaves (record w { client = restarted w.client }) w.connection v → Holds task m v
   restarts_hold m w v is leaves =
       let any = goes_follows task w.hub.machine m w.client w.client.is_asking w.connection w.hub.connections is.goes in
       (leaves_hold m (record w { client = restarted w.client }) v w.connection refl
@@ -209,18 +208,18 @@ module _ (laws : Laws) (types : List ServedShape) (task : Task) (is_task : IsTas
         stands = tt;
       }
 
-  opens_hold : (m : ℕ) (w : World) (id : ℕ) (bytes : List ℕ) (t : edge.State) → w.client.is_asking ≡ false → is_new w.hub.connections id ≡ true → bytes ≡ request_of (client_settings task) w.client → Holds types task m w
+  opens_hold : (m : ℕ) (w : World) (id : ℕ) (bytes : List ℕ) (t : edge.State) → w.client.is_asking ≡ false → is_new w.hub.connections id ≡ true → bytes ≡ request_of (client_settings task) w.client → Holds task m w
       → runs.Steps w.hub (edge.opens id) t
-      → Holds types task m (record { hub = t; requested = w.requested; client = asked w.client; connection = Some (record { id = id; unsent = bytes; handed = 0 }) })
+      → Holds task m (record { hub = t; requested = w.requested; client = asked w.client; connection = Some (record { id = id; unsent = bytes; handed = 0 }) })
   opens_hold m w id bytes t silent new is_request is steps =
       let own : ClientConnection = record { id = id; unsent = bytes; handed = 0 } in
       let follows = subst (λ (b : Bool). Goes task w.hub.machine m w.client b w.connection w.hub.connections) silent is.goes in
-      holds_after laws types task m m w (edge.opens id) t (asked w.client) (Some own) w.requested is (omega arith) steps
+      holds_after laws task m m w (edge.opens id) t (asked w.client) (Some own) w.requested is (omega arith) steps
       (subst (IsServedOn task w.hub.machine m (asked w.client) own) (sym (opens_so w.hub t id new steps))
       (opening_served w.hub.machine m w.client id (nat_le max_open (open_count w.hub.connections)) bytes is_request follows))
 
-  sends_hold : (m : ℕ) (w v : World) (id : ℕ) (bytes : List ℕ) → w.client.is_asking ≡ false → is_new w.hub.connections id ≡ true → bytes ≡ request_of (client_settings task) w.client → Holds types task m w
-      → Sends w (Some id) (Some bytes) v → Holds types task m v
+  sends_hold : (m : ℕ) (w v : World) (id : ℕ) (bytes : List ℕ) → w.client.is_asking ≡ false → is_new w.hub.connections id ≡ true → bytes ≡ request_of (client_settings task) w.client → Holds task m w
+      → Sends w (Some id) (Some bytes) v → Holds task m v
   sends_hold m w v id bytes silent new is_request is (alone, mid, leaves, (t, steps, is_mid), same) =
       let left = leaves_hold m w alone w.connection silent is leaves in
       let own : ClientConnection = record { id = id; unsent = bytes; handed = 0 } in
@@ -228,7 +227,7 @@ module _ (laws : Laws) (types : List ServedShape) (task : Task) (is_task : IsTas
       same_holds m (f (record alone { hub = t })) v (same ∙ ap f is_mid)
       (opens_hold m alone id bytes t (ap (λ (c : Client). c.is_asking) left.same ∙ silent) (left.new id ∙ new) (is_request ∙ ap (request_of (client_settings task)) (sym left.same)) left.holds steps)
 
-  send_by : (m : ℕ) (w v : World) (id : Option ℕ) (b : Bool) → next_id w.hub.connections ≡ id → w.client.is_asking ≡ b → Holds types task m w → Sends w id (if b then None else Some (request_of (client_settings task) w.client)) v → Holds types task m v
+  send_by : (m : ℕ) (w v : World) (id : Option ℕ) (b : Bool) → next_id w.hub.connections ≡ id → w.client.is_asking ≡ b → Holds task m w → Sends w id (if b then None else Some (request_of (client_settings task) w.client)) v → Holds task m v
   send_by m w v None b is_next asks is same = same_holds m w v same is
   send_by m w v (Some id) true is_next asks is same = same_holds m w v same is
   send_by m w v (Some id) false is_next asks is sends = sends_hold m w v id (request_of (client_settings task) w.client) asks (next_is_new w.hub.connections id is_next) refl is sends
@@ -236,29 +235,29 @@ module _ (laws : Laws) (types : List ServedShape) (task : Task) (is_task : IsTas
   -- bytes move
 
   -- where the reply is over the client is told
-  moved_holds : (m : ℕ) (w : World) (own : ClientConnection) → w.connection ≡ Some own → Holds types task m w → Holds types task m (after_move w own)
+  moved_holds : (m : ℕ) (w : World) (own : ClientConnection) → w.connection ≡ Some own → Holds task m w → Holds task m (after_move w own)
   moved_holds m w own has is =
       let there : Goes task w.hub.machine m w.client w.client.is_asking (Some own) w.hub.connections = subst (λ (o : Option ClientConnection). Goes task w.hub.machine m w.client w.client.is_asking o w.hub.connections) has is.goes in
       record {
         begun = is.begun;
-        types_are = is.types_are;
+        task_is = is.task_is;
         machine = is.machine;
         goes = told_goes task w.hub.machine m w.client (is_over w own) (Some own) w.hub.connections there;
       }
 
-  delivers_hold : (m : ℕ) (w v : World) (own : ClientConnection) (n : ℕ) (piece : List ℕ) → take n own.unsent ≡ piece → w.connection ≡ Some own → Holds types task m w → IsUnicode w → Delivers w own n piece v → Holds types task m v
+  delivers_hold : (m : ℕ) (w v : World) (own : ClientConnection) (n : ℕ) (piece : List ℕ) → take n own.unsent ≡ piece → w.connection ≡ Some own → Holds task m w → IsUnicode w → Delivers w own n piece v → Holds task m v
   delivers_hold m w v own n [] is_piece has is unicode same = same_holds m w v same is
   delivers_hold m w v own n (b ∷ bs) is_piece has is unicode (mid, (t, steps, is_mid), same) =
       let rest : ClientConnection = record own { unsent = drop n own.unsent } in
       let x : World = record { hub = t; requested = w.requested; client = w.client; connection = Some rest } in
-      let came : Holds types task m x = holds_came laws types task is_task m w own n (b ∷ bs) t is_piece has is unicode steps in
+      let came : Holds task m x = holds_came laws task m w own n (b ∷ bs) t is_piece has is unicode steps in
       same_holds m (after_move x rest) v (same ∙ ap (λ (y : World). after_move y rest) is_mid) (moved_holds m x rest refl came)
 
-  to_server_hold : (m : ℕ) (w v : World) (n : ℕ) (own : Option ClientConnection) → w.connection ≡ own → Holds types task m w → IsUnicode w → ToServer w n own v → Holds types task m v
+  to_server_hold : (m : ℕ) (w v : World) (n : ℕ) (own : Option ClientConnection) → w.connection ≡ own → Holds task m w → IsUnicode w → ToServer w n own v → Holds task m v
   to_server_hold m w v n None has is unicode same = same_holds m w v same is
   to_server_hold m w v n (Some own) has is unicode delivers = delivers_hold m w v own n (take n own.unsent) refl has is unicode delivers
 
-  hands_hold : (m : ℕ) (w v : World) (own : ClientConnection) (n : ℕ) (piece : List ℕ) → take n (drop own.handed (reply_on w own)) ≡ piece → w.connection ≡ Some own → Holds types task m w
+  hands_hold : (m : ℕ) (w v : World) (own : ClientConnection) (n : ℕ) (piece : List ℕ) → take n (drop own.handed (reply_on w own)) ≡ piece → w.connection ≡ Some own → Holds task m w
       → Hands (wanted_by task) w own piece v → HoldsOn m v
   hands_hold m w v own n [] is_piece has is same = on_as_before m v (same_holds m w v same is)
   hands_hold m w v own n (b ∷ bs) is_piece has is (d, receives, same) =
@@ -268,16 +267,16 @@ module _ (laws : Laws) (types : List ServedShape) (task : Task) (is_task : IsTas
       let begun : 1 ≤ m = is.begun in
       let higher : m ≤ on.0 = on.1 in
       let x : World = record w { client = d; connection = Some rest } in
-      let heard : Holds types task on.0 x = record { begun = omega (arith, begun, higher); types_are = is.types_are; machine = is.machine; goes = on.2 } in
+      let heard : Holds task on.0 x = record { begun = omega (arith, begun, higher); task_is = is.task_is; machine = is.machine; goes = on.2 } in
       (on.0, higher, same_holds on.0 (after_move x rest) v same (moved_holds on.0 x rest refl heard))
 
-  to_client_hold : (m : ℕ) (w v : World) (n : ℕ) (own : Option ClientConnection) → w.connection ≡ own → Holds types task m w → ToClient (wanted_by task) w n own v → HoldsOn m v
+  to_client_hold : (m : ℕ) (w v : World) (n : ℕ) (own : Option ClientConnection) → w.connection ≡ own → Holds task m w → ToClient (wanted_by task) w n own v → HoldsOn m v
   to_client_hold m w v n None has is same = on_as_before m v (same_holds m w v same is)
   to_client_hold m w v n (Some own) has is hands = hands_hold m w v own n (take n (drop own.handed (reply_on w own))) refl has is hands
 
   -- ---- one event
 
-  happens_hold : (m : ℕ) (w v : World) (e : WorldEvent) → Holds types task m w → IsUnicode v → Happens task w e v → HoldsOn m v
+  happens_hold : (m : ℕ) (w v : World) (e : WorldEvent) → Holds task m w → IsUnicode v → Happens task w e v → HoldsOn m v
   happens_hold m w v (other e) is unicode takes =
       on_as_before m v (unless_hold m w v (is_by_peer_on w.connection e) e refl is (unless_before laws w v (is_by_peer_on w.connection e) e takes unicode) takes)
   happens_hold m w v (request bytes) is unicode requests = on_as_before m v (requests_hold m w v (next_id w.hub.connections) bytes refl is unicode requests)
@@ -315,7 +314,7 @@ module _ (laws : Laws) (types : List ServedShape) (task : Task) (is_task : IsTas
   taken_goes h m c true None all is = is
   taken_goes h m c true (Some own) all is = taken_served h m c own (fin.get all own.id) is
 
-  pub steps_hold : (m : ℕ) (w v : World) (e : WorldEvent) → Holds types task m w → IsUnicode v → Steps task w e v → HoldsOn m v
+  pub steps_hold : (m : ℕ) (w v : World) (e : WorldEvent) → Holds task m w → IsUnicode v → Steps task w e v → HoldsOn m v
   steps_hold m w v e is unicode (mid, happens, same) =
       let on : HoldsOn m mid = happens_hold m w mid e is (subst IsUnicode same unicode) happens in (
         on.0,

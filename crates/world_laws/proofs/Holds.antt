@@ -2,7 +2,6 @@
 use Rattle.std.specs.Prelude.{◌≡◌, ◌⊎◌, ℕ, ◌≤◌, Bool, true, false, List, [], ◌∷◌, ◌++◌, length, map, take, Option, Some, None, ⊤}
 use Rattle.std.specs.FinMap as fin
 use Rattle.std.specs.List.{All}
-use Rattle.schema.specs.TypesFile.{ServedShape}
 use Rattle.history.specs.History.{History}
 use Rattle.verbs.specs.Machine.{IsMachine}
 use Rattle.requests.specs.ReplyBytes.{chunks, watch_head}
@@ -16,7 +15,7 @@ use Rattle.wireclient.specs.Reads.{Items, has_closed}
 use Rattle.wireclient.specs.Reply.{Told, head, line}
 use Rattle.world_laws.proofs.Mirror.{server_of}
 use Rattle.world_laws.proofs.Passes.{IsTaskWatch}
-use Rattle.world_laws.specs.Tasks.{Task, client_settings, wanted_by}
+use Rattle.world_laws.specs.Tasks.{IsStillTask, Task, client_settings, wanted_by}
 use Rattle.world_laws.specs.World.{ClientConnection, World}
 
 -- the client still reads its watch: its head and these lines were written, and the watch stands at this revision
@@ -59,9 +58,9 @@ Goes task machine m c false own all = Follows (server_of task machine) (wanted_b
 Goes task machine m c true None all = ⊥
 Goes task machine m c true (Some own) all = IsServedOn task machine m c own (fin.get all own.id)
 
--- m is the highest revision that the client ever reported, or 1
-pub record Holds (types : List ServedShape) (task : Task) (m : ℕ) (w : World) : Type 0 where
+-- m is the highest revision that the client ever reported, or 1; the task is one over the types that are served now, and the machine is theirs
+pub record Holds (task : Task) (m : ℕ) (w : World) : Type 0 where
   pub begun : 1 ≤ m
-  pub types_are : w.hub.types ≡ types
-  pub machine : IsMachine types w.hub.machine
+  pub task_is : IsStillTask w.hub.types task
+  pub machine : IsMachine w.hub.types w.hub.machine
   pub goes : Goes task w.hub.machine m w.client w.client.is_asking w.connection w.hub.connections

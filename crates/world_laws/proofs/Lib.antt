@@ -22,6 +22,7 @@ pub mod SeenLines
 pub mod SeenTexts
 pub mod Selected
 pub mod Served
+pub mod Shaped
 pub mod StrictFronts
 pub mod TaskObjects
 pub mod Telling

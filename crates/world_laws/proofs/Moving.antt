@@ -3,7 +3,6 @@ use Rattle.std.proofs.Common.{◌≡◌, inl, inr, ℕ, ◌+◌, ◌≤◌, Bool
 use Rattle.std.proofs.lemmas.Bool.{eqb-true, false_from_ne_true}
 use Rattle.std.specs.FinMap as fin
 use Rattle.std.specs.Prelude.{◌==◌, option_map, unwrap_or, if◌then◌else◌, ⊤}
-use Rattle.schema.specs.TypesFile.{ServedShape}
 use Rattle.history.specs.History.{History}
 use Rattle.verbs.specs.Machine.{AreUnicode, IsMachine}
 use Rattle.requests.proofs.Deciding.{asks_more}
@@ -14,7 +13,6 @@ use Rattle.httpedge.specs.Connections.{Connection, Connections, Standing, ended,
 use Rattle.httpedge.specs.Runs as runs
 use Rattle.httpedge.specs.Runs.{HasGrown}
 use Rattle.httpedge.specs.Steps as edge
-use Rattle.httpedge.specs.Watches.{ticked}
 use Rattle.reflector.proofs.Follows.{is_closed}
 use Rattle.reflector.proofs.Grows.{follows_later}
 use Rattle.reflector.specs.Client.{Client}
@@ -30,9 +28,10 @@ use Rattle.world_laws.proofs.Mirror.{server_of}
 use Rattle.world_laws.proofs.Passes.{IsTaskWatch, TurnComes}
 use Rattle.world_laws.proofs.Laws.{Laws}
 use Rattle.world_laws.proofs.Served.{IsHeard, later_server, served_later, served_on, served_turn}
+use Rattle.world_laws.proofs.Shaped.{still_lasts, turn_unshaped, watch_shaped}
 use Rattle.world_laws.proofs.Telling.{follows_silent, nothing_read}
 use Rattle.world_laws.proofs.Turns.{pump_comes, tick_comes}
-use Rattle.world_laws.specs.Tasks.{IsTask, Task, client_settings, wanted_by}
+use Rattle.world_laws.specs.Tasks.{IsStillTask, Task, client_settings, wanted_by, with_shape}
 use Rattle.world_laws.specs.World.{ClientConnection, Receives, World, is_by_peer_on}
 
 -- ---- a client that asks nothing
@@ -94,18 +93,15 @@ unicode_before laws s t e steps unicode =
     first_unicode s.machine.changes grown.changes.0 (subst AreUnicode grown.changes.1 unicode)
 
 -- what holds of the connection as the event leaves it, with the machine as it was, holds with the machine as it then is
-pub holds_after : (laws : Laws) (types : List ServedShape) (task : Task) (m n : ℕ) (w : World) (e : edge.Event) (t : edge.State) (c : Client) (own : Option ClientConnection) (requested : List ℕ) → Holds types task m w → m ≤ n
-    → runs.Steps w.hub e t → Goes task w.hub.machine n c c.is_asking own t.connections → Holds types task n (record { hub = t; requested = requested; client = c; connection = own })
-holds_after laws types task m n w e t c own requested is higher steps goes =
+pub holds_after : (laws : Laws) (task : Task) (m n : ℕ) (w : World) (e : edge.Event) (t : edge.State) (c : Client) (own : Option ClientConnection) (requested : List ℕ) → Holds task m w → m ≤ n
+    → runs.Steps w.hub e t → Goes task w.hub.machine n c c.is_asking own t.connections → Holds task n (record { hub = t; requested = requested; client = c; connection = own })
+holds_after laws task m n w e t c own requested is higher steps goes =
     let grown = laws.grows w.hub t (runs.happens e) steps in
     let begun : 1 ≤ m = is.begun in
-    let types_are : t.types ≡ types = grown.types ∙ is.types_are in
-    let before : IsMachine w.hub.types w.hub.machine = subst (λ (l : List ServedShape). IsMachine l w.hub.machine) (sym is.types_are) is.machine in
-    let after : IsMachine t.types t.machine = laws.lasts w.hub t (runs.happens e ∷ []) before (t, steps, refl) in
     record {
       begun = omega (arith, begun, higher);
-      types_are = types_are;
-      machine = subst (λ (l : List ServedShape). IsMachine l t.machine) types_are after;
+      task_is = still_lasts w.hub.types t.types task grown.types is.task_is;
+      machine = laws.lasts w.hub t (runs.happens e ∷ []) is.machine (t, steps, refl);
       goes = goes_grown laws task w.hub t n c c.is_asking own t.connections grown goes;
     }
 
@@ -132,36 +128,42 @@ new_apart task h m c true (Some own) all id new is = false_from_ne_true (own.id 
     known None none is = is
     known (Some conn) none is = absurd cc
 
-module _ (laws : Laws) (types : List ServedShape) (task : Task) (is_task : IsTask types task) where
-  turn_comes : (s : edge.State) (w : _) (turn : _) → s.types ≡ types → IsMachine types s.machine → AreUnicode s.machine.changes → IsTurn s w turn → IsTaskWatch task w → w.cursor.position ≤ s.machine.current
+module _ (laws : Laws) (task : Task) where
+  turn_comes : (s : edge.State) (w : _) (turn : _) → IsStillTask s.types task → IsMachine s.types s.machine → AreUnicode s.machine.changes → IsTurn s w turn → IsTaskWatch task w → w.cursor.position ≤ s.machine.current
       → TurnComes task s.machine w.cursor.position turn
-  turn_comes s w turn same is_machine unicode (inl (max, is)) own come = subst (TurnComes task s.machine w.cursor.position) (sym is) (pump_comes types task s.machine max w is_task is_machine unicode own come)
-  turn_comes s w turn same is_machine unicode (inr (ms, is)) own come =
-      subst (TurnComes task s.machine w.cursor.position) (ap (λ (l : List ServedShape). ticked l ms w) (sym same) ∙ sym is) (tick_comes types task s.machine ms w is_task is_machine own come)
+  turn_comes s w turn (shape, is_task) is_machine unicode is_turn own come = turn_unshaped task shape s.machine w.cursor.position turn (go is_turn)
+    where
+      go : IsTurn s w turn → TurnComes (with_shape task shape) s.machine w.cursor.position turn
+      go (inl (max, is)) =
+          subst (TurnComes (with_shape task shape) s.machine w.cursor.position) (sym is)
+          (pump_comes s.types (with_shape task shape) s.machine max w is_task is_machine unicode (watch_shaped task shape w own) come)
+      go (inr (ms, is)) =
+          subst (TurnComes (with_shape task shape) s.machine w.cursor.position) (sym is)
+          (tick_comes s.types (with_shape task shape) s.machine ms w is_task is_machine (watch_shaped task shape w own) come)
 
-  served_by_others : (m : ℕ) (s t : edge.State) (e : edge.Event) (c : Client) (own : ClientConnection) (o : Option Connection) → fin.get s.connections own.id ≡ o → s.types ≡ types → IsMachine types s.machine
+  served_by_others : (m : ℕ) (s t : edge.State) (e : edge.Event) (c : Client) (own : ClientConnection) (o : Option Connection) → fin.get s.connections own.id ≡ o → IsStillTask s.types task → IsMachine s.types s.machine
       → AreUnicode s.machine.changes → is_by_peer_on (Some own) e ≡ false → runs.Steps s e t → IsServedOn task s.machine m c own o → IsServedOn task s.machine m c own (fin.get t.connections own.id)
-  served_by_others m s t e c own None got same is_machine unicode isnt steps is = absurd is
-  served_by_others m s t e c own (Some conn) got same is_machine unicode isnt steps is = go (stays_or_turns s t own e conn isnt got steps)
+  served_by_others m s t e c own None got task_is is_machine unicode isnt steps is = absurd is
+  served_by_others m s t e c own (Some conn) got task_is is_machine unicode isnt steps is = go (stays_or_turns s t own e conn isnt got steps)
     where
       go : StaysOrTurns s conn (fin.get t.connections own.id) → IsServedOn task s.machine m c own (fin.get t.connections own.id)
       go (inl stays) = subst (IsServedOn task s.machine m c own) (sym stays) is
       go (inr has) =
           subst (IsServedOn task s.machine m c own) (sym has.is)
-          (served_turn laws task s.machine m c own conn has.w has.turn has.watches (turn_comes s has.w has.turn same is_machine unicode has.is_turn) is)
+          (served_turn laws task s.machine m c own conn has.w has.turn has.watches (turn_comes s has.w has.turn task_is is_machine unicode has.is_turn) is)
 
-  goes_by_others : (m : ℕ) (s t : edge.State) (e : edge.Event) (c : Client) (b : Bool) (own : Option ClientConnection) → s.types ≡ types → IsMachine types s.machine → AreUnicode s.machine.changes → NotBy b own e
+  goes_by_others : (m : ℕ) (s t : edge.State) (e : edge.Event) (c : Client) (b : Bool) (own : Option ClientConnection) → IsStillTask s.types task → IsMachine s.types s.machine → AreUnicode s.machine.changes → NotBy b own e
       → runs.Steps s e t → Goes task s.machine m c b own s.connections → Goes task s.machine m c b own t.connections
-  goes_by_others m s t e c false own same is_machine unicode isnt steps is = is
-  goes_by_others m s t e c true None same is_machine unicode isnt steps is = absurd is
-  goes_by_others m s t e c true (Some own) same is_machine unicode isnt steps is =
-      served_by_others m s t e c own (fin.get s.connections own.id) refl same is_machine unicode isnt steps is
+  goes_by_others m s t e c false own task_is is_machine unicode isnt steps is = is
+  goes_by_others m s t e c true None task_is is_machine unicode isnt steps is = absurd is
+  goes_by_others m s t e c true (Some own) task_is is_machine unicode isnt steps is =
+      served_by_others m s t e c own (fin.get s.connections own.id) refl task_is is_machine unicode isnt steps is
 
-  pub holds_by_others : (m : ℕ) (w : World) (e : edge.Event) (t : edge.State) (requested : List ℕ) → Holds types task m w → AreUnicode w.hub.machine.changes → NotBy w.client.is_asking w.connection e
-      → runs.Steps w.hub e t → Holds types task m (record { hub = t; requested = requested; client = w.client; connection = w.connection })
+  pub holds_by_others : (m : ℕ) (w : World) (e : edge.Event) (t : edge.State) (requested : List ℕ) → Holds task m w → AreUnicode w.hub.machine.changes → NotBy w.client.is_asking w.connection e
+      → runs.Steps w.hub e t → Holds task m (record { hub = t; requested = requested; client = w.client; connection = w.connection })
   holds_by_others m w e t requested is unicode isnt steps =
-      holds_after laws types task m m w e t w.client w.connection requested is (omega arith) steps
-      (goes_by_others m w.hub t e w.client w.client.is_asking w.connection is.types_are is.machine unicode isnt steps is.goes)
+      holds_after laws task m m w e t w.client w.connection requested is (omega arith) steps
+      (goes_by_others m w.hub t e w.client w.client.is_asking w.connection is.task_is is.machine unicode isnt steps is.goes)
 
   -- ---- a piece of the request comes to the server
 
@@ -189,10 +191,10 @@ module _ (laws : Laws) (types : List ServedShape) (task : Task) (is_task : IsTas
   still_whole front piece unsent n is =
       append_assoc front piece (drop n unsent) ∙ ap (λ (l : List ℕ). front ++ l) (ap (λ (l : List ℕ). l ++ drop n unsent) (sym is) ∙ take-append-drop n unsent)
 
-  served_waiting : (m : ℕ) (s : edge.State) (c : Client) (own : ClientConnection) (conn : Connection) (n : ℕ) (piece front : List ℕ) (asked : CallDecision) → take n own.unsent ≡ piece → s.types ≡ types → IsMachine types s.machine
+  served_waiting : (m : ℕ) (s : edge.State) (c : Client) (own : ClientConnection) (conn : Connection) (n : ℕ) (piece front : List ℕ) (asked : CallDecision) → take n own.unsent ≡ piece → IsStillTask s.types task → IsMachine s.types s.machine
       → AreUnicode s.machine.changes → 1 ≤ m → conn.standing ≡ waiting front → Asks s.types (front ++ piece) asked → IsServed task s.machine m c own conn
       → IsServed task s.machine m c (record own { unsent = drop n own.unsent }) (edge.connection_after s.types s.machine s.last_tick conn (front ++ piece) asked)
-  served_waiting m s c own conn n piece front asked cut same is_machine unicode begun stands asks is =
+  served_waiting m s c own conn n piece front asked cut task_is is_machine unicode begun stands asks is =
       let both : (conn.written ≡ []) × (front ++ own.unsent ≡ request_of (client_settings task) c) = subst (Stands task s.machine c own.unsent is.to (is.told ++ is.coming) conn.written) stands is.stands in
       by_asked asked asks both
     where
@@ -202,9 +204,8 @@ module _ (laws : Laws) (types : List ServedShape) (task : Task) (is_task : IsTas
           let whole = asks_more s.types (front ++ piece) (drop n own.unsent) asked asks decides in
           let low : m ≤ s.machine.current = is.follows.low in
           served_answered m s.machine c own conn (edge.connection_after s.types s.machine s.last_tick conn (front ++ piece) asked) n is both.0
-          (subst (λ (l : List ServedShape). IsAnswered task s.machine m c.asks c.cache c (drop n own.unsent) (edge.connection_after l s.machine s.last_tick conn (front ++ piece) asked)) (sym same)
-          (answers laws types task s.machine m s.last_tick c (drop n own.unsent) conn (front ++ piece) ((front ++ piece) ++ drop n own.unsent) asked is_task is_machine unicode begun low both.0 is.coming is.to is.follows
-          (subst (λ (l : List ServedShape). Asks l ((front ++ piece) ++ drop n own.unsent) asked) same whole) (still_whole front piece own.unsent n cut ∙ both.1)))
+          (answers laws s.types task s.machine m s.last_tick c (drop n own.unsent) conn (front ++ piece) ((front ++ piece) ++ drop n own.unsent) asked task_is is_machine unicode begun low both.0 is.coming is.to is.follows whole
+          (still_whole front piece own.unsent n cut ∙ both.1))
 
       by_asked : (asked : CallDecision) → Asks s.types (front ++ piece) asked → (conn.written ≡ []) × (front ++ own.unsent ≡ request_of (client_settings task) c)
           → IsServed task s.machine m c (record own { unsent = drop n own.unsent }) (edge.connection_after s.types s.machine s.last_tick conn (front ++ piece) asked)
@@ -239,39 +240,39 @@ module _ (laws : Laws) (types : List ServedShape) (task : Task) (is_task : IsTas
         stands = subst (Stands task h c (drop n own.unsent) is.to (is.told ++ is.coming) conn.written) (sym stands) there;
       }
 
-  came_served : (m : ℕ) (s t : edge.State) (c : Client) (own : ClientConnection) (conn : Connection) (n : ℕ) (piece : List ℕ) (st : Standing) → conn.standing ≡ st → take n own.unsent ≡ piece → s.types ≡ types
-      → IsMachine types s.machine → AreUnicode s.machine.changes → 1 ≤ m → CameOn s t own.id conn piece st → IsServed task s.machine m c own conn
+  came_served : (m : ℕ) (s t : edge.State) (c : Client) (own : ClientConnection) (conn : Connection) (n : ℕ) (piece : List ℕ) (st : Standing) → conn.standing ≡ st → take n own.unsent ≡ piece → IsStillTask s.types task
+      → IsMachine s.types s.machine → AreUnicode s.machine.changes → 1 ≤ m → CameOn s t own.id conn piece st → IsServed task s.machine m c own conn
       → IsServedOn task s.machine m c (record own { unsent = drop n own.unsent }) (fin.get t.connections own.id)
-  came_served m s t c own conn n piece (waiting front) stands cut same is_machine unicode begun (asked, asks, got) is =
-      subst (IsServedOn task s.machine m c (record own { unsent = drop n own.unsent })) (sym got) (served_waiting m s c own conn n piece front asked cut same is_machine unicode begun stands asks is)
-  came_served m s t c own conn n piece (watching w) stands cut same is_machine unicode begun got is =
+  came_served m s t c own conn n piece (waiting front) stands cut task_is is_machine unicode begun (asked, asks, got) is =
+      subst (IsServedOn task s.machine m c (record own { unsent = drop n own.unsent })) (sym got) (served_waiting m s c own conn n piece front asked cut task_is is_machine unicode begun stands asks is)
+  came_served m s t c own conn n piece (watching w) stands cut task_is is_machine unicode begun got is =
       subst (IsServedOn task s.machine m c (record own { unsent = drop n own.unsent })) (sym got) (served_idle m s.machine c own conn n (watching w) stands (λ to items written is. watching_idle to items written w is) is)
     where
       watching_idle : (to : ℕ) (items : List Told) (written : List ℕ) (w : _) → Stands task s.machine c own.unsent to items written (watching w) → Stands task s.machine c (drop n own.unsent) to items written (watching w)
       watching_idle to items written w is = is
-  came_served m s t c own conn n piece ended stands cut same is_machine unicode begun got is =
+  came_served m s t c own conn n piece ended stands cut task_is is_machine unicode begun got is =
       subst (IsServedOn task s.machine m c (record own { unsent = drop n own.unsent })) (sym got) (served_idle m s.machine c own conn n ended stands (λ to items written is. tt) is)
-  came_served m s t c own conn n piece (gone had_ended) stands cut same is_machine unicode begun got is =
+  came_served m s t c own conn n piece (gone had_ended) stands cut task_is is_machine unicode begun got is =
       subst (IsServedOn task s.machine m c (record own { unsent = drop n own.unsent })) (sym got) (served_idle m s.machine c own conn n (gone had_ended) stands (λ to items written is. tt) is)
 
-  came_on : (m : ℕ) (s t : edge.State) (c : Client) (own : ClientConnection) (o : Option Connection) (n : ℕ) (piece : List ℕ) → fin.get s.connections own.id ≡ o → take n own.unsent ≡ piece → s.types ≡ types
-      → IsMachine types s.machine → AreUnicode s.machine.changes → 1 ≤ m → runs.Steps s (edge.comes own.id piece) t → IsServedOn task s.machine m c own o
+  came_on : (m : ℕ) (s t : edge.State) (c : Client) (own : ClientConnection) (o : Option Connection) (n : ℕ) (piece : List ℕ) → fin.get s.connections own.id ≡ o → take n own.unsent ≡ piece → IsStillTask s.types task
+      → IsMachine s.types s.machine → AreUnicode s.machine.changes → 1 ≤ m → runs.Steps s (edge.comes own.id piece) t → IsServedOn task s.machine m c own o
       → IsServedOn task s.machine m c (record own { unsent = drop n own.unsent }) (fin.get t.connections own.id)
-  came_on m s t c own None n piece got cut same is_machine unicode begun steps is = absurd is
-  came_on m s t c own (Some conn) n piece got cut same is_machine unicode begun steps is =
-      came_served m s t c own conn n piece conn.standing refl cut same is_machine unicode begun (came s t own.id conn piece got steps) is
+  came_on m s t c own None n piece got cut task_is is_machine unicode begun steps is = absurd is
+  came_on m s t c own (Some conn) n piece got cut task_is is_machine unicode begun steps is =
+      came_served m s t c own conn n piece conn.standing refl cut task_is is_machine unicode begun (came s t own.id conn piece got steps) is
 
-  came_goes : (m : ℕ) (s t : edge.State) (c : Client) (b : Bool) (own : ClientConnection) (n : ℕ) (piece : List ℕ) → take n own.unsent ≡ piece → s.types ≡ types → IsMachine types s.machine → AreUnicode s.machine.changes
+  came_goes : (m : ℕ) (s t : edge.State) (c : Client) (b : Bool) (own : ClientConnection) (n : ℕ) (piece : List ℕ) → take n own.unsent ≡ piece → IsStillTask s.types task → IsMachine s.types s.machine → AreUnicode s.machine.changes
       → 1 ≤ m → runs.Steps s (edge.comes own.id piece) t → Goes task s.machine m c b (Some own) s.connections → Goes task s.machine m c b (Some (record own { unsent = drop n own.unsent })) t.connections
-  came_goes m s t c false own n piece cut same is_machine unicode begun steps is = is
-  came_goes m s t c true own n piece cut same is_machine unicode begun steps is = came_on m s t c own (fin.get s.connections own.id) n piece refl cut same is_machine unicode begun steps is
+  came_goes m s t c false own n piece cut task_is is_machine unicode begun steps is = is
+  came_goes m s t c true own n piece cut task_is is_machine unicode begun steps is = came_on m s t c own (fin.get s.connections own.id) n piece refl cut task_is is_machine unicode begun steps is
 
-  pub holds_came : (m : ℕ) (w : World) (own : ClientConnection) (n : ℕ) (piece : List ℕ) (t : edge.State) → take n own.unsent ≡ piece → w.connection ≡ Some own → Holds types task m w → AreUnicode w.hub.machine.changes
-      → runs.Steps w.hub (edge.comes own.id piece) t → Holds types task m (record { hub = t; requested = w.requested; client = w.client; connection = Some (record own { unsent = drop n own.unsent }) })
+  pub holds_came : (m : ℕ) (w : World) (own : ClientConnection) (n : ℕ) (piece : List ℕ) (t : edge.State) → take n own.unsent ≡ piece → w.connection ≡ Some own → Holds task m w → AreUnicode w.hub.machine.changes
+      → runs.Steps w.hub (edge.comes own.id piece) t → Holds task m (record { hub = t; requested = w.requested; client = w.client; connection = Some (record own { unsent = drop n own.unsent }) })
   holds_came m w own n piece t cut has is unicode steps =
       let there : Goes task w.hub.machine m w.client w.client.is_asking (Some own) w.hub.connections = subst (λ (o : Option ClientConnection). Goes task w.hub.machine m w.client w.client.is_asking o w.hub.connections) has is.goes in
-      holds_after laws types task m m w (edge.comes own.id piece) t w.client (Some (record own { unsent = drop n own.unsent })) w.requested is (omega arith) steps
-      (came_goes m w.hub t w.client w.client.is_asking own n piece cut is.types_are is.machine unicode is.begun steps there)
+      holds_after laws task m m w (edge.comes own.id piece) t w.client (Some (record own { unsent = drop n own.unsent })) w.requested is (omega arith) steps
+      (came_goes m w.hub t w.client w.client.is_asking own n piece cut is.task_is is.machine unicode is.begun steps there)
 
 -- ---- a piece of the reply comes to the client
 

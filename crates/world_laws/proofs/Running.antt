@@ -1,5 +1,5 @@
 -- Over a run each report is right, and what is kept is.
-use Rattle.std.proofs.Common.{◌≡◌, ℕ, suc, ◌≤◌, Bool, true, false, List, [], ◌∷◌, ◌++◌, Option, Some, None, refl, sym, subst, arith}
+use Rattle.std.proofs.Common.{◌≡◌, ℕ, suc, ◌≤◌, Bool, true, false, List, [], ◌∷◌, ◌++◌, Option, Some, None, sym, subst, arith}
 use Rattle.std.specs.Prelude.{nat_lt, if◌then◌else◌}
 use Rattle.schema.specs.TypesFile.{ServedShape}
 use Rattle.verbs.proofs.Machines.{machines_begin}
@@ -14,30 +14,31 @@ use Rattle.world_laws.proofs.Mirror.{server_of}
 use Rattle.world_laws.proofs.Moving.{goes_follows}
 use Rattle.world_laws.proofs.Pages.{mirror_is_right}
 use Rattle.world_laws.proofs.Laws.{Laws}
+use Rattle.world_laws.proofs.Shaped.{is_still}
 use Rattle.world_laws.specs.Headline.{Headline}
 use Rattle.world_laws.specs.Reports.{AreRight, IsKeptRight, IsRight, IsStateAt, Report, Runs, last_reported, reports_between}
-use Rattle.world_laws.specs.Tasks.{IsTask, Task, selected_at, wanted_by}
+use Rattle.world_laws.specs.Tasks.{IsStillTask, IsTask, Task, selected_at, wanted_by, with_shape}
 use Rattle.world_laws.specs.World.{World, WorldEvent, start}
 
-module _ (laws : Laws) (types : List ServedShape) (task : Task) (is_task : IsTask types task) where
+module _ (laws : Laws) (task : Task) where
   runs_before : (i : ℕ) (w : World) (es : List WorldEvent) (v : World) (reports : List Report) → Runs task i w es v reports → AreUnicode v.hub.machine.changes → AreUnicode w.hub.machine.changes
   runs_before i w [] v reports (same, none) unicode = subst (λ (x : World). AreUnicode x.hub.machine.changes) same unicode
   runs_before i w (e ∷ es) v reports (mid, others, steps, rest, are) unicode = steps_before laws task w mid e steps (runs_before (suc i) mid es v others rest unicode)
 
   -- ---- what is kept
 
-  is_right : (h : History) (lo m : ℕ) (now : Cache) → IsMachine types h → AreUnicode h.changes → lo ≤ m → m ≤ h.current → IsCache (server_of task h) m (Some now) → IsRight task lo h now
-  is_right h lo m now is_machine unicode low top cached =
+  is_right : (types : List ServedShape) (h : History) (lo m : ℕ) (now : Cache) → IsStillTask types task → IsMachine types h → AreUnicode h.changes → lo ≤ m → m ≤ h.current → IsCache (server_of task h) m (Some now) → IsRight task lo h now
+  is_right types h lo m now (shape, is_task) is_machine unicode low top cached =
       let same : now.revision ≡ m = cached.0 in
       record {
         low = omega (arith, same, low);
         high = omega (arith, same, top);
-        objects = subst (IsStateAt (wanted_by task) (selected_at task h now.revision)) (sym cached.1) (mirror_is_right types task h now.revision is_task is_machine);
+        objects = subst (IsStateAt (wanted_by task) (selected_at task h now.revision)) (sym cached.1) (mirror_is_right types (with_shape task shape) h now.revision is_task is_machine);
       }
 
-  kept_right : (h : History) (lo m : ℕ) (cache : Option Cache) → IsMachine types h → AreUnicode h.changes → lo ≤ m → m ≤ h.current → IsCache (server_of task h) m cache → IsKeptRight task lo h cache
-  kept_right h lo m None is_machine unicode low top cached = tt
-  kept_right h lo m (Some now) is_machine unicode low top cached = is_right h lo m now is_machine unicode low top cached
+  kept_right : (types : List ServedShape) (h : History) (lo m : ℕ) (cache : Option Cache) → IsStillTask types task → IsMachine types h → AreUnicode h.changes → lo ≤ m → m ≤ h.current → IsCache (server_of task h) m cache → IsKeptRight task lo h cache
+  kept_right types h lo m None task_is is_machine unicode low top cached = tt
+  kept_right types h lo m (Some now) task_is is_machine unicode low top cached = is_right types h lo m now task_is is_machine unicode low top cached
 
   -- ---- the reports
 
@@ -45,55 +46,55 @@ module _ (laws : Laws) (types : List ServedShape) (task : Task) (is_task : IsTas
   record EndsWell (lo : ℕ) (v : World) (reports : List Report) : Type 0 where
     highest : ℕ
     low : last_reported lo reports ≤ highest
-    holds : Holds types task highest v
+    holds : Holds task highest v
 
   -- and each is right
   abbrev GoWell : ℕ → World → List Report → Type 0
   GoWell lo v reports = AreRight task lo reports × EndsWell lo v reports
 
-  one_report : (i lo m : ℕ) (h : History) (now : Cache) (others : List Report) (v : World) → IsMachine types h → AreUnicode h.changes → lo ≤ m → m ≤ h.current → IsCache (server_of task h) m (Some now)
+  one_report : (types : List ServedShape) (i lo m : ℕ) (h : History) (now : Cache) (others : List Report) (v : World) → IsStillTask types task → IsMachine types h → AreUnicode h.changes → lo ≤ m → m ≤ h.current → IsCache (server_of task h) m (Some now)
       → ((lo : ℕ) → lo ≤ m → GoWell lo v others) → GoWell lo v (record { event = i; machine = h; now = now } ∷ others)
-  one_report i lo m h now others v is_machine unicode low top cached rest =
+  one_report types i lo m h now others v task_is is_machine unicode low top cached rest =
       let same : now.revision ≡ m = cached.0 in
       let on = rest now.revision (omega (arith, same)) in
-      ((is_right h lo m now is_machine unicode low top cached, on.0), record { highest = on.1.highest; low = on.1.low; holds = on.1.holds })
+      ((is_right types h lo m now task_is is_machine unicode low top cached, on.0), record { highest = on.1.highest; low = on.1.low; holds = on.1.holds })
 
-  between : (i lo m : ℕ) (h : History) (was now : Option Cache) (others : List Report) (v : World) → IsMachine types h → AreUnicode h.changes → lo ≤ m → m ≤ h.current → IsCache (server_of task h) m now
+  between : (types : List ServedShape) (i lo m : ℕ) (h : History) (was now : Option Cache) (others : List Report) (v : World) → IsStillTask types task → IsMachine types h → AreUnicode h.changes → lo ≤ m → m ≤ h.current → IsCache (server_of task h) m now
       → ((lo : ℕ) → lo ≤ m → GoWell lo v others) → GoWell lo v (reports_between i h was now ++ others)
-  between i lo m h was None others v is_machine unicode low top cached rest = rest lo low
-  between i lo m h None (Some now) others v is_machine unicode low top cached rest = one_report i lo m h now others v is_machine unicode low top cached rest
-  between i lo m h (Some was) (Some now) others v is_machine unicode low top cached rest = go (nat_lt was.revision now.revision)
+  between types i lo m h was None others v task_is is_machine unicode low top cached rest = rest lo low
+  between types i lo m h None (Some now) others v task_is is_machine unicode low top cached rest = one_report types i lo m h now others v task_is is_machine unicode low top cached rest
+  between types i lo m h (Some was) (Some now) others v task_is is_machine unicode low top cached rest = go (nat_lt was.revision now.revision)
     where
       go : (b : Bool) → GoWell lo v ((if b then record { event = i; machine = h; now = now } ∷ [] else []) ++ others)
-      go true = one_report i lo m h now others v is_machine unicode low top cached rest
+      go true = one_report types i lo m h now others v task_is is_machine unicode low top cached rest
       go false = rest lo low
 
-  run_well : (i lo m : ℕ) (w : World) (es : List WorldEvent) (v : World) (reports : List Report) → lo ≤ m → Holds types task m w → Runs task i w es v reports → AreUnicode v.hub.machine.changes → GoWell lo v reports
+  run_well : (i lo m : ℕ) (w : World) (es : List WorldEvent) (v : World) (reports : List Report) → lo ≤ m → Holds task m w → Runs task i w es v reports → AreUnicode v.hub.machine.changes → GoWell lo v reports
   run_well i lo m w [] v reports low is (same, none) unicode =
-      subst (GoWell lo v) (sym none) (tt, record { highest = m; low = low; holds = subst (Holds types task m) (sym same) is })
+      subst (GoWell lo v) (sym none) (tt, record { highest = m; low = low; holds = subst (Holds task m) (sym same) is })
   run_well i lo m w (e ∷ es) v reports low is (mid, others, steps, rest, are) unicode =
       let mid_unicode : AreUnicode mid.hub.machine.changes = runs_before (suc i) mid es v others rest unicode in
-      let on = steps_hold laws types task is_task m w mid e is mid_unicode steps in
+      let on = steps_hold laws task m w mid e is mid_unicode steps in
       let higher : m ≤ on.0 = on.1 in
       let follows = goes_follows task mid.hub.machine on.0 mid.client mid.client.is_asking mid.connection mid.hub.connections on.2.goes in
       subst (GoWell lo v) (sym are)
-      (between i lo on.0 mid.hub.machine w.client.cache mid.client.cache others v on.2.machine mid_unicode (omega (arith, low, higher)) follows.2.low follows.2.cache
+      (between mid.hub.types i lo on.0 mid.hub.machine w.client.cache mid.client.cache others v on.2.task_is on.2.machine mid_unicode (omega (arith, low, higher)) follows.2.low follows.2.cache
       (λ lo low. run_well (suc i) lo on.0 mid es v others low on.2 rest unicode))
 
   -- ---- the start
 
-  start_holds : AreObjectTypes types → Holds types task 1 (start types)
-  start_holds shapes =
+  start_holds : (types : List ServedShape) → IsTask types task → AreObjectTypes types → Holds task 1 (start types)
+  start_holds types is shapes =
       record {
         begun = omega arith;
-        types_are = refl;
+        task_is = is_still types task is;
         machine = machines_begin types 1 shapes (omega arith) (omega arith);
         goes = is_fresh (server_of task (fresh 1)) (wanted_by task) 1 [] 0 (omega arith);
       }
 
 pub whole_run : Laws → Headline
 whole_run laws types task es v reports shapes is_task runs unicode =
-    let well = run_well laws types task is_task 1 1 1 (start types) es v reports (omega arith) (start_holds laws types task is_task shapes) runs unicode in
+    let well = run_well laws task 1 1 1 (start types) es v reports (omega arith) (start_holds laws task types is_task shapes) runs unicode in
     let holds = well.1.holds in
     let follows = goes_follows task v.hub.machine well.1.highest v.client v.client.is_asking v.connection v.hub.connections holds.goes in
-    (well.0, kept_right laws types task is_task v.hub.machine (last_reported 1 reports) well.1.highest v.client.cache holds.machine unicode well.1.low follows.2.low follows.2.cache)
+    (well.0, kept_right laws task v.hub.types v.hub.machine (last_reported 1 reports) well.1.highest v.client.cache holds.task_is holds.machine unicode well.1.low follows.2.low follows.2.cache)

@@ -2,6 +2,7 @@
 use Rattle.std.specs.Prelude.{◌≡◌, ℕ, Bool, true, if◌then◌else◌, is_ok, is_some, List, Option, Some, None, slice_get}
 use Rattle.std.specs.declared.result.Result.TheVariants.{Ok}
 use Rattle.schema.specs.Named.{has_names}
+use Rattle.schema.specs.Shape.{Shape}
 use Rattle.schema.specs.TypesFile.{ServedShape, type_number}
 use Rattle.history.specs.History.{History}
 use Rattle.history.specs.History as history
@@ -72,3 +73,13 @@ pub record IsTask (types : List ServedShape) (task : Task) : Type 0 where
   pub selector : parse_selector task.settings.selector ≡ Ok task.requirements
   pub page : is_page task.settings.page ≡ true
   pub namespace : is_namespace_or_all task.settings.namespace ≡ true
+
+-- ---- where other types are served
+
+-- the task where its type has this shape: what it mirrors is the same
+abbrev pub with_shape : Task → Shape → Task
+with_shape task s = record task { t = record task.t { shape = s } }
+
+-- it is a task over these types, whatever the shape of its type is now
+abbrev pub IsStillTask : List ServedShape → Task → Type 0
+IsStillTask types task = (s : Shape) × IsTask types (with_shape task s)

@@ -40,7 +40,7 @@ replies w = map (λ e. (e.0, e.1.written)) (fin.entries w.hub.connections)
 
 -- what happens: to the hub, to the client, or between them
 pub data WorldEvent : Type 0 where
-  -- an event of the hub: of another peer's connection, of a watch, of the clock, or a compaction
+  -- an event of the hub: of another peer's connection, of a watch, of the clock, a compaction, or other types
   other : edge.Event → WorldEvent
   -- another peer's bytes come in one piece on a new connection
   request : List ℕ → WorldEvent
@@ -78,6 +78,7 @@ is_by_peer_on (Some own) (edge.goes id) = own.id == id
 is_by_peer_on (Some own) (edge.pumps id max) = false
 is_by_peer_on (Some own) (edge.ticks ms) = false
 is_by_peer_on (Some own) (edge.compacts c) = false
+is_by_peer_on (Some own) (edge.retypes file) = false
 
 -- the hub takes it unless it is on the client's connection, which no other peer uses
 abbrev pub TakesUnless : Bool → World → edge.Event → World → Type 0

@@ -13,8 +13,10 @@ ghost use Rattle.indexer.specs.Names.{are_distinct};
 ghost use Rattle.lists.specs.Tokens.{IsText};
 ghost use Rattle.schema.specs.Named.{has_names};
 ghost use Rattle.schema.specs.TypesFile.{ServedShape, names_differ};
+ghost use Rattle.httpedge.specs.Runs as runs;
+ghost use Rattle.httpedge.specs.Steps.{State};
 ghost use Rattle.world_laws.specs.Headline.{Headline};
-ghost use Rattle.world_laws.specs.Tasks.{IsTask, RunSettings, Task, settings_fault};
+ghost use Rattle.world_laws.specs.Tasks.{IsStillTask, IsTask, RunSettings, Task, settings_fault};
 ghost use Rattle.world_laws.specs.Reports.{Report, Runs};
 ghost use Rattle.world_laws.specs.World.{World, WorldEvent};
 
@@ -47,3 +49,10 @@ pub fn tasks_are_made()
     ensures needed { (types : List ServedShape) (names : List (List ℕ)) (task : Task) → IsTask types task → are_distinct names ≡ true → settings_fault types names task.settings ≡ None }
     ensures one { (types : List ServedShape) (task other : Task) → IsTask types task → IsTask types other → task.settings ≡ other.settings → task ≡ other }
 {}
+
+/// Whatever happens to a hub, a task over the types that it serves stays one: of the task's type only the shape may become another.
+pub fn tasks_last()
+    ensures { (s t : State) (hs : List runs.Happening) (task : Task) → IsStillTask s.types task → runs.Runs s hs t → IsStillTask t.types task }
+{
+    httpedge::machines_grow();
+}

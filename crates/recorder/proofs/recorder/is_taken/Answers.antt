@@ -1,59 +1,79 @@
-use Rattle.std.proofs.Common.{◌≡◌, ap, subst}
+use Rattle.std.proofs.Common.{◌≡◌, Bool, true, false, sym, ap, subst}
 use Rattle.std.specs.Prelude.{is_none, ⊤}
 use Rattle.std.specs.declared.result.Result.TheVariants.{Err}
+use Rattle.verbs.specs.Retyping.{not_lawful, not_types, too_few_revisions}
 use Rattle.httpedge.specs.declared.fault.HubFault.{HubFault}
 use Rattle.httpedge.specs.declared.hub.Hub.{Hub}
-use Rattle.httpedge.specs.HubSeen.{Happened, IsIn, event_of, outcome_of, refusal_in}
+use Rattle.httpedge.specs.HubSeen.{Happened, IsIn, Outcome, Tells, outcome_of, refused}
 use Rattle.httpedge.specs.Runs.{Follows, Happening, Steps, happens}
 use Rattle.httpedge.specs.Steps as edge
 use Rattle.recorder.proofs.recorder.is_taken.Goals as goal
 
-refused_as : (s : edge.State) (e : edge.Event) (f g : HubFault) → f ≡ g → refusal_in (outcome_of {A = ⊤} (Err f)) ≡ edge.refusal s e → refusal_in (outcome_of {A = ⊤} (Err g)) ≡ edge.refusal s e
-refused_as s e f g is refused = subst (λ (h : HubFault). refusal_in (outcome_of {A = ⊤} (Err h)) ≡ edge.refusal s e) is refused
+-- what the hub's clause says of an event, by how the call of it ended
+abbrev Led : Hub → edge.State → edge.Event → Outcome → Type 0
+Led hub s e o = (h : Happening) × (t : edge.State) × Happened e o h × Follows s h t × IsIn hub t
 
-follows_as : (hub : Hub) (s : edge.State) (e : edge.Event) (f g : HubFault) → f ≡ g
-    → (h : Happening) × (t : edge.State) × Happened e (outcome_of {A = ⊤} (Err f)) h × Follows s h t × IsIn hub t
-    → (h : Happening) × (t : edge.State) × Happened e (outcome_of {A = ⊤} (Err g)) h × Follows s h t × IsIn hub t
-follows_as hub s e f g is follows =
-    subst (λ (x : HubFault). (h : Happening) × (t : edge.State) × Happened e (outcome_of {A = ⊤} (Err x)) h × Follows s h t × IsIn hub t) is follows
+-- whether an event was taken, and that it led on
+abbrev IsTold : Hub → edge.State → edge.Event → Bool → Type 0
+IsTold hub s e taken = (taken ≡ is_none (edge.refusal s e)) × ((t : edge.State) × Steps s e t × IsIn hub t)
 
 -- an event that happened led on
 leads_on : (hub : Hub) (s : edge.State) (e : edge.Event) → (h : Happening) × (t : edge.State) × (h ≡ happens e) × Follows s h t × IsIn hub t
     → (t : edge.State) × Steps s e t × IsIn hub t
 leads_on hub s e (h, t, is, follows, now) = (t, subst (λ (x : Happening). Follows s x t) is follows, now)
 
+abbrev ended : HubFault → Outcome
+ended f = outcome_of {A = ⊤} (Err f)
+
+-- one that was refused wasn't taken
+not_taken : (hub : Hub) (s : edge.State) (e : edge.Event) (f : HubFault) (why : edge.Refusal) → ended f ≡ refused why → Tells s e (ended f) → Led hub s e (ended f) → IsTold hub s e false
+not_taken hub s e f why is told led = (
+  sym (ap is_none (subst (Tells s e) is told)),
+  leads_on hub s e (subst (Led hub s e) is led),
+)
+
 pub returns-in-Ok : goal.returns-in-Ok
-returns-in-Ok c = λ s stands.
-    (ap is_none (c.in-Ok.ensures.refused s stands), leads_on c.on.new.self s (event_of c.args.event.now) (c.in-Ok.ensures.follows s stands))
+returns-in-Ok c = λ s stands. (
+  sym (ap is_none (c.in-Ok.ensures.refused s stands)),
+  leads_on c.on.new.self s _ (c.in-Ok.ensures.follows s stands),
+)
 
 pub returns-in-Err-IdNotAbove : goal.returns-in-Err-IdNotAbove
 returns-in-Err-IdNotAbove c = λ s stands.
-    let e = event_of c.args.event.now in
-    let is = c.in-Err-IdNotAbove.field-0-is in
-    (ap is_none (refused_as s e _ _ is (c.in-Err-IdNotAbove.ensures.refused s stands)), leads_on c.on.new.self s e (follows_as c.on.new.self s e _ _ is (c.in-Err-IdNotAbove.ensures.follows s stands)))
+    let step = c.in-Err-IdNotAbove in
+    not_taken c.on.new.self s _ _ edge.id_not_above (ap ended step.field-0-is) (step.ensures.refused s stands) (step.ensures.follows s stands)
 
 pub returns-in-Err-UnknownId : goal.returns-in-Err-UnknownId
 returns-in-Err-UnknownId c = λ s stands.
-    let e = event_of c.args.event.now in
-    let is = c.in-Err-UnknownId.field-0-is in
-    (ap is_none (refused_as s e _ _ is (c.in-Err-UnknownId.ensures.refused s stands)), leads_on c.on.new.self s e (follows_as c.on.new.self s e _ _ is (c.in-Err-UnknownId.ensures.follows s stands)))
+    let step = c.in-Err-UnknownId in
+    not_taken c.on.new.self s _ _ edge.unknown_id (ap ended step.field-0-is) (step.ensures.refused s stands) (step.ensures.follows s stands)
 
 pub returns-in-Err-NoLines : goal.returns-in-Err-NoLines
 returns-in-Err-NoLines c = λ s stands.
-    let e = event_of c.args.event.now in
-    let is = c.in-Err-NoLines.field-0-is in
-    (ap is_none (refused_as s e _ _ is (c.in-Err-NoLines.ensures.refused s stands)), leads_on c.on.new.self s e (follows_as c.on.new.self s e _ _ is (c.in-Err-NoLines.ensures.follows s stands)))
+    let step = c.in-Err-NoLines in
+    not_taken c.on.new.self s _ _ edge.no_lines (ap ended step.field-0-is) (step.ensures.refused s stands) (step.ensures.follows s stands)
 
 pub returns-in-Err-TickBack : goal.returns-in-Err-TickBack
 returns-in-Err-TickBack c = λ s stands.
-    let e = event_of c.args.event.now in
-    let is = c.in-Err-TickBack.field-0-is in
-    (ap is_none (refused_as s e _ _ is (c.in-Err-TickBack.ensures.refused s stands)), leads_on c.on.new.self s e (follows_as c.on.new.self s e _ _ is (c.in-Err-TickBack.ensures.follows s stands)))
+    let step = c.in-Err-TickBack in
+    not_taken c.on.new.self s _ _ edge.tick_back (ap ended step.field-0-is) (step.ensures.refused s stands) (step.ensures.follows s stands)
 
 pub returns-in-Err-CompactionRefused : goal.returns-in-Err-CompactionRefused
 returns-in-Err-CompactionRefused c = λ s stands.
-    let e = event_of c.args.event.now in
-    let is = c.in-Err-CompactionRefused.field-0-is in (
-      ap is_none (refused_as s e _ _ is (c.in-Err-CompactionRefused.ensures.refused s stands)),
-      leads_on c.on.new.self s e (follows_as c.on.new.self s e _ _ is (c.in-Err-CompactionRefused.ensures.follows s stands)),
-    )
+    let step = c.in-Err-CompactionRefused in
+    not_taken c.on.new.self s _ _ edge.compaction_refused (ap ended step.field-0-is) (step.ensures.refused s stands) (step.ensures.follows s stands)
+
+pub returns-in-Err-NotTypes : goal.returns-in-Err-NotTypes
+returns-in-Err-NotTypes c = λ s stands.
+    let step = c.in-Err-NotTypes in
+    not_taken c.on.new.self s _ _ (edge.types_refused not_types) (ap ended step.field-0-is) (step.ensures.refused s stands) (step.ensures.follows s stands)
+
+pub returns-in-Err-NotLawful : goal.returns-in-Err-NotLawful
+returns-in-Err-NotLawful c = λ s stands.
+    let step = c.in-Err-NotLawful in
+    not_taken c.on.new.self s _ _ (edge.types_refused not_lawful) (ap ended step.field-0-is) (step.ensures.refused s stands) (step.ensures.follows s stands)
+
+pub returns-in-Err-TooFewRevisions : goal.returns-in-Err-TooFewRevisions
+returns-in-Err-TooFewRevisions c = λ s stands.
+    let step = c.in-Err-TooFewRevisions in
+    not_taken c.on.new.self s _ _ (edge.types_refused too_few_revisions) (ap ended step.field-0-is) (step.ensures.refused s stands) (step.ensures.follows s stands)

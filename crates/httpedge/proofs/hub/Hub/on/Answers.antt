@@ -1,7 +1,7 @@
 use Rattle.std.proofs.Common.{sym, ap, subst, ◌∙◌}
 use Rattle.httpedge.specs.HubSeen.{Handles, event_of, outcome_of}
 use Rattle.httpedge.specs.Steps.{Event, comes}
-use Rattle.httpedge.proofs.Ended.{follows_in, refused_in, runs_in, unchanged_in}
+use Rattle.httpedge.proofs.Ended.{follows_in, told_in, runs_in, unchanged_in}
 use Rattle.httpedge.proofs.Representing.{bytes_arent, gone_isnt}
 use Rattle.httpedge.proofs.hub.Hub.on.Goals as goal
 
@@ -17,7 +17,7 @@ returns-in-Open-clause-runs c =
 
 pub returns-in-Open-clause-refused : goal.returns-in-Open-clause-refused
 returns-in-Open-clause-refused c =
-    refused_in c.args.self.now c.open.new.self (event_of c.args.event.now) (outcome_of c.open.result)
+    told_in c.args.self.now c.open.new.self (event_of c.args.event.now) (outcome_of c.open.result)
     (subst (λ (e : Event). Handles c.args.self.now e (outcome_of c.open.result) c.open.new.self) (sym (ap event_of c.in-Open.is)) c.open.ensures.handles)
 
 pub returns-in-Open-clause-unchanged : goal.returns-in-Open-clause-unchanged
@@ -37,7 +37,7 @@ returns-in-In-clause-runs c =
 
 pub returns-in-In-clause-refused : goal.returns-in-In-clause-refused
 returns-in-In-clause-refused c =
-    refused_in c.args.self.now c.change.new.self (event_of c.args.event.now) (outcome_of c.change.result)
+    told_in c.args.self.now c.change.new.self (event_of c.args.event.now) (outcome_of c.change.result)
     (subst (λ (e : Event). Handles c.args.self.now e (outcome_of c.change.result) c.change.new.self) (sym (ap event_of c.in-In.is ∙ ap (comes c.in-In.id) (sym c.deref.ensures.value))) (c.change.ensures.handles (bytes_arent c.deref.result)))
 
 pub returns-in-In-clause-unchanged : goal.returns-in-In-clause-unchanged
@@ -57,7 +57,7 @@ returns-in-Gone-clause-runs c =
 
 pub returns-in-Gone-clause-refused : goal.returns-in-Gone-clause-refused
 returns-in-Gone-clause-refused c =
-    refused_in c.args.self.now c.change-in-Gone.new.self (event_of c.args.event.now) (outcome_of c.change-in-Gone.result)
+    told_in c.args.self.now c.change-in-Gone.new.self (event_of c.args.event.now) (outcome_of c.change-in-Gone.result)
     (subst (λ (e : Event). Handles c.args.self.now e (outcome_of c.change-in-Gone.result) c.change-in-Gone.new.self) (sym (ap event_of c.in-Gone.is)) (c.change-in-Gone.ensures.handles gone_isnt))
 
 pub returns-in-Gone-clause-unchanged : goal.returns-in-Gone-clause-unchanged
@@ -77,7 +77,7 @@ returns-in-Pump-clause-runs c =
 
 pub returns-in-Pump-clause-refused : goal.returns-in-Pump-clause-refused
 returns-in-Pump-clause-refused c =
-    refused_in c.args.self.now c.pump.new.self (event_of c.args.event.now) (outcome_of c.pump.result)
+    told_in c.args.self.now c.pump.new.self (event_of c.args.event.now) (outcome_of c.pump.result)
     (subst (λ (e : Event). Handles c.args.self.now e (outcome_of c.pump.result) c.pump.new.self) (sym (ap event_of c.in-Pump.is)) c.pump.ensures)
 
 pub returns-in-Pump-clause-unchanged : goal.returns-in-Pump-clause-unchanged
@@ -97,7 +97,7 @@ returns-in-Tick-clause-runs c =
 
 pub returns-in-Tick-clause-refused : goal.returns-in-Tick-clause-refused
 returns-in-Tick-clause-refused c =
-    refused_in c.args.self.now c.tick.new.self (event_of c.args.event.now) (outcome_of c.tick.result)
+    told_in c.args.self.now c.tick.new.self (event_of c.args.event.now) (outcome_of c.tick.result)
     (subst (λ (e : Event). Handles c.args.self.now e (outcome_of c.tick.result) c.tick.new.self) (sym (ap event_of c.in-Tick.is)) c.tick.ensures.handles)
 
 pub returns-in-Tick-clause-unchanged : goal.returns-in-Tick-clause-unchanged
@@ -117,10 +117,30 @@ returns-in-Compact-clause-runs c =
 
 pub returns-in-Compact-clause-refused : goal.returns-in-Compact-clause-refused
 returns-in-Compact-clause-refused c =
-    refused_in c.args.self.now c.compact.new.self (event_of c.args.event.now) (outcome_of c.compact.result)
+    told_in c.args.self.now c.compact.new.self (event_of c.args.event.now) (outcome_of c.compact.result)
     (subst (λ (e : Event). Handles c.args.self.now e (outcome_of c.compact.result) c.compact.new.self) (sym (ap event_of c.in-Compact.is)) c.compact.ensures)
 
 pub returns-in-Compact-clause-unchanged : goal.returns-in-Compact-clause-unchanged
 returns-in-Compact-clause-unchanged c =
     unchanged_in c.args.self.now c.compact.new.self (event_of c.args.event.now) (outcome_of c.compact.result)
     (subst (λ (e : Event). Handles c.args.self.now e (outcome_of c.compact.result) c.compact.new.self) (sym (ap event_of c.in-Compact.is)) c.compact.ensures)
+
+pub returns-in-Retype-clause-follows : goal.returns-in-Retype-clause-follows
+returns-in-Retype-clause-follows c =
+    follows_in c.args.self.now c.retype.new.self (event_of c.args.event.now) (outcome_of c.retype.result)
+    (subst (λ (e : Event). Handles c.args.self.now e (outcome_of c.retype.result) c.retype.new.self) (sym (ap event_of c.in-Retype.is)) c.retype.ensures)
+
+pub returns-in-Retype-clause-runs : goal.returns-in-Retype-clause-runs
+returns-in-Retype-clause-runs c =
+    runs_in c.args.self.now c.retype.new.self (event_of c.args.event.now) (outcome_of c.retype.result)
+    (subst (λ (e : Event). Handles c.args.self.now e (outcome_of c.retype.result) c.retype.new.self) (sym (ap event_of c.in-Retype.is)) c.retype.ensures)
+
+pub returns-in-Retype-clause-refused : goal.returns-in-Retype-clause-refused
+returns-in-Retype-clause-refused c =
+    told_in c.args.self.now c.retype.new.self (event_of c.args.event.now) (outcome_of c.retype.result)
+    (subst (λ (e : Event). Handles c.args.self.now e (outcome_of c.retype.result) c.retype.new.self) (sym (ap event_of c.in-Retype.is)) c.retype.ensures)
+
+pub returns-in-Retype-clause-unchanged : goal.returns-in-Retype-clause-unchanged
+returns-in-Retype-clause-unchanged c =
+    unchanged_in c.args.self.now c.retype.new.self (event_of c.args.event.now) (outcome_of c.retype.result)
+    (subst (λ (e : Event). Handles c.args.self.now e (outcome_of c.retype.result) c.retype.new.self) (sym (ap event_of c.in-Retype.is)) c.retype.ensures)

@@ -1,0 +1,53 @@
+-- What a hub becomes where other types are served.
+use Rattle.std.proofs.Common.{◌≡◌, false, List, Result, Ok, Err, None, refl, sym, ap, subst}
+use Rattle.std.specs.Prelude.{IfSome}
+use Rattle.serde_json.specs.Data.{Data}
+use Rattle.schema.specs.TypesFile.{ServedShape}
+use Rattle.verbs.specs.Retyping.{RetypeRefusal, retyped, retyping}
+use Rattle.verbs.specs.Seen.{Stands, retype_refusal}
+use Rattle.verbs.specs.declared.api.Api.{Api}
+use Rattle.verbs.specs.declared.fault.Fault.TheVariants as failed
+use Rattle.verbs.specs.declared.fault.RetypeFault.{RetypeFault}
+use Rattle.verbs.specs.declared.fault.RetypeFault.TheVariants as retype_fault
+use Rattle.requests.specs.Decision.{undecided}
+use Rattle.httpedge.specs.declared.fault.HubFault.{HubFault}
+use Rattle.httpedge.specs.declared.hub.Hub.{Hub}
+use Rattle.httpedge.specs.Faults.{retyping_fault_of}
+use Rattle.httpedge.specs.Held.{Represents}
+use Rattle.httpedge.specs.HubSeen.{Handles, IsIn, outcome_of}
+use Rattle.httpedge.specs.HubSeen as outcome
+use Rattle.httpedge.specs.Runs.{Steps}
+use Rattle.httpedge.specs.Steps.{State, refusal, retypes, unless_refused, unless_retyped, with_types}
+use Rattle.httpedge.proofs.OtherTypes.{is_lawful, others_represent, types_last}
+
+-- the others are served, and each connection is held by them
+pub retypes_well : (s : State) (file : Data) (hub : Hub) (api : Api) → IsIn hub s
+    → (others : List ServedShape) × (retyping s.types s.machine file ≡ Ok others) × Stands api others (retyped s.types others s.machine)
+    → (refusal s (retypes file) ≡ None) × (t : State) × Steps s (retypes file) t × (Represents api hub.connections t × (hub.last_tick ≡ t.last_tick))
+retypes_well s file hub api is (others, got, stands) = (
+  ap unless_retyped got,
+  with_types s (Ok others),
+  (undecided, refl, sym (ap (λ (r : Result (List ServedShape) RetypeRefusal). unless_refused (unless_retyped r) s (with_types s r)) got)),
+  (
+    others_represent s others (retyped s.types others s.machine) hub.api api hub.connections (types_last s.types others (is_lawful s.types others s.machine file got)) is.0 stands,
+    is.1,
+  ),
+)
+
+-- without memory nothing changes
+starves_still : (hub new : Hub) (file : Data) → new ≡ hub → Handles hub (retypes file) outcome.starved new
+starves_still hub new file same = λ s is. ((λ q. false), s, (refl, refl, refl), subst (λ (h : Hub). IsIn h s) (sym same) is)
+
+-- by why they are refused
+pub retypes_not : (A : Type 0) (hub new : Hub) (file : Data) (e : RetypeFault) (f : HubFault) → f ≡ retyping_fault_of e → new ≡ hub
+    → ((s : State) → IsIn hub s → IfSome (retype_refusal e) (λ why. retyping s.types s.machine file ≡ Err why)) → Handles hub (retypes file) (outcome_of {A = A} (Err f)) new
+retypes_not A hub new file e f told same denied = subst (λ (g : HubFault). Handles hub (retypes file) (outcome_of {A = A} (Err g)) new) (sym told) (go e denied)
+  where
+    go : (d : RetypeFault) → ((s : State) → IsIn hub s → IfSome (retype_refusal d) (λ why. retyping s.types s.machine file ≡ Err why))
+        → Handles hub (retypes file) (outcome_of {A = A} (Err (retyping_fault_of d))) new
+    go (retype_fault.NotTypes why) here = (same, λ s is. ap unless_retyped (here s is))
+    go retype_fault.NotLawful here = (same, λ s is. ap unless_retyped (here s is))
+    go retype_fault.TooFewRevisions here = (same, λ s is. ap unless_retyped (here s is))
+    go (retype_fault.Failed failed.Memory) here = starves_still hub new file same
+    go (retype_fault.Failed failed.Store) here = starves_still hub new file same
+    go (retype_fault.Failed failed.Unreadable) here = starves_still hub new file same
