@@ -7,8 +7,8 @@ use Rattle.std.proofs.lemmas.List.{take-append-drop}
 use Rattle.std.specs.Io.KnownBytes.{Appends, Consumes, Keeps}
 use Rattle.std.proofs.KnownBytes.{Appends-kept, Appends-nil, Appends-trans, Consumes-nil, Consumes-trans}
 use Rattle.httpedge.specs.Connections.{out_on}
-use Rattle.httpedge.specs.HubSeen.{IsIn}
-use Rattle.httpedge.specs.Runs.{Happening, IsElsewhere, Runs, came, happens, starves, subject, takes}
+use Rattle.httpedge.specs.HubSeen.{Happened, IsIn, Outcome}
+use Rattle.httpedge.specs.Runs.{Follows, Happening, IsElsewhere, Runs, came, happens, starves, subject, takes}
 use Rattle.httpedge.specs.Steps.{Event, State, comes, with_bytes_taken}
 use Rattle.httpedge.specs.Streams.{Compacts, MovesBy, Hands, HandsIf}
 use Rattle.httpedge.specs.declared.hub.Hub.{Hub}
@@ -76,6 +76,12 @@ leads_on id x y e apart hands = leads_event x y e (IsOn id) apart (λ which. apa
 
 pub leads_by_any : (x y : Hub) (e : Event) → MovesBy (Hands e) x y → Leads x y
 leads_by_any x y e hands = leads_event x y e IsAny tt (λ which. tt) hands
+
+-- a call of the hub, however it ended
+pub leads_by_call : (x y : Hub) (e : Event) (o : Outcome) → ((s : State) → IsIn x s → (h : Happening) × (t : State) × Happened e o h × Follows s h t × IsIn y t) → Leads x y
+leads_by_call x y e o follows = λ s is.
+    let one = follows s is in
+    (one.0 ∷ [], one.1, (one.1, one.3, refl), (tt, tt), one.4)
 
 -- a compaction, or none
 any_if : (b : Bool) (e : Event) (s t : State) → HandsIf b e s t → (hs : List Happening) × Runs s hs t × Each IsAny hs

@@ -6,9 +6,10 @@ ghost use Rattle.polling.specs.Happens.{Leads, LeadsOn};
 
 use crate::options::Options;
 use crate::peer::{Next, Peer};
-use httpedge::{Event, Hub, compact, hand};
+use httpedge::{Event, Hub, HubFault, compact, hand};
 use mio::net::{TcpListener, TcpStream};
 use mio::{Events, Interest, Poll, Token};
+use serde_json::Value;
 use std::alloc::Global;
 use std::collections::BTreeMap;
 use std::io;
@@ -214,6 +215,15 @@ impl Peers {
             self.drop_silent(now);
             self.accept_anew();
         }
+    }
+
+    /// Other types are served from here on, or it is told why not. The watches get what that changed.
+    pub(crate) fn retype(&mut self, file: Value, now: Instant) -> Result<(), HubFault>
+        ensures { Leads self.old.hub self.new.hub }
+    {
+        let done = self.hub.on(&Event::Retype(file));
+        self.settle(now);
+        done
     }
 
     /// The hub's tick, each second; whether it is due.

@@ -1,25 +1,26 @@
 //! The server: a listener on loopback, and the loop over what the system reports. The connections stand in `peers`.
 
-ghost use Rattle.std.specs.Prelude.{◌≤◌, IfOk, List, OnOk};
+ghost use Rattle.std.specs.Prelude.{◌≡◌, ◌≤◌, IfOk, List, Ok, OnOk};
 ghost use Rattle.schema.specs.TypesFile.{ServedShape};
 ghost use Rattle.history.specs.History.{History};
 ghost use Rattle.verbs.specs.Seen.{Stands};
 ghost use Rattle.httpedge.specs.HubSeen.{IsIn};
-ghost use Rattle.httpedge.specs.Steps.{start};
+ghost use Rattle.httpedge.specs.Steps.{State, start};
 ghost use Rattle.polling.specs.Happens.{Leads};
 ghost use Rattle.polling.specs.ServerSeen.{hub_of, over_of};
 
 use crate::options::Options;
 use crate::peers::{LISTENER, Peers};
-use httpedge::Hub;
+use httpedge::{Hub, HubFault};
 use mio::net::TcpListener;
 use mio::{Events, Interest, Poll};
+use serde_json::Value;
 use std::alloc::AllocGlobal;
 use std::io::{self, ErrorKind};
 use std::net::{Ipv4Addr, Net, SocketAddr};
 use std::rt::Clock;
 use std::time::Instant;
-use verbs::Api;
+use verbs::{Api, Fault};
 
 /// The most reports of the system that are taken in one turn.
 const EVENTS: usize = 1024;
@@ -82,13 +83,34 @@ impl Server {
         Ok(())
     }
 
+    /// Serves the types of a types file from here on, or tells why not. The watches get what that changed.
+    pub fn retype(&mut self, file: Value, now: Instant) -> Result<(), HubFault>
+        ensures { Leads (hub_of self.old) (hub_of self.new) }
+    {
+        self.peers.retype(file, now)
+    }
+
+    /// The revision that stands now.
+    pub fn revision(&self) -> Result<u64, Fault>
+        ensures { (s : State) → IsIn (hub_of self.now) s → result ≡ Ok s.machine.current }
+    {
+        Ok(self.peers.hub.marks()?.0)
+    }
+
+    /// How many connections are over.
+    pub fn over(&self) -> u64
+        ensures { result ≡ over_of self.now }
+    {
+        self.peers.closed()
+    }
+
     /// Serves until so many connections are over.
     pub fn serve<R: Clock>(&mut self, rt: &R, most: u64) -> io::Result<()>
         ensures leads { Leads (hub_of self.old) (hub_of self.new) }
         ensures served { OnOk result (most ≤ over_of self.new) }
     {
         'turns: for _ in 0..u64::MAX {
-            if self.peers.closed() >= most {
+            if self.over() >= most {
                 return Ok(());
             }
             self.turn(rt)?;

@@ -22,5 +22,5 @@ pub use commands::{
 pub use numbers::{NumberOption, count_of, number, number_option, port_of};
 pub use resource::{Resource, resource_in};
 pub use run_fault::{RunFault, WRONG_USAGE, end_with, unread_path};
-pub use types_file::{read_types, types_in};
+pub use types_file::{read_types, types_in, types_text};
 pub use types_refusal::TypesRefusal;

@@ -85,13 +85,19 @@ pub fn types_in(alloc: Global, path: &str, text: &str) -> Result<Types, RunFault
     }
 }
 
-/// Reads a types file.
-pub fn read_types<R: Files + AllocGlobal>(rt: &R, path: &str) -> Result<Types, RunFault> {
+/// The text of a types file.
+pub fn types_text<R: Files + AllocGlobal>(rt: &R, path: &str) -> Result<String, RunFault> {
     match fs::read_to_string(rt, path) {
-        Ok(text) => types_in(rt.alloc(), path, text.as_str()),
+        Ok(text) => Ok(text),
         Err(error) => {
             let path = unread_path(rt.alloc(), path, &error)?;
             Err(RunFault::TypesFile(path, error))
         }
     }
+}
+
+/// Reads a types file.
+pub fn read_types<R: Files + AllocGlobal>(rt: &R, path: &str) -> Result<Types, RunFault> {
+    let text = types_text(rt, path)?;
+    types_in(rt.alloc(), path, text.as_str())
 }

@@ -70,7 +70,8 @@ const PATIENCE: NumberOption = NumberOption {
 
 const CONCURRENT: &str = "concurrent";
 
-const CONCURRENT_HELP: &str = "Serve many connections at once, not one after another";
+const CONCURRENT_HELP: &str =
+    "Serve many connections at once, not one after another, and follow the types file";
 
 /// What the arguments of `ssa-server` name.
 #[derive(Clone, Copy, Debug)]

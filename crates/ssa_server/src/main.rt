@@ -8,6 +8,7 @@
 
 mod arguments;
 mod fault;
+mod following;
 mod running;
 
 use programs::{end_with, read_arguments};

@@ -3,9 +3,10 @@
 
 use crate::arguments::{ServerOptions, options};
 use crate::fault::ServerFault;
-use programs::{RunFault, end_with, read_types};
+use crate::following::FollowedFile;
+use programs::{RunFault, end_with, types_in, types_text};
 use serving::{Limits, Server, serve_all};
-use std::io;
+use std::io::{self, ErrorKind};
 use std::net::{Ipv4Addr, SocketAddr, TcpListener, TcpStream};
 use std::process::ExitCode;
 use std::time::Instant;
@@ -63,20 +64,32 @@ fn fault_at_once(rt: &HostRuntime, error: io::Error) -> ServerFault {
     }
 }
 
-/// Serves many connections at once.
+/// Serves many connections at once, until so many are over, and follows the types file.
 fn serve_at_once(
     rt: &HostRuntime,
     server: &mut polling::Server,
+    file: &mut FollowedFile<'_>,
     most: u64,
 ) -> Result<(), ServerFault> {
     let port = server.port()?;
     tell_port(rt, port)?;
-    server
-        .serve(rt, most)
-        .map_err(|error| fault_at_once(rt, error))
+    'turns: for _ in 0..u64::MAX {
+        if server.over() >= most {
+            return Ok(());
+        }
+        server.turn(rt).map_err(|error| fault_at_once(rt, error))?;
+        file.look(rt, server)?;
+    }
+    // More turns than a count of connections can tell.
+    Err(ServerFault::Socket(io::Error::from(ErrorKind::Other)))
 }
 
-fn run_at_once(rt: &HostRuntime, api: Api, options: &ServerOptions<'_>) -> Result<(), ServerFault> {
+fn run_at_once(
+    rt: &HostRuntime,
+    api: Api,
+    text: String,
+    options: &ServerOptions<'_>,
+) -> Result<(), ServerFault> {
     let asked = polling::Options {
         port: options.port,
         keep: options.keep,
@@ -88,15 +101,18 @@ fn run_at_once(rt: &HostRuntime, api: Api, options: &ServerOptions<'_>) -> Resul
         options.port,
         error,
     ))?;
-    serve_at_once(rt, &mut server, options.serve)
+    let now = Instant::now(rt).map_err(ServerFault::Clock)?;
+    let mut file = FollowedFile::new(options.types, text, now);
+    serve_at_once(rt, &mut server, &mut file, options.serve)
 }
 
 fn run(rt: &HostRuntime, arguments: &[String]) -> Result<(), ServerFault> {
     let options = options(rt.alloc(), arguments)?;
-    let types = read_types(rt, options.types)?;
+    let text = types_text(rt, options.types)?;
+    let types = types_in(rt.alloc(), options.types, text.as_str())?;
     let api = Api::new(rt.alloc(), types)?;
     if options.concurrent {
-        run_at_once(rt, api, &options)
+        run_at_once(rt, api, text, &options)
     } else {
         run_in_turn(rt, api, &options)
     }

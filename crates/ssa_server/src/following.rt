@@ -1,0 +1,98 @@
+//! Follows the types file while its types are served: each second its text is read, and where it has another the types that
+//! this declares are served from then on. Which change of types is lawful stands in `schema`.
+
+use crate::fault::ServerFault;
+use httpedge::HubFault;
+use polling::Server;
+use programs::{RunFault, types_in, types_text};
+use serde_json::Value;
+use std::time::{Duration, Instant};
+
+/// The milliseconds between two looks at the file.
+const LOOKS: u64 = 1000;
+
+/// A types file, and the text by which its types are served or were refused last.
+#[derive(Drop)]
+pub struct FollowedFile<'a> {
+    path: &'a str,
+    text: String,
+    looked: Instant,
+    /// It couldn't be read, and that is told.
+    is_lost: bool,
+}
+
+impl<'a> FollowedFile<'a> {
+    /// The file of this text.
+    pub fn new(path: &'a str, text: String, now: Instant) -> FollowedFile<'a> {
+        FollowedFile {
+            path,
+            text,
+            looked: now,
+            is_lost: false,
+        }
+    }
+
+    /// Looks at the file, a second after the last look: where it has another text, its types are served, or it is told on
+    /// the standard error why not.
+    pub fn look(&mut self, rt: &HostRuntime, server: &mut Server) -> Result<(), ServerFault> {
+        let now = Instant::now(rt).map_err(ServerFault::Clock)?;
+        if now.duration_since(self.looked) < Duration::from_millis(LOOKS) {
+            return Ok(());
+        }
+        self.looked = now;
+        match types_text(rt, self.path) {
+            Ok(text) => {
+                self.is_lost = false;
+                self.take(rt, server, text);
+            }
+            Err(fault) => self.lose(rt, &fault),
+        }
+        Ok(())
+    }
+
+    /// It can't be read, which is told once.
+    fn lose(&mut self, rt: &HostRuntime, fault: &RunFault) {
+        if !self.is_lost {
+            self.is_lost = true;
+            let _ = rt.eprintln(fault);
+        }
+    }
+
+    fn take(&mut self, rt: &HostRuntime, server: &mut Server, text: String) {
+        if self.text == text {
+            return;
+        }
+        let is_decided = self.serve(rt, server, text.as_str());
+        // Out of memory, the next look tries again.
+        if is_decided {
+            self.text = text;
+        }
+    }
+
+    /// Serves the types that the text declares; whether that was done or refused.
+    fn serve(&self, rt: &HostRuntime, server: &mut Server, text: &str) -> bool {
+        if let Err(fault) = types_in(rt.alloc(), self.path, text) {
+            let _ = rt.eprintln(&fault);
+            return !matches!(fault, RunFault::Memory);
+        }
+        let Ok(value) = Value::from_str(rt.alloc(), text) else {
+            return false;
+        };
+        match server.retype(value, self.looked) {
+            Ok(()) => {
+                self.tell_served(rt, server);
+                true
+            }
+            Err(fault) => {
+                let _ = eprintln!(rt; "types file {}: {fault}", self.path);
+                !matches!(fault, HubFault::Memory | HubFault::Store)
+            }
+        }
+    }
+
+    fn tell_served(&self, rt: &HostRuntime, server: &Server) {
+        if let Ok(revision) = server.revision() {
+            let _ = eprintln!(rt; "types file {}: served at revision {revision}", self.path);
+        }
+    }
+}
