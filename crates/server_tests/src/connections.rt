@@ -193,7 +193,7 @@ fn refusals_are_told(rt: HostRuntime) -> Result<(), Fail> {
         ),
         (
             Refusal::BodyTooLarge,
-            "413 RequestEntityTooLarge, body over 65536 bytes, none",
+            "413 RequestEntityTooLarge, body over 262144 bytes, none",
         ),
         (Refusal::NotJson, "400 BadRequest, body is not JSON, none"),
         (

@@ -1,7 +1,8 @@
 //! Plays examples, each on a hub of its own: a line `NAME on WHAT: WHY`, and rows `STEP => ANSWER` up to the next blank
-//! line. WHAT is `widgets`, `ports` (widgets with a list of ports), `status` (widgets with a status) or `the last revision`
-//! (widgets, where one revision is left); `: WHY` may be absent. The examples stand in `connections`, `single_objects`,
-//! `status_rows`, `list_rows` and `watch_rows`.
+//! line. WHAT is `widgets`, `ports` (widgets with a list of ports), `status` (widgets with a status), `each kind` (widgets with
+//! each kind of list, and summaries), the last with `two revisions left`, or `the last revision` (widgets, where one revision is
+//! left); `: WHY` may be absent. The examples stand in `connections`, `single_objects`, `status_rows`, `list_rows`, `watch_rows`
+//! and `retype_rows`.
 //!
 //! | step | what happens |
 //! |---|---|
@@ -10,6 +11,7 @@
 //! | `bytes K METHOD TARGET BODY` | it comes byte by byte, and nothing is written before the last |
 //! | `apart K METHOD TARGET BODY` | the same, and after each byte but the last a get of the target finds nothing (`pieces`) |
 //! | `in K TEXT`, `gone K`, `pump K N`, `tick MS`, `compact C` | the event |
+//! | `types 0 NAME` | the types of this file are served (`given`), or of this JSON value |
 //! | `told K METHOD TARGET BODY`, `got K METHOD TARGET BODY` | as `ask`; nothing without METHOD TARGET BODY |
 //! | `serve A B METHOD TARGET BODY` | on each from A to B, one after another: it opens, the request comes, its reply is taken |
 //! | `pumped A B N` | each from A to B may write so many lines: what each wrote, if that is the same |
@@ -32,10 +34,11 @@
 
 use crate::connections::CONNECTIONS;
 use crate::forms::{expect_head, expect_refusal};
-use crate::given::{PORT_TYPES, STATUS_TYPES, WIDGET_TYPES};
+use crate::given::{EACH_KIND, PORT_TYPES, STATUS_TYPES, WIDGET_TYPES, types_text};
 use crate::list_rows::LISTS;
 use crate::pieces::{PIECES, comes_apart, cut_anywhere, fronts_of};
 use crate::refused_memory::REFUSED_MEMORY;
+use crate::retype_rows::RETYPES;
 use crate::single_objects::SINGLE_OBJECTS;
 use crate::status_rows::STATUS;
 use crate::watch_rows::WATCHES;
@@ -150,6 +153,7 @@ fn event_of(alloc: Global, word: &str, id: u64, rest: &str) -> Result<Event, Fai
         "pump" => Ok(Event::Pump(id, number(rest)?)),
         "tick" => Ok(Event::Tick(id)),
         "compact" => Ok(Event::Compact(id)),
+        "types" => Ok(Event::Retype(Value::from_str(alloc, types_text(rest))?)),
         _ => Err("no step".into()),
     }
 }
@@ -349,11 +353,15 @@ fn api_of(alloc: Global, heading: &str) -> Result<Api, Fail> {
     let text = match heading.rsplit_once(" on ") {
         Some((_, "ports")) => PORT_TYPES,
         Some((_, "status")) => STATUS_TYPES,
+        Some((_, "each kind" | "each kind, two revisions left")) => EACH_KIND,
         _ => WIDGET_TYPES,
     };
     let types = Types::read(alloc, &Value::from_str(alloc, text)?)?;
     if heading.ends_with(" on the last revision") {
         return Ok(Api::new_at(alloc, types, 9_223_372_036_854_775_806)?);
+    }
+    if heading.ends_with("two revisions left") {
+        return Ok(Api::new_at(alloc, types, 9_223_372_036_854_775_805)?);
     }
     Ok(Api::new(alloc, types)?)
 }
@@ -402,6 +410,14 @@ fn watches(rt: HostRuntime) -> Result<(), Fail> {
 #[test]
 fn connections(rt: HostRuntime) -> Result<(), Fail> {
     for example in CONNECTIONS.split("\n\n") {
+        play(rt.alloc(), example)?;
+    }
+    Ok(())
+}
+
+#[test]
+fn types_that_change(rt: HostRuntime) -> Result<(), Fail> {
+    for example in RETYPES.split("\n\n") {
         play(rt.alloc(), example)?;
     }
     Ok(())

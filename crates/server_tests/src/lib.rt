@@ -22,6 +22,8 @@ mod plans;
 #[cfg(test)]
 mod refused_memory;
 #[cfg(test)]
+mod retype_rows;
+#[cfg(test)]
 mod single_objects;
 #[cfg(test)]
 mod status_rows;

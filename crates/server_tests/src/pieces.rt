@@ -31,8 +31,8 @@ cut 1000 PUT /apis/demo.example/v1/namespaces/default/widgets/w1 HTTP/1.1|$Host:
 cut 2000 PUT /apis/demo.example/v1/namespaces/default/widgets/w1 HTTP/1.1|$Host: x|$Content-Length: 5, 5|$|$[1,2] => 400 bad Content-Length
 cut 3000 PUT /apis/demo.example/v1/namespaces/default/widgets/w1 HTTP/1.1|$Host: x|$Content-Length: +5|$|$[1,2] => 400 bad Content-Length
 cut 4000 PUT /apis/demo.example/v1/namespaces/default/widgets/w1 HTTP/1.1|$Host: x|$Content-Length: 0005|$|$[1,2] => 400 .: not an object
-cut 5000 PUT /apis/demo.example/v1/namespaces/default/widgets/w1 HTTP/1.1|$Host: x|$Content-Length: 65536|$|$[1,2] => undecided
-cut 6000 PUT /apis/demo.example/v1/namespaces/default/widgets/w1 HTTP/1.1|$Host: x|$Content-Length: 65537|$|$[1,2] => 413 body over 65536 bytes
+cut 5000 PUT /apis/demo.example/v1/namespaces/default/widgets/w1 HTTP/1.1|$Host: x|$Content-Length: 262144|$|$[1,2] => undecided
+cut 6000 PUT /apis/demo.example/v1/namespaces/default/widgets/w1 HTTP/1.1|$Host: x|$Content-Length: 262145|$|$[1,2] => 413 body over 262144 bytes
 cut 7000 PUT /apis/demo.example/v1/namespaces/default/widgets/w1 HTTP/1.1|$Host: x|$|$[1,2] => 411 Content-Length is needed
 cut 8000 PUT /apis/demo.example/v1/namespaces/default/widgets/w1 HTTP/1.1|$Host: x|$Transfer-Encoding: chunked|$Content-Length: x|$|$[1,2] => 501 Transfer-Encoding is not served
 cut 9000 PUT /apis/demo.example/v1/namespaces/default/widgets/w1 HTTP/1.1|$Host: x|$Content-Length: 2000|$|$<1000 [><1000 ]> => 400 body is not JSON

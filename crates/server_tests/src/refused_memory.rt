@@ -82,4 +82,19 @@ else ask 5 DELETE namespaces/default/widgets/w1 => 200
 else out 5 => HTTP/1.1 200 OK|$Content-Type: application/json|$Content-Length: 117|$Connection: close|$|${"apiVersion":"demo.example/v1","kind":"Widget","metadata":{"name":"w1","namespace":"default","resourceVersion":"3"}}
 done out 3 => HTTP/1.1 200 OK|$Content-Type: application/json|$Content-Length: 117|$Connection: close|$|${"apiVersion":"demo.example/v1","kind":"Widget","metadata":{"name":"w1","namespace":"default","resourceVersion":"3"}}
 told 6 GET namespaces/default/widgets/w1 => 404 widgets.demo.example \"w1\" not found
-told 7 GET widgets?resourceVersion=4 => 504 Too large resource version: 4, current: 3"#;
+told 7 GET widgets?resourceVersion=4 => 504 Too large resource version: 4, current: 3
+
+other_types on each kind: nothing changes, and the same change is done
+told 2 PATCH namespaces/default/widgets/w1?fieldManager=alice {"apiVersion":"demo.example/v1","kind":"Widget","spec":{"ports":[{"name":"web","port":80}]}} => 201 2
+told 3 PATCH namespaces/default/widgets/w1?fieldManager=bob {"apiVersion":"demo.example/v1","kind":"Widget","spec":{"ports":[{"name":"web","note":"x"}]}} => 200 3
+told 4 PATCH namespaces/default/widgets/w2?fieldManager=carol {"apiVersion":"demo.example/v1","kind":"Widget","spec":{"replicas":1}} => 201 4
+ask 5 GET namespaces/default/widgets?watch=true&resourceVersion=4 => 200
+out 5 => HTTP/1.1 200 OK|$Content-Type: application/json|$Transfer-Encoding: chunked|$Connection: close|$|$
+marked types 0 ports atomic => -
+else got 6 GET namespaces/default/widgets/w1 => 200 {"apiVersion":"demo.example/v1","kind":"Widget","metadata":{"managedFields":[{"apiVersion":"demo.example/v1","fieldsType":"FieldsV1","fieldsV1":{"f:spec":{"f:ports":{"k:{\"name\":\"web\"}":{".":{},"f:name":{},"f:port":{}}}}},"manager":"alice","operation":"Apply"},{"apiVersion":"demo.example/v1","fieldsType":"FieldsV1","fieldsV1":{"f:spec":{"f:ports":{"k:{\"name\":\"web\"}":{".":{},"f:name":{},"f:note":{}}}}},"manager":"bob","operation":"Apply"}],"name":"w1","namespace":"default","resourceVersion":"3"},"spec":{"ports":[{"name":"web","note":"x","port":80}]}}
+else pump 5 10 => -
+else out 5 => -
+else types 0 ports atomic => -
+got 7 GET namespaces/default/widgets => 200 {"apiVersion":"demo.example/v1","items":[{"apiVersion":"demo.example/v1","kind":"Widget","metadata":{"managedFields":[{"apiVersion":"demo.example/v1","fieldsType":"FieldsV1","fieldsV1":{"f:spec":{"f:ports":{}}},"manager":"alice","operation":"Apply"},{"apiVersion":"demo.example/v1","fieldsType":"FieldsV1","fieldsV1":{"f:spec":{"f:ports":{}}},"manager":"bob","operation":"Apply"}],"name":"w1","namespace":"default","resourceVersion":"5"},"spec":{"ports":[{"name":"web","note":"x","port":80}]}},{"apiVersion":"demo.example/v1","kind":"Widget","metadata":{"managedFields":[{"apiVersion":"demo.example/v1","fieldsType":"FieldsV1","fieldsV1":{"f:spec":{"f:replicas":{}}},"manager":"carol","operation":"Apply"}],"name":"w2","namespace":"default","resourceVersion":"4"},"spec":{"replicas":1}}],"kind":"WidgetList","metadata":{"resourceVersion":"5"}}
+pump 5 10 => -
+out 5 => 1e2|${"type":"MODIFIED","object":{"apiVersion":"demo.example/v1","kind":"Widget","metadata":{"managedFields":[{"apiVersion":"demo.example/v1","fieldsType":"FieldsV1","fieldsV1":{"f:spec":{"f:ports":{}}},"manager":"alice","operation":"Apply"},{"apiVersion":"demo.example/v1","fieldsType":"FieldsV1","fieldsV1":{"f:spec":{"f:ports":{}}},"manager":"bob","operation":"Apply"}],"name":"w1","namespace":"default","resourceVersion":"5"},"spec":{"ports":[{"name":"web","note":"x","port":80}]}}}$|$"#;
