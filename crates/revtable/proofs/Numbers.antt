@@ -215,6 +215,29 @@ pub span_whole : (h : History) (kind : ℕ) (ns : Option (List ℕ)) (from to mo
     → changes_within kind ns most (up_to to (later from h.changes)) ≡ picked kind ns (up_to to (later from h.changes))
 span_whole h kind ns from to most p le = take_most most (picked kind ns (up_to to (later from h.changes))) (spans_few h from to _ p.is) le
 
+-- between a revision and an earlier one there is none
+none_between : (f t : ℕ) (cs : List Change) → t ≤ f → up_to t (later f cs) ≡ []
+none_between f t [] le = refl
+none_between f t (c ∷ cs) le = go (nat_lt f c.revision) refl (none_between f t cs le)
+  where
+    go : (b : Bool) → nat_lt f c.revision ≡ b → up_to t (later f cs) ≡ [] → up_to t (cond b (c ∷ later f cs) (later f cs)) ≡ []
+    go false e none = none
+    go true e none =
+        let a : f < c.revision = ltb-true _ _ e in
+        ap (λ b. cond b (c ∷ up_to t (later f cs)) (up_to t (later f cs))) (lt-leb c.revision t (omega arith)) ∙ none
+
+take_nothing : {X : Type 0} (m : ℕ) → take {A = X} m [] ≡ []
+take_nothing zero = refl
+take_nothing (suc m) = refl
+
+pub first_of_none : {X : Type 0} (m : ℕ) (xs : List X) → xs ≡ [] → [] ≡ take m xs
+first_of_none m xs none = sym (take_nothing m) ∙ sym (ap (take m) none)
+
+pub span_none : (h : History) (kind : ℕ) (ns : Option (List ℕ)) (from to f t : ℕ) → IsPruned h → f ≡ min from h.current → t ≡ min to h.current → t ≤ f
+    → picked kind ns (up_to to (later from h.changes)) ≡ []
+span_none h kind ns from to f t p from_is to_is le =
+    ap (picked kind ns) (sym (ap₂ (λ a b. up_to a (later b h.changes)) to_is from_is ∙ span_min h from to p.is) ∙ none_between f t h.changes le)
+
 -- the row of a count
 pub count_is : (h : History) (rows : List Row) (row : Row) (n : ℕ) → IsPruned h → rows ≡ (Int (pos (min (length (with_body h.changes)) last_revision)) ∷ []) ∷ [] → Some row ≡ slice_get rows 0 → column row 0 ≡ Int (pos n)
     → n ≡ length (with_body h.changes)

@@ -218,6 +218,9 @@ impl Table {
     {
         let from = from.min(self.current);
         let to = to.min(self.current);
+        if from >= to {
+            return Ok(Vec::new(self.alloc));
+        }
         let max = max.min(MOST_ROWS);
         let made = self.made_in(kind, namespace, from, to, max)?;
         let to = reached(&made, max, to)?;

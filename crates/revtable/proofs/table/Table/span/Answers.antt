@@ -1,4 +1,4 @@
-use Rattle.std.proofs.Common.{◌≡◌, ℕ, List, map, min, ap, sym, subst, ◌∙◌, IfOk, Option, option_map, zero-le}
+use Rattle.std.proofs.Common.{◌≡◌, ℕ, List, [], map, min, ap, sym, subst, ◌∙◌, IfOk, Option, option_map, zero-le}
 use Rattle.history.specs.History.{Change, History, later, up_to}
 use Rattle.history.specs.Kept.{IsPruned}
 use Rattle.history.specs.Page.{changes_within, picked}
@@ -6,7 +6,7 @@ use Rattle.revtable.specs.Asked.{deletions}
 use Rattle.history.specs.Read.{change_of}
 use Rattle.revtable.specs.Rows.{shown}
 use Rattle.revtable.proofs.Fronts.{part_deleted, part_made}
-use Rattle.revtable.proofs.Numbers.{span_is, span_rises, span_whole, up_rises}
+use Rattle.revtable.proofs.Numbers.{first_of_none, span_is, span_none, span_rises, span_whole, up_rises}
 use Rattle.revtable.proofs.Outcomes.{when_ok}
 use Rattle.revtable.proofs.table.Table.span.Goals as goal
 
@@ -41,3 +41,16 @@ returns-clause-ok c = done c
 
 pub returns-clause-whole : goal.returns-clause-whole
 returns-clause-whole c = λ le. when_ok c.merged.result _ _ (λ v is. is ∙ span_whole c.args.self.now c.args.kind (named c) c.args.from c.args.to c.args.max (subst IsPruned c.self.view_is c.self.invariant.0.pruned) le) (done c)
+
+none : (c : goal.After-new) → picked c.args.kind (option_map (λ b. b.now) c.args.namespace) (up_to c.args.to (later c.args.from c.args.self.now.changes)) ≡ []
+none c =
+    let h = c.args.self.now in
+    let pruned : IsPruned h = subst IsPruned c.self.view_is c.self.invariant.0.pruned in
+    let current = c.self.invariant.1 ∙ ap (λ (x : History). x.current) c.self.view_is in
+    span_none h c.args.kind _ c.args.from c.args.to c.min-from.result c.min-to.result pruned (c.min-from.ensures ∙ ap (min c.args.from) current) (c.min-to.ensures ∙ ap (min c.args.to) current) c.if-from-to.true
+
+pub returns-then-from-to-clause-ok : goal.returns-then-from-to-clause-ok
+returns-then-from-to-clause-ok c = ap (map change_of) c.new.ensures.items ∙ first_of_none c.args.max _ (none c)
+
+pub returns-then-from-to-clause-whole : goal.returns-then-from-to-clause-whole
+returns-then-from-to-clause-whole c = λ le. ap (map change_of) c.new.ensures.items ∙ sym (none c)
