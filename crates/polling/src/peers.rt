@@ -86,7 +86,7 @@ pub(crate) struct Peers {
     highest: u64,
     /// How many connections are over.
     closed: u64,
-    /// The current revision at the last compaction.
+    /// The current revision when it was last asked.
     revision: u64,
     started: Instant,
     ticked: Instant,
@@ -201,15 +201,15 @@ impl Peers {
         None
     }
 
-    /// What is done after the turns of connections, in this order: each second the hub's tick; once something was written,
-    /// a compaction; and the turns of the watches. So a watch gets what came in one turn, or is told that it is forgotten,
+    /// What is done after the turns of connections, in this order: each second the hub's tick; a compaction, where one is due;
+    /// and the turns of the watches. So a watch gets what came in one turn, or is told that it is forgotten,
     /// unless more is left for it than one pump tells, or its bytes still wait for its peer. Each second ends the
     /// connections whose peers are silent.
     pub(crate) fn settle(&mut self, now: Instant)
         ensures { Leads self.old.hub self.new.hub }
     {
         let is_second = self.tick(now);
-        let is_risen = self.compact();
+        let is_risen = self.compact(is_second);
         self.pump_watches(is_second || is_risen, now);
         if is_second {
             self.drop_silent(now);
@@ -241,15 +241,18 @@ impl Peers {
         true
     }
 
-    /// Forgets what isn't kept, once something was written; whether it was.
-    fn compact(&mut self) -> bool
+    /// Forgets what isn't kept, where that is worth a statement: each second, or once as much again is kept. Whether
+    /// something was written since it was last asked.
+    fn compact(&mut self, is_second: bool) -> bool
         ensures { Leads self.old.hub self.new.hub }
     {
-        let (revision, _) = self.hub.marks().unwrap_or((self.revision, 0));
+        let keep = self.options.keep;
+        let (revision, compacted) = self.hub.marks().unwrap_or((self.revision, 0));
         let is_risen = revision != self.revision;
         self.revision = revision;
-        if is_risen {
-            compact(&mut self.hub, self.options.keep);
+        let is_due = is_second || revision.saturating_sub(compacted) > keep.saturating_mul(2);
+        if is_due {
+            compact(&mut self.hub, keep);
         }
         is_risen
     }
