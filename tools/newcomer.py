@@ -1,19 +1,22 @@
-"""Runs the commands of README.md and docs/API.md against a server that was built, and compares what they print; then makes
-the same requests by urllib and compares their replies. All of it twice: of a server that serves one connection after another,
-and of one that serves many at once. The commands of the programs that play scripts are run by themselves.
+#!/usr/bin/env python3
+"""Runs the commands of the pages that a user reads against a server that was built, and compares what they print; then makes
+the same requests by urllib and compares their replies. All of it twice, where the page's server has no --concurrent: of a
+server that serves one connection after another, and of one that serves many at once. The commands of the programs that play
+scripts are run by themselves.
 
     tools/newcomer.py [PROGRAM]
 
 PROGRAM is crates/ssa_server/out/ssa_server where none is named. The commands are the lines "$ COMMAND" of the code blocks that
 begin with such a line, in the order of the page; the lines behind one are what it prints. A command of ./ssa-server starts a
-fresh server, on a free port in place of the page's, and the next one sets the variable S; those after it are run by bash.
-What ./ssa-mirror prints depends on what others do meanwhile: it isn't run.
+fresh server, on a free port in place of the page's; the next ones set variables (NAME=VALUE), the first of them the server's
+address; those after them are run by bash.
 urllib leaves out the commands of curl -si, whose replies are shown with their heads: it can't make some of these requests.
 The status is 1 where something differs.
 """
 import itertools
 import json
 import os
+import re
 import shlex
 import subprocess
 import sys
@@ -21,8 +24,9 @@ import urllib.error
 import urllib.request
 
 TOP = os.path.dirname(os.path.dirname(os.path.realpath(__file__)))
-PAGES = ["README.md", "docs/API.md"]
+PAGES = ["README.md", "docs/API.md", "docs/REPLAY.md", "examples/crd.md"]
 PORT = "8001"
+SETTING = re.compile(r"[A-Z]+=\S+$")
 
 
 def commands(page):
@@ -59,6 +63,21 @@ def plays():
     return [row for page in PAGES for row in commands(page) if row[0].startswith(("./ssa-replay ", "./ssa-loop "))]
 
 
+def settings(rows, port):
+    """The variables that a session's first commands set, of a server on this port."""
+    names = {}
+    for command, _ in itertools.takewhile(lambda row: SETTING.match(row[0]), rows):
+        name, _, value = command.partition("=")
+        names[name] = expanded(value.replace(PORT, port), names)
+    return names
+
+
+def expanded(text, names):
+    for name, value in names.items():
+        text = text.replace("$" + name, value)
+    return text
+
+
 class Server:
     """The server that a page's command starts, on a free port."""
 
@@ -84,12 +103,11 @@ def differs(what, got, wanted):
     return 1
 
 
-def by_curl(base, rows):
+def by_curl(names, rows):
     """How many commands print something else."""
-    names = {**os.environ, "S": base}
     count = 0
     for command, wanted in rows:
-        done = subprocess.run(["bash", "-c", command], env=names, stdout=subprocess.PIPE, text=True, timeout=30, check=False)
+        done = subprocess.run(["bash", "-c", command], env={**os.environ, **names}, stdout=subprocess.PIPE, text=True, timeout=30, check=False)
         count += differs(command, done.stdout.rstrip("\n"), wanted)
     return count
 
@@ -123,10 +141,10 @@ def opened(request):
 def status_of(body):
     """The code that a Status names."""
     value = json.loads(body)
-    return value["code"] if value["kind"] == "Status" else None
+    return value["code"] if value.get("kind") == "Status" else None
 
 
-def by_urllib(base, rows):
+def by_urllib(names, rows):
     """How many requests have another reply. Of a command with a watch in the background that is opened, then the other
     request is made, and the watch's lines are read."""
     count = 0
@@ -134,12 +152,12 @@ def by_urllib(base, rows):
         if " -si " in command:
             continue
         steps = [step for part in command.split(" & ") for step in part.split("; ") if step.startswith("curl ")]
-        asked = [request_of(shlex.split(step.replace("$S", base))) for step in steps]
+        asked = [request_of(shlex.split(expanded(step, names))) for step in steps]
         replies = [opened(request) for request in asked]
         if len(replies) > 1:
             body = "".join(replies[0].readline().decode() for _ in wanted.splitlines()).rstrip("\n")
         else:
-            body = replies[0].read().decode()
+            body = replies[0].read().decode().rstrip("\n")
             count += differs(f"status of {command}", replies[0].status if status_of(body) else None, status_of(body))
         count += differs(f"urllib: {command}", body, wanted)
         for reply in replies:
@@ -158,15 +176,15 @@ def main(words):
         done = subprocess.run(["bash", "-c", command], cwd=TOP, stdout=subprocess.PIPE, text=True, timeout=600, check=False)
         count += differs(command, done.stdout.rstrip("\n"), wanted)
         played += 1
-    for session in sessions():
-        (start, said), (setting, _), *rows = session
-        played += len(rows)
-        for mode, ask in itertools.product(([], ["--concurrent"]), (by_curl, by_urllib)):
+    for (start, said), *rows in sessions():
+        modes = [[]] if " --concurrent" in start else [[], ["--concurrent"]]
+        asked = rows[len(settings(rows, PORT)):]
+        played += len(asked)
+        for mode, ask in itertools.product(modes, (by_curl, by_urllib)):
             with Server(os.path.realpath(program), start, mode) as server:
                 count += differs(start, server.said.replace(server.port, PORT), said)
-                base = setting.partition("=")[2].replace(PORT, server.port)
-                count += ask(base, rows)
-    print(f"{played} commands, those of servers by curl and by urllib and in both modes, {count} differences")
+                count += ask(settings(rows, server.port), asked)
+    print(f"{played} commands, those of servers by curl and by urllib, {count} differences")
     return int(count > 0)
 
 

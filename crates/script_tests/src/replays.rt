@@ -7,15 +7,14 @@
 //! | `types TEXT`, `script TEXT` | the file is written |
 //! | `run ARGUMENTS` | `ssa-replay` runs on these arguments, its name first |
 //! | `play OPTIONS` | it runs on those that name both files, and these options |
-//! | `loop OPTIONS` | so does `ssa-loop` |
+//! | `loop OPTIONS` | so does `ssa-loop`, called by the same name |
 //! | `both OPTIONS` | so do both, and they print the same |
 //! | `full` | as `play`, but nothing can be printed on the standard output |
 //! | `offline` | as `loop`, but no socket can be had |
 //! | `bad LINE` | as `play`, with a script whose third line is this one, between good ones: it is refused |
 //!
 //! A run is followed by ` => STATUS PRINTED`. What is printed on the standard error has a `!` before it; a carriage return is
-//! shown as `|`, a line feed as `$`. Where `..` stands last, what is printed goes on in other words; where it stands first, it
-//! begins so.
+//! shown as `|`, a line feed as `$`. Where `..` stands first, what is printed begins in other words.
 
 use crate::recording::Recording;
 use programs::RunFault;
@@ -56,12 +55,11 @@ fn owned(alloc: Global, arguments: &str) -> Result<Vec<String>, AllocError> {
     Ok(all)
 }
 
-/// Whether this was printed; with `..` last it begins so, with `..` first it ends so.
+/// Whether this was printed; with `..` first it ends so.
 fn is_printed(printed: &[u8], wanted: &[u8]) -> bool {
-    match (wanted.strip_suffix(b".."), wanted.strip_prefix(b"..")) {
-        (Some(front), _) => printed.starts_with(front),
-        (None, Some(rest)) => printed.ends_with(rest),
-        (None, None) => printed == wanted,
+    match wanted.strip_prefix(b"..") {
+        Some(rest) => printed.ends_with(rest),
+        None => printed == wanted,
     }
 }
 
@@ -160,15 +158,15 @@ fn play_files(rt: &HostRuntime, word: &str, options: &str, wanted: &str) -> Resu
 
 const ROWS: &str = r#"# help_and_version_are_printed
 run ssa-replay --help => 0 Plays a script of events over an API server and a client in memory and prints what comes of it$$Usage: ssa-replay [OPTIONS] --types <FILE> --script <FILE>$$Options:$      --types <FILE>    The types to serve, one JSON object {"types":[..]}$      --script <FILE>   The events to play, one JSON object a line, like {"open":1}$      --page <N>        How many objects a page of the client's list has at most, 1 to 500 [default: 2]$      --selector <S>    The label selector of the client's objects, like tier=web; without it, all$      --namespace <NS>  The namespace of the client's objects; without it, all$      --type <G/V/P>    The type of the client's objects: group/version/plural; without it, demo.example/v1/widgets$      --label <L>       The label whose values are counted; without it, tier$  -h, --help            Print help$  -V, --version         Print version$$Example:$  ssa-replay --types crates/ssa_replay/data/types.json --script crates/ssa_replay/data/script.jsonl$$Exit status:$  0  done$  1  the standard output can't be written$  2  wrong usage, or a type, a page, a selector or a namespace that can't be had$  3  the types file is bad, or a file can't be read$  4  bad line of the script$  5  out of memory, or the store failed$
-loop --help => 0 Plays a script as ssa-replay does, with the client's bytes over a loopback socket$..
+loop --help => 0 Plays a script as ssa-replay does, with the client's bytes over a loopback socket$$Usage: ssa-replay [OPTIONS] --types <FILE> --script <FILE>$$Options:$      --types <FILE>    The types to serve, one JSON object {"types":[..]}$      --script <FILE>   The events to play, one JSON object a line, like {"open":1}$      --page <N>        How many objects a page of the client's list has at most, 1 to 500 [default: 2]$      --selector <S>    The label selector of the client's objects, like tier=web; without it, all$      --namespace <NS>  The namespace of the client's objects; without it, all$      --type <G/V/P>    The type of the client's objects: group/version/plural; without it, demo.example/v1/widgets$      --label <L>       The label whose values are counted; without it, tier$  -h, --help            Print help$  -V, --version         Print version$$Example:$  ssa-loop --types crates/ssa_loop/data/types.json --script crates/ssa_loop/data/script.jsonl$$Exit status:$  0  done$  1  the standard output can't be written$  2  wrong usage, or a type, a page, a selector or a namespace that can't be had$  3  the types file is bad, or a file can't be read$  4  bad line of the script$  5  out of memory, or the store failed$  6  the socket failed$
 run ssa-replay --version => 0 ssa-replay 0.1.0$
 loop --version => 0 ssa-loop 0.1.0$
 # arguments_are_told_first
-run ssa-replay --types no-file => 2 ..
+run ssa-replay --types no-file => 2 !error: the following required arguments were not provided:$  --script <FILE>$$Usage: ssa-replay --types <FILE> --script <FILE>$$For more information, try '--help'.$
 # faults_are_told_in_order
 play => 3 !types file replayed-types.json: No such file or directory (os error 2)$
 types [
-play => 3 !types file replayed-types.json: not JSON: ..
+play => 3 !types file replayed-types.json: not JSON: EOF while parsing at line 1 column 1$
 types {"types":[{"group":"g","version":"v","kind":"K","plural":"p","schema":{"type":"object","nope":1}}]}
 play => 3 !types file replayed-types.json: refusal 1: unknown keyword "nope" at g/v/p$
 types {"types":[{"group":"g","version":"v","kind":"K","plural":"p","schema":{"type":"object","properties":{"spec":{"type":"object","properties":{"ports":{"type":"array","items":{"type":"string","nullable":true}}}}}}}]}
@@ -194,7 +192,7 @@ play => 0 connection 1 0$$
 # faults_of_the_settings_are_told_last
 play --page x => 2 !--page: a whole number from 0 to 4294967295$
 play --page 4294967296 => 2 !--page: a whole number from 0 to 4294967295$
-play --page -1 => 2 ..
+play --page -1 => 2 !error: unexpected argument '-1' found$$Usage: ssa-replay [OPTIONS] --types <FILE> --script <FILE>$$For more information, try '--help'.$
 play --type demo.example/v1 => 2 !--type: group/version/plural$
 play --type demo.example/v1/widgets/w1 => 2 !--type: group/version/plural$
 play --type demo.example/v1/gadgets => 2 !--type: the types file has no such type$
@@ -226,6 +224,8 @@ bad {"open":"1"}
 bad {"compact":-1}
 bad {"compact":"1"}
 bad {"compact":[1]}
+bad {"types":{"types":[]},"tick":1}
+bad {"Types":{"types":[]}}
 bad {"gone":"1"}
 bad {"gone":[1]}
 bad {"tick":-1}
@@ -300,12 +300,15 @@ both => 0 201 {"apiVersion":"demo.example/v1","kind":"Widget","metadata":{"label
 # compaction_keeps_what_stands
 script {"apply":{"body":{"apiVersion":"demo.example/v1","kind":"Widget","metadata":{"name":"w1"},"spec":{"image":"a","replicas":3}},"force":false,"manager":"alice","target":"/apis/demo.example/v1/namespaces/default/widgets/w1"}}${"compact":2}${"compact":1}${"apply":{"body":{"apiVersion":"demo.example/v1","kind":"Widget","metadata":{"name":"w1"},"spec":{"image":"a","replicas":3}},"force":false,"manager":"alice","target":"/apis/demo.example/v1/namespaces/default/widgets/w1"}}
 play => 0 201 {"apiVersion":"demo.example/v1","kind":"Widget","metadata":{"managedFields":[{"apiVersion":"demo.example/v1","fieldsType":"FieldsV1","fieldsV1":{"f:spec":{"f:image":{},"f:replicas":{}}},"manager":"alice","operation":"Apply"}],"name":"w1","namespace":"default","resourceVersion":"2"},"spec":{"image":"a","replicas":3}}$200 {"apiVersion":"demo.example/v1","kind":"Widget","metadata":{"managedFields":[{"apiVersion":"demo.example/v1","fieldsType":"FieldsV1","fieldsV1":{"f:spec":{"f:image":{},"f:replicas":{}}},"manager":"alice","operation":"Apply"}],"name":"w1","namespace":"default","resourceVersion":"2"},"spec":{"image":"a","replicas":3}}$
+# types_are_served_from_a_line_on
+script {"apply":{"body":{"apiVersion":"demo.example/v1","kind":"Widget","metadata":{"name":"w1"},"spec":{"ports":[{"name":"web","port":80}]}},"force":false,"manager":"alice","target":"/apis/demo.example/v1/namespaces/default/widgets/w1"}}${"apply":{"body":{"apiVersion":"demo.example/v1","kind":"Widget","metadata":{"name":"w1"},"spec":{"ports":[{"name":"web","note":"x"}]}},"force":false,"manager":"bob","target":"/apis/demo.example/v1/namespaces/default/widgets/w1"}}${"types":[]}${"types":null}${"types":{"types":[]}}${"types":{"types":[{"group":"demo.example","version":"v1","kind":"Widget","plural":"widgets","schema":{"type":"object","properties":{"spec":{"type":"object","properties":{"args":{"type":"array","items":{"type":"string"}},"config":{"type":"object","additionalProperties":{"type":"string"}},"image":{"type":"string"},"ports":{"type":"array","x-kubernetes-list-type":"atomic","items":{"type":"object","properties":{"name":{"type":"string"},"note":{"type":"string"},"port":{"type":"integer"}}}},"replicas":{"type":"integer"},"tags":{"type":"array","x-kubernetes-list-type":"set","items":{"type":"string"}}}}}}},{"group":"summary.example","version":"v1","kind":"LabelSummary","plural":"labelsummaries","schema":{"type":"object","properties":{"spec":{"type":"object","properties":{"counts":{"type":"object","additionalProperties":{"type":"integer"}},"label":{"type":"string"},"total":{"type":"integer"}}}}}}]}}${"types":{"types":[{"group":"demo.example","version":"v1","kind":"Widget","plural":"widgets","schema":{"type":"object","properties":{"spec":{"type":"object","properties":{"args":{"type":"array","items":{"type":"string"}},"config":{"type":"object","additionalProperties":{"type":"string"}},"image":{"type":"string"},"ports":{"type":"array","x-kubernetes-list-type":"atomic","items":{"type":"object","properties":{"name":{"type":"string"},"note":{"type":"string"},"port":{"type":"integer"}}}},"replicas":{"type":"integer"},"tags":{"type":"array","x-kubernetes-list-type":"set","items":{"type":"string"}}}}}}},{"group":"summary.example","version":"v1","kind":"LabelSummary","plural":"labelsummaries","schema":{"type":"object","properties":{"spec":{"type":"object","properties":{"counts":{"type":"object","additionalProperties":{"type":"integer"}},"label":{"type":"string"},"total":{"type":"integer"}}}}}}]}}${"types":{"types":[{"group":"demo.example","version":"v1","kind":"Widget","plural":"widgets","schema":{"type":"object","properties":{"spec":{"type":"object","properties":{"args":{"type":"array","items":{"type":"string"}},"config":{"type":"object","additionalProperties":{"type":"string"}},"image":{"type":"string"},"ports":{"type":"array","x-kubernetes-list-type":"map","x-kubernetes-list-map-keys":["name"],"items":{"type":"object","properties":{"name":{"type":"string"},"note":{"type":"string"},"port":{"type":"integer"}}}},"replicas":{"type":"integer"},"tags":{"type":"array","x-kubernetes-list-type":"set","items":{"type":"string"}}}}}}},{"group":"summary.example","version":"v1","kind":"LabelSummary","plural":"labelsummaries","schema":{"type":"object","properties":{"spec":{"type":"object","properties":{"counts":{"type":"object","additionalProperties":{"type":"integer"}},"label":{"type":"string"},"total":{"type":"integer"}}}}}}]}}${"apply":{"body":{"apiVersion":"demo.example/v1","kind":"Widget","metadata":{"name":"w1"},"spec":{"ports":[{"name":"web","port":80}]}},"force":false,"manager":"alice","target":"/apis/demo.example/v1/namespaces/default/widgets/w1"}}${"open":9}${"in":[9,"GET /apis/demo.example/v1/namespaces/default/widgets/w1 HTTP/1.1\r\nHost: localhost\r\n\r\n"]}
+both => 0 201 {"apiVersion":"demo.example/v1","kind":"Widget","metadata":{"managedFields":[{"apiVersion":"demo.example/v1","fieldsType":"FieldsV1","fieldsV1":{"f:spec":{"f:ports":{"k:{\"name\":\"web\"}":{".":{},"f:name":{},"f:port":{}}}}},"manager":"alice","operation":"Apply"}],"name":"w1","namespace":"default","resourceVersion":"2"},"spec":{"ports":[{"name":"web","port":80}]}}$200 {"apiVersion":"demo.example/v1","kind":"Widget","metadata":{"managedFields":[{"apiVersion":"demo.example/v1","fieldsType":"FieldsV1","fieldsV1":{"f:spec":{"f:ports":{"k:{\"name\":\"web\"}":{".":{},"f:name":{},"f:port":{}}}}},"manager":"alice","operation":"Apply"},{"apiVersion":"demo.example/v1","fieldsType":"FieldsV1","fieldsV1":{"f:spec":{"f:ports":{"k:{\"name\":\"web\"}":{".":{},"f:name":{},"f:note":{}}}}},"manager":"bob","operation":"Apply"}],"name":"w1","namespace":"default","resourceVersion":"3"},"spec":{"ports":[{"name":"web","note":"x","port":80}]}}$409 {"apiVersion":"v1","code":409,"details":{"causes":[{"field":".spec.ports","message":"conflict with \"bob\" using demo.example/v1","reason":"FieldManagerConflict"}]},"kind":"Status","message":"Apply failed with 1 conflict(s)","metadata":{},"reason":"Conflict","status":"Failure"}$connection 9 543$HTTP/1.1 200 OK|$Content-Type: application/json|$Content-Length: 452|$Connection: close|$|${"apiVersion":"demo.example/v1","kind":"Widget","metadata":{"managedFields":[{"apiVersion":"demo.example/v1","fieldsType":"FieldsV1","fieldsV1":{"f:spec":{"f:ports":{}}},"manager":"alice","operation":"Apply"},{"apiVersion":"demo.example/v1","fieldsType":"FieldsV1","fieldsV1":{"f:spec":{"f:ports":{}}},"manager":"bob","operation":"Apply"}],"name":"w1","namespace":"default","resourceVersion":"4"},"spec":{"ports":[{"name":"web","note":"x","port":80}]}}$
 # bytes_of_a_gone_peer_are_printed
 script {"open":1}${"in":[1,"GET /apis/demo.example/v1/widgets?watch=true&allowWatchBookmarks=true HTTP/1.1\r\nHost: localhost\r\n\r\n"]}${"tick":5}${"apply":{"body":{"apiVersion":"demo.example/v1","kind":"Widget","metadata":{"name":"w1"},"spec":{"image":"a","replicas":3}},"force":false,"manager":"alice","target":"/apis/demo.example/v1/namespaces/default/widgets/w1"}}${"pump":[1,0]}${"tick":4}${"pump":[1,10]}${"gone":1}${"gone":1}${"gone":7}${"pump":[1,10]}
 play => 0 201 {"apiVersion":"demo.example/v1","kind":"Widget","metadata":{"managedFields":[{"apiVersion":"demo.example/v1","fieldsType":"FieldsV1","fieldsV1":{"f:spec":{"f:image":{},"f:replicas":{}}},"manager":"alice","operation":"Apply"}],"name":"w1","namespace":"default","resourceVersion":"2"},"spec":{"image":"a","replicas":3}}$connection 1 568$HTTP/1.1 200 OK|$Content-Type: application/json|$Transfer-Encoding: chunked|$Connection: close|$|$71|${"type":"BOOKMARK","object":{"apiVersion":"demo.example/v1","kind":"Widget","metadata":{"resourceVersion":"1"}}}$|$158|${"type":"ADDED","object":{"apiVersion":"demo.example/v1","kind":"Widget","metadata":{"managedFields":[{"apiVersion":"demo.example/v1","fieldsType":"FieldsV1","fieldsV1":{"f:spec":{"f:image":{},"f:replicas":{}}},"manager":"alice","operation":"Apply"}],"name":"w1","namespace":"default","resourceVersion":"2"},"spec":{"image":"a","replicas":3}}}$|$$
 # full_writer_is_told
 script {"apply":{"body":null,"force":false,"manager":"alice","target":"/x"}}
-full => 1 !standard output: .."#;
+full => 1 !standard output: broken pipe$"#;
 
 #[test]
 fn runs(rt: HostRuntime) -> Result<(), Fail> {

@@ -23,7 +23,7 @@ cut 42200 GET /apis/demo.example/v1/widgets HTTP/1.0|$Host: x|$|$ => 505 HTTP/1.
 cut 42300 GET /apis/demo.example/v1/widgets HTTP/1.1|$|$ => 400 one Host field is needed
 cut 42400 GET /apis/demo.example/v1/widgets HTTP/1.1|$Host: x|$Host: x|$|$ => 400 one Host field is needed
 cut 42500 GET /apis/demo.example/v1/widgets HTTP/1.1|$Host: x|$|$ => 200 1
-told 42600 GET widgets => 200 1
+got 42600 GET widgets => 200 {"apiVersion":"demo.example/v1","items":[],"kind":"WidgetList","metadata":{"resourceVersion":"1"}}
 
 lengths_are_read on widgets: by their value, and equal ones as one
 cut 1 PUT /apis/demo.example/v1/namespaces/default/widgets/w1 HTTP/1.1|$Host: x|$Content-Length: 5|$Content-Length: 5|$|$[1,2] => 400 .: not an object
@@ -37,14 +37,14 @@ cut 7000 PUT /apis/demo.example/v1/namespaces/default/widgets/w1 HTTP/1.1|$Host:
 cut 8000 PUT /apis/demo.example/v1/namespaces/default/widgets/w1 HTTP/1.1|$Host: x|$Transfer-Encoding: chunked|$Content-Length: x|$|$[1,2] => 501 Transfer-Encoding is not served
 cut 9000 PUT /apis/demo.example/v1/namespaces/default/widgets/w1 HTTP/1.1|$Host: x|$Content-Length: 2000|$|$<1000 [><1000 ]> => 400 body is not JSON
 cut 20000 POST /apis/demo.example/v1/namespaces/default/widgets HTTP/1.1|$Host: x|$|$ => 411 Content-Length is needed
-told 30000 GET widgets => 200 1
+got 30000 GET widgets => 200 {"apiVersion":"demo.example/v1","items":[],"kind":"WidgetList","metadata":{"resourceVersion":"1"}}
 
 no_front_of_a_request_is_answered on widgets: nor does one change anything
 fronts 0 single objects => -
 fronts 0 lists => -
 fronts 0 watches => -
 fronts 0 connections => -
-told 9000000 GET widgets => 200 1"#;
+got 9000000 GET widgets => 200 {"apiVersion":"demo.example/v1","items":[],"kind":"WidgetList","metadata":{"resourceVersion":"1"}}"#;
 
 /// What comes of bytes that come in two pieces.
 fn cut_at(

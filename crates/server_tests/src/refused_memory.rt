@@ -11,14 +11,14 @@ else stand 1 => 0 false true
 else told 2 GET namespaces/default/widgets/w1 => 404 widgets.demo.example \"w1\" not found
 else ask 3 PATCH namespaces/default/widgets/w1?fieldManager=alice {"apiVersion":"demo.example/v1","kind":"Widget","metadata":{"name":"w1"},"spec":{"image":"a","replicas":3}} => 201
 else out 3 => HTTP/1.1 201 Created|$Content-Type: application/json|$Content-Length: 317|$Connection: close|$|${"apiVersion":"demo.example/v1","kind":"Widget","metadata":{"managedFields":[{"apiVersion":"demo.example/v1","fieldsType":"FieldsV1","fieldsV1":{"f:spec":{"f:image":{},"f:replicas":{}}},"manager":"alice","operation":"Apply"}],"name":"w1","namespace":"default","resourceVersion":"2"},"spec":{"image":"a","replicas":3}}
-told 4 GET namespaces/default/widgets/w1 => 200 2
+got 4 GET namespaces/default/widgets/w1 => 200 {"apiVersion":"demo.example/v1","kind":"Widget","metadata":{"managedFields":[{"apiVersion":"demo.example/v1","fieldsType":"FieldsV1","fieldsV1":{"f:spec":{"f:image":{},"f:replicas":{}}},"manager":"alice","operation":"Apply"}],"name":"w1","namespace":"default","resourceVersion":"2"},"spec":{"image":"a","replicas":3}}
 told 5 GET widgets?resourceVersion=3 => 504 Too large resource version: 3, current: 2
 
 the_dead_count_no_more on widgets: where one of 1,024 connections died of it, another opens
 open 1 1024 => -
 marked in 1024 GET /apis/demo.example/v1/widgets HTTP/1.1|$Host: x|$|$ => -
 else stand 1024 => 0 false true
-done told 1024 => 200 1
+done got 1024 => 200 {"apiVersion":"demo.example/v1","items":[],"kind":"WidgetList","metadata":{"resourceVersion":"1"}}
 open 1025 => -
 stand 1025 => 0 true false
 
@@ -30,7 +30,7 @@ ask 3 PATCH namespaces/default/widgets/w1?fieldManager=alice {"apiVersion":"demo
 ask 4 PATCH namespaces/default/widgets/w1?fieldManager=alice {"apiVersion":"demo.example/v1","kind":"Widget","metadata":{"labels":{"tier":"web"}}} => 200
 marked pump 1 10 => 150|${"type":"DELETED","object":{"apiVersion":"demo.example/v1","kind":"Widget","metadata":{"labels":{"tier":"web"},"managedFields":[{"apiVersion":"demo.example/v1","fieldsType":"FieldsV1","fieldsV1":{"f:metadata":{"f:labels":{"f:tier":{}}}},"manager":"alice","operation":"Apply"}],"name":"w1","namespace":"default","resourceVersion":"3"}}}$|$14e|${"type":"ADDED","object":{"apiVersion":"demo.example/v1","kind":"Widget","metadata":{"labels":{"tier":"web"},"managedFields":[{"apiVersion":"demo.example/v1","fieldsType":"FieldsV1","fieldsV1":{"f:metadata":{"f:labels":{"f:tier":{}}}},"manager":"alice","operation":"Apply"}],"name":"w1","namespace":"default","resourceVersion":"4"}}}$|$
 else stand 1 => 0 false true
-else told 5 GET namespaces/default/widgets/w1 => 200 4
+else got 5 GET namespaces/default/widgets/w1 => 200 {"apiVersion":"demo.example/v1","kind":"Widget","metadata":{"labels":{"tier":"web"},"managedFields":[{"apiVersion":"demo.example/v1","fieldsType":"FieldsV1","fieldsV1":{"f:metadata":{"f:labels":{"f:tier":{}}}},"manager":"alice","operation":"Apply"}],"name":"w1","namespace":"default","resourceVersion":"4"}}
 else ask 6 GET namespaces/default/widgets?watch=true&resourceVersion=2&labelSelector=tier%3Dweb => 200
 else pump 6 10 => -
 else out 6 => HTTP/1.1 200 OK|$Content-Type: application/json|$Transfer-Encoding: chunked|$Connection: close|$|$150|${"type":"DELETED","object":{"apiVersion":"demo.example/v1","kind":"Widget","metadata":{"labels":{"tier":"web"},"managedFields":[{"apiVersion":"demo.example/v1","fieldsType":"FieldsV1","fieldsV1":{"f:metadata":{"f:labels":{"f:tier":{}}}},"manager":"alice","operation":"Apply"}],"name":"w1","namespace":"default","resourceVersion":"3"}}}$|$14e|${"type":"ADDED","object":{"apiVersion":"demo.example/v1","kind":"Widget","metadata":{"labels":{"tier":"web"},"managedFields":[{"apiVersion":"demo.example/v1","fieldsType":"FieldsV1","fieldsV1":{"f:metadata":{"f:labels":{"f:tier":{}}}},"manager":"alice","operation":"Apply"}],"name":"w1","namespace":"default","resourceVersion":"4"}}}$|$
@@ -54,7 +54,7 @@ ask 5 POST namespaces/other/widgets {"apiVersion":"demo.example/v1","kind":"Widg
 pump 1 10 => -
 marked tick 0 => 71|${"type":"BOOKMARK","object":{"apiVersion":"demo.example/v1","kind":"Widget","metadata":{"resourceVersion":"5"}}}$|$
 else stand 1 => 0 false true
-else told 6 GET widgets => 200 5
+else got 6 GET widgets => 200 {"apiVersion":"demo.example/v1","items":[{"apiVersion":"demo.example/v1","kind":"Widget","metadata":{"name":"w1","namespace":"default","resourceVersion":"2"}},{"apiVersion":"demo.example/v1","kind":"Widget","metadata":{"name":"a","namespace":"other","resourceVersion":"3"}},{"apiVersion":"demo.example/v1","kind":"Widget","metadata":{"name":"b","namespace":"other","resourceVersion":"4"}},{"apiVersion":"demo.example/v1","kind":"Widget","metadata":{"name":"c","namespace":"other","resourceVersion":"5"}}],"kind":"WidgetList","metadata":{"resourceVersion":"5"}}
 else ask 7 GET namespaces/default/widgets?watch=true&resourceVersion=2&allowWatchBookmarks=true => 200
 else pump 7 10 => -
 else tick 0 => -
@@ -76,7 +76,7 @@ ask 2 POST namespaces/default/widgets {"apiVersion":"demo.example/v1","kind":"Wi
 open 3 => -
 marked in 3 DELETE /apis/demo.example/v1/namespaces/default/widgets/w1 HTTP/1.1|$Host: x|$|$ => -
 else stand 3 => 0 false true
-else told 4 GET namespaces/default/widgets/w1 => 200 2
+else got 4 GET namespaces/default/widgets/w1 => 200 {"apiVersion":"demo.example/v1","kind":"Widget","metadata":{"name":"w1","namespace":"default","resourceVersion":"2"}}
 else in 4 DELETE => -
 else ask 5 DELETE namespaces/default/widgets/w1 => 200
 else out 5 => HTTP/1.1 200 OK|$Content-Type: application/json|$Content-Length: 117|$Connection: close|$|${"apiVersion":"demo.example/v1","kind":"Widget","metadata":{"name":"w1","namespace":"default","resourceVersion":"3"}}

@@ -61,18 +61,18 @@ told 4 DELETE namespaces/default/widgets/w1 => 503 revisions are used up
 got 5 GET namespaces/default/widgets/w1 => 200 {"apiVersion":"demo.example/v1","kind":"Widget","metadata":{"name":"w1","namespace":"default","resourceVersion":"9223372036854775807"}}
 
 revisions_are_used_up on the last revision
-told 1 PATCH namespaces/default/widgets/w1?fieldManager=m {"apiVersion":"demo.example/v1","kind":"Widget","spec":{"replicas":3}} => 201 9223372036854775807
-told 2 PATCH namespaces/default/widgets/w1?fieldManager=m {"apiVersion":"demo.example/v1","kind":"Widget","spec":{"replicas":3}} => 200 9223372036854775807
+got 1 PATCH namespaces/default/widgets/w1?fieldManager=m {"apiVersion":"demo.example/v1","kind":"Widget","spec":{"replicas":3}} => 201 {"apiVersion":"demo.example/v1","kind":"Widget","metadata":{"managedFields":[{"apiVersion":"demo.example/v1","fieldsType":"FieldsV1","fieldsV1":{"f:spec":{"f:replicas":{}}},"manager":"m","operation":"Apply"}],"name":"w1","namespace":"default","resourceVersion":"9223372036854775807"},"spec":{"replicas":3}}
+got 2 PATCH namespaces/default/widgets/w1?fieldManager=m {"apiVersion":"demo.example/v1","kind":"Widget","spec":{"replicas":3}} => 200 {"apiVersion":"demo.example/v1","kind":"Widget","metadata":{"managedFields":[{"apiVersion":"demo.example/v1","fieldsType":"FieldsV1","fieldsV1":{"f:spec":{"f:replicas":{}}},"manager":"m","operation":"Apply"}],"name":"w1","namespace":"default","resourceVersion":"9223372036854775807"},"spec":{"replicas":3}}
 told 3 PATCH namespaces/default/widgets/w1?fieldManager=m {"apiVersion":"demo.example/v1","kind":"Widget","spec":{"replicas":4}} => 503 revisions are used up
 told 4 PATCH namespaces/default/widgets/w2?fieldManager=m {"apiVersion":"demo.example/v1","kind":"Widget"} => 503 revisions are used up
 
 empty_apply_of_another_object on widgets
-told 1 PATCH namespaces/default/widgets/w1?fieldManager=alice {"apiVersion":"demo.example/v1","kind":"Widget","spec":{"replicas":1}} => 201 2
-told 2 PATCH namespaces/default/widgets/w1?fieldManager=bob {"apiVersion":"demo.example/v1","kind":"Widget"} => 200 2
-told 3 PATCH namespaces/default/widgets/w1?fieldManager=alice {"apiVersion":"demo.example/v1","kind":"Widget"} => 200 3
+got 1 PATCH namespaces/default/widgets/w1?fieldManager=alice {"apiVersion":"demo.example/v1","kind":"Widget","spec":{"replicas":1}} => 201 {"apiVersion":"demo.example/v1","kind":"Widget","metadata":{"managedFields":[{"apiVersion":"demo.example/v1","fieldsType":"FieldsV1","fieldsV1":{"f:spec":{"f:replicas":{}}},"manager":"alice","operation":"Apply"}],"name":"w1","namespace":"default","resourceVersion":"2"},"spec":{"replicas":1}}
+got 2 PATCH namespaces/default/widgets/w1?fieldManager=bob {"apiVersion":"demo.example/v1","kind":"Widget"} => 200 {"apiVersion":"demo.example/v1","kind":"Widget","metadata":{"managedFields":[{"apiVersion":"demo.example/v1","fieldsType":"FieldsV1","fieldsV1":{"f:spec":{"f:replicas":{}}},"manager":"alice","operation":"Apply"}],"name":"w1","namespace":"default","resourceVersion":"2"},"spec":{"replicas":1}}
+got 3 PATCH namespaces/default/widgets/w1?fieldManager=alice {"apiVersion":"demo.example/v1","kind":"Widget"} => 200 {"apiVersion":"demo.example/v1","kind":"Widget","metadata":{"name":"w1","namespace":"default","resourceVersion":"3"}}
 
 refusals_in_their_order on widgets
-told 1 PATCH namespaces/default/widgets/w1?fieldManager=m {"apiVersion":"demo.example/v1","kind":"Widget","spec":{"replicas":3}} => 201 2
+got 1 PATCH namespaces/default/widgets/w1?fieldManager=m {"apiVersion":"demo.example/v1","kind":"Widget","spec":{"replicas":3}} => 201 {"apiVersion":"demo.example/v1","kind":"Widget","metadata":{"managedFields":[{"apiVersion":"demo.example/v1","fieldsType":"FieldsV1","fieldsV1":{"f:spec":{"f:replicas":{}}},"manager":"m","operation":"Apply"}],"name":"w1","namespace":"default","resourceVersion":"2"},"spec":{"replicas":3}}
 told 2 PATCH namespaces/default/widgets/w1?fieldManager=m&force=yes {"apiVersion":"demo.example/v1","kind":"Widget","spec":{"nope":1}} => 400 .spec.nope: unknown field
 told 3 PATCH namespaces/default/widgets/w1?fieldManager=m&force=yes {"apiVersion":"demo.example/v1","kind":"Widget","metadata":{"labels":{"-a":"b"}}} => 400 bad parameter: force
 told 4 PATCH namespaces/default/widgets/w1?x=y {"apiVersion":"demo.example/v1","kind":"Widget","metadata":{"labels":{"-a":"b"}}} => 422 fieldManager: 1 to 128 printable characters
@@ -81,8 +81,8 @@ told 6 PATCH namespaces/default/widgets/w1?fieldManager=m {"apiVersion":"demo.ex
 told 7 PATCH namespaces/default/widgets/w2?fieldManager=m {"apiVersion":"demo.example/v1","kind":"Widget","metadata":{"resourceVersion":"9"}} => 409 version 9 was given and there is no object
 told 8 PATCH namespaces/default/widgets/w1?fieldManager=b {"apiVersion":"demo.example/v1","kind":"Widget","metadata":{"resourceVersion":"9"},"spec":{"replicas":4}} => 409 version 9 is not the stored one, 2
 got 9 PATCH namespaces/default/widgets/w1?fieldManager=b {"apiVersion":"demo.example/v1","kind":"Widget","spec":{"replicas":4}} => 409 {"apiVersion":"v1","code":409,"details":{"causes":[{"field":".spec.replicas","message":"conflict with \"m\" using demo.example/v1","reason":"FieldManagerConflict"}]},"kind":"Status","message":"Apply failed with 1 conflict(s)","metadata":{},"reason":"Conflict","status":"Failure"}
-told 10 PATCH namespaces/default/widgets/w1?fieldManager=b&force=true {"apiVersion":"demo.example/v1","kind":"Widget","spec":{"replicas":4}} => 200 3
-told 11 PATCH namespaces/default/widgets/w1?fieldManager=b {"apiVersion":"demo.example/v1","kind":"Widget","spec":{"replicas":4}} => 200 3
+got 10 PATCH namespaces/default/widgets/w1?fieldManager=b&force=true {"apiVersion":"demo.example/v1","kind":"Widget","spec":{"replicas":4}} => 200 {"apiVersion":"demo.example/v1","kind":"Widget","metadata":{"managedFields":[{"apiVersion":"demo.example/v1","fieldsType":"FieldsV1","fieldsV1":{"f:spec":{"f:replicas":{}}},"manager":"b","operation":"Apply"}],"name":"w1","namespace":"default","resourceVersion":"3"},"spec":{"replicas":4}}
+got 11 PATCH namespaces/default/widgets/w1?fieldManager=b {"apiVersion":"demo.example/v1","kind":"Widget","spec":{"replicas":4}} => 200 {"apiVersion":"demo.example/v1","kind":"Widget","metadata":{"managedFields":[{"apiVersion":"demo.example/v1","fieldsType":"FieldsV1","fieldsV1":{"f:spec":{"f:replicas":{}}},"manager":"b","operation":"Apply"}],"name":"w1","namespace":"default","resourceVersion":"3"},"spec":{"replicas":4}}
 
 route_method_and_media_type on widgets: a media type in any case, with a parameter behind it, is the same
 open 1 6 => -
@@ -96,7 +96,7 @@ out 5 => HTTP/1.1 405 Method Not Allowed|$Content-Type: application/json|$Conten
 in 6 POST /apis/demo.example/v1/widgets HTTP/1.1|$Host: x|$|$ => -
 out 6 => HTTP/1.1 405 Method Not Allowed|$Content-Type: application/json|$Content-Length: 142|$Connection: close|$Allow: GET|$|${"apiVersion":"v1","code":405,"kind":"Status","message":"method not served here","metadata":{},"reason":"MethodNotAllowed","status":"Failure"}
 in 4 PATCH /apis/demo.example/v1/namespaces/default/widgets/w1?fieldManager=m HTTP/1.1|$Host: x|$Content-Type: Application/Apply-Patch+YAML ; charset=utf-8|$Content-Length: 70|$|${"apiVersion":"demo.example/v1","kind":"Widget","spec":{"replicas":3}} => -
-told 4 => 201 2
+got 4 => 201 {"apiVersion":"demo.example/v1","kind":"Widget","metadata":{"managedFields":[{"apiVersion":"demo.example/v1","fieldsType":"FieldsV1","fieldsV1":{"f:spec":{"f:replicas":{}}},"manager":"m","operation":"Apply"}],"name":"w1","namespace":"default","resourceVersion":"2"},"spec":{"replicas":3}}
 
 status_names_code_and_reason on widgets
 open 1 => -

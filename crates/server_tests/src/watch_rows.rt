@@ -237,4 +237,4 @@ pumped 1 100 1 => a9|${"type":"ERROR","object":{"apiVersion":"v1","code":410,"ki
 pumped 1 100 1 => -
 stand 1 => 0 false true
 stand 100 => 0 false true
-told 102 GET widgets => 200 2"#;
+got 102 GET widgets => 200 {"apiVersion":"demo.example/v1","items":[{"apiVersion":"demo.example/v1","kind":"Widget","metadata":{"name":"w1","namespace":"default","resourceVersion":"2"}}],"kind":"WidgetList","metadata":{"resourceVersion":"2"}}"#;

@@ -4,7 +4,7 @@
 use schema::Types;
 use serde_json::Value;
 use std::alloc::Global;
-use std::io::{Read, Write};
+use std::io::{ErrorKind, Read, Write};
 use std::net::{SocketAddr, TcpStream};
 use std::test::Fail;
 use verbs::Api;
@@ -67,15 +67,43 @@ pub fn sent(rt: &HostRuntime, addr: SocketAddr, text: &str) -> Result<TcpStream,
     Ok(stream)
 }
 
-/// The test fails unless this is what a stream gives, where it is asked for so many bytes more.
-pub fn expect_heard(alloc: Global, stream: &TcpStream, text: &str, more: u64) -> Result<(), Fail> {
+/// What a stream gives behind its text.
+#[derive(Clone, Copy, Debug)]
+pub enum End {
+    /// Its end.
+    Comes,
+    /// Nothing for now.
+    Stays,
+}
+
+/// Whether a stream that was heard gives nothing for now.
+fn is_quiet(mut stream: &TcpStream) -> Result<bool, Fail> {
+    stream.set_nonblocking(true)?;
+    let more = stream.read(&mut [0; 1]);
+    stream.set_nonblocking(false)?;
+    match more {
+        Ok(_) => Ok(false),
+        Err(fault) => Ok(fault.kind() == ErrorKind::WouldBlock),
+    }
+}
+
+/// The test fails unless a stream gives just this text, and then its end or nothing for now.
+pub fn expect_heard(alloc: Global, stream: &TcpStream, text: &str, end: End) -> Result<(), Fail> {
     let mut bytes = Vec::new(alloc);
+    let more = match end {
+        End::Comes => 1,
+        End::Stays => 0,
+    };
     let mut front = stream.take((text.len() as u64).saturating_add(more));
     front.read_to_end(&mut bytes)?;
     expect(
         bytes.as_slice() == text.as_bytes(),
         "another text was heard",
-    )
+    )?;
+    match end {
+        End::Comes => Ok(()),
+        End::Stays => expect(is_quiet(stream)?, "more was heard"),
+    }
 }
 
 /// The test fails unless this holds.

@@ -2,7 +2,7 @@
 //! Many at once are tested in `polled_loopback`, streams that fail in `turns`.
 
 use crate::given::{
-    ADDED, APPLY, BEFORE, CREATED, EXPIRED, HALF, NO_ITEMS, OVERTAKEN, WATCH, expect_heard,
+    ADDED, APPLY, BEFORE, CREATED, EXPIRED, End, HALF, NO_ITEMS, OVERTAKEN, WATCH, expect_heard,
     fresh_api, sent,
 };
 use serving::{Limits, Server, serve_all};
@@ -30,13 +30,13 @@ fn served(
     Ok(stream)
 }
 
-/// A peer goes in the middle of its request, and one of a watch goes. Another watch gets the first of these, and its end if
-/// this says so, once a change is made while it is open; a list of what was before it gets the second.
+/// A peer goes in the middle of its request, and one of a watch goes. Another watch gets the first of these, and its end or
+/// nothing more, once a change is made while it is open; a list of what was before it gets the second.
 fn tried(
     rt: &HostRuntime,
     listener: &TcpListener,
     server: &mut Server<TcpStream>,
-    told: (&str, u64),
+    told: (&str, End),
     before: &str,
 ) -> Result<(), Fail> {
     let addr = listener.local_addr()?;
@@ -48,12 +48,12 @@ fn tried(
     let applying = served(rt, listener, server, APPLY)?;
     let late = served(rt, listener, server, BEFORE)?;
     expect_heard(rt.alloc(), &watching, watched, end)?;
-    expect_heard(rt.alloc(), &applying, CREATED, 1)?;
-    expect_heard(rt.alloc(), &late, before, 1)
+    expect_heard(rt.alloc(), &applying, CREATED, End::Comes)?;
+    expect_heard(rt.alloc(), &late, before, End::Comes)
 }
 
 /// A server that keeps so many revisions. It is not dropped: a function that drops one takes a minute to prove.
-fn kept(rt: &HostRuntime, keep: u64, told: (&str, u64), before: &str) -> Result<(), Fail> {
+fn kept(rt: &HostRuntime, keep: u64, told: (&str, End), before: &str) -> Result<(), Fail> {
     let listener = TcpListener::bind(rt, SocketAddr::from((Ipv4Addr::LOCALHOST, 0)))?;
     let limits = Limits { keep, lines: 500 };
     let mut server = Server::new(rt.alloc(), fresh_api(rt.alloc())?, limits);
@@ -66,6 +66,6 @@ fn kept(rt: &HostRuntime, keep: u64, told: (&str, u64), before: &str) -> Result<
 /// that the change overtook it.
 #[test]
 fn watch_beside_others(rt: HostRuntime) -> Result<(), Fail> {
-    kept(&rt, 1000, (ADDED, 0), NO_ITEMS)?;
-    kept(&rt, 0, (OVERTAKEN, 1), EXPIRED)
+    kept(&rt, 1000, (ADDED, End::Stays), NO_ITEMS)?;
+    kept(&rt, 0, (OVERTAKEN, End::Comes), EXPIRED)
 }

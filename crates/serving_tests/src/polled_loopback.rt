@@ -9,7 +9,7 @@
 //! | `hear K TEXT` | nothing: K gets this, and its end but where it is a watch |
 
 use crate::given::{
-    ADDED, APPLY, HALF, LIST, NO_ITEMS, OVERTAKEN, WATCH, expect_heard, fresh_api, sent,
+    ADDED, APPLY, End, HALF, LIST, NO_ITEMS, OVERTAKEN, WATCH, expect_heard, fresh_api, sent,
 };
 use polling::{Options, Server};
 use std::mem;
@@ -17,16 +17,17 @@ use std::net::{Ipv4Addr, Shutdown, SocketAddr, TcpStream};
 use std::test::Fail;
 
 /// A text by its name in a row.
-fn text_named(name: &str) -> &'static str {
+fn text_named(name: &str) -> Result<&'static str, Fail> {
     match name {
-        "list" => LIST,
-        "half" => HALF,
-        "watch" => WATCH,
-        "apply" => APPLY,
-        "no-items" => NO_ITEMS,
-        "added" => ADDED,
-        "overtaken" => OVERTAKEN,
-        _ => "",
+        "list" => Ok(LIST),
+        "half" => Ok(HALF),
+        "watch" => Ok(WATCH),
+        "apply" => Ok(APPLY),
+        "no-items" => Ok(NO_ITEMS),
+        "added" => Ok(ADDED),
+        "overtaken" => Ok(OVERTAKEN),
+        "nothing" => Ok(""),
+        _ => Err("no such text".into()),
     }
 }
 
@@ -44,7 +45,7 @@ fn step(
         "serve" => server.serve(rt, count as u64)?,
         "send" => {
             let addr = SocketAddr::from((Ipv4Addr::LOCALHOST, server.port()?));
-            streams.push(sent(rt, addr, text_named(rest))?)?;
+            streams.push(sent(rt, addr, text_named(rest)?)?)?;
         }
         "drop" if count < streams.len() => drop(streams.remove(count)),
         _ => {
@@ -52,12 +53,12 @@ fn step(
             if word == "close" {
                 stream.shutdown(Shutdown::Write)?;
             } else {
-                expect_heard(
-                    rt.alloc(),
-                    stream,
-                    text_named(name),
-                    u64::from(name != "added"),
-                )?;
+                let ends = if name == "added" {
+                    End::Stays
+                } else {
+                    End::Comes
+                };
+                expect_heard(rt.alloc(), stream, text_named(name)?, ends)?;
             }
         }
     }

@@ -89,25 +89,36 @@ fn waits_anywhere(rt: &HostRuntime, hub: &mut Hub) -> Result<(), Fail> {
     Ok(())
 }
 
-/// A stream that fails at any read or write ends its connection, and another gets what it gets without it. A row: after how many
-/// reads and writes it fails, how many bytes it takes until then, its connection, and the other's.
+/// A stream fails once it was read and written so often: it has taken this, its connection is over, and another gets what it gets
+/// without it.
+fn fails_beside_another(
+    rt: &HostRuntime,
+    hub: &mut Hub,
+    id: u64,
+    often: (usize, usize),
+    front: &[u8],
+) -> Result<(), Fail> {
+    let mut failing = Memory::new(rt.alloc(), LIST.as_bytes(), b"");
+    let (reads, writes) = often;
+    failing.reads = reads;
+    failing.writes = writes;
+    expect_turns(rt, hub, id, failing, &[(Next::Over, front)])?;
+    let other = Memory::new(rt.alloc(), LIST.as_bytes(), b"");
+    let turns = [(Next::Reads, NO_ITEMS.as_bytes())];
+    expect_turns(rt, hub, id.saturating_add(1), other, &turns)
+}
+
+/// A stream fails at each read and at each write.
 fn fails_anywhere(rt: &HostRuntime, hub: &mut Hub) -> Result<(), Fail> {
-    let reply = NO_ITEMS.as_bytes();
-    for (reads, writes, taken, id, next) in [
-        (0, 9, 0, 1, 2),
-        (1, 9, 0, 3, 4),
-        (2, 9, 0, 5, 6),
-        (9, 0, 0, 7, 8),
-        (9, 1, 30, 9, 10),
-        (9, 6, 180, 11, 12),
-    ] {
-        let mut failing = Memory::new(rt.alloc(), LIST.as_bytes(), b"");
-        failing.reads = reads;
-        failing.writes = writes;
-        let front = reply.get(..taken).unwrap_or(b"");
-        expect_turns(rt, hub, id, failing, &[(Next::Over, front)])?;
-        let other = Memory::new(rt.alloc(), LIST.as_bytes(), b"");
-        expect_turns(rt, hub, next, other, &[(Next::Reads, reply)])?;
+    for reads in 0..LIST.len().div_ceil(MOST) {
+        let id = (reads as u64).saturating_mul(2);
+        fails_beside_another(rt, hub, id, (reads, PLENTY), b"")?;
+    }
+    for writes in 0..NO_ITEMS.len().div_ceil(MOST) {
+        let id = (writes as u64).saturating_mul(2).saturating_add(100);
+        let taken = writes.saturating_mul(MOST);
+        let front = NO_ITEMS.as_bytes().get(..taken).unwrap_or(b"");
+        fails_beside_another(rt, hub, id, (PLENTY, writes), front)?;
     }
     Ok(())
 }
@@ -185,6 +196,32 @@ fn expect_told(
     expect(is_front && is_whole, "a stream took something else")
 }
 
+/// Two watches of many at once, the first of a stream that fails once it was written so often; then an apply, and each has its
+/// turn. The first takes so many bytes, and the others all of theirs.
+fn expect_all_told(
+    rt: &HostRuntime,
+    hub: &mut Hub,
+    writes: usize,
+    most: usize,
+) -> Result<(), Fail> {
+    let now = Instant::now(rt)?;
+    let mut failing = Peer::new(Memory::new(rt.alloc(), WATCH.as_bytes(), b""), now);
+    let mut watch = Peer::new(Memory::new(rt.alloc(), WATCH.as_bytes(), b""), now);
+    failing.stream.writes = writes;
+    open(hub, 1)?;
+    open(hub, 2)?;
+    let _ = failing.look(rt.alloc(), hub, 1, now);
+    let _ = watch.look(rt.alloc(), hub, 2, now);
+    let apply = Memory::new(rt.alloc(), APPLY.as_bytes(), b"");
+    expect_turns(rt, hub, 3, apply, &[(Next::Reads, CREATED.as_bytes())])?;
+    let _ = failing.pump(hub, 1, 1, now);
+    let _ = watch.pump(hub, 2, 1, now);
+    let taken = failing.stream.taken.as_slice();
+    let is_front = ADDED.as_bytes().starts_with(taken) && taken.len() == most;
+    let is_whole = watch.stream.taken.as_slice() == ADDED.as_bytes();
+    expect(is_front && is_whole, "a watch took something else")
+}
+
 /// What a fresh hub is tried by.
 #[derive(Clone, Copy, Debug)]
 enum Trial {
@@ -196,6 +233,8 @@ enum Trial {
     Half,
     /// A watch whose stream fails once it was read or written so often, and how much it takes.
     Failing(usize, usize, usize),
+    /// One of many at once whose stream fails once it was written so often, and how much it takes.
+    FailingAmongMany(usize, usize),
 }
 
 fn tried_on(rt: &HostRuntime, hub: &mut Hub, trial: Trial) -> Result<(), Fail> {
@@ -208,6 +247,7 @@ fn tried_on(rt: &HostRuntime, hub: &mut Hub, trial: Trial) -> Result<(), Fail> {
         Trial::Failing(reads, writes, most) => {
             expect_told(rt.alloc(), hub, WATCH, (reads, writes), most)
         }
+        Trial::FailingAmongMany(writes, most) => expect_all_told(rt, hub, writes, most),
     }
 }
 
@@ -236,7 +276,8 @@ fn turns_of_many(rt: HostRuntime) -> Result<(), Fail> {
     Ok(())
 }
 
-/// Failed reads and writes leave others, half a request gets no reply. The last of the writes take all of the watch.
+/// Failed reads and writes leave others, in both ways of serving; half a request gets no reply. The last of the writes take all of
+/// the watch.
 #[test]
 fn turns_one_by_one(rt: HostRuntime) -> Result<(), Fail> {
     tried(&rt, Trial::Half)?;
@@ -245,6 +286,7 @@ fn turns_one_by_one(rt: HostRuntime) -> Result<(), Fail> {
     }
     for writes in 0..20 {
         tried(&rt, Trial::Failing(PLENTY, writes, taken_by(writes)))?;
+        tried(&rt, Trial::FailingAmongMany(writes, taken_by(writes)))?;
     }
     Ok(())
 }

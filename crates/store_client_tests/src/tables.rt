@@ -1,7 +1,8 @@
 //! Histories of objects in a table: that the calls succeed where memory is ample, and what refused memory leaves. The
 //! store over it is tested in `stores`.
 //!
-//! Each example is played on a table of its own; its first line is `NAME at REVISION`, where the table begins.
+//! Each example is played on a table of its own; its first line is `NAME at REVISION`, where the table begins, or `NAME at 0`
+//! where it is opened without a revision.
 //!
 //! | question | answer |
 //! |---|---|
@@ -361,6 +362,14 @@ marks => (9223372036854775807, 9223372036854775806)
 stood w1 18446744073709551615 => Some(Object { revision: 9223372036854775807, body: "a" })
 page - 18446744073709551615 18446744073709551615 => ; default/w1 a 9223372036854775807
 prune 18446744073709551615 => done
+rows => 1
+
+a_table_that_is_opened at 0: without a revision, so that it begins at 1
+marks => (1, 1)
+rows => 0
+add w1 a => done
+marks => (2, 1)
+stood w1 2 => Some(Object { revision: 2, body: "a" })
 rows => 1
 
 pages_are_in_the_order_of_keys at 1: of all and of one namespace, whole and after a key, of ten and of one

@@ -4,6 +4,7 @@
 //! |---|---|
 //! | `open K`, `gone K`, `pump K N`, `tick MS`, `compact C` | of the hub |
 //! | `in K TEXT` | of the hub; in the text `\|` is a carriage return, `$` a line feed |
+//! | `types atomic` | of the hub: the list of ports becomes atomic |
 //! | `opens A B` | of the hub: each connection from A to B opens |
 //! | `create W TIER`, `change W TIER`, `delete W` | a POST, PUT or DELETE of the widget W comes |
 //! | `ask METHOD TARGET BODY` | this request comes |
@@ -12,7 +13,9 @@
 //!
 //! W is `NAME` in the namespace `default`, or `NAMESPACE/NAME`. Without TIER the widget has no label `tier`.
 
+use crate::given::PORTS_ATOMIC;
 use httpedge::Event;
+use serde_json::Value;
 use std::alloc::{AllocError, Global};
 use std::test::Fail;
 use test_rows::{first_word, number};
@@ -70,6 +73,12 @@ fn call(alloc: Global, method: &str, rest: &str) -> Result<Vec<u8>, Fail> {
     asked(alloc, line.as_str())
 }
 
+/// The list of ports becomes atomic.
+fn other_types(alloc: Global) -> Result<WorldEvent, Fail> {
+    let file = Value::from_str(alloc, PORTS_ATOMIC)?;
+    Ok(WorldEvent::Other(Event::Retype(file)))
+}
+
 fn hub_event(alloc: Global, word: &str, rest: &str) -> Result<Event, Fail> {
     let (first, rest) = first_word(rest);
     let id = number(first)?;
@@ -104,6 +113,7 @@ fn event(alloc: Global, step: &str) -> Result<WorldEvent, Fail> {
         "create" => Ok(WorldEvent::Request(call(alloc, "POST", rest)?)),
         "change" => Ok(WorldEvent::Request(call(alloc, "PUT", rest)?)),
         "delete" => Ok(WorldEvent::Request(call(alloc, "DELETE", rest)?)),
+        "types" => other_types(alloc),
         _ => Ok(WorldEvent::Other(hub_event(alloc, word, rest)?)),
     }
 }

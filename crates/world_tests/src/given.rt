@@ -13,6 +13,10 @@ use world::Settings;
 const TYPES: &str =
     r#"{"types":[{"group":"demo.example","version":"v1","kind":"Widget","plural":"widgets","schema":{"type":"object","properties":{"spec":{"type":"object","properties":{"args":{"type":"array","items":{"type":"string"}},"config":{"type":"object","additionalProperties":{"type":"string"}},"image":{"type":"string"},"ports":{"type":"array","x-kubernetes-list-type":"map","x-kubernetes-list-map-keys":["name"],"items":{"type":"object","properties":{"name":{"type":"string"},"note":{"type":"string"},"port":{"type":"integer"}}}},"replicas":{"type":"integer"},"tags":{"type":"array","x-kubernetes-list-type":"set","items":{"type":"string"}}}}}}},{"group":"summary.example","version":"v1","kind":"LabelSummary","plural":"labelsummaries","schema":{"type":"object","properties":{"spec":{"type":"object","properties":{"counts":{"type":"object","additionalProperties":{"type":"integer"}},"label":{"type":"string"},"total":{"type":"integer"}}}}}}]}"#;
 
+/// The same, but that the list of ports has become atomic.
+pub const PORTS_ATOMIC: &str =
+    r#"{"types":[{"group":"demo.example","version":"v1","kind":"Widget","plural":"widgets","schema":{"type":"object","properties":{"spec":{"type":"object","properties":{"args":{"type":"array","items":{"type":"string"}},"config":{"type":"object","additionalProperties":{"type":"string"}},"image":{"type":"string"},"ports":{"type":"array","x-kubernetes-list-type":"atomic","items":{"type":"object","properties":{"name":{"type":"string"},"note":{"type":"string"},"port":{"type":"integer"}}}},"replicas":{"type":"integer"},"tags":{"type":"array","x-kubernetes-list-type":"set","items":{"type":"string"}}}}}}},{"group":"summary.example","version":"v1","kind":"LabelSummary","plural":"labelsummaries","schema":{"type":"object","properties":{"spec":{"type":"object","properties":{"counts":{"type":"object","additionalProperties":{"type":"integer"}},"label":{"type":"string"},"total":{"type":"integer"}}}}}}]}"#;
+
 fn types_in(alloc: Global, text: &str) -> Result<Types, Fail> {
     Ok(Types::read(alloc, &Value::from_str(alloc, text)?)?)
 }

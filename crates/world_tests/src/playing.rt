@@ -4,6 +4,7 @@
 //! | question | answer |
 //! |---|---|
 //! | events with `; ` between them (`events`) | the reports of these, or why the run ended |
+//! | `anew` and events | the same of a run between the marks of refused memory; where it was refused, of another one |
 //! | `connection K` | what was written on it |
 //! | `written K` | how many bytes were written on each connection from K |
 //! | `reports` | all reports since `from` |
@@ -22,7 +23,7 @@ use crate::links::Noting;
 use crate::shown::{index, lengths, reports_after, requested, targets, text_of, written};
 use std::alloc::Global;
 use std::test::Fail;
-use test_rows::{Answers, first_word, number, told};
+use test_rows::{Answers, first_word, mark, number, told};
 use world::{Trace, WorldEvent, WorldFault, run, run_over};
 
 #[derive(Drop)]
@@ -43,6 +44,24 @@ fn ran(alloc: Global, words: &str, all: &[WorldEvent]) -> Result<Result<Trace, W
         indexes(alloc, words)?,
         all,
     ))
+}
+
+/// Over memory, between the marks of refused memory; where it was refused, once more.
+fn ran_anew(
+    alloc: Global,
+    words: &str,
+    all: &[WorldEvent],
+) -> Result<Result<Trace, WorldFault>, Fail> {
+    let types = types(alloc)?;
+    let settings = settings(alloc, words)?;
+    let indexes = indexes(alloc, words)?;
+    mark(alloc)?;
+    let trace = run(alloc, types, settings, indexes, all);
+    mark(alloc)?;
+    match trace {
+        Err(WorldFault::Memory | WorldFault::Store) => ran(alloc, words, all),
+        trace => Ok(trace),
+    }
 }
 
 /// Over a link that carries so many pieces more.
@@ -92,11 +111,16 @@ impl Play {
     }
 
     /// Runs all events: the reports of those that came since the last run.
-    fn runs(&mut self, alloc: Global) -> Result<String, Fail> {
+    fn runs(&mut self, alloc: Global, is_marked: bool) -> Result<String, Fail> {
         let all = events(alloc, self.steps.as_str())?;
         let before = self.count;
         self.count = all.len();
-        match played(alloc, self.words.as_str(), &all, &mut self.link)? {
+        let ran = if is_marked {
+            ran_anew(alloc, self.words.as_str(), &all)?
+        } else {
+            played(alloc, self.words.as_str(), &all, &mut self.link)?
+        };
+        match ran {
             Ok(trace) => {
                 let text = reports_after(alloc, &trace, before)?;
                 self.trace = Some(trace);
@@ -111,15 +135,15 @@ impl Play {
         self.steps = String::new(alloc);
         self.count = 0;
         self.trace = None;
-        self.runs(alloc)
+        self.runs(alloc, false)
     }
 
-    fn goes_on(&mut self, alloc: Global, steps: &str) -> Result<String, Fail> {
+    fn goes_on(&mut self, alloc: Global, steps: &str, is_marked: bool) -> Result<String, Fail> {
         if !self.steps.is_empty() {
             self.steps.push_str("; ")?;
         }
         self.steps.push_str(steps)?;
-        self.runs(alloc)
+        self.runs(alloc, is_marked)
     }
 }
 
@@ -144,7 +168,8 @@ impl Answers for Play {
                 shown(alloc, trace, word, rest)
             }
             "carried" => targets(alloc, &self.link.carried),
-            _ => self.goes_on(alloc, question),
+            "anew" => self.goes_on(alloc, rest, true),
+            _ => self.goes_on(alloc, question, false),
         }
     }
 }

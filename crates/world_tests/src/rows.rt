@@ -126,6 +126,15 @@ text summary => {"apiVersion":"summary.example/v1","kind":"LabelSummary","metada
 reconcile => -
 connection 4 => HTTP/1.1 200 OK|$Content-Type: application/json|$Content-Length: 339|$Connection: close|$|${"apiVersion":"summary.example/v1","kind":"LabelSummary","metadata":{"managedFields":[{"apiVersion":"summary.example/v1","fieldsType":"FieldsV1","fieldsV1":{"f:spec":{"f:label":{},"f:total":{}}},"manager":"label-summary","operation":"Apply"}],"name":"summary","namespace":"default","resourceVersion":"2"},"spec":{"label":"tier","total":0}}"#;
 
+/// The same in one run, for which memory may be refused.
+const SUMMING_ANEW: &str = r#"summary_reconciles
+from page=2 => -
+anew create w1 web; create w2 web; create w3 db; send; server; client; restart; reconcile; send; server; client; send; server; client; reconcile; send; server; client; delete w3; pump 8 10; client; reconcile; reconcile => 14 4 [w1@2 w2@3 w3@4] {db=1 web=2} | 21 6 [w1@2 w2@3] {web=2}
+connection 7 => HTTP/1.1 201 Created|$Content-Type: application/json|$Content-Length: 399|$Connection: close|$|${"apiVersion":"summary.example/v1","kind":"LabelSummary","metadata":{"managedFields":[{"apiVersion":"summary.example/v1","fieldsType":"FieldsV1","fieldsV1":{"f:spec":{"f:counts":{"f:db":{},"f:web":{}},"f:label":{},"f:total":{}}},"manager":"label-summary","operation":"Apply"}],"name":"summary","namespace":"default","resourceVersion":"5"},"spec":{"counts":{"db":1,"web":2},"label":"tier","total":3}}
+connection 10 => HTTP/1.1 200 OK|$Content-Type: application/json|$Content-Length: 382|$Connection: close|$|${"apiVersion":"summary.example/v1","kind":"LabelSummary","metadata":{"managedFields":[{"apiVersion":"summary.example/v1","fieldsType":"FieldsV1","fieldsV1":{"f:spec":{"f:counts":{"f:web":{}},"f:label":{},"f:total":{}}},"manager":"label-summary","operation":"Apply"}],"name":"summary","namespace":"default","resourceVersion":"7"},"spec":{"counts":{"web":2},"label":"tier","total":2}}
+connection 11 => HTTP/1.1 200 OK|$Content-Type: application/json|$Content-Length: 382|$Connection: close|$|${"apiVersion":"summary.example/v1","kind":"LabelSummary","metadata":{"managedFields":[{"apiVersion":"summary.example/v1","fieldsType":"FieldsV1","fieldsV1":{"f:spec":{"f:counts":{"f:web":{}},"f:label":{},"f:total":{}}},"manager":"label-summary","operation":"Apply"}],"name":"summary","namespace":"default","resourceVersion":"7"},"spec":{"counts":{"web":2},"label":"tier","total":2}}
+requested => 1 2 3 9"#;
+
 /// Requests and replies cut anywhere, over memory and over a link.
 const PIECES: &str = r#"first_page_of_nothing
 from page=2 => -
@@ -197,6 +206,21 @@ index 24 namespace => b=b/w3 default=w1,w2
 index 9 tier => db=b/w3 web=w1
 cut; compact 8; restart; send; server; client; send; server; client => 33 8 [b/w3@7 w1@6 w2@4] {db=1}
 index 33 tier => db=w1"#;
+
+/// A list of the server's objects becomes atomic while the client watches.
+const RETYPING: &str =
+    r#"types_become_atomic: the client that stood before it reports the change after one more line
+from page=2 => -
+ask PATCH /apis/demo.example/v1/namespaces/default/widgets/w1?fieldManager=alice {"apiVersion":"demo.example/v1","kind":"Widget","spec":{"ports":[{"name":"web","port":80}]}}; ask PATCH /apis/demo.example/v1/namespaces/default/widgets/w1?fieldManager=bob {"apiVersion":"demo.example/v1","kind":"Widget","spec":{"ports":[{"name":"web","note":"x"}]}}; ask PATCH /apis/demo.example/v1/namespaces/default/widgets/w2?fieldManager=carol {"apiVersion":"demo.example/v1","kind":"Widget","spec":{"replicas":1}} => -
+send; server; client => 6 4 [w1@3 w2@4] {}
+send; server; client => -
+types atomic; client => -
+pump 5 1; client => 13 5 [w1@5 w2@4] {}
+text w1 => {"apiVersion":"demo.example/v1","kind":"Widget","metadata":{"managedFields":[{"apiVersion":"demo.example/v1","fieldsType":"FieldsV1","fieldsV1":{"f:spec":{"f:ports":{}}},"manager":"alice","operation":"Apply"},{"apiVersion":"demo.example/v1","fieldsType":"FieldsV1","fieldsV1":{"f:spec":{"f:ports":{}}},"manager":"bob","operation":"Apply"}],"name":"w1","namespace":"default","resourceVersion":"5"},"spec":{"ports":[{"name":"web","note":"x","port":80}]}}
+connection 5 => HTTP/1.1 200 OK|$Content-Type: application/json|$Transfer-Encoding: chunked|$Connection: close|$|$1e2|${"type":"MODIFIED","object":{"apiVersion":"demo.example/v1","kind":"Widget","metadata":{"managedFields":[{"apiVersion":"demo.example/v1","fieldsType":"FieldsV1","fieldsV1":{"f:spec":{"f:ports":{}}},"manager":"alice","operation":"Apply"},{"apiVersion":"demo.example/v1","fieldsType":"FieldsV1","fieldsV1":{"f:spec":{"f:ports":{}}},"manager":"bob","operation":"Apply"}],"name":"w1","namespace":"default","resourceVersion":"5"},"spec":{"ports":[{"name":"web","note":"x","port":80}]}}}$|$
+types atomic; pump 5 1; client; ask GET /apis/demo.example/v1/namespaces/default/widgets/w2 => -
+connection 6 => HTTP/1.1 200 OK|$Content-Type: application/json|$Content-Length: 292|$Connection: close|$|${"apiVersion":"demo.example/v1","kind":"Widget","metadata":{"managedFields":[{"apiVersion":"demo.example/v1","fieldsType":"FieldsV1","fieldsV1":{"f:spec":{"f:replicas":{}}},"manager":"carol","operation":"Apply"}],"name":"w2","namespace":"default","resourceVersion":"4"},"spec":{"replicas":1}}
+restart; send; server; client => 21 5 [w1@5 w2@4] {}"#;
 
 /// What settings are refused, of several faults the least, and what others select.
 const SETTINGS: &str = r#"each_setting_is_refused
@@ -353,6 +377,12 @@ fn summary_reconciles(rt: HostRuntime) -> Result<(), Fail> {
     play_all(rt.alloc(), &mut Play::new(rt.alloc()), SUMMING)
 }
 
+/// Whichever allocation of a run is refused, it ends out of memory or shows all.
+#[test]
+fn a_run_that_is_refused_memory(rt: HostRuntime) -> Result<(), Fail> {
+    play_all(rt.alloc(), &mut Play::new(rt.alloc()), SUMMING_ANEW)
+}
+
 #[test]
 fn requests_in_pieces(rt: HostRuntime) -> Result<(), Fail> {
     play_all(rt.alloc(), &mut Play::new(rt.alloc()), PIECES)
@@ -361,6 +391,11 @@ fn requests_in_pieces(rt: HostRuntime) -> Result<(), Fail> {
 #[test]
 fn label_index_follows(rt: HostRuntime) -> Result<(), Fail> {
     play_all(rt.alloc(), &mut Play::new(rt.alloc()), INDEXING)
+}
+
+#[test]
+fn types_become_atomic(rt: HostRuntime) -> Result<(), Fail> {
+    play_all(rt.alloc(), &mut Play::new(rt.alloc()), RETYPING)
 }
 
 #[test]
