@@ -1,4 +1,4 @@
-"""Scripts of ssa-replay (docs/API.md): their lines, and what the built program ssa_replay takes to play them.
+"""Scripts of ssa-replay (docs/REPLAY.md): their lines, and what the built program ssa_replay takes to play them.
 
 A script's time is the processor time of the process that plays it (one core), the least of three plays. What is timed is
 the difference of two plays: of a script, and of the same lines up to where it begins, followed by the lines that come then

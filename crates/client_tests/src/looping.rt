@@ -1,4 +1,4 @@
-//! The loop that a caller of an informer writes, over connections that are dialled: the page `docs/API.md` has it. The
+//! The loop that a caller of an informer writes, over connections that are dialled: `docs/CLIENT.md` has it. The
 //! connections are those of `mirrors`.
 
 use crate::mirrors::server_of;
