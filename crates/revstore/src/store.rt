@@ -10,17 +10,29 @@ ghost use Rattle.history.specs.Whole.{AreThere};
 ghost use Rattle.history.specs.Writes.{changes_by, written_all_in};
 
 use crate::fault::{ChangesFault, CompactFault, ListFault, WriteFault};
+use crate::held::{Slots, known_now, with_read, write_over};
+use crate::recent::{
+    Recent, known_before, known_changes, once_compacted, remember_before, with_change,
+};
 use history::{Change, Entry, Key, LAST_REVISION, Object, Write};
 use revtable::{Fault, Keep, Table};
 use std::marker::Model;
+use std::mem;
 
 /// The objects of all types, by key, and their changes.
 pub struct Store {
     table: Table,
+    /// The latest changes, where they are remembered.
+    recent: Option<Recent>,
+    /// What stands under the keys that were written or read last, where it is held.
+    held: Option<Slots>,
 }
 
 impl Model for Store {
+    ghost use Rattle.std.specs.Prelude.{IfSome};
     ghost use Rattle.history.specs.Kept.{IsPruned};
+    ghost use Rattle.revstore.specs.Held.{AreIn};
+    ghost use Rattle.revstore.specs.Recent.{AreLatest};
     ghost use Rattle.history.specs.Codes.{view_code};
     ghost use Rattle.history.specs.View.{View, view as view_of};
 
@@ -30,13 +42,17 @@ impl Model for Store {
 
     ghost view = { λ s. view_of s.table };
 
-    ghost invariant = { λ s. IsPruned s.table };
+    ghost invariant = { λ s. IsPruned s.table × IfSome s.recent (AreLatest s.table) × IfSome s.held (AreIn s.table) };
 }
 
 // It is written out, so that what holds a store does not prove again how each part is dropped.
 impl Drop for Store {
     fn drop(self) {
-        let Store { table: _ } = self;
+        let Store {
+            table: _,
+            recent: _,
+            held: _,
+        } = self;
     }
 }
 
@@ -46,7 +62,11 @@ impl Store {
         ensures { result ≡ view table }
     {
         let _ = table.marks();
-        Store { table }
+        Store {
+            table,
+            recent: None,
+            held: None,
+        }
     }
 
     /// The revision that stands now.
@@ -78,6 +98,9 @@ impl Store {
         }
         let revision = current + 1;
         self.table.put(revision, key, body)?;
+        let before = write_over(&mut self.held, key, revision, body);
+        let recent = mem::replace(&mut self.recent, None);
+        self.recent = with_change(recent, revision, key, body, before);
         Ok(revision)
     }
 
@@ -95,6 +118,8 @@ impl Store {
             return Err(WriteFault::Exhausted);
         }
         self.table.put_all(writes)?;
+        self.recent = None;
+        self.held = None;
         Ok(current + count)
     }
 
@@ -103,7 +128,13 @@ impl Store {
         ensures ok { IfOk result (λ o. option_map object_of o ≡ fin.get (state_in self.old self.old.current) (key_of key.now)) }
         ensures same { self.new ≡ self.old }
     {
-        self.table.latest(key)
+        if let Some(object) = known_now(&self.held, key)? {
+            return Ok(object);
+        }
+        let object = self.table.latest(key)?;
+        let held = mem::replace(&mut self.held, None);
+        self.held = with_read(held, key, &object);
+        Ok(object)
     }
 
     /// The first `max` objects of a type at a revision, in the order of namespace and name: of one namespace or
@@ -182,6 +213,9 @@ impl Store {
         if after < marks.compacted {
             return Err(ChangesFault::Expired);
         }
+        if let Some(changes) = known_changes(&self.recent, kind, namespace, after, max)? {
+            return Ok(changes);
+        }
         Ok(self.table.span(kind, namespace, after, marks.current, max)?)
     }
 
@@ -192,7 +226,12 @@ impl Store {
         ensures ok { IfOk result (λ o. option_map object_of o ≡ fin.get (state_in self.old (revision - 1)) (key_of key.now)) }
         ensures same { self.new ≡ self.old }
     {
-        self.table.latest_at(key, revision - 1)
+        if let Some(before) = known_before(&self.recent, key, revision)? {
+            return Ok(before);
+        }
+        let before = self.table.latest_at(key, revision - 1)?;
+        remember_before(&mut self.recent, key, revision, &before);
+        Ok(before)
     }
 
     /// Forgets what no answer from this revision on can show.
@@ -210,6 +249,8 @@ impl Store {
             return Err(CompactFault::TooLarge);
         }
         self.table.prune(revision)?;
+        let recent = mem::replace(&mut self.recent, None);
+        self.recent = once_compacted(recent, revision);
         Ok(())
     }
 }

@@ -13,6 +13,13 @@ use std::alloc::Global;
 /// changes the pages of the index again and again; where they stay in memory, that log doesn't grow by each such change.
 const SPILL_PAGES: usize = 6_000;
 
+/// How many pages that were read are kept a second time. They are in memory as it is: a copy of one spares a look into the log alone,
+/// and the room for all copies is taken when the table is opened.
+const COPIED_PAGES: usize = 256;
+
+/// How many pages the log has before they are copied into the database file.
+const LOGGED_PAGES: usize = 250;
+
 /// The tables over two files in memory.
 pub(crate) type MemoryLog = ChangeLog<FileStore<MemoryFile>>;
 
@@ -26,6 +33,8 @@ fn empty(alloc: Global) -> Result<Connection<FileStore<MemoryFile>>, Error>
     };
     let mut options = Options::new(1);
     options.spill_pages = SPILL_PAGES;
+    options.cache_pages = COPIED_PAGES;
+    options.checkpoint_frames = LOGGED_PAGES;
     match Connection::open_files(alloc, files, options) {
         Ok(base) => Ok(base),
         Err((error, _)) => Err(error),
