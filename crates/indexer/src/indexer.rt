@@ -6,7 +6,7 @@ ghost use Rattle.std.specs.FinMap as fin;
 ghost use Rattle.indexer.specs.PutAll.{put_all};
 ghost use Rattle.indexer.specs.Kept.{HoldsPostings, held_in};
 ghost use Rattle.indexer.specs.Names.{are_distinct};
-ghost use Rattle.indexer.specs.declared.indexer.NewError.TheVariants.{Memory};
+ghost use Rattle.indexer.specs.declared.indexer.IndexerFault.TheVariants.{Memory};
 ghost use Rattle.indexer.specs.Objects.{shared_of};
 
 use crate::entry::Entry;
@@ -33,14 +33,14 @@ pub struct Indexer<I: Drop> {
 
 /// Why no indexer was made.
 #[derive(Debug, Drop)]
-pub enum NewError {
+pub enum IndexerFault {
     /// Two indexes have one name.
     SameName,
     /// Out of memory.
     Memory,
 }
 
-impl fmt::Display for NewError {
+impl fmt::Display for IndexerFault {
     ghost use Rattle.std.specs.Prelude.{Some};
     ghost use Rattle.indexer.specs.Faults.{error_text};
 
@@ -48,19 +48,19 @@ impl fmt::Display for NewError {
 
     fn fmt<W: fmt::Write>(&self, f: &mut fmt::Formatter<W>) -> fmt::Result {
         match self {
-            NewError::SameName => f.write_str("two indexes have one name"),
-            NewError::Memory => f.write_str("out of memory"),
+            IndexerFault::SameName => f.write_str("two indexes have one name"),
+            IndexerFault::Memory => f.write_str("out of memory"),
         }
     }
 }
 
-impl Error for NewError {}
+impl Error for IndexerFault {}
 
-impl From<AllocError> for NewError {
+impl From<AllocError> for IndexerFault {
     ghost from_gives = { λ _ e. e ≡ Memory };
 
-    fn from(_e: AllocError) -> NewError {
-        NewError::Memory
+    fn from(_e: AllocError) -> IndexerFault {
+        IndexerFault::Memory
     }
 }
 
@@ -104,16 +104,16 @@ impl<I: IndexBy> Indexer<I> {
     ghost use Rattle.indexer.specs.Postings.{has_in};
 
     /// No objects, and these indexes; refused where two have one name.
-    pub fn new(alloc: Global, indexes: Vec<I>) -> Result<Indexer<I>, NewError>
+    pub fn new(alloc: Global, indexes: Vec<I>) -> Result<Indexer<I>, IndexerFault>
         ensures made { IfOk result (λ r. held_of r ≡ fin.empty) }
         ensures indexes { IfOk result (λ r. indexes_of r ≡ indexes.items) }
         ensures names { IfOk result (λ r. names_of r ≡ map (λ b. I.title b) indexes.items) }
         ensures distinct { OnOk result (are_distinct (map (λ b. I.title b) indexes.items) ≡ true) }
-        ensures same_name { result ≡ Err NewError.SameName → are_distinct (map (λ b. I.title b) indexes.items) ≡ false }
+        ensures same_name { result ≡ Err IndexerFault.SameName → are_distinct (map (λ b. I.title b) indexes.items) ≡ false }
     {
         let names = names_of_each(alloc, &indexes)?;
         if !are_distinct(&names) {
-            return Err(NewError::SameName);
+            return Err(IndexerFault::SameName);
         }
         Ok(Indexer {
             objects: BTreeMap::new(alloc),

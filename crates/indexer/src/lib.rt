@@ -17,6 +17,6 @@ mod postings;
 mod texts;
 
 pub use index_by::IndexBy;
-pub use indexer::{Indexer, NewError};
+pub use indexer::{Indexer, IndexerFault};
 pub use law::indexes_follow;
 pub use object::{Object, ObjectKey};

@@ -9,7 +9,7 @@ use Rattle.lists.specs.declared.refusal.Refusal.TheVariants.{Expired, TooLarge}
 use Rattle.history.specs.History.{Objects}
 use Rattle.lists.specs.Body.{Collection, list_text}
 use Rattle.lists.specs.Lists.{list_of, page_of, text_at}
-use Rattle.lists.specs.Revision.{Wanted, exactly, not_older_than, revision_by, revision_of, wanted_by}
+use Rattle.lists.specs.Revision.{WantedRevision, exactly, not_older_than, revision_by, revision_of, wanted_by}
 
 abbrev pub IsBetween : ℕ → ℕ → ℕ → Type 0
 IsBetween low high r = (low ≤ r) × (r ≤ high)
@@ -19,7 +19,7 @@ IsOkOf P (Ok r) = P r
 IsOkOf P (Err e) = Unit {0}
 
 module _ (current compacted : ℕ) (low : compacted ≤ current) where
-  between : (w : Wanted) → IsOkOf (IsBetween compacted current) (revision_by current compacted w)
+  between : (w : WantedRevision) → IsOkOf (IsBetween compacted current) (revision_by current compacted w)
   between (not_older_than v) = go (nat_le v current)
     where
       go : (b : Bool) → IsOkOf (IsBetween compacted current) (cond b (Ok current) (Err (TooLarge v current)))

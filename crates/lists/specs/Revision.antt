@@ -9,9 +9,9 @@ use Rattle.lists.specs.declared.refusal.Refusal.{Refusal}
 use Rattle.lists.specs.declared.refusal.Refusal.TheVariants.{Expired, TooLarge}
 
 -- the revision that stands, if it is not below this one; or exactly this one
-pub data Wanted : Type 0 where
-  not_older_than : ℕ → Wanted
-  exactly : ℕ → Wanted
+pub data WantedRevision : Type 0 where
+  not_older_than : ℕ → WantedRevision
+  exactly : ℕ → WantedRevision
 
 -- without a match, a version is exact where the list is cut into pages
 abbrev pub is_exact : Option VersionMatch → ℕ → Bool
@@ -20,17 +20,17 @@ is_exact (Some Exact) limit = true
 is_exact (Some NotOlderThan) limit = false
 
 -- version 0 is any version
-abbrev pub wanted_by_version : Option ℕ → Option VersionMatch → ℕ → Wanted
+abbrev pub wanted_by_version : Option ℕ → Option VersionMatch → ℕ → WantedRevision
 wanted_by_version None match limit = not_older_than 0
 wanted_by_version (Some v) match limit = if v == 0 then not_older_than 0 else (if is_exact match limit then exactly v else not_older_than v)
 
 -- a list that goes on is of its token's revision
-abbrev pub wanted_by : Option Token → Values → Wanted
+abbrev pub wanted_by : Option Token → Values → WantedRevision
 wanted_by (Some token) values = exactly token.revision
 wanted_by None values = wanted_by_version values.version values.version_match values.limit
 
 -- the revision itself, where the current and the compacted number are these
-abbrev pub revision_by : ℕ → ℕ → Wanted → Result ℕ Refusal
+abbrev pub revision_by : ℕ → ℕ → WantedRevision → Result ℕ Refusal
 revision_by current compacted (not_older_than v) = if nat_le v current then Ok current else Err (TooLarge v current)
 revision_by current compacted (exactly v) =
     if nat_lt v compacted then Err (Expired v compacted)

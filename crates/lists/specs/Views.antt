@@ -13,14 +13,14 @@ use Rattle.lists.specs.declared.rows.Start.{Start as TheStart}
 use Rattle.lists.specs.declared.rows.Start.TheVariants as start
 use Rattle.lists.specs.Body.{Collection}
 use Rattle.lists.specs.Rows.{Start}
-use Rattle.lists.specs.declared.revision.Wanted.{Wanted as TheWanted}
-use Rattle.lists.specs.declared.revision.Wanted.TheVariants as wanted
-use Rattle.lists.specs.Revision.{Wanted, not_older_than, exactly}
+use Rattle.lists.specs.declared.revision.WantedRevision.{WantedRevision as TheWantedRevision}
+use Rattle.lists.specs.declared.revision.WantedRevision.TheVariants as wanted
+use Rattle.lists.specs.Revision.{WantedRevision, not_older_than, exactly}
 
 abbrev pub collection_of : TheCollection → Collection
 collection_of c = record { kind = c.kind; namespace = option_map (λ s. s.now) c.namespace; api_version = c.api_version.now; item_kind = c.item_kind.now }
 
-abbrev pub wanted_seen : TheWanted → Wanted
+abbrev pub wanted_seen : TheWantedRevision → WantedRevision
 wanted_seen (wanted.NotOlderThan v) = not_older_than v
 wanted_seen (wanted.Exactly v) = exactly v
 

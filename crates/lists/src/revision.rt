@@ -10,7 +10,7 @@ use params::{Params, VersionMatch};
 
 /// The revision that stands, if it is not below a version; or exactly a version.
 #[derive(Clone, Copy, Debug, PartialEq, Eq)]
-pub(crate) enum Wanted {
+pub(crate) enum WantedRevision {
     NotOlderThan(u64),
     Exactly(u64),
 }
@@ -30,41 +30,41 @@ fn wanted_by_version(
     version: Option<u64>,
     version_match: Option<VersionMatch>,
     limit: u64,
-) -> Wanted
+) -> WantedRevision
     ensures { wanted_seen result ≡ wanted_by_version version version_match limit }
 {
     let Some(version) = version else {
-        return Wanted::NotOlderThan(0);
+        return WantedRevision::NotOlderThan(0);
     };
     if version == 0 {
-        Wanted::NotOlderThan(0)
+        WantedRevision::NotOlderThan(0)
     } else if is_exact(version_match, limit) {
-        Wanted::Exactly(version)
+        WantedRevision::Exactly(version)
     } else {
-        Wanted::NotOlderThan(version)
+        WantedRevision::NotOlderThan(version)
     }
 }
 
-fn wanted_by(params: &Params) -> Wanted
+fn wanted_by(params: &Params) -> WantedRevision
     ensures { wanted_seen result ≡ wanted_by (option_map token_view params.now.token) (values_of params.now) }
 {
     match &params.token {
-        Some(token) => Wanted::Exactly(token.revision),
+        Some(token) => WantedRevision::Exactly(token.revision),
         None => wanted_by_version(params.version, params.version_match, params.limit),
     }
 }
 
-fn revision_by(current: u64, compacted: u64, wanted: Wanted) -> Result<u64, Refusal>
+fn revision_by(current: u64, compacted: u64, wanted: WantedRevision) -> Result<u64, Refusal>
     ensures { result ≡ revision_by current compacted (wanted_seen wanted) }
 {
     match wanted {
-        Wanted::NotOlderThan(version) if version <= current => Ok(current),
-        Wanted::NotOlderThan(version) => Err(Refusal::TooLarge(version, current)),
-        Wanted::Exactly(version) if version < compacted => {
+        WantedRevision::NotOlderThan(version) if version <= current => Ok(current),
+        WantedRevision::NotOlderThan(version) => Err(Refusal::TooLarge(version, current)),
+        WantedRevision::Exactly(version) if version < compacted => {
             Err(Refusal::Expired(version, compacted))
         }
-        Wanted::Exactly(version) if version <= current => Ok(version),
-        Wanted::Exactly(version) => Err(Refusal::TooLarge(version, current)),
+        WantedRevision::Exactly(version) if version <= current => Ok(version),
+        WantedRevision::Exactly(version) => Err(Refusal::TooLarge(version, current)),
     }
 }
 

@@ -14,7 +14,7 @@ ghost use Rattle.programs.specs.declared.run_fault.RunFault.TheVariants.{Memory}
 
 use crate::arguments::MirrorOptions;
 use crate::fault::ProgramFault;
-use indexer::{IndexBy, Indexer, NewError, Object};
+use indexer::{IndexBy, Indexer, IndexerFault, Object};
 use programs::{Resource, RunFault};
 use reflector::{Informer, Source};
 use schema::Types;
@@ -85,8 +85,8 @@ fn copied(alloc: Global, text: Option<&str>) -> Result<Option<String>, AllocErro
 fn indexer_of(alloc: Global) -> Result<Indexer<NoIndex>, AllocError> {
     match Indexer::new(alloc, Vec::new(alloc)) {
         Ok(indexer) => Ok(indexer),
-        Err(NewError::SameName) => unreachable!(),
-        Err(NewError::Memory) => Err(AllocError),
+        Err(IndexerFault::SameName) => unreachable!(),
+        Err(IndexerFault::Memory) => Err(AllocError),
     }
 }
 

@@ -10,12 +10,12 @@ use Rattle.httpedge.specs.HubSeen.{IsIn}
 use Rattle.httpedge.specs.Steps.{State, pumps, with_bytes_taken}
 use Rattle.httpedge.specs.Streams.{MovesBy, Hands}
 use Rattle.httpedge.specs.declared.hub.Hub.{Hub}
-use Rattle.serving.specs.Serving.{Goes, HasTurn, IsPumped, Served, Serves, ServesAll}
+use Rattle.serving.specs.Serving.{Goes, HasTurn, HasTurns, IsPumped, Served, ServesAll}
 use Rattle.serving.proofs.Joining.{serves_none, serves_then, take_turn, turned, turns_then}
 
 -- what left the reader came on the connection
 abbrev pub Hears : ℕ → Option (List ℕ) → Option (List ℕ) → Hub → Hub → Type 0
-Hears id a b x y = (heard : List ℕ) × Consumes a b heard × Serves id x heard [] y
+Hears id a b x y = (heard : List ℕ) × Consumes a b heard × HasTurns id x heard [] y
 
 -- what the writer got was taken of the connection, and where it ends well that was all
 abbrev pub TellsAll : {A E : Type 0} → Result A E → ℕ → Option (List ℕ) → Option (List ℕ) → Hub → Hub → Type 0
@@ -23,7 +23,7 @@ TellsAll r id a b x y = (told : List ℕ) × Appends a b told × ServesAll r id 
 
 -- bytes that were read, and bytes that were written
 abbrev pub Talks : ℕ → Option (List ℕ) → Option (List ℕ) → Option (List ℕ) → Option (List ℕ) → Hub → Hub → Type 0
-Talks id a b d e x y = (heard : List ℕ) × (told : List ℕ) × Consumes a b heard × Appends d e told × Serves id x heard told y
+Talks id a b d e x y = (heard : List ℕ) × (told : List ℕ) × Consumes a b heard × Appends d e told × HasTurns id x heard told y
 
 abbrev pub TalksAll : {A E : Type 0} → Result A E → ℕ → Option (List ℕ) → Option (List ℕ) → Option (List ℕ) → Option (List ℕ) → Hub → Hub → Type 0
 TalksAll r id a b d e x y = (heard : List ℕ) × (told : List ℕ) × Consumes a b heard × Appends d e told × ServesAll r id x heard told y
@@ -36,7 +36,7 @@ none_read P Q (Err e) a b is read = read
 pub hears_none : (id : ℕ) (a : Option (List ℕ)) (x : Hub) → Hears id a a x x
 hears_none id a x = ([], Consumes-nil a, serves_none id x)
 
-pub hears_then : (id : ℕ) (a b c : Option (List ℕ)) (x y z : Hub) (piece : List ℕ) → Hears id a b x y → Consumes b c piece → Serves id y piece [] z → Hears id a c x z
+pub hears_then : (id : ℕ) (a b c : Option (List ℕ)) (x y z : Hub) (piece : List ℕ) → Hears id a b x y → Consumes b c piece → HasTurns id y piece [] z → Hears id a c x z
 hears_then id a b c x y z piece before read came =
     (before.0 ++ piece, Consumes-trans a b c before.0 piece before.1 read, serves_then id x y z before.0 [] piece [] before.2 came)
 
@@ -57,7 +57,7 @@ tells_taken r id a b x y n out law outs taken written all = (
       (with_bytes_taken s id n, take_turn id s n out (sym (outs s is)), all_taken r n out (out_on (with_bytes_taken s id n).connections id) all left, taken s is),
 )
 
-pub hears_alone : (id : ℕ) (a b d : Option (List ℕ)) (x y z : Hub) → Serves id x [] [] y → Hears id a b y z → Talks id a b d d x z
+pub hears_alone : (id : ℕ) (a b d : Option (List ℕ)) (x y z : Hub) → HasTurns id x [] [] y → Hears id a b y z → Talks id a b d d x z
 hears_alone id a b d x y z first hears = (hears.0, [], hears.1, Appends-nil d, serves_then id x y z [] [] hears.0 [] first hears.2)
 
 pub talks_then : {A E : Type 0} (r : Result A E) (id : ℕ) (a b d e f : Option (List ℕ)) (x y z : Hub) → Talks id a b d e x y → TellsAll r id e f y z → TalksAll r id a b d f x z
@@ -145,7 +145,7 @@ over_badly r id a b d e x y z badly talks goes = (
 pub served_none : (id : ℕ) (a d : Option (List ℕ)) (x : Hub) → Served id a a d x x
 served_none id a d x = (d, [], [], Consumes-nil a, Appends-nil d, serves_none id x)
 
-pub served_then : {A E : Type 0} (r : Result A E) (id next : ℕ) (a b d e : Option (List ℕ)) (x y z : Hub) → id ≡ next → Over r id a b d e x y → Serves id y [] [] z → Served next a b d x z
+pub served_then : {A E : Type 0} (r : Result A E) (id next : ℕ) (a b d e : Option (List ℕ)) (x y z : Hub) → id ≡ next → Over r id a b d e x y → HasTurns id y [] [] z → Served next a b d x z
 served_then r id next a b d e x y z is over settled =
     subst (λ (k : ℕ). Served k a b d x z) is (
       e,

@@ -15,7 +15,7 @@ use Rattle.httpedge.proofs.Connected.{put_there}
 use Rattle.httpedge.proofs.Handed.{by_hands, runs_then}
 use Rattle.httpedge.proofs.Staying.{others}
 use Rattle.serving.specs.declared.server.Limits.{Limits}
-use Rattle.serving.specs.Serving.{DoesRounds, Goes, HasTurn, IsPumped, Leads, Served, Serves, ServesOne}
+use Rattle.serving.specs.Serving.{DoesRounds, Goes, HasTurn, HasTurns, IsPumped, Leads, Served, ServesOne}
 use Rattle.serving.specs.Tidies.{Pumps, PumpsAll, Tidies}
 use Rattle.serving.specs.Turns.{IsGiven, Turns, came_on, is_on}
 use Rattle.serving.proofs.Givens.{TakesNone, given_grows, given_stays}
@@ -96,21 +96,21 @@ goes_closed id s t (h, is, follows) =
 
 -- ---- hubs
 
-pub serves_none : (id : ℕ) (hub : Hub) → Serves id hub [] [] hub
+pub serves_none : (id : ℕ) (hub : Hub) → HasTurns id hub [] [] hub
 serves_none id hub = λ s is. (s, turns_none id s, is)
 
-pub serves_then : (id : ℕ) (x y z : Hub) (a b c d : List ℕ) → Serves id x a b y → Serves id y c d z → Serves id x (a ++ c) (b ++ d) z
+pub serves_then : (id : ℕ) (x y z : Hub) (a b c d : List ℕ) → HasTurns id x a b y → HasTurns id y c d z → HasTurns id x (a ++ c) (b ++ d) z
 serves_then id x y z a b c d first second = λ s is.
     let one = first s is in
     let two = second one.0 one.2 in
     (two.0, turns_then id s one.0 two.0 a b c d one.1 two.1, two.2)
 
-pub serves_event : (id : ℕ) (x y : Hub) (e : Event) → subject e ≡ connection id → MovesBy (Hands e) x y → Serves id x (bytes_of e) [] y
+pub serves_event : (id : ℕ) (x y : Hub) (e : Event) → subject e ≡ connection id → MovesBy (Hands e) x y → HasTurns id x (bytes_of e) [] y
 serves_event id x y e of_it hands = λ s is.
     let one = hands s is in
     (one.0, event_turn id s one.0 e of_it one.1, one.2)
 
-pub serves_comes : (id : ℕ) (x y : Hub) (bytes : List ℕ) → MovesBy (Hands (comes id bytes)) x y → Serves id x bytes [] y
+pub serves_comes : (id : ℕ) (x y : Hub) (bytes : List ℕ) → MovesBy (Hands (comes id bytes)) x y → HasTurns id x bytes [] y
 serves_comes id x y bytes hands = serves_event id x y (comes id bytes) refl hands
 
 pub serves_goes : (id : ℕ) (x y : Hub) → MovesBy (Hands (goes id)) x y → Goes id x y
@@ -129,17 +129,17 @@ leads_then x y z first second = λ s is.
     let two = second one.1 one.3 in
     (one.0 ++ two.0, two.1, runs_then s one.1 two.1 one.0 two.0 one.2 two.2, two.3)
 
-pub leads_turn : (id : ℕ) (x y : Hub) (heard told : List ℕ) → Serves id x heard told y → Leads x y
+pub leads_turn : (id : ℕ) (x y : Hub) (heard told : List ℕ) → HasTurns id x heard told y → Leads x y
 leads_turn id x y heard told serves = λ s is.
     let one = serves s is in
     (one.1.0, one.0, one.1.1, one.2)
 
-pub serves_gone : (id : ℕ) (x y : Hub) → Goes id x y → Serves id x [] [] y
+pub serves_gone : (id : ℕ) (x y : Hub) → Goes id x y → HasTurns id x [] [] y
 serves_gone id x y left = λ s is.
     let one = left s is in
     (one.0, one.1, one.3)
 
-pub turned : {A E : Type 0} (r : Result A E) (id : ℕ) (x y : Hub) (heard told : List ℕ) → HasTurn r id x heard told y → Serves id x heard told y
+pub turned : {A E : Type 0} (r : Result A E) (id : ℕ) (x y : Hub) (heard told : List ℕ) → HasTurn r id x heard told y → HasTurns id x heard told y
 turned r id x y heard told had = λ s is.
     let one = had s is in
     (one.0, one.1, one.3)
@@ -163,7 +163,7 @@ pumps_more lines [] id s mid t is pumps = (t, subst (λ (x : State). Pumps lines
 pumps_more lines (i ∷ ids) id s mid t (next, first, rest) pumps = (next, first, pumps_more lines ids id next mid t rest pumps)
 
 pumps_then : {A E : Type 0} (r : Result A E) (lines : ℕ) (ids : List ℕ) (id : ℕ) (x y z v : Hub) (told : List ℕ) → MovesBy (PumpsAll lines ids) x y → MovesBy (IsPumped r id lines told) y z
-    → Serves id z [] [] v → MovesBy (PumpsAll lines (ids ++ id ∷ [])) x v
+    → HasTurns id z [] [] v → MovesBy (PumpsAll lines (ids ++ id ∷ [])) x v
 pumps_then r lines ids id x y z v told before pumped settled = λ s is.
     let one = before s is in
     let two = pumped one.0 one.2 in
@@ -172,7 +172,7 @@ pumps_then r lines ids id x y z v told before pumped settled = λ s is.
 
 -- over the streams of watches
 pub pumps_next : {A E W : Type 0} (r : Result A E) (lines : ℕ) (ws : List (ℕ × W)) (w : ℕ × W) (x y z v : Hub) (told : List ℕ) → MovesBy (PumpsAll lines (map (λ w. w.0) ws)) x y
-    → MovesBy (IsPumped r w.0 lines told) y z → Serves w.0 z [] [] v → MovesBy (PumpsAll lines (map (λ w. w.0) (ws ++ w ∷ []))) x v
+    → MovesBy (IsPumped r w.0 lines told) y z → HasTurns w.0 z [] [] v → MovesBy (PumpsAll lines (map (λ w. w.0) (ws ++ w ∷ []))) x v
 pumps_next r lines ws w x y z v told before pumped settled =
     subst (λ (ids : List ℕ). MovesBy (PumpsAll lines ids) x v) (sym (map-append (λ w. w.0) ws (w ∷ []))) (pumps_then r lines (map (λ w. w.0) ws) w.0 x y z v told before pumped settled)
 

@@ -12,8 +12,8 @@ use Rattle.serving.specs.Rounds.{Rounds}
 use Rattle.serving.specs.Turns.{Turns}
 
 -- the hub before and after a turn of the connection, by the bytes received and sent
-abbrev pub Serves : ℕ → Hub → List ℕ → List ℕ → Hub → Type 0
-Serves id old heard told new = (s : State) → IsIn old s → (t : State) × Turns id s heard told t × IsIn new t
+abbrev pub HasTurns : ℕ → Hub → List ℕ → List ℕ → Hub → Type 0
+HasTurns id old heard told new = (s : State) → IsIn old s → (t : State) × Turns id s heard told t × IsIn new t
 
 -- the same of no bytes, after which the connection isn't open
 abbrev pub Goes : ℕ → Hub → Hub → Type 0
@@ -40,11 +40,11 @@ HasTurn result id old heard told new = (s : State) → IsIn old s → (t : State
 -- a connection was served: what left the reader came on it, and what the writer, which held these bytes, got was taken of it
 abbrev pub Served : ℕ → Option (List ℕ) → Option (List ℕ) → Option (List ℕ) → Hub → Hub → Type 0
 Served id unread left held old new =
-    (holds : Option (List ℕ)) × (heard : List ℕ) × (told : List ℕ) × Consumes unread left heard × Appends held holds told × Serves id old heard told new
+    (holds : Option (List ℕ)) × (heard : List ℕ) × (told : List ℕ) × Consumes unread left heard × Appends held holds told × HasTurns id old heard told new
 
 -- a turn of a connection
 abbrev pub ServesOne : Hub → Hub → Type 0
-ServesOne old new = (id : ℕ) × (heard : List ℕ) × (told : List ℕ) × Serves id old heard told new
+ServesOne old new = (id : ℕ) × (heard : List ℕ) × (told : List ℕ) × HasTurns id old heard told new
 
 -- so many of them, each with what is done after it
 abbrev pub DoesRounds : Limits → Hub → Hub → Type 0

@@ -3,7 +3,7 @@
 ghost use Rattle.std.specs.Prelude.{[], List, MatchResult, ℕ};
 ghost use Rattle.std.specs.Io.KnownBytes.{Appends, Consumes};
 ghost use Rattle.httpedge.specs.Streams.{MovesBy};
-ghost use Rattle.serving.specs.Serving.{Goes, HasTurn, IsPumped, Serves, ServesAll};
+ghost use Rattle.serving.specs.Serving.{Goes, HasTurn, HasTurns, IsPumped, ServesAll};
 
 use httpedge::{Event, Hub, hand};
 use std::alloc::Global;
@@ -12,7 +12,7 @@ use std::io::{ErrorKind, Read, Write};
 use streams::{read_piece, write_front};
 
 fn open(hub: &mut Hub, id: u64) -> io::Result<()>
-    ensures { Serves id hub.old [] [] hub.new }
+    ensures { HasTurns id hub.old [] [] hub.new }
 {
     if !hand(hub, Event::Open(id)) {
         return Err(io::Error::from(ErrorKind::OutOfMemory));
@@ -40,7 +40,7 @@ fn read_some<R: Read>(alloc: Global, reader: &mut R) -> io::Result<Vec<u8>>
 
 /// Reads while the hub waits for bytes of the connection, and hands them to it in order.
 fn hand_over<R: Read>(alloc: Global, hub: &mut Hub, id: u64, reader: &mut R) -> io::Result<()>
-    ensures { (heard : List ℕ) × Consumes (R.remaining reader.old) (R.remaining reader.new) heard × Serves id hub.old heard [] hub.new }
+    ensures { (heard : List ℕ) × Consumes (R.remaining reader.old) (R.remaining reader.new) heard × HasTurns id hub.old heard [] hub.new }
 {
     'pieces: for _ in 0..u64::MAX {
         if !hub.wants(id) {

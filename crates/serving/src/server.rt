@@ -9,7 +9,7 @@ ghost use Rattle.httpedge.specs.HubSeen.{IsIn};
 ghost use Rattle.httpedge.specs.Steps.{start};
 ghost use Rattle.httpedge.specs.Streams.{MovesBy};
 ghost use Rattle.serving.specs.Rising.{are_rising};
-ghost use Rattle.serving.specs.Serving.{Served, Serves};
+ghost use Rattle.serving.specs.Serving.{HasTurns, Served};
 ghost use Rattle.serving.specs.Tidies.{PumpsAll, Tidies};
 
 use crate::conversing::{leave, pump, turn};
@@ -116,7 +116,7 @@ impl<W: Write + Drop> Server<W> {
         requires { are_rising (watches_of self.old ++ id ∷ next_of self.old ∷ []) ≡ true }
         ensures limits { limits_of self.new ≡ limits_of self.old }
         ensures next { next_of self.new ≡ next_of self.old }
-        ensures serves { Serves id (hub_of self.old) [] [] (hub_of self.new) }
+        ensures serves { HasTurns id (hub_of self.old) [] [] (hub_of self.new) }
         ensures watches { watches_of self.new ≡ with_kept result id (watches_of self.old) }
     {
         if done.is_err() || self.hub.ended(id) {

@@ -15,7 +15,7 @@
 //! | `twice` | whether two indexes with one name are refused |
 
 use crate::rows::{Answers, done, play};
-use indexer::{IndexBy, Indexer, NewError, Object, ObjectKey};
+use indexer::{IndexBy, Indexer, IndexerFault, Object, ObjectKey};
 use std::alloc::{AllocError, Global};
 use std::collections::BTreeMap;
 use std::rc::{Rc, RcStr};
@@ -166,8 +166,8 @@ fn two_of_one_name(alloc: Global) -> Result<Vec<Box<dyn IndexBy>>, AllocError> {
 fn has_one_name_twice(alloc: Global, indexes: Vec<Box<dyn IndexBy>>) -> Result<String, Fail> {
     match Indexer::new(alloc, indexes) {
         Ok(_) => told(alloc, false),
-        Err(NewError::SameName) => told(alloc, true),
-        Err(NewError::Memory) => Err("no memory".into()),
+        Err(IndexerFault::SameName) => told(alloc, true),
+        Err(IndexerFault::Memory) => Err("no memory".into()),
     }
 }
 

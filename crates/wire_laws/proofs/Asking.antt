@@ -13,7 +13,7 @@ use Rattle.requests.specs.Decision.{Decision, accepted, and_then, decided_by}
 use Rattle.requests.specs.Heads.{missing, Request}
 use Rattle.std.specs.declared.result.Result.TheVariants.{Ok}
 use Rattle.wireclient.specs.Request.{request}
-use Rattle.wire_laws.specs.Printed.{IsPrinted, asked_by, asked_without, is_question, said_of}
+use Rattle.wire_laws.specs.Printed.{IsPrinted, asked_with, asked_without, is_question, said_of}
 use Rattle.wire_laws.proofs.PrintedRequests.{body_back, request_says}
 use Rattle.wire_laws.proofs.Queries.{path_alone, path_back, query_alone, query_back}
 
@@ -42,7 +42,7 @@ asked_in types method path media query body =
     and_then (decided_by (admitted types method path media)) (λ target. and_then body (λ value. accepted (record { target = target; query = query; body = value })))
 
 pub request_asks : (types : List ServedShape) (method path query media bytes : List ℕ) → list_any is_question path ≡ false → needs_body method ≡ true → length bytes ≤ max_body
-    → IsPrinted method (path ++ 63 ∷ query) (Some (media, bytes)) → Asks types (request method (path ++ 63 ∷ query) (Some (media, bytes))) (asked_by types method path query media bytes)
+    → IsPrinted method (path ++ 63 ∷ query) (Some (media, bytes)) → Asks types (request method (path ++ 63 ∷ query) (Some (media, bytes))) (asked_with types method path query media bytes)
 request_asks types method path query media bytes plain needs small printed =
     let request_target = path ++ 63 ∷ query in
     let said : Request = said_of method request_target (Some (media, bytes)) in (

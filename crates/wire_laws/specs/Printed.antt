@@ -52,8 +52,8 @@ abbrev pub said_of : List ℕ → List ℕ → Option (List ℕ × List ℕ) →
 said_of method request_target body = record { method = method; request_target = request_target; media = media_of body; transfer_encoded = false; length = length_of body }
 
 -- what such a request asks by these types, its target a path and a query: its route, its method and its media type are checked, then its body
-abbrev pub asked_by : List ServedShape → List ℕ → List ℕ → List ℕ → List ℕ → List ℕ → CallDecision
-asked_by types method path query media bytes =
+abbrev pub asked_with : List ServedShape → List ℕ → List ℕ → List ℕ → List ℕ → List ℕ → CallDecision
+asked_with types method path query media bytes =
     and_then (decided_by (admitted types method path (Some media)))
     (λ target. and_then (some_json (json_in bytes)) (λ body. accepted (record { target = target; query = query; body = body })))
 

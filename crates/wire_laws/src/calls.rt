@@ -12,7 +12,7 @@ ghost use Rattle.requests.specs.Heads.{ReadsHead};
 ghost use Rattle.requests.specs.Decision.{accepted};
 ghost use Rattle.requests.specs.Refusals.{head_too_large, refuse};
 ghost use Rattle.wireclient.specs.Request.{body_bytes, request};
-ghost use Rattle.wire_laws.specs.Printed.{IsPrinted, IsTooLong, asked_by, asked_without, is_question, said_of};
+ghost use Rattle.wire_laws.specs.Printed.{IsPrinted, IsTooLong, asked_with, asked_without, is_question, said_of};
 
 /// A request that the client prints (RFC 9112, section 3) says on the server this method, this target and this media
 /// type, and its body stands after the head.
@@ -40,7 +40,7 @@ pub fn bodies_are_read()
 pub fn requests_ask()
     ensures with_body { (types : List ServedShape) (method path query media bytes : List ℕ) → list_any is_question path ≡ false → needs_body method ≡ true → length bytes ≤ max_body
         → IsPrinted method (path ++ 63 ∷ query) (Some (media, bytes))
-        → Asks types (request method (path ++ 63 ∷ query) (Some (media, bytes))) (asked_by types method path query media bytes) }
+        → Asks types (request method (path ++ 63 ∷ query) (Some (media, bytes))) (asked_with types method path query media bytes) }
     ensures without_body { (types : List ServedShape) (method path query : List ℕ) → list_any is_question path ≡ false → needs_body method ≡ false
         → IsPrinted method (path ++ 63 ∷ query) None → Asks types (request method (path ++ 63 ∷ query) None) (asked_without types method path query) }
     ensures without_query { (types : List ServedShape) (method path : List ℕ) → list_any is_question path ≡ false → needs_body method ≡ false

@@ -15,7 +15,7 @@ ghost use Rattle.world.specs.Seen.{IsSourceOf, settings_seen};
 ghost use Rattle.world.specs.Standing.{setup_in};
 
 use crate::fault::WorldFault;
-use indexer::{IndexBy, Indexer, NewError};
+use indexer::{IndexBy, Indexer, IndexerFault};
 use reflector::{Informer, SettingsFault, Source};
 use schema::Types;
 use selector::{ReadError, Selector};
@@ -89,8 +89,8 @@ fn indexer_of<I: IndexBy>(alloc: Global, indexes: Vec<I>) -> Result<Indexer<I>, 
 {
     match Indexer::new(alloc, indexes) {
         Ok(indexer) => Ok(indexer),
-        Err(NewError::SameName) => Err(WorldFault::Settings(4)),
-        Err(NewError::Memory) => Err(WorldFault::Memory),
+        Err(IndexerFault::SameName) => Err(WorldFault::Settings(4)),
+        Err(IndexerFault::Memory) => Err(WorldFault::Memory),
     }
 }
 

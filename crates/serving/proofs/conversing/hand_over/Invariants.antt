@@ -1,8 +1,8 @@
 use Rattle.std.proofs.Common.{ℕ, List, []}
 use Rattle.std.specs.Io.KnownBytes.{Consumes}
-use Rattle.serving.specs.Serving.{Serves}
+use Rattle.serving.specs.Serving.{HasTurns}
 use Rattle.serving.proofs.conversing.hand_over.Given as goal
 
 abbrev pub invariant-pieces : goal.invariant-pieces
 invariant-pieces g l =
-    (heard : List ℕ) × Consumes (g.R.Read.remaining l.fn.reader) (g.R.Read.remaining l.reader) heard × Serves l.fn.id l.fn.hub heard [] l.hub
+    (heard : List ℕ) × Consumes (g.R.Read.remaining l.fn.reader) (g.R.Read.remaining l.reader) heard × HasTurns l.fn.id l.fn.hub heard [] l.hub
