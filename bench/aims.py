@@ -50,9 +50,9 @@ def quiet_pump(folder, play):
 
 
 def line_of_fifty(folder, play):
-    """A line of a watch, of fifty that follow an object of 1 KB."""
-    alone = of_one(folder, play, *serving.followed(0, 500), 500)
-    return (of_one(folder, play, *serving.followed(50, 500), 500) - alone) / 50
+    """A line of a watch, of fifty that follow an object of 1 KB, beside a pump of no line."""
+    none = of_one(folder, play, *serving.followed(50, 500, 0), 500)
+    return (of_one(folder, play, *serving.followed(50, 500), 500) - none) / 50
 
 
 def write_through_server(folder, _):

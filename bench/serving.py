@@ -93,8 +93,8 @@ def lists(program, folder):
                 f"{one / items / 1000:.2f} us")
 
 
-def followed(watches, changes):
-    """Watches of one type, and changes of an object of 1 KB; each watch is pumped after each change."""
+def followed(watches, changes, lines=100):
+    """Watches of one type, and changes of an object of 1 KB; after each change each watch is pumped for so many lines."""
     made = Script()
     made.request("PATCH", WIDGETS + "/w1?fieldManager=alice", filled("w1", 1024, 0))
     ids = [made.request("GET", BASE + "widgets?watch=true&resourceVersion=2") for _ in range(watches)]
@@ -102,22 +102,21 @@ def followed(watches, changes):
     for turn in range(1, changes + 1):
         script.request("PATCH", WIDGETS + "/w1?fieldManager=alice", filled("w1", 1024, turn))
         for watch in ids:
-            script.line({"pump": [watch, 100]})
+            script.line({"pump": [watch, lines]})
     return made, script
 
 
 def watches_that_follow(program, folder):
     print("\nWatches of one type that are pumped after each change of 1 KB\n")
-    head("watches", "changes", "a change with its pumps", "a line, the change left out", "lines a second", "peak memory")
-    alone = 0
+    head("watches", "changes", "a change with its pumps", "a line, beside a pump of none", "lines a second", "peak memory")
     for watches, changes in ((0, 2000), (1, 2000), (10, 2000), (50, 2000)):
         made, script = followed(watches, changes)
         one, peak = timed(program, folder, made, script, changes)
         if watches == 0:
-            alone = one
             row(watches, changes, microseconds(one), "", "", f"{peak:.0f} MiB")
             continue
-        line = max(1, one - alone) / watches
+        none, _ = timed(program, folder, *followed(watches, changes, 0), changes)
+        line = max(1, one - none) / watches
         row(watches, changes, microseconds(one), f"{line / 1000:.2f} us", f"{1e9 / line:,.0f}", f"{peak:.0f} MiB")
 
 
