@@ -8,6 +8,9 @@ ghost use Rattle.requests.specs.ReplyBytes.{chunk, chunks, end_bytes};
 
 use std::alloc::{AllocError, Global};
 
+/// How many bytes of a chunk stand around its line at most.
+const FRAME: usize = 20;
+
 fn chunk_head(alloc: Global, length: usize) -> Result<String, AllocError>
     ensures { IfOk result (λ s. string_bytes s ≡ hexadecimal length ++ crlf) }
 {
@@ -34,11 +37,20 @@ pub fn push_end(bytes: &mut Vec<u8>, has_ended: bool) -> Result<(), AllocError>
     Ok(())
 }
 
+/// How many bytes the chunks of lines have at most.
+fn room_for(lines: &[String]) -> usize {
+    let mut room: usize = 0;
+    for line in lines {
+        room = room.saturating_add(line.len()).saturating_add(FRAME);
+    }
+    room
+}
+
 /// A chunk for each line, and the last chunk where the watch has ended.
 pub fn chunks(alloc: Global, lines: &[String], has_ended: bool) -> Result<Vec<u8>, AllocError>
     ensures { IfOk result (λ v. v.items ≡ chunks (lines_in lines.now) has_ended) }
 {
-    let mut bytes = Vec::new(alloc);
+    let mut bytes = Vec::with_capacity(alloc, room_for(lines))?;
     for line in lines {
         push_chunk(alloc, &mut bytes, line.as_str())?;
     }

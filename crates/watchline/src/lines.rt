@@ -17,11 +17,15 @@ use revtable::Fault;
 use serde_json::{Value, json};
 use std::alloc::{AllocError, Global};
 
+/// How many bytes of a line stand around its object's text at most.
+const FRAME: usize = 30;
+
 /// A line: what it tells, the text of its object, which is copied, and a line feed.
 pub fn line(alloc: Global, event_type: EventType, object: &str) -> Result<String, AllocError>
     ensures { IfOk result (λ s. string_bytes s ≡ line event_type object.now) }
 {
-    let mut line = String::from_str(alloc, "{\"type\":\"")?;
+    let mut line = String::with_capacity(alloc, object.len().saturating_add(FRAME))?;
+    line.push_str("{\"type\":\"")?;
     line.push_str(event_type.text())?;
     line.push_str("\",\"object\":")?;
     line.push_str(object)?;
