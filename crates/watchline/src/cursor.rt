@@ -1,18 +1,19 @@
 //! The cursor of a watch: its selection and its position, and the calls on it. What a pump tells stands in `telling`.
 
-ghost use Rattle.std.specs.Prelude.{◌≡◌, false, IfOk, None, Ok, OnErr, Some, option_map, string_bytes};
+ghost use Rattle.std.specs.Prelude.{◌≡◌, [], false, true, IfOk, IfSome, IsTrue, None, Ok, OnErr, Some, is_some, option_map, string_bytes};
 ghost use Rattle.watchline.specs.Opening.{begun, left_of, told_of};
-ghost use Rattle.watchline.specs.Watches.{bookmarked, from_view, is_bookmark_due, pumped};
+ghost use Rattle.watchline.specs.Watches.{IsPlain, bookmarked, from_view, is_bookmark_due, moved, none_left, pumped, with_bookmarks};
 ghost use Rattle.watchline.specs.Views.{left_at, marking_of, turn_of, watch_from};
 
 use crate::lines::bookmark_line;
 use crate::opening::{Initial, WatchFrom};
 use crate::telling::{expired, told};
+use json_values::copied;
 use lists::{Collection, Start};
 use revstore::Store;
 use revtable::Fault;
 use selector::Selector;
-use std::alloc::Global;
+use std::alloc::{AllocError, Global};
 use std::marker::Model;
 
 /// What a watch is of, and whether it tells bookmarks.
@@ -46,6 +47,28 @@ impl Scope {
             item_kind: "",
         }
     }
+
+    fn is_of_namespace(&self, other: Option<&str>) -> bool
+        ensures { IsTrue result → option_map string_bytes self.now.namespace ≡ option_map (λ s. s.now) other.entry }
+    {
+        match (self.namespace(), other) {
+            (Some(namespace), Some(other)) => namespace == other,
+            (None, None) => true,
+            (Some(_), None) | (None, Some(_)) => false,
+        }
+    }
+
+    /// Whether both select all objects of one type and namespace.
+    fn is_alike(&self, other: &Scope) -> bool
+        ensures kind { IsTrue result → self.now.kind ≡ other.now.kind }
+        ensures namespace { IsTrue result → option_map string_bytes self.now.namespace ≡ option_map string_bytes other.now.namespace }
+        ensures all { IsTrue result → self.now.selector ≡ other.now.selector }
+    {
+        self.kind == other.kind
+            && self.selector.is_all()
+            && other.selector.is_all()
+            && self.is_of_namespace(other.namespace())
+    }
 }
 
 /// What was told.
@@ -57,6 +80,29 @@ pub(crate) struct Standing {
     pub(crate) told: u64,
     /// Where the objects begin that stood when the watch was opened and are still to be told.
     pub(crate) left: Option<Start>,
+}
+
+impl Standing {
+    /// Whether both stand at the same place, with no object left to be told.
+    fn is_alike(&self, other: &Standing) -> bool
+        ensures position { IsTrue result → self.now.position ≡ other.now.position }
+        ensures told { IsTrue result → self.now.told ≡ other.now.told }
+        ensures left { IsTrue result → left_at self.now.left ≡ left_at other.now.left }
+    {
+        self.position == other.position
+            && self.told == other.told
+            && self.left.is_none()
+            && other.left.is_none()
+    }
+}
+
+/// Up to where a watch has told.
+#[derive(Clone, Copy, Debug, PartialEq, Eq)]
+pub struct Reach {
+    /// Each change up to this revision was told, or isn't seen.
+    pub position: u64,
+    /// The last revision that the client was told; 0 before there is one.
+    pub told: u64,
 }
 
 /// The lines of a pump, and whether the watch has ended by them.
@@ -136,6 +182,58 @@ impl WatchCursor {
     {
         let standing = &self.standing;
         self.scope.bookmarks && standing.left.is_none() && standing.told < standing.position
+    }
+
+    /// Up to where it has told.
+    pub fn reach(&self) -> Reach
+        ensures position { result.position ≡ self.now.position }
+        ensures told { result.told ≡ self.now.told }
+    {
+        let standing = &self.standing;
+        Reach {
+            position: standing.position,
+            told: standing.told,
+        }
+    }
+
+    /// It has told up to here.
+    pub fn move_to(&mut self, reach: Reach)
+        ensures { self.new ≡ moved self.old reach.position reach.told self.old.left }
+    {
+        self.standing.position = reach.position;
+        self.standing.told = reach.told;
+    }
+
+    /// A copy, where all objects of the type and namespace are selected and none of them is left to be told; none of
+    /// any other.
+    pub fn copied(&self, alloc: Global) -> Result<Option<WatchCursor>, AllocError>
+        ensures copied { IfOk result (λ o. IfSome o (λ c. c ≡ self.now)) }
+        ensures plain { IfOk result (λ o. IfSome o IsPlain) }
+        ensures always { IsPlain self.now → IfOk result (λ o. is_some o ≡ true) }
+    {
+        if !self.scope.selector.is_all() || self.standing.left.is_some() {
+            return Ok(None);
+        }
+        let scope = Scope {
+            kind: self.scope.kind,
+            namespace: copied(alloc, self.scope.namespace())?,
+            selector: Selector::all(alloc),
+            bookmarks: self.scope.bookmarks,
+        };
+        let standing = Standing {
+            position: self.standing.position,
+            told: self.standing.told,
+            left: None,
+        };
+        Ok(Some(WatchCursor { scope, standing }))
+    }
+
+    /// Whether another tells the same at its next turn: both select all objects of one type and namespace, and have
+    /// told the same. One that selects by labels, or has objects left to tell, is like none.
+    pub fn is_alike(&self, other: &WatchCursor) -> bool
+        ensures { IsTrue result → self.now ≡ with_bookmarks other.now self.now.bookmarks }
+    {
+        self.scope.is_alike(&other.scope) && self.standing.is_alike(&other.standing)
     }
 
     /// The next lines, at most `max`: of objects that are left, each as added, then of changes that are seen after

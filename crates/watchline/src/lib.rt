@@ -4,7 +4,8 @@
 //! A watch tells first the objects that stood when it was opened, if it names no version, and then each change that
 //! its selection sees after its position. A pump tells the first so many of what is still to be told and moves the
 //! position; a watch that has missed forgotten changes ends with an error; a bookmark tells the position alone. A
-//! call that fails leaves the cursor where it stood.
+//! call that fails leaves the cursor where it stood. Where two cursors stand alike, the lines of one are the other's,
+//! which then moves to where the first stands.
 //!
 //! Stands on `history` for what is seen, `revstore` for the changes, `lists` for the objects and their labels,
 //! `json_values` for the parts of an object's value and for copies.
@@ -22,7 +23,7 @@ mod status;
 mod telling;
 mod version;
 
-pub use cursor::{Pumped, WatchCursor};
+pub use cursor::{Pumped, Reach, WatchCursor};
 pub use event::EventType;
 pub use laws::{positions_pass_nothing, turns_tell_in_order, watches_by_views};
 pub use lines::line;
