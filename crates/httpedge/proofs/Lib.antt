@@ -1,3 +1,4 @@
+pub mod Alike
 pub mod Adding
 pub mod Ranging
 pub mod Connected

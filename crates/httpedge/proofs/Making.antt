@@ -1,6 +1,6 @@
 -- What an event makes of one connection, as the code holds it.
-use Rattle.std.proofs.Common.{◌≡◌, ℕ, Bool, true, false, List, ◌++◌, Result, Ok, Err, refl, sym, ap, subst, ◌∙◌}
-use Rattle.std.specs.Prelude.{OnErr}
+use Rattle.std.proofs.Common.{◌≡◌, ℕ, Bool, true, false, List, ◌++◌, Option, None, Result, Ok, Err, refl, sym, ap, subst, ◌∙◌}
+use Rattle.std.specs.Prelude.{IfSome, OnErr}
 use Rattle.schema.specs.TypesFile.{ServedShape}
 use Rattle.history.specs.History.{History}
 use Rattle.verbs.specs.declared.api.Api.{Api}
@@ -12,7 +12,10 @@ use Rattle.httpedge.specs.Changes.{MakesHeld, Receives}
 use Rattle.httpedge.specs.Connections.{Connection, Standing, waiting, watching, ended, gone, has_ended, is_open, opened, with_standing}
 use Rattle.httpedge.specs.Held.{Holds, ReceivedBy, has_ended_in, waiting_for}
 use Rattle.httpedge.specs.declared.event.Change.TheVariants as change
-use Rattle.httpedge.specs.Steps.{connection_after}
+use Rattle.httpedge.specs.Shares.{IsLast, Serves}
+use Rattle.httpedge.specs.Steps.{connection_after, machine_after}
+use Rattle.httpedge.specs.declared.shared.LastTurn.{LastTurn}
+use Rattle.httpedge.specs.declared.shared.Shared.{Shared}
 use Rattle.httpedge.proofs.Representing.{same_ended}
 
 wrong : false ≡ true → ⊥
@@ -32,22 +35,26 @@ later types m last_tick front bytes undecided = refl
 later types m last_tick front bytes (refused d) = refl
 later types m last_tick front bytes (accepted call) = refl
 
-pub received_makes : (types : List ServedShape) (m : History) (last_tick : ℕ) (c : Connection) (st : Standing) (bytes : List ℕ) (d : conns.Connection) (api : Api) → ReceivedBy types m last_tick c st bytes d api
-    → (c' : Connection) × Receives types m last_tick c st bytes c' api × Holds types d c'
-received_makes types m last_tick c (waiting front) bytes d api (is, (asked, asks, holds, stands)) = (
+-- without a last turn the API alone stands
+pub serves : (shared : Shared) (types : List ServedShape) (m : History) → shared.last ≡ None → Stands shared.api types m → Serves shared types m
+serves shared types m none stands = (stands, subst (λ (o : Option LastTurn). IfSome o (IsLast m)) (sym none) tt)
+
+pub received_makes : (types : List ServedShape) (m : History) (last_tick : ℕ) (c : Connection) (st : Standing) (bytes : List ℕ) (d : conns.Connection) (shared : Shared) → shared.last ≡ None → ReceivedBy types m last_tick c st bytes d shared.api
+    → (c' : Connection) × Receives types m last_tick c st bytes c' shared × Holds types d c'
+received_makes types m last_tick c (waiting front) bytes d shared none (is, (asked, asks, holds, stands)) = (
   connection_after types m last_tick c (front ++ bytes) asked,
-  (asked, asks, refl, stands),
+  (asked, asks, refl, serves shared types (machine_after types m asked) none stands),
   subst (λ (x : Connection). Holds types d x)
       (later types m last_tick front (front ++ bytes) asked ∙ sym (ap (λ (x : Connection). connection_after types m last_tick x (front ++ bytes) asked) is)) holds,
 )
-received_makes types m last_tick c (watching w) bytes d api (holds, stands) = (c, (refl, stands), holds)
-received_makes types m last_tick c ended bytes d api (holds, stands) = (c, (refl, stands), holds)
-received_makes types m last_tick c (gone had_ended) bytes d api (holds, stands) = (c, (refl, stands), holds)
+received_makes types m last_tick c (watching w) bytes d shared none (holds, stands) = (c, (refl, serves shared types m none stands), holds)
+received_makes types m last_tick c ended bytes d shared none (holds, stands) = (c, (refl, serves shared types m none stands), holds)
+received_makes types m last_tick c (gone had_ended) bytes d shared none (holds, stands) = (c, (refl, serves shared types m none stands), holds)
 
 -- its peer goes
-pub goes_held : (types : List ServedShape) (m : History) (last_tick : ℕ) (c : Connection) (d e : conns.Connection) (api : Api) → Stands api types m → Holds types d c
-    → Holds types e (with_standing c (gone (has_ended_in d))) → MakesHeld types m last_tick change.Gone c e api
-goes_held types m last_tick c d e api stands holds went =
+pub goes_held : (types : List ServedShape) (m : History) (last_tick : ℕ) (c : Connection) (d e : conns.Connection) (shared : Shared) → Serves shared types m → Holds types d c
+    → Holds types e (with_standing c (gone (has_ended_in d))) → MakesHeld types m last_tick change.Gone c e shared
+goes_held types m last_tick c d e shared stands holds went =
     (with_standing c (gone (has_ended c.standing)), (refl, stands), subst (λ (b : Bool). Holds types e (with_standing c (gone b))) (same_ended types d c holds) went)
 
 pub on_err_then : {A E P Q : Type 0} (r : Result A E) → (P → Q) → OnErr r P → OnErr r Q

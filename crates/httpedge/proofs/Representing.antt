@@ -12,9 +12,9 @@ use Rattle.std.specs.FinMap as fin
 use Rattle.std.specs.Ordering.{nat_cmp, eq_by_cmp}
 use Rattle.std.proofs.lemmas.List.{drop_all, length-drop}
 use Rattle.schema.specs.TypesFile.{ServedShape}
-use Rattle.verbs.specs.declared.api.Api.{Api}
+use Rattle.httpedge.specs.declared.shared.Shared.{Shared}
 use Rattle.history.specs.History.{History, compacted_to}
-use Rattle.verbs.specs.Seen.{Stands}
+use Rattle.httpedge.specs.Shares.{Serves}
 use Rattle.revstore.specs.declared.fault.CompactFault.{CompactFault}
 use Rattle.revstore.specs.declared.fault.CompactFault.TheVariants as broken
 use Rattle.revtable.specs.declared.fault.Fault.{Fault as TheirFault}
@@ -178,9 +178,9 @@ no_entry (x ∷ es) e = absurd (omega (arith, e))
 no_entries : fin.entries ((fin.empty {X = Connection} {R = nat_cmp})) ≡ []
 no_entries = no_entry (fin.entries (fin.empty {X = Connection} {R = nat_cmp})) (sym (fin.len-entries (fin.empty {X = Connection} {R = nat_cmp})) ∙ fin.len-empty nat_cmp Connection)
 
-pub start_in : (types : List ServedShape) (m : History) (api : Api) (k : Kept) → Stands api types m → k.held.entries ≡ [] → k.open_ids.keys ≡ [] → ((q : ℕ) → is_in k.ended.ranges q ≡ false)
-    → ((q : ℕ) → is_in k.cut.ranges q ≡ false) → k.highest ≡ None → Represents api k (start types m)
-start_in types m api k stands none shut had cut first = record {
+pub start_in : (types : List ServedShape) (m : History) (shared : Shared) (k : Kept) → Serves shared types m → k.held.entries ≡ [] → k.open_ids.keys ≡ [] → ((q : ℕ) → is_in k.ended.ranges q ≡ false)
+    → ((q : ℕ) → is_in k.cut.ranges q ≡ false) → k.highest ≡ None → Represents shared k (start types m)
+start_in types m shared k stands none shut had cut first = record {
   machine = stands;
   connections = λ q. subst (λ (o : Option conns.Connection). HoldsAt types o (fin.get (fin.empty {X = Connection} {R = nat_cmp}) q)) (sym (nothing q))
       (subst (λ (p : Option Connection). HoldsAt types None p) (sym (fin.get-empty nat_cmp q)) tt);
@@ -193,8 +193,8 @@ start_in types m api k stands none shut had cut first = record {
     nothing q = ap (λ (es : List (ℕ × conns.Connection)). held_or (lookup (is_at (nat_cmp q)) es) (over_by (is_in k.ended.ranges q) (is_in k.cut.ranges q))) none ∙ ap₂ over_by (had q) (cut q)
 
 -- the code holds a state to which the event leads
-abbrev pub Done : State → Event → Api → Kept → Type 0
-Done s e api k = (t : State) × Steps s e t × Represents api k t × (t.last_tick ≡ s.last_tick)
+abbrev pub Done : State → Event → Shared → Kept → Type 0
+Done s e shared k = (t : State) × Steps s e t × Represents shared k t × (t.last_tick ≡ s.last_tick)
 
 -- ---- an opening
 
@@ -215,8 +215,8 @@ held_none types (Some d) None holds is = absurd holds
 held_none types (Some d) (Some c) holds is = absurd cc
 
 -- an id above the highest is that of no connection
-pub opens_fresh : (s : State) (id : ℕ) (api : Api) (old : Kept) → Represents api old s → is_above old.highest id ≡ true → IsFresh id old
-opens_fresh s id api old held above =
+pub opens_fresh : (s : State) (id : ℕ) (shared : Shared) (old : Kept) → Represents shared old s → is_above old.highest id ≡ true → IsFresh id old
+opens_fresh s id shared old held above =
     let none : fin.get s.connections id ≡ None = unknown s.connections id (fin.get s.connections id) refl (held.highest_is id ∙ above) in
     (held_none s.types (found old id) (fin.get s.connections id) (held.connections id) none, held.open_is id ∙ ap open_in none, held.apart)
 
@@ -229,15 +229,15 @@ open_put all id q c x y one other =
     put_open (eq_by_cmp nat_cmp id q) x y c (fin.get all q) one other
     ∙ sym (ap open_in (fin.get-insert nat_cmp_total all id c q ∙ ap (λ (t : Bool). cond t (Some c) (fin.get all q)) ((eq_by_cmp_equiv nat_cmp_total).symm q id)))
 
-pub opens_refused : (s : State) (api : Api) (k : Kept) (id : ℕ) → Represents api k s → is_above k.highest id ≡ false → refusal s (opens id) ≡ Some id_not_above
-opens_refused s api k id is above = ap (λ (b : Bool). cond b None (Some id_not_above)) (is.highest_is id ∙ above)
+pub opens_refused : (s : State) (shared : Shared) (k : Kept) (id : ℕ) → Represents shared k s → is_above k.highest id ≡ false → refusal s (opens id) ≡ Some id_not_above
+opens_refused s shared k id is above = ap (λ (b : Bool). cond b None (Some id_not_above)) (is.highest_is id ∙ above)
 
-pub opens_unrefused : (s : State) (api : Api) (k : Kept) (id : ℕ) → Represents api k s → is_above k.highest id ≡ true → refusal s (opens id) ≡ None
-opens_unrefused s api k id is above = ap (λ (b : Bool). cond b None (Some id_not_above)) (is.highest_is id ∙ above)
+pub opens_unrefused : (s : State) (shared : Shared) (k : Kept) (id : ℕ) → Represents shared k s → is_above k.highest id ≡ true → refusal s (opens id) ≡ None
+opens_unrefused s shared k id is above = ap (λ (b : Bool). cond b None (Some id_not_above)) (is.highest_is id ∙ above)
 
-pub opens_well : (s : State) (id : ℕ) (api : Api) (old new : Kept) (d : conns.Connection) → Represents api old s
-    → is_above old.highest id ≡ true → Holds s.types d (opening s.connections) → Opens id d old new → Done s (opens id) api new
-opens_well s id api old new d held above holds opened =
+pub opens_well : (s : State) (id : ℕ) (shared : Shared) (old new : Kept) (d : conns.Connection) → Represents shared old s
+    → is_above old.highest id ≡ true → Holds s.types d (opening s.connections) → Opens id d old new → Done s (opens id) shared new
+opens_well s id shared old new d held above holds opened =
     let c = opening s.connections in
     let isnew : is_new s.connections id ≡ true = held.highest_is id ∙ above in
     let t = with_connection s id c in (
@@ -254,8 +254,8 @@ opens_well s id api old new d held above holds opened =
       refl,
     )
 
-pub same_in : (s : State) (api : Api) (old new : Kept) → Represents api old s → IsSame old new → Represents api new s
-same_in s api old new held same = record {
+pub same_in : (s : State) (shared : Shared) (old new : Kept) → Represents shared old s → IsSame old new → Represents shared new s
+same_in s shared old new held same = record {
   machine = held.machine;
   connections = λ q. subst (λ (o : Option conns.Connection). HoldsAt s.types o (fin.get s.connections q)) (sym (same.found_is q)) (held.connections q);
   open_is = λ q. same.open_is q ∙ held.open_is q;
@@ -265,9 +265,9 @@ same_in s api old new held same = record {
 
 -- ---- what becomes of one connection
 
-pub moves : (s : State) (m : History) (id : ℕ) (still : Bool) (api api' : Api) (old new : Kept) (c c' : Connection) → Represents api old s → Stands api' s.types m → fin.get s.connections id ≡ Some c
-    → BecomesAt s.types still c' id old new → is_open c.standing && still ≡ is_open c'.standing → Represents api' new (with_connection (with_machine s m) id c')
-moves s m id still api api' old new c c' held serves got becomes stays = record {
+pub moves : (s : State) (m : History) (id : ℕ) (still : Bool) (shared shared' : Shared) (old new : Kept) (c c' : Connection) → Represents shared old s → Serves shared' s.types m → fin.get s.connections id ≡ Some c
+    → BecomesAt s.types still c' id old new → is_open c.standing && still ≡ is_open c'.standing → Represents shared' new (with_connection (with_machine s m) id c')
+moves s m id still shared shared' old new c c' held serves got becomes stays = record {
   machine = serves;
   connections = held_put s.types (found old) (found new) s.connections id becomes.one c' held.connections becomes.put becomes.holds;
   open_is = λ q. becomes.open_is q ∙ go q (eq_by_cmp nat_cmp id q) refl
@@ -297,11 +297,11 @@ still_open false true h = h refl
 still_open false false h = refl
 
 -- it stays as it is
-idles : (s : State) (id : ℕ) (api api' : Api) (old new : Kept) (c c' : Connection) → Represents api old s → Stands api' s.types s.machine → fin.get s.connections id ≡ Some c → c' ≡ c
-    → BecomesAt s.types (is_open c'.standing) c' id old new → Represents api' new s
-idles s id api api' old new c c' held serves got same becomes =
-    subst (λ (all : Connections). Represents api' new (with_connections s all)) (ap (fin.insert s.connections id) same ∙ put_same s.connections id c got)
-    (moves s s.machine id (is_open c'.standing) api api' old new c c' held serves got becomes
+idles : (s : State) (id : ℕ) (shared shared' : Shared) (old new : Kept) (c c' : Connection) → Represents shared old s → Serves shared' s.types s.machine → fin.get s.connections id ≡ Some c → c' ≡ c
+    → BecomesAt s.types (is_open c'.standing) c' id old new → Represents shared' new s
+idles s id shared shared' old new c c' held serves got same becomes =
+    subst (λ (all : Connections). Represents shared' new (with_connections s all)) (ap (fin.insert s.connections id) same ∙ put_same s.connections id c got)
+    (moves s s.machine id (is_open c'.standing) shared shared' old new c c' held serves got becomes
     (ap (λ (x : Connection). is_open x.standing && is_open c'.standing) (sym same) ∙ same_and (is_open c'.standing)))
 
 -- ---- bytes that come
@@ -310,28 +310,28 @@ steps_on : (s t : State) (id : ℕ) (bytes : List ℕ) (c : Connection) (st : St
 steps_on s t id bytes c st got stands came =
     subst (λ (o : Option Connection). ComesBy s id o bytes t) (sym got) (subst (λ (x : Standing). ComesOn s id c x bytes t) (sym stands) came)
 
-comes_done : (s : State) (id : ℕ) (bytes : List ℕ) (api api' : Api) (old new : Kept) (c c' : Connection) (st : Standing) → Represents api old s → fin.get s.connections id ≡ Some c → c.standing ≡ st
-    → Receives s.types s.machine s.last_tick c st bytes c' api' → BecomesAt s.types (is_open c'.standing) c' id old new → Done s (comes id bytes) api' new
-comes_done s id bytes api api' old new c c' (waiting front) held got stands (asked, asks, is, serves) becomes =
+comes_done : (s : State) (id : ℕ) (bytes : List ℕ) (shared shared' : Shared) (old new : Kept) (c c' : Connection) (st : Standing) → Represents shared old s → fin.get s.connections id ≡ Some c → c.standing ≡ st
+    → Receives s.types s.machine s.last_tick c st bytes c' shared' → BecomesAt s.types (is_open c'.standing) c' id old new → Done s (comes id bytes) shared' new
+comes_done s id bytes shared shared' old new c c' (waiting front) held got stands (asked, asks, is, serves) becomes =
     let m = machine_after s.types s.machine asked in (
       with_connection (with_machine s m) id c',
       subst (λ (x : Connection). Steps s (comes id bytes) (with_connection (with_machine s m) id x)) (sym is)
           (steps_on s (received s id c (front ++ bytes) asked) id bytes c (waiting front) got stands (asked, asks, refl)),
-      moves s m id (is_open c'.standing) api api' old new c c' held serves got becomes (ap (λ (x : Standing). is_open x && is_open c'.standing) stands),
+      moves s m id (is_open c'.standing) shared shared' old new c c' held serves got becomes (ap (λ (x : Standing). is_open x && is_open c'.standing) stands),
       refl,
     )
-comes_done s id bytes api api' old new c c' (watching w) held got stands (same, serves) becomes =
-    (s, steps_on s s id bytes c (watching w) got stands (undecided, refl, refl), idles s id api api' old new c c' held serves got same becomes, refl)
-comes_done s id bytes api api' old new c c' ended held got stands (same, serves) becomes =
-    (s, steps_on s s id bytes c ended got stands (undecided, refl, refl), idles s id api api' old new c c' held serves got same becomes, refl)
-comes_done s id bytes api api' old new c c' (gone had_ended) held got stands (same, serves) becomes =
-    (s, steps_on s s id bytes c (gone had_ended) got stands (undecided, refl, refl), idles s id api api' old new c c' held serves got same becomes, refl)
+comes_done s id bytes shared shared' old new c c' (watching w) held got stands (same, serves) becomes =
+    (s, steps_on s s id bytes c (watching w) got stands (undecided, refl, refl), idles s id shared shared' old new c c' held serves got same becomes, refl)
+comes_done s id bytes shared shared' old new c c' ended held got stands (same, serves) becomes =
+    (s, steps_on s s id bytes c ended got stands (undecided, refl, refl), idles s id shared shared' old new c c' held serves got same becomes, refl)
+comes_done s id bytes shared shared' old new c c' (gone had_ended) held got stands (same, serves) becomes =
+    (s, steps_on s s id bytes c (gone had_ended) got stands (undecided, refl, refl), idles s id shared shared' old new c c' held serves got same becomes, refl)
 
 -- ---- a peer that goes, and a pump
 
-goes_done : (s : State) (id : ℕ) (api api' : Api) (old new : Kept) (c c' : Connection) → Represents api old s → fin.get s.connections id ≡ Some c
-    → c' ≡ with_standing c (gone (has_ended c.standing)) → Stands api' s.types s.machine → BecomesAt s.types (is_open c'.standing) c' id old new → Done s (goes id) api' new
-goes_done s id api api' old new c c' held got is serves becomes = (
+goes_done : (s : State) (id : ℕ) (shared shared' : Shared) (old new : Kept) (c c' : Connection) → Represents shared old s → fin.get s.connections id ≡ Some c
+    → c' ≡ with_standing c (gone (has_ended c.standing)) → Serves shared' s.types s.machine → BecomesAt s.types (is_open c'.standing) c' id old new → Done s (goes id) shared' new
+goes_done s id shared shared' old new c c' held got is serves becomes = (
   with_connection s id c',
   (
     undecided,
@@ -339,7 +339,7 @@ goes_done s id api api' old new c c' held got is serves becomes = (
     ap (with_connection s id) is
         ∙ sym (ap (λ (o : Option Connection). unless_refused (cond (is_some o) None (Some unknown_id)) s (by_connection s o (λ x. with_connection s id (with_standing x (gone (has_ended x.standing)))))) got),
   ),
-  moves s s.machine id (is_open c'.standing) api api' old new c c' held serves got becomes
+  moves s s.machine id (is_open c'.standing) shared shared' old new c c' held serves got becomes
       (still_open (is_open c.standing) (is_open c'.standing) (λ now. absurd (false_true (sym (ap (λ (x : Connection). is_open x.standing) is) ∙ now)))),
   refl,
 )
@@ -351,9 +351,9 @@ turn_opens turn c (watching w) stands now = ap is_open stands
 turn_opens turn c ended stands now = now
 turn_opens turn c (gone had_ended) stands now = now
 
-pumps_done : (s : State) (id max : ℕ) (api api' : Api) (old new : Kept) (c c' : Connection) → Represents api old s → fin.get s.connections id ≡ Some c → (max == 0) ≡ false
-    → c' ≡ with_turn (pumped s.machine max) c → Stands api' s.types s.machine → BecomesAt s.types (is_open c'.standing) c' id old new → Done s (pumps id max) api' new
-pumps_done s id max api api' old new c c' held got some is serves becomes =
+pumps_done : (s : State) (id max : ℕ) (shared shared' : Shared) (old new : Kept) (c c' : Connection) → Represents shared old s → fin.get s.connections id ≡ Some c → (max == 0) ≡ false
+    → c' ≡ with_turn (pumped s.machine max) c → Serves shared' s.types s.machine → BecomesAt s.types (is_open c'.standing) c' id old new → Done s (pumps id max) shared' new
+pumps_done s id max shared shared' old new c c' held got some is serves becomes =
     let turn = pumped s.machine max in (
       with_connection s id c',
       (
@@ -362,7 +362,7 @@ pumps_done s id max api api' old new c c' held got some is serves becomes =
         ap (with_connection s id) is
             ∙ sym (ap₂ (λ (o : Option Connection) (b : Bool). unless_refused (cond (is_some o) (cond b (Some no_lines) None) (Some unknown_id)) s (by_connection s o (λ x. with_connection s id (with_turn turn x)))) got some),
       ),
-      moves s s.machine id (is_open c'.standing) api api' old new c c' held serves got becomes
+      moves s s.machine id (is_open c'.standing) shared shared' old new c c' held serves got becomes
           (still_open (is_open c.standing) (is_open c'.standing) (λ now. turn_opens turn c c.standing refl (sym (ap (λ (x : Connection). is_open x.standing) is) ∙ now))),
       refl,
     )
@@ -390,12 +390,12 @@ gone_isnt none = cc
 abbrev pub IsNone : changes.Change → Type 0
 IsNone what = what ≡ change.Lines 0
 
-changes_done : (s : State) (what : changes.Change) (id : ℕ) (api api' : Api) (old new : Kept) (c c' : Connection) → (IsNone what → ⊥) → Represents api old s → fin.get s.connections id ≡ Some c
-    → Makes s.types s.machine s.last_tick what c c' api' → BecomesAt s.types (is_open c'.standing) c' id old new → Done s (event_on id what) api' new
-changes_done s (change.Bytes bytes) id api api' old new c c' some held got makes becomes = comes_done s id bytes.now api api' old new c c' c.standing held got refl makes becomes
-changes_done s (change.Lines max) id api api' old new c c' some held got (is, serves) becomes =
-    pumps_done s id max api api' old new c c' held got (some_lines max (max == 0) refl some) is serves becomes
-changes_done s change.Gone id api api' old new c c' some held got (is, serves) becomes = goes_done s id api api' old new c c' held got is serves becomes
+changes_done : (s : State) (what : changes.Change) (id : ℕ) (shared shared' : Shared) (old new : Kept) (c c' : Connection) → (IsNone what → ⊥) → Represents shared old s → fin.get s.connections id ≡ Some c
+    → Makes s.types s.machine s.last_tick what c c' shared' → BecomesAt s.types (is_open c'.standing) c' id old new → Done s (event_on id what) shared' new
+changes_done s (change.Bytes bytes) id shared shared' old new c c' some held got makes becomes = comes_done s id bytes.now shared shared' old new c c' c.standing held got refl makes becomes
+changes_done s (change.Lines max) id shared shared' old new c c' some held got (is, serves) becomes =
+    pumps_done s id max shared shared' old new c c' held got (some_lines max (max == 0) refl some) is serves becomes
+changes_done s change.Gone id shared shared' old new c c' some held got (is, serves) becomes = goes_done s id shared shared' old new c c' held got is serves becomes
 
 -- by whether there is a connection of the id
 by_known : (s : State) (what : changes.Change) (id : ℕ) (o : Option Connection) → (IsNone what → ⊥) → fin.get s.connections id ≡ o → refusal s (event_on id what) ≡ cond (is_some o) None (Some unknown_id)
@@ -430,24 +430,24 @@ watching_open ended is = absurd (false_true is)
 watching_open (gone had_ended) is = absurd (false_true is)
 
 -- the code holds a state to which the event leads that found no memory
-abbrev pub Starved : State → Event → Api → Kept → Type 0
-Starved s e api k = (t : State) × Starves s e (λ q. false) t × Represents api k t × (t.last_tick ≡ s.last_tick)
+abbrev pub Starved : State → Event → Shared → Kept → Type 0
+Starved s e shared k = (t : State) × Starves s e (λ q. false) t × Represents shared k t × (t.last_tick ≡ s.last_tick)
 
-dies : (s : State) (id : ℕ) (api api' : Api) (old new : Kept) (c : Connection) → Represents api old s → Stands api' s.types s.machine → fin.get s.connections id ≡ Some c → is_open c.standing ≡ true
+dies : (s : State) (id : ℕ) (shared shared' : Shared) (old new : Kept) (c : Connection) → Represents shared old s → Serves shared' s.types s.machine → fin.get s.connections id ≡ Some c → is_open c.standing ≡ true
     → BecomesAt s.types false (with_standing c ended) id old new
-    → (t : State) × (t ≡ by_connection s (fin.get s.connections id) (λ x. with_connection s id (dead x))) × Represents api' new t × (t.last_tick ≡ s.last_tick)
-dies s id api api' old new c held serves got was_open becomes =
+    → (t : State) × (t ≡ by_connection s (fin.get s.connections id) (λ x. with_connection s id (dead x))) × Represents shared' new t × (t.last_tick ≡ s.last_tick)
+dies s id shared shared' old new c held serves got was_open becomes =
     let c' = with_standing c ended in (
       with_connection s id c',
       sym (ap (λ (o : Option Connection). by_connection s o (λ x. with_connection s id (dead x))) got ∙ ap (with_connection s id) (ap (λ (b : Bool). cond b c' c) was_open)),
-      moves s s.machine id false api api' old new c c' held serves got becomes (no_first (is_open c.standing)),
+      moves s s.machine id false shared shared' old new c c' held serves got becomes (no_first (is_open c.standing)),
       refl,
     )
 
-changes_starve : (s : State) (what : changes.Change) (id : ℕ) (api api' : Api) (old new : Kept) (c : Connection) → (IsNone what → ⊥) → Represents api old s → fin.get s.connections id ≡ Some c
-    → takes_memory_on what c.standing ≡ true → Stands api' s.types s.machine → BecomesAt s.types false (with_standing c ended) id old new → Starved s (event_on id what) api' new
-changes_starve s (change.Bytes bytes) id api api' old new c some held got takes serves becomes =
-    let died = dies s id api api' old new c held serves got (waiting_open c.standing takes) becomes in (
+changes_starve : (s : State) (what : changes.Change) (id : ℕ) (shared shared' : Shared) (old new : Kept) (c : Connection) → (IsNone what → ⊥) → Represents shared old s → fin.get s.connections id ≡ Some c
+    → takes_memory_on what c.standing ≡ true → Serves shared' s.types s.machine → BecomesAt s.types false (with_standing c ended) id old new → Starved s (event_on id what) shared' new
+changes_starve s (change.Bytes bytes) id shared shared' old new c some held got takes serves becomes =
+    let died = dies s id shared shared' old new c held serves got (waiting_open c.standing takes) becomes in (
       died.0,
       (
         by_known s (change.Bytes bytes) id (Some c) some got,
@@ -457,8 +457,8 @@ changes_starve s (change.Bytes bytes) id api api' old new c some held got takes 
       died.2,
       died.3,
     )
-changes_starve s (change.Lines max) id api api' old new c some held got takes serves becomes =
-    let died = dies s id api api' old new c held serves got (watching_open c.standing takes) becomes in (
+changes_starve s (change.Lines max) id shared shared' old new c some held got takes serves becomes =
+    let died = dies s id shared shared' old new c held serves got (watching_open c.standing takes) becomes in (
       died.0,
       (
         by_known s (change.Lines max) id (Some c) some got,
@@ -468,41 +468,41 @@ changes_starve s (change.Lines max) id api api' old new c some held got takes se
       died.2,
       died.3,
     )
-changes_starve s change.Gone id api api' old new c some held got takes serves becomes = absurd (false_true takes)
+changes_starve s change.Gone id shared shared' old new c some held got takes serves becomes = absurd (false_true takes)
 
 -- ---- the call
 
 -- the connection of an id, and that of the state
-stands_at : (s : State) (api : Api) (k : Kept) (id : ℕ) (d : conns.Connection) (c : Connection) → Represents api k s → found k id ≡ Some d → fin.get s.connections id ≡ Some c → Holds s.types d c → IsAt id d k
-stands_at s api k id d c held at got holds = (at, held.open_is id ∙ ap open_in got ∙ sym (same_open s.types d c holds), held.apart)
+stands_at : (s : State) (shared : Shared) (k : Kept) (id : ℕ) (d : conns.Connection) (c : Connection) → Represents shared k s → found k id ≡ Some d → fin.get s.connections id ≡ Some c → Holds s.types d c → IsAt id d k
+stands_at s shared k id d c held at got holds = (at, held.open_is id ∙ ap open_in got ∙ sym (same_open s.types d c holds), held.apart)
 
 none_refused : {A : Type 0} {x : A} → Some x ≡ None → ⊥
 none_refused e = cc
 
-abbrev pub with_parts : Hub → Api → Kept → Hub
-with_parts hub api k = record { alloc = hub.alloc; api = api; connections = k; last_tick = hub.last_tick }
+abbrev pub with_parts : Hub → Shared → Kept → Hub
+with_parts hub shared k = record { alloc = hub.alloc; shared = shared; connections = k; last_tick = hub.last_tick }
 
-pub changes_handled : (hub : Hub) (what : changes.Change) (id : ℕ) (api : Api) (new : Kept) (o : Outcome) → (IsNone what → ⊥)
-    → ((types : List ServedShape) (m : History) (d : conns.Connection) (c : Connection) → Stands hub.api types m → IsAt id d hub.connections → Holds types d c
-    → Changes types m hub.last_tick what id c hub.connections new api o)
-    → (found hub.connections id ≡ None → (o ≡ outcome.refused unknown_id) × (new ≡ hub.connections) × (api ≡ hub.api)) → (is_some (found hub.connections id) ≡ true → refusal_in o ≡ None)
-    → Handles hub (event_on id what) o (with_parts hub api new)
-changes_handled hub what id api new o some known unknown taken = go (found hub.connections id) refl
+pub changes_handled : (hub : Hub) (what : changes.Change) (id : ℕ) (shared : Shared) (new : Kept) (o : Outcome) → (IsNone what → ⊥)
+    → ((types : List ServedShape) (m : History) (d : conns.Connection) (c : Connection) → Serves hub.shared types m → IsAt id d hub.connections → Holds types d c
+    → Changes types m hub.last_tick what id c hub.connections new shared o)
+    → (found hub.connections id ≡ None → (o ≡ outcome.refused unknown_id) × (new ≡ hub.connections) × (shared ≡ hub.shared)) → (is_some (found hub.connections id) ≡ true → refusal_in o ≡ None)
+    → Handles hub (event_on id what) o (with_parts hub shared new)
+changes_handled hub what id shared new o some known unknown taken = go (found hub.connections id) refl
   where
     after : Hub
-    after = with_parts hub api new
+    after = with_parts hub shared new
 
     handled : (d : conns.Connection) → found hub.connections id ≡ Some d → (p : Outcome) → o ≡ p → Handles hub (event_on id what) p after
     handled d at outcome.done is = λ s here.
         let c = some_held s.types (found hub.connections id) (fin.get s.connections id) d (here.0.connections id) at in
-        let changes = subst (Changes s.types s.machine hub.last_tick what id c.0 hub.connections new api) is (known s.types s.machine d c.0 here.0.machine (stands_at s hub.api hub.connections id d c.0 here.0 at c.1 c.2) c.2) in
-        let done = changes_done s what id hub.api api hub.connections new c.0 changes.0 some here.0 c.1 (subst (λ (n : ℕ). Makes s.types s.machine n what c.0 changes.0 api) here.1 changes.1) changes.2 in
+        let changes = subst (Changes s.types s.machine hub.last_tick what id c.0 hub.connections new shared) is (known s.types s.machine d c.0 here.0.machine (stands_at s hub.shared hub.connections id d c.0 here.0 at c.1 c.2) c.2) in
+        let done = changes_done s what id hub.shared shared hub.connections new c.0 changes.0 some here.0 c.1 (subst (λ (n : ℕ). Makes s.types s.machine n what c.0 changes.0 shared) here.1 changes.1) changes.2 in
         (by_known s what id (Some c.0) some c.1, done.0, done.1, (done.2, here.1 ∙ sym done.3))
     handled d at (outcome.refused why) is = absurd (none_refused (sym (ap refusal_in is) ∙ taken (ap is_some at)))
     handled d at outcome.starved is = λ s here.
         let c = some_held s.types (found hub.connections id) (fin.get s.connections id) d (here.0.connections id) at in
-        let changes = subst (Changes s.types s.machine hub.last_tick what id c.0 hub.connections new api) is (known s.types s.machine d c.0 here.0.machine (stands_at s hub.api hub.connections id d c.0 here.0 at c.1 c.2) c.2) in
-        let starves = changes_starve s what id hub.api api hub.connections new c.0 some here.0 c.1 changes.0 changes.1 changes.2 in
+        let changes = subst (Changes s.types s.machine hub.last_tick what id c.0 hub.connections new shared) is (known s.types s.machine d c.0 here.0.machine (stands_at s hub.shared hub.connections id d c.0 here.0 at c.1 c.2) c.2) in
+        let starves = changes_starve s what id hub.shared shared hub.connections new c.0 some here.0 c.1 changes.0 changes.1 changes.2 in
         ((λ q. false), starves.0, starves.1, (starves.2, here.1 ∙ sym starves.3))
 
     go : (f : Option conns.Connection) → found hub.connections id ≡ f → Handles hub (event_on id what) o after
@@ -514,8 +514,8 @@ changes_handled hub what id api new o some known unknown taken = go (found hub.c
 
 -- ---- compactions
 
-over_api : (s : State) (m : History) (api api' : Api) (k : Kept) → Represents api k s → Stands api' s.types m → Represents api' k (with_machine s m)
-over_api s m api api' k held stands = record { machine = stands; connections = held.connections; open_is = held.open_is; highest_is = held.highest_is; apart = held.apart }
+over_shared : (s : State) (m : History) (shared shared' : Shared) (k : Kept) → Represents shared k s → Serves shared' s.types m → Represents shared' k (with_machine s m)
+over_shared s m shared shared' k held stands = record { machine = stands; connections = held.connections; open_is = held.open_is; highest_is = held.highest_is; apart = held.apart }
 
 -- from the compacted number to the current revision
 within : (low c high : ℕ) → (c < low → ⊥) → (high < c → ⊥) → (nat_le low c && nat_le c high) ≡ true
@@ -569,21 +569,21 @@ pub late_refused : (A : Type 0) (s : State) (c : ℕ) (r : Result A CompactFault
 late_refused A s c r e (early, late) is large = refused_high s c (late.0 (is ∙ ap (failed_with A) large))
 
 -- the same connections over another API
-pub compacts_well : (s : State) (c : ℕ) (hub : Hub) (api : Api) → IsIn hub s → refusal s (compacts c) ≡ None
-    → Stands api s.types (compacted_to c s.machine) → (refusal s (compacts c) ≡ None) × (t : State) × Steps s (compacts c) t × (Represents api hub.connections t × (hub.last_tick ≡ t.last_tick))
-compacts_well s c hub api is free stands =
+pub compacts_well : (s : State) (c : ℕ) (hub : Hub) (shared : Shared) → IsIn hub s → refusal s (compacts c) ≡ None
+    → Serves shared s.types (compacted_to c s.machine) → (refusal s (compacts c) ≡ None) × (t : State) × Steps s (compacts c) t × (Represents shared hub.connections t × (hub.last_tick ≡ t.last_tick))
+compacts_well s c hub shared is free stands =
     let t = with_machine s (compacted_to c s.machine) in (
       free,
       t,
       (undecided, refl, sym (ap (λ (o : Option Refusal). unless_refused o s t) free)),
-      (over_api s (compacted_to c s.machine) hub.api api hub.connections is.0 stands, is.1),
+      (over_shared s (compacted_to c s.machine) hub.shared shared hub.connections is.0 stands, is.1),
     )
 
-pub same_api : (hub : Hub) (api : Api) → api ≡ hub.api → with_parts hub api hub.connections ≡ hub
-same_api hub api same = ap (λ (a : Api). with_parts hub a hub.connections) same
+pub same_shared : (hub : Hub) (shared : Shared) → shared ≡ hub.shared → with_parts hub shared hub.connections ≡ hub
+same_shared hub shared same = ap (λ (a : Shared). with_parts hub a hub.connections) same
 
-pub same_held : (s : State) (hub : Hub) (api : Api) → IsIn hub s → Stands api s.types s.machine → Represents api hub.connections s × (hub.last_tick ≡ s.last_tick)
-same_held s hub api is stands = (over_api s s.machine hub.api api hub.connections is.0 stands, is.1)
+pub same_held : (s : State) (hub : Hub) (shared : Shared) → IsIn hub s → Serves shared s.types s.machine → Represents shared hub.connections s × (hub.last_tick ≡ s.last_tick)
+same_held s hub shared is stands = (over_shared s s.machine hub.shared shared hub.connections is.0 stands, is.1)
 
 -- ---- what failed below
 
@@ -627,13 +627,13 @@ nothing_taken c n none = out_taken c n ∙ ap (drop n) none ∙ drop_all n [] (o
 pub takes_over : (types : List ServedShape) (had_ended : Bool) (c : Connection) (n : ℕ) → Holds types (conn.Over had_ended) c → Holds types (conn.Over had_ended) (with_taken c n)
 takes_over types had_ended c n (closed, had, none) = (closed, had, nothing_taken c n none)
 
-pub takes_well : (s : State) (id n : ℕ) (api : Api) (old new : Kept) → Represents api old s
+pub takes_well : (s : State) (id n : ℕ) (shared : Shared) (old new : Kept) → Represents shared old s
     → ((d : conns.Connection) (c : Connection) → IsAt id d old → Holds s.types d c → BecomesAt s.types true (with_taken c n) id old new)
-    → (found old id ≡ None → new ≡ old) → Represents api new (with_bytes_taken s id n) × ((with_bytes_taken s id n).last_tick ≡ s.last_tick)
-takes_well s id n api old new held known unknown = go (found old id) refl
+    → (found old id ≡ None → new ≡ old) → Represents shared new (with_bytes_taken s id n) × ((with_bytes_taken s id n).last_tick ≡ s.last_tick)
+takes_well s id n shared old new held known unknown = go (found old id) refl
   where
     Taken : State → Type 0
-    Taken t = Represents api new t × (t.last_tick ≡ s.last_tick)
+    Taken t = Represents shared new t × (t.last_tick ≡ s.last_tick)
 
     still : (b : Bool) → b && true ≡ b
     still true = refl
@@ -642,8 +642,8 @@ takes_well s id n api old new held known unknown = go (found old id) refl
     go : (o : Option conns.Connection) → found old id ≡ o → Taken (with_bytes_taken s id n)
     go None at =
         subst Taken (sym (ap (λ (p : Option Connection). by_connection s p (λ c. with_connection s id (with_taken c n))) (none_held s.types (found old id) (fin.get s.connections id) (held.connections id) at)))
-        (subst (λ (k : Kept). Represents api k s) (sym (unknown at)) held, refl)
+        (subst (λ (k : Kept). Represents shared k s) (sym (unknown at)) held, refl)
     go (Some d) at =
         let c = some_held s.types (found old id) (fin.get s.connections id) d (held.connections id) at in
         subst Taken (sym (ap (λ (p : Option Connection). by_connection s p (λ c. with_connection s id (with_taken c n))) c.1))
-        (moves s s.machine id true api api old new c.0 (with_taken c.0 n) held held.machine c.1 (known d c.0 (stands_at s api old id d c.0 held at c.1 c.2) c.2) (still (is_open c.0.standing)), refl)
+        (moves s s.machine id true shared shared old new c.0 (with_taken c.0 n) held held.machine c.1 (known d c.0 (stands_at s shared old id d c.0 held at c.1 c.2) c.2) (still (is_open c.0.standing)), refl)

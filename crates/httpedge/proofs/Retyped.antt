@@ -4,8 +4,9 @@ use Rattle.std.specs.Prelude.{IfSome}
 use Rattle.serde_json.specs.Data.{Data}
 use Rattle.schema.specs.TypesFile.{ServedShape}
 use Rattle.verbs.specs.Retyping.{RetypeRefusal, retyped, retyping}
-use Rattle.verbs.specs.Seen.{Stands, retype_refusal}
-use Rattle.verbs.specs.declared.api.Api.{Api}
+use Rattle.httpedge.specs.Shares.{Serves}
+use Rattle.verbs.specs.Seen.{retype_refusal}
+use Rattle.httpedge.specs.declared.shared.Shared.{Shared}
 use Rattle.verbs.specs.declared.fault.Fault.TheVariants as failed
 use Rattle.verbs.specs.declared.fault.RetypeFault.{RetypeFault}
 use Rattle.verbs.specs.declared.fault.RetypeFault.TheVariants as retype_fault
@@ -21,15 +22,15 @@ use Rattle.httpedge.specs.Steps.{State, refusal, retypes, unless_refused, unless
 use Rattle.httpedge.proofs.OtherTypes.{is_lawful, others_represent, types_last}
 
 -- the others are served, and each connection is held by them
-pub retypes_well : (s : State) (file : Data) (hub : Hub) (api : Api) → IsIn hub s
-    → (others : List ServedShape) × (retyping s.types s.machine file ≡ Ok others) × Stands api others (retyped s.types others s.machine)
-    → (refusal s (retypes file) ≡ None) × (t : State) × Steps s (retypes file) t × (Represents api hub.connections t × (hub.last_tick ≡ t.last_tick))
-retypes_well s file hub api is (others, got, stands) = (
+pub retypes_well : (s : State) (file : Data) (hub : Hub) (shared : Shared) → IsIn hub s
+    → (others : List ServedShape) × (retyping s.types s.machine file ≡ Ok others) × Serves shared others (retyped s.types others s.machine)
+    → (refusal s (retypes file) ≡ None) × (t : State) × Steps s (retypes file) t × (Represents shared hub.connections t × (hub.last_tick ≡ t.last_tick))
+retypes_well s file hub shared is (others, got, stands) = (
   ap unless_retyped got,
   with_types s (Ok others),
   (undecided, refl, sym (ap (λ (r : Result (List ServedShape) RetypeRefusal). unless_refused (unless_retyped r) s (with_types s r)) got)),
   (
-    others_represent s others (retyped s.types others s.machine) hub.api api hub.connections (types_last s.types others (is_lawful s.types others s.machine file got)) is.0 stands,
+    others_represent s others (retyped s.types others s.machine) hub.shared shared hub.connections (types_last s.types others (is_lawful s.types others s.machine file got)) is.0 stands,
     is.1,
   ),
 )

@@ -13,7 +13,7 @@ use Rattle.std.specs.declared.cmp.Ordering.{Ordering}
 use Rattle.std.specs.declared.cmp.Ordering.TheVariants.{Less}
 use Rattle.std.proofs.lemmas.Map.Views.{any-filter_same}
 use Rattle.schema.specs.TypesFile.{ServedShape}
-use Rattle.verbs.specs.declared.api.Api.{Api}
+use Rattle.httpedge.specs.declared.shared.Shared.{Shared}
 use Rattle.httpedge.specs.declared.connection.Connection as conns
 use Rattle.httpedge.specs.declared.connections.Connections.{Connections as Kept}
 use Rattle.httpedge.specs.Connections.{Connection, Connections, Standing, waiting, watching, ended, gone, each, is_new, is_open, is_watching, open_on}
@@ -278,9 +278,9 @@ keeps_true : (b c : Bool) → (b ≡ true → c ≡ true) → b && c ≡ b
 keeps_true true c then = then refl
 keeps_true false c then = refl
 
-pub ticks_in : (s : State) (ms : ℕ) (api : Api) (old new : Kept) (found_none : Bool) → Represents api old s → TicksAll s.types ms s.connections (found new) found_none
-    → new.open_ids.keys ≡ filter (open_held new.held) old.open_ids.keys → new.highest ≡ old.highest → IsApart new → TicksIn api ms s new found_none
-ticks_in s ms api old new found_none held (which, holds, none, some) kept same apart = (
+pub ticks_in : (s : State) (ms : ℕ) (shared : Shared) (old new : Kept) (found_none : Bool) → Represents shared old s → TicksAll s.types ms s.connections (found new) found_none
+    → new.open_ids.keys ≡ filter (open_held new.held) old.open_ids.keys → new.highest ≡ old.highest → IsApart new → TicksIn shared ms s new found_none
+ticks_in s ms shared old new found_none held (which, holds, none, some) kept same apart = (
   which,
   record {
     machine = held.machine;
@@ -315,12 +315,12 @@ pub ticks_refused : (s : State) (ms last_tick : ℕ) → last_tick ≡ s.last_ti
 ticks_refused s ms last_tick same back = ap (λ (b : Bool). cond b (Some tick_back) None) (ap (nat_lt ms) (sym same) ∙ back)
 
 -- the hub is in this state
-abbrev pub IsInState : Api → Kept → ℕ → State → Type 0
-IsInState api k last_tick s = Represents api k s × (last_tick ≡ s.last_tick)
+abbrev pub IsInState : Shared → Kept → ℕ → State → Type 0
+IsInState shared k last_tick s = Represents shared k s × (last_tick ≡ s.last_tick)
 
-pub ticks_well : (s : State) (ms last_tick : ℕ) (api : Api) (new : Kept) (found_none : Bool) → last_tick ≡ s.last_tick → nat_lt ms last_tick ≡ false → TicksIn api ms s new found_none → found_none ≡ false
-    → (refusal s (ticks ms) ≡ None) × (t : State) × Steps s (ticks ms) t × IsInState api new ms t
-ticks_well s ms last_tick api new found_none same forward (which, held, none, some) fine =
+pub ticks_well : (s : State) (ms last_tick : ℕ) (shared : Shared) (new : Kept) (found_none : Bool) → last_tick ≡ s.last_tick → nat_lt ms last_tick ≡ false → TicksIn shared ms s new found_none → found_none ≡ false
+    → (refusal s (ticks ms) ≡ None) × (t : State) × Steps s (ticks ms) t × IsInState shared new ms t
+ticks_well s ms last_tick shared new found_none same forward (which, held, none, some) fine =
     let g = λ (q : ℕ) (c : Connection). with_turn (ticked s.types ms) c in
     let free = not_back s ms last_tick same forward in
     let all : ticked_all s.types ms which s.connections ≡ each g s.connections =
@@ -328,7 +328,7 @@ ticks_well s ms last_tick api new found_none same forward (which, held, none, so
       free,
       with_tick s ms (each g s.connections),
       (undecided, refl, sym (ap (λ (o : Option Refusal). unless_refused o s (with_tick s ms (each g s.connections))) free)),
-      subst (λ (cs : Connections). IsInState api new ms (with_tick s ms cs)) all (held, refl),
+      subst (λ (cs : Connections). IsInState shared new ms (with_tick s ms cs)) all (held, refl),
     )
 
 any_entry : (ms : ℕ) (which : ℕ → Bool) (q : ℕ) → which q ≡ true → (es : Entries) → unwrap_or (option_map (λ c. writes_at ms c.standing) (entries.find nat_cmp q es)) false ≡ true
@@ -347,9 +347,9 @@ any_entry ms which q found (e ∷ es) due = go (eq_by_cmp nat_cmp q e.0) (tied_s
         ap₂ (λ (a b : Bool). (a && b) || list_any (λ x. which x.0 && writes_at ms x.1.standing) es) (sym (ap which (is refl)) ∙ found) here
     go false is there rest = ap (λ (b : Bool). (which e.0 && writes_at ms e.1.standing) || b) (rest there) ∙ later (which e.0 && writes_at ms e.1.standing)
 
-pub ticks_starve : (s : State) (ms last_tick : ℕ) (api : Api) (new : Kept) (found_none : Bool) → last_tick ≡ s.last_tick → nat_lt ms last_tick ≡ false → TicksIn api ms s new found_none → found_none ≡ true
-    → (which : ℕ → Bool) × (t : State) × Starves s (ticks ms) which t × IsInState api new ms t
-ticks_starve s ms last_tick api new found_none same forward (which, held, none, some) starved =
+pub ticks_starve : (s : State) (ms last_tick : ℕ) (shared : Shared) (new : Kept) (found_none : Bool) → last_tick ≡ s.last_tick → nat_lt ms last_tick ≡ false → TicksIn shared ms s new found_none → found_none ≡ true
+    → (which : ℕ → Bool) × (t : State) × Starves s (ticks ms) which t × IsInState shared new ms t
+ticks_starve s ms last_tick shared new found_none same forward (which, held, none, some) starved =
     let found = some starved in (
       which,
       with_tick s ms (ticked_all s.types ms which s.connections),

@@ -1,5 +1,5 @@
 -- What a watch's turn makes of its connection.
-use Rattle.std.proofs.Common.{arith, ◌≡◌, ℕ, ◌+◌, ◌≤◌, Bool, true, false, not, ◌&&◌, ◌||◌, cond, List, [], ◌++◌, drop, length, Option, Some, None, Result, Ok, Err, refl, sym, ap, subst, ◌∙◌, append-nil}
+use Rattle.std.proofs.Common.{arith, ◌≡◌, ℕ, ◌+◌, ◌≤◌, Bool, true, false, not, ◌&&◌, ◌||◌, cond, List, [], ◌++◌, drop, length, Option, Some, None, Result, Ok, Err, refl, sym, ap, ap₂, subst, ◌∙◌, append-nil}
 use Rattle.std.specs.Prelude.{is_none, option_map, String, string_bytes}
 use Rattle.std.specs.declared.alloc.Global.{Global}
 use Rattle.std.proofs.lemmas.List.{drop-append-le, length-append}
@@ -8,9 +8,8 @@ use Rattle.history.specs.History.{History}
 use Rattle.watchline.specs.Opening.{WatchFrom}
 use Rattle.watchline.specs.Watches.{Cursor, Marking, from_history}
 use Rattle.watchline.specs.Watches as cursors
-use Rattle.watchline.specs.Views.{lines_in, marking_of, turn_of, watch_from}
+use Rattle.watchline.specs.Views.{marking_of, watch_from}
 use Rattle.watchline.specs.declared.opening.WatchFrom.{WatchFrom as TheWatchFrom}
-use Rattle.watchline.specs.declared.cursor.Pumped.{Pumped as ThePumped}
 use Rattle.verbs.specs.Calls.{Answer}
 use Rattle.verbs.specs.Watching.{bookmarked_in}
 use Rattle.httpedge.specs.declared.connection.Connection as conns
@@ -18,11 +17,11 @@ use Rattle.httpedge.specs.declared.connection.Connection.TheVariants as conn
 use Rattle.httpedge.specs.declared.out.Out.{Out}
 use Rattle.httpedge.specs.declared.watching.Watch.{Watch as TheWatch}
 use Rattle.httpedge.specs.Connections.{Connection, Standing, waiting, watching, ended, gone, is_open, opened, with_standing, with_written}
-use Rattle.httpedge.specs.Held.{Holds, Turns, left, watch_of}
+use Rattle.httpedge.specs.Held.{Holds, Pumps, Turns, left, watch_of}
 use Rattle.requests.specs.ReplyBytes.{chunks}
 use Rattle.httpedge.specs.Steps.{after_turn, answer_standing, answered, dead, dead_or_ticked, has_no_next, standing_after, turn_bytes, with_turn, writes_at}
 use Rattle.requests.specs.Replies.{answer_bytes}
-use Rattle.httpedge.specs.Watches.{Turn, Watch, is_due, is_over, line_list, marked, pumped, ticked, turned, unless_ended, with_cursor}
+use Rattle.httpedge.specs.Watches.{Turn, Watch, is_due, is_over, line_list, marked, pumped, ticked, unless_ended, with_cursor}
 
 wrong : false ≡ true → ⊥
 wrong e = cc
@@ -33,12 +32,12 @@ no_next false w = refl
 
 -- ---- at a pump
 
-pub pump_turns : (m : History) (max : ℕ) (w w' : Watch) (p : ThePumped) (cursor : Cursor) (old new bytes : List ℕ) → turn_of p cursor ≡ cursors.pumped (from_history m) max w.cursor
-    → w' ≡ with_cursor w cursor → bytes ≡ chunks (lines_in p.lines.items) p.ended → new ≡ old ++ bytes → Turns (pumped m max w) p.ended w' old new
-pump_turns m max w w' p cursor old new bytes told then are is =
-    subst (λ (t : cursors.Turn). Turns (turned w t) p.ended w' old new) told (
-      is ∙ ap (λ (b : List ℕ). old ++ b) (are ∙ ap (chunks (lines_in p.lines.items)) (sym (no_next p.ended (with_cursor w cursor)))),
-      ap (unless_ended p.ended) (sym then),
+pub pump_turns : (m : History) (max : ℕ) (w w' : Watch) (has_ended : Bool) (cursor : Cursor) (old new : List ℕ) → Pumps (cursors.pumped (from_history m) max w.cursor) has_ended cursor old new
+    → w' ≡ with_cursor w cursor → Turns (pumped m max w) has_ended w' old new
+pump_turns m max w w' has_ended cursor old new (are, ends, stands) then =
+    let t = cursors.pumped (from_history m) max w.cursor in (
+      are ∙ ap (λ (b : Bool). old ++ chunks t.lines b) (sym (no_next t.ended (with_cursor w t.next))),
+      ap₂ unless_ended (sym ends) (ap (with_cursor w) (sym stands) ∙ sym then),
     )
 
 -- ---- at a tick

@@ -2,8 +2,8 @@
 use Rattle.std.specs.Prelude.{◌≡◌, ℕ, Bool, true, false, ◌++◌, List}
 use Rattle.schema.specs.TypesFile.{ServedShape}
 use Rattle.history.specs.History.{History}
-use Rattle.verbs.specs.declared.api.Api.{Api}
-use Rattle.verbs.specs.Seen.{Stands}
+use Rattle.httpedge.specs.declared.shared.Shared.{Shared}
+use Rattle.httpedge.specs.Shares.{Serves}
 use Rattle.requests.specs.Asks.{CallDecision, Asks}
 use Rattle.httpedge.specs.declared.connection.Connection as conns
 use Rattle.httpedge.specs.declared.connections.Connections.{Connections as Kept}
@@ -21,21 +21,21 @@ event_on id (change.Bytes bytes) = comes id bytes.now
 event_on id (change.Lines max) = pumps id max
 event_on id change.Gone = goes id
 
--- bytes make of a connection that waited what all its bytes ask, and the API then stands for the machine that they lead to
-abbrev pub Receives : List ServedShape → History → ℕ → Connection → Standing → List ℕ → Connection → Api → Type 0
-Receives types m last_tick c (waiting front) bytes c' api =
-    (asked : CallDecision) × Asks types (front ++ bytes) asked × (c' ≡ connection_after types m last_tick c (front ++ bytes) asked) × Stands api types (machine_after types m asked)
-Receives types m last_tick c _ bytes c' api = (c' ≡ c) × Stands api types m
+-- bytes make of a connection that waited what all its bytes ask, and what is shared then stands for the machine that they lead to
+abbrev pub Receives : List ServedShape → History → ℕ → Connection → Standing → List ℕ → Connection → Shared → Type 0
+Receives types m last_tick c (waiting front) bytes c' shared =
+    (asked : CallDecision) × Asks types (front ++ bytes) asked × (c' ≡ connection_after types m last_tick c (front ++ bytes) asked) × Serves shared types (machine_after types m asked)
+Receives types m last_tick c _ bytes c' shared = (c' ≡ c) × Serves shared types m
 
 -- the change makes this connection of one
-abbrev pub Makes : List ServedShape → History → ℕ → changes.Change → Connection → Connection → Api → Type 0
-Makes types m last_tick (change.Bytes bytes) c c' api = Receives types m last_tick c c.standing bytes.now c' api
-Makes types m last_tick (change.Lines max) c c' api = (c' ≡ with_turn (pumped m max) c) × Stands api types m
-Makes types m last_tick change.Gone c c' api = (c' ≡ with_standing c (gone (has_ended c.standing))) × Stands api types m
+abbrev pub Makes : List ServedShape → History → ℕ → changes.Change → Connection → Connection → Shared → Type 0
+Makes types m last_tick (change.Bytes bytes) c c' shared = Receives types m last_tick c c.standing bytes.now c' shared
+Makes types m last_tick (change.Lines max) c c' shared = (c' ≡ with_turn (pumped m max) c) × Serves shared types m
+Makes types m last_tick change.Gone c c' shared = (c' ≡ with_standing c (gone (has_ended c.standing))) × Serves shared types m
 
 -- the same, where the code then holds it so
-abbrev pub MakesHeld : List ServedShape → History → ℕ → changes.Change → Connection → conns.Connection → Api → Type 0
-MakesHeld types m last_tick what c d api = (c' : Connection) × Makes types m last_tick what c c' api × Holds types d c'
+abbrev pub MakesHeld : List ServedShape → History → ℕ → changes.Change → Connection → conns.Connection → Shared → Type 0
+MakesHeld types m last_tick what c d shared = (c' : Connection) × Makes types m last_tick what c c' shared × Holds types d c'
 
 -- it takes memory for one that stands so
 abbrev pub takes_memory_on : changes.Change → Standing → Bool
@@ -44,9 +44,9 @@ takes_memory_on (change.Lines max) st = is_watching st
 takes_memory_on change.Gone st = false
 
 -- the same among all connections, by how the call ended
-abbrev pub Changes : List ServedShape → History → ℕ → changes.Change → ℕ → Connection → Kept → Kept → Api → Outcome → Type 0
-Changes types m last_tick what id c old new api done =
-    (c' : Connection) × Makes types m last_tick what c c' api × BecomesAt types (is_open c'.standing) c' id old new
-Changes types m last_tick what id c old new api (refused why) = ⊥
-Changes types m last_tick what id c old new api starved =
-    (takes_memory_on what c.standing ≡ true) × Stands api types m × BecomesAt types false (with_standing c ended) id old new
+abbrev pub Changes : List ServedShape → History → ℕ → changes.Change → ℕ → Connection → Kept → Kept → Shared → Outcome → Type 0
+Changes types m last_tick what id c old new shared done =
+    (c' : Connection) × Makes types m last_tick what c c' shared × BecomesAt types (is_open c'.standing) c' id old new
+Changes types m last_tick what id c old new shared (refused why) = ⊥
+Changes types m last_tick what id c old new shared starved =
+    (takes_memory_on what c.standing ≡ true) × Serves shared types m × BecomesAt types false (with_standing c ended) id old new

@@ -16,6 +16,11 @@ use Rattle.httpedge.specs.declared.watching.Watch as watches
 use Rattle.requests.specs.Asks.{CallDecision, Asks}
 use Rattle.httpedge.specs.Connections.{Connection, Connections, Standing, waiting, watching, ended, gone, has_ended, is_new, is_open, is_waiting, is_watching, open_on, opened, out_of, with_standing}
 use Rattle.httpedge.specs.Ids.{is_in}
+use Rattle.httpedge.specs.Shares.{Serves}
+use Rattle.httpedge.specs.declared.shared.Shared.{Shared}
+use Rattle.watchline.specs.Watches.{Cursor}
+use Rattle.watchline.specs.Watches as cursors
+use Rattle.requests.specs.ReplyBytes.{chunks}
 use Rattle.requests.specs.Fronts.{front_bytes}
 use Rattle.requests.specs.Pendings.{Awaits}
 use Rattle.httpedge.specs.Steps.{State, connection_after, machine_after, turn_bytes}
@@ -91,6 +96,10 @@ Received types m last_tick c bytes d api = ReceivedBy types m last_tick c c.stan
 -- ---- a watch's turn
 
 -- it wrote what this turn writes behind what was out, and then stands so, unless it has ended
+-- the bytes of these lines are written behind what was out, and the cursor stands where they lead
+abbrev pub Pumps : cursors.Turn → Bool → Cursor → List ℕ → List ℕ → Type 0
+Pumps t has_ended next old new = (new ≡ old ++ chunks t.lines t.ended) × (has_ended ≡ t.ended) × (next ≡ t.next)
+
 abbrev pub Turns : Turn → Bool → Watch → List ℕ → List ℕ → Type 0
 Turns t has_ended w old new = (new ≡ old ++ turn_bytes t) × (t.next ≡ unless_ended has_ended w)
 
@@ -135,9 +144,9 @@ kept_in k = (btree_map_len k.held, btree_map_len k.ended.ranges + btree_map_len 
 abbrev pub IsApart : Kept → Type 0
 IsApart k = (q : ℕ) → is_some (get nat_cmp k.held q) ≡ true → is_in k.ended.ranges q ≡ false
 
--- these connections are those of the state, with the ids of those that are open and the highest id, and the API stands for its machine
-pub record Represents (api : Api) (k : Kept) (s : State) : Type 0 where
-  pub machine : Stands api s.types s.machine
+-- these connections are those of the state, with the ids of those that are open and the highest id, and what they share stands for its machine
+pub record Represents (shared : Shared) (k : Kept) (s : State) : Type 0 where
+  pub machine : Serves shared s.types s.machine
   pub connections : (id : ℕ) → HoldsAt s.types (found k id) (fin.get s.connections id)
   pub open_is : (id : ℕ) → contains nat_cmp k.open_ids id ≡ open_on s.connections id
   pub highest_is : (id : ℕ) → is_new s.connections id ≡ is_above k.highest id

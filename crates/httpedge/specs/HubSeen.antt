@@ -24,7 +24,7 @@ event_of (event.Retype file) = retypes (view file)
 
 -- the hub is in this state
 abbrev pub IsIn : hubs.Hub → State → Type 0
-IsIn hub s = Represents hub.api hub.connections s × (hub.last_tick ≡ s.last_tick)
+IsIn hub s = Represents hub.shared hub.connections s × (hub.last_tick ≡ s.last_tick)
 
 -- which events ask the store: bytes, which may be a call, a pump, a compaction, other types
 abbrev pub asks_store : Event → Bool

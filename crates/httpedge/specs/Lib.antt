@@ -3,6 +3,7 @@ pub mod Connections
 pub mod Steps
 pub mod Runs
 pub mod Ids
+pub mod Shares
 pub mod Held
 pub mod Ticks
 pub mod HubSeen

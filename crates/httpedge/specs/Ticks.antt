@@ -3,7 +3,7 @@
 use Rattle.std.specs.Prelude.{◌≡◌, ℕ, Bool, true, false, List, Option, Some, None, option_map, unwrap_or}
 use Rattle.std.specs.FinMap as fin
 use Rattle.schema.specs.TypesFile.{ServedShape}
-use Rattle.verbs.specs.declared.api.Api.{Api}
+use Rattle.httpedge.specs.declared.shared.Shared.{Shared}
 use Rattle.httpedge.specs.declared.connection.Connection as conns
 use Rattle.httpedge.specs.declared.connections.Connections.{Connections as Kept}
 use Rattle.httpedge.specs.Connections.{Connection, Connections, each}
@@ -43,6 +43,6 @@ TicksAll types ms before held found_none = (which : ℕ → Bool) × HoldsAll ty
     × (found_none ≡ false → (q : ℕ) → which q ≡ false) × (found_none ≡ true → FoundNone ms which before)
 
 -- the same of the connections of a hub
-abbrev pub TicksIn : Api → ℕ → State → Kept → Bool → Type 0
-TicksIn api ms s k found_none = (which : ℕ → Bool) × Represents api k (with_tick s ms (ticked_all s.types ms which s.connections))
+abbrev pub TicksIn : Shared → ℕ → State → Kept → Bool → Type 0
+TicksIn shared ms s k found_none = (which : ℕ → Bool) × Represents shared k (with_tick s ms (ticked_all s.types ms which s.connections))
     × (found_none ≡ false → (q : ℕ) → which q ≡ false) × (found_none ≡ true → FoundNone ms which s.connections)

@@ -1,7 +1,7 @@
 //! One connection: its state, and how an event changes it. Its watch stands in `watching` and `turns`, all connections in
 //! `connections`.
 
-ghost use Rattle.std.specs.Prelude.{◌≡◌, ◌++◌, ℕ, List, true, Ok, IfOk, OnOk, OnErr, option_map};
+ghost use Rattle.std.specs.Prelude.{◌≡◌, ◌++◌, ℕ, List, None, true, Ok, IfOk, OnOk, OnErr, option_map};
 ghost use Rattle.schema.specs.TypesFile.{ServedShape};
 ghost use Rattle.history.specs.History.{History};
 ghost use Rattle.verbs.specs.Calls.{Answer};
@@ -12,6 +12,7 @@ ghost use Rattle.httpedge.specs.Connections.{Connections, ended, gone, open_coun
 ghost use Rattle.httpedge.specs.Held.{Becomes, Holds, Received, has_ended_in, is_open_in, is_waiting_in, out_in, over_in};
 ghost use Rattle.requests.specs.Fronts.{front_bytes};
 ghost use Rattle.requests.specs.Pendings.{Awaits, Finds};
+ghost use Rattle.httpedge.specs.Shares.{Serves};
 ghost use Rattle.httpedge.specs.Steps.{answered, opening};
 ghost use Rattle.httpedge.specs.declared.event.Change.TheVariants as changes;
 ghost use Rattle.requests.specs.Replies.{answer_bytes};
@@ -19,6 +20,7 @@ ghost use Rattle.watchline.specs.Views.{watch_from};
 
 use crate::event::Change;
 use crate::out::Out;
+use crate::shared::Shared;
 use crate::turns::pump_on;
 use crate::watching::Watch;
 use requests::{Front, Pending, Progress, Refusal, Served, ask, ask_on, refusal_reply, serve};
@@ -217,42 +219,45 @@ fn receive(
     }
 }
 
-/// Bytes come on a connection; out of memory, it is dead. One that waits for no bytes needs no memory.
+/// Bytes come on a connection; out of memory, it is dead. One that waits for no bytes needs no memory. What they ask may
+/// change what watches tell, so that no turn is the last one.
 pub(crate) fn receive_on(
     alloc: Global,
-    api: &mut Api,
+    shared: &mut Shared,
     connection: &mut Connection,
     bytes: &[u8],
     last_tick: u64,
 ) -> Result<(), Fault>
-    ensures ok { (types : List ServedShape) (m : History) (c : model.Connection) → Stands api.old types m → Holds types connection.old c → OnOk result (Received types m last_tick c bytes.now connection.new api.new) }
-    ensures err { (types : List ServedShape) (m : History) → Stands api.old types m → OnErr result (Stands api.new types m) }
+    ensures ok { (types : List ServedShape) (m : History) (c : model.Connection) → Serves shared.old types m → Holds types connection.old c → OnOk result (Received types m last_tick c bytes.now connection.new shared.new.api) }
+    ensures forgotten { shared.new.last ≡ None }
+    ensures err { (types : List ServedShape) (m : History) → Serves shared.old types m → OnErr result (Serves shared.new types m) }
     ensures waited { OnErr result (is_waiting_in connection.old ≡ true) }
     ensures dead { (types : List ServedShape) (c : model.Connection) → Holds types connection.old c → OnErr result (Holds types connection.new (with_standing c ended)) }
 {
+    shared.last = None;
     let dead = Connection::Ended(Out::empty(alloc));
     let was = mem::replace(connection, dead);
-    *connection = receive(alloc, api, was, bytes, last_tick)?;
+    *connection = receive(alloc, &mut shared.api, was, bytes, last_tick)?;
     Ok(())
 }
 
 /// Changes a connection; out of memory, one that waits is dead where bytes come on it, and a watch where it is pumped.
 pub(crate) fn change(
     alloc: Global,
-    api: &mut Api,
+    shared: &mut Shared,
     connection: &mut Connection,
     what: Change,
     last_tick: u64,
 ) -> Result<(), Fault>
-    ensures ok { (types : List ServedShape) (m : History) (c : model.Connection) → Stands api.old types m → Holds types connection.old c → OnOk result (MakesHeld types m last_tick what.entry c connection.new api.new) }
-    ensures err { (types : List ServedShape) (m : History) → Stands api.old types m → OnErr result (Stands api.new types m) }
+    ensures ok { (types : List ServedShape) (m : History) (c : model.Connection) → Serves shared.old types m → Holds types connection.old c → OnOk result (MakesHeld types m last_tick what.entry c connection.new shared.new) }
+    ensures err { (types : List ServedShape) (m : History) → Serves shared.old types m → OnErr result (Serves shared.new types m) }
     ensures could { (types : List ServedShape) (c : model.Connection) → Holds types connection.old c → OnErr result (takes_memory_on what.entry c.standing ≡ true) }
     ensures dead { (types : List ServedShape) (c : model.Connection) → Holds types connection.old c → OnErr result (Holds types connection.new (with_standing c ended)) }
     ensures gone { what.entry ≡ changes.Gone → result ≡ Ok tt }
 {
     match what {
-        Change::Bytes(bytes) => receive_on(alloc, api, connection, bytes, last_tick),
-        Change::Lines(max) => pump_on(alloc, api, connection, max),
+        Change::Bytes(bytes) => receive_on(alloc, shared, connection, bytes, last_tick),
+        Change::Lines(max) => pump_on(alloc, shared, connection, max),
         Change::Gone => {
             go_from(connection);
             Ok(())

@@ -6,19 +6,19 @@ ghost use Rattle.std.specs.BTreeMap.{get};
 ghost use Rattle.std.specs.Ordering.{nat_cmp};
 ghost use Rattle.schema.specs.TypesFile.{ServedShape};
 ghost use Rattle.history.specs.History.{History};
-ghost use Rattle.verbs.specs.Seen.{Stands};
-ghost use Rattle.verbs.specs.declared.api.Api as apis;
 ghost use Rattle.httpedge.specs.Changes.{Changes};
 ghost use Rattle.httpedge.specs.Connections.{Connection as TheConnection};
 ghost use Rattle.httpedge.specs.Connections.{open_count, with_taken};
 ghost use Rattle.httpedge.specs.Held.{BecomesAt, Closes, Forgets, Holds, IsApart, IsAt, IsFresh, IsSame, Opens, Represents, found, has_ended_in, is_waiting_in, kept_in, out_in, over_in, over_of};
 ghost use Rattle.httpedge.specs.HubSeen.{done, outcome_of, refusal_in, refused};
 ghost use Rattle.httpedge.specs.Ids.{is_in};
+ghost use Rattle.httpedge.specs.Shares.{Serves};
 ghost use Rattle.httpedge.specs.Steps.{State, start, unknown_id};
 ghost use Rattle.httpedge.specs.Ticks.{TicksIn};
 ghost use Rattle.httpedge.specs.declared.connection.Connection as held;
 ghost use Rattle.httpedge.specs.declared.event.Change.TheVariants as changes;
 ghost use Rattle.httpedge.specs.declared.fault.HubFault.TheVariants as fault;
+ghost use Rattle.httpedge.specs.declared.shared.Shared as shares;
 
 use crate::connection::{
     Connection, change, has_ended, is_open, is_waiting, out_of, over, take_from,
@@ -26,10 +26,10 @@ use crate::connection::{
 use crate::event::Change;
 use crate::fault::HubFault;
 use crate::ids::Ids;
+use crate::shared::Shared;
 use crate::ticking::{drop_ended, tick_all};
 use std::alloc::{AllocError, Global};
 use std::collections::{BTreeMap, BTreeSet};
-use verbs::Api;
 
 /// The connections of a hub.
 #[derive(Drop)]
@@ -49,7 +49,7 @@ pub(crate) struct Connections {
 impl Connections {
     /// None.
     pub(crate) fn new(alloc: Global) -> Connections
-        ensures { (types : List ServedShape) (m : History) (api : apis.Api) → Stands api types m → Represents api result (start types m) }
+        ensures { (types : List ServedShape) (m : History) (shared : shares.Shared) → Serves shared types m → Represents shared result (start types m) }
     {
         Connections {
             held: BTreeMap::new(alloc),
@@ -69,7 +69,7 @@ impl Connections {
 
     /// How many are open.
     pub(crate) fn open_count(&self) -> usize
-        ensures { (api : apis.Api) (s : State) → Represents api self.now s → result ≡ open_count s.connections }
+        ensures { (shared : shares.Shared) (s : State) → Represents shared self.now s → result ≡ open_count s.connections }
     {
         self.open_ids.len()
     }
@@ -157,21 +157,21 @@ impl Connections {
     pub(crate) fn change(
         &mut self,
         alloc: Global,
-        api: &mut Api,
+        shared: &mut Shared,
         id: u64,
         what: Change,
         last_tick: u64,
     ) -> Result<(), HubFault>
-        ensures known { (types : List ServedShape) (m : History) (d : held.Connection) (c : TheConnection) → Stands api.old types m → IsAt id d self.old → Holds types d c
-            → Changes types m last_tick what.entry id c self.old self.new api.new (outcome_of result) }
-        ensures unknown { found self.old id ≡ None → (outcome_of result ≡ refused unknown_id) × (self.new ≡ self.old) × (api.new ≡ api.old) }
+        ensures known { (types : List ServedShape) (m : History) (d : held.Connection) (c : TheConnection) → Serves shared.old types m → IsAt id d self.old → Holds types d c
+            → Changes types m last_tick what.entry id c self.old self.new shared.new (outcome_of result) }
+        ensures unknown { found self.old id ≡ None → (outcome_of result ≡ refused unknown_id) × (self.new ≡ self.old) × (shared.new ≡ shared.old) }
         ensures taken { is_some (found self.old id) ≡ true → refusal_in (outcome_of result) ≡ None }
         ensures gone { what.entry ≡ changes.Gone → result ≢ Err fault.Store }
     {
         match self.held.get_mut(&id) {
             None => self.pass(id),
             Some(connection) => {
-                let changed = change(alloc, api, connection, what, last_tick);
+                let changed = change(alloc, shared, connection, what, last_tick);
                 let still_open = is_open(connection);
                 let had_ended = over(connection);
                 self.close(id, still_open);
@@ -213,10 +213,10 @@ impl Connections {
     }
 
     /// Each open connection has its turn at a tick; whether one was out of memory.
-    pub(crate) fn tick(&mut self, alloc: Global, api: &Api, ms: u64) -> bool
-        ensures { (s : State) → Represents api.now self.old s → TicksIn api.now ms s self.new result }
+    pub(crate) fn tick(&mut self, alloc: Global, shared: &Shared, ms: u64) -> bool
+        ensures { (s : State) → Represents shared.now self.old s → TicksIn shared.now ms s self.new result }
     {
-        let found_none = tick_all(alloc, api, &mut self.held, &self.open_ids, ms);
+        let found_none = tick_all(alloc, &shared.api, &mut self.held, &self.open_ids, ms);
         drop_ended(&mut self.open_ids, &self.held);
         found_none
     }

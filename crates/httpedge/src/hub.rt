@@ -17,6 +17,7 @@ use crate::connection::opening;
 use crate::connections::Connections;
 use crate::event::{Change, Event};
 use crate::fault::HubFault;
+use crate::shared::Shared;
 use revstore::CompactFault;
 use serde_json::Value;
 use std::alloc::{AllocError, Global};
@@ -25,7 +26,7 @@ use verbs::{Api, Fault};
 /// Connections over one API: bytes in, reply bytes out.
 pub struct Hub {
     alloc: Global,
-    api: Api,
+    shared: Shared,
     connections: Connections,
     /// The time of the last tick, in milliseconds after the start.
     last_tick: u64,
@@ -36,7 +37,7 @@ impl Drop for Hub {
     fn drop(self) {
         let Hub {
             alloc: _,
-            api: _,
+            shared: _,
             connections: _,
             last_tick: _,
         } = self;
@@ -59,7 +60,7 @@ impl Hub {
     {
         Hub {
             alloc,
-            api,
+            shared: Shared::new(api),
             connections: Connections::new(alloc),
             last_tick: 0,
         }
@@ -93,7 +94,7 @@ impl Hub {
         ensures gone { what.entry ≡ changes.Gone → result ≢ Err HubFault.Store }
     {
         self.connections
-            .change(self.alloc, &mut self.api, id, what, self.last_tick)
+            .change(self.alloc, &mut self.shared, id, what, self.last_tick)
     }
 
     fn pump(&mut self, id: u64, max: u64) -> Result<(), HubFault>
@@ -116,7 +117,7 @@ impl Hub {
         if ms < self.last_tick {
             return Err(HubFault::TickBack);
         }
-        let found_none = self.connections.tick(self.alloc, &self.api, ms);
+        let found_none = self.connections.tick(self.alloc, &self.shared, ms);
         self.last_tick = ms;
         if found_none {
             return Err(HubFault::Memory);
@@ -127,7 +128,7 @@ impl Hub {
     fn compact(&mut self, revision: u64) -> Result<(), HubFault>
         ensures { Handles self.old (compacts revision) (outcome_of result) self.new }
     {
-        match self.api.compact(revision) {
+        match self.shared.compact(revision) {
             Ok(()) => Ok(()),
             Err(CompactFault::Expired) => Err(HubFault::CompactionRefused),
             Err(CompactFault::TooLarge) => Err(HubFault::CompactionRefused),
@@ -138,7 +139,7 @@ impl Hub {
     fn retype(&mut self, file: &Value) -> Result<(), HubFault>
         ensures { Handles self.old (retypes (view file.now)) (outcome_of result) self.new }
     {
-        match self.api.retype(file) {
+        match self.shared.retype(file) {
             Ok(()) => Ok(()),
             Err(fault) => Err(HubFault::from(fault)),
         }
@@ -218,6 +219,6 @@ impl Hub {
     pub fn marks(&self) -> Result<(u64, u64), Fault>
         ensures { (s : State) → IsIn self.now s → result ≡ Ok (s.machine.current, s.machine.compacted) }
     {
-        self.api.marks()
+        self.shared.marks()
     }
 }

@@ -16,6 +16,7 @@ mod hub;
 mod ids;
 mod laws;
 mod out;
+mod shared;
 mod streams;
 mod ticking;
 mod turns;

@@ -7,11 +7,13 @@ ghost use Rattle.verbs.specs.Seen.{Stands};
 ghost use Rattle.httpedge.specs.Connections as model;
 ghost use Rattle.httpedge.specs.Connections.{ended, with_standing};
 ghost use Rattle.httpedge.specs.Held.{Holds, is_watching_in};
+ghost use Rattle.httpedge.specs.Shares.{Serves};
 ghost use Rattle.httpedge.specs.Steps.{dead_or_ticked, with_turn, writes_at};
 ghost use Rattle.httpedge.specs.Watches.{pumped};
 
 use crate::connection::Connection;
 use crate::out::Out;
+use crate::shared::Shared;
 use std::alloc::Global;
 use std::mem;
 use verbs::{Api, Fault};
@@ -19,18 +21,18 @@ use verbs::{Api, Fault};
 /// A connection at a pump; out of memory, a watch is dead. Any other stays as it is.
 pub(crate) fn pump_on(
     alloc: Global,
-    api: &mut Api,
+    shared: &mut Shared,
     connection: &mut Connection,
     max: usize,
 ) -> Result<(), Fault>
-    ensures ok { (types : List ServedShape) (m : History) (c : model.Connection) → Stands api.old types m → Holds types connection.old c
+    ensures ok { (types : List ServedShape) (m : History) (c : model.Connection) → Serves shared.old types m → Holds types connection.old c
         → OnOk result (Holds types connection.new (with_turn (pumped m max) c)) }
     ensures dead { (types : List ServedShape) (c : model.Connection) → Holds types connection.old c → OnErr result (Holds types connection.new (with_standing c ended)) }
     ensures watched { OnErr result (is_watching_in connection.old ≡ true) }
-    ensures stands { (types : List ServedShape) (m : History) → Stands api.old types m → Stands api.new types m }
+    ensures serves { (types : List ServedShape) (m : History) → Serves shared.old types m → Serves shared.new types m }
 {
     match connection {
-        Connection::Watch(watch, out) => match watch.pump(alloc, api, out, max) {
+        Connection::Watch(watch, out) => match watch.pump(alloc, shared, out, max) {
             Ok(false) => Ok(()),
             Ok(true) => {
                 *connection = Connection::Ended(mem::replace(out, Out::empty(alloc)));

@@ -1,5 +1,5 @@
 //! A watch on a connection: what it writes at its turn, and when it ends. What becomes of the connection then stands in
-//! `turns`.
+//! `turns`, what watches share in `shared`.
 
 ghost use Rattle.std.specs.Prelude.{◌≡◌, ◌*◌, List, true, IfOk, OnErr, nat_le, option_map, string_bytes};
 ghost use Rattle.schema.specs.TypesFile.{ServedShape};
@@ -8,10 +8,12 @@ ghost use Rattle.verbs.specs.Seen.{Stands};
 ghost use Rattle.watchline.specs.Views.{watch_from};
 ghost use Rattle.httpedge.specs.Held.{Turns, left, watch_of};
 ghost use Rattle.requests.specs.ReplyBytes.{chunks};
+ghost use Rattle.httpedge.specs.Shares.{Serves};
 ghost use Rattle.httpedge.specs.Watches.{begun_at, is_due, is_over, line_list, pumped, ticked};
 
 use crate::out::Out;
-use requests::{chunks, push_chunk, push_end};
+use crate::shared::Shared;
+use requests::{push_chunk, push_end};
 use std::alloc::{AllocError, Global};
 use verbs::{Api, Fault};
 use watchline::{WatchCursor, WatchFrom};
@@ -69,19 +71,16 @@ impl Watch {
     pub(crate) fn pump(
         &mut self,
         alloc: Global,
-        api: &mut Api,
+        shared: &mut Shared,
         out: &mut Out,
         max: usize,
     ) -> Result<bool, Fault>
-        ensures ok { (types : List ServedShape) (m : History) → Stands api.old types m
+        ensures ok { (types : List ServedShape) (m : History) → Serves shared.old types m
             → IfOk result (λ has_ended. Turns (pumped m max (watch_of self.old)) has_ended (watch_of self.new) (left out.old) (left out.new)) }
         ensures err { OnErr result (left out.new ≡ left out.old) }
-        ensures stands { (types : List ServedShape) (m : History) → Stands api.old types m → Stands api.new types m }
+        ensures serves { (types : List ServedShape) (m : History) → Serves shared.old types m → Serves shared.new types m }
     {
-        let pumped = api.pump(&mut self.cursor, max)?;
-        let bytes = chunks(alloc, &pumped.lines, pumped.ended)?;
-        out.add(&bytes)?;
-        Ok(pumped.ended)
+        shared.pump(alloc, &mut self.cursor, out, max)
     }
 
     /// Its turn at a tick; whether it has ended. Out of memory, it writes nothing more; where nothing is due it needs no

@@ -13,8 +13,8 @@ use Rattle.httpedge.proofs.connection.change.Goals as goal
 pub returns-in-Bytes-clause-ok : goal.returns-in-Bytes-clause-ok
 returns-in-Bytes-clause-ok c = λ types m x stands holds.
     let new = c.receive_on.new in
-    subst (λ (w : changes.Change). OnOk c.receive_on.result (MakesHeld types m c.args.last_tick w x new.connection new.api)) (sym c.in-Bytes.is)
-    (on_ok_weaker c.receive_on.result (received_makes types m c.args.last_tick x x.standing c.in-Bytes.bytes.now new.connection new.api) (c.receive_on.ensures.ok types m x stands holds))
+    subst (λ (w : changes.Change). OnOk c.receive_on.result (MakesHeld types m c.args.last_tick w x new.connection new.shared)) (sym c.in-Bytes.is)
+    (on_ok_weaker c.receive_on.result (received_makes types m c.args.last_tick x x.standing c.in-Bytes.bytes.now new.connection new.shared c.receive_on.ensures.forgotten) (c.receive_on.ensures.ok types m x stands holds))
 
 pub returns-in-Bytes-clause-could : goal.returns-in-Bytes-clause-could
 returns-in-Bytes-clause-could c = λ types x holds.
@@ -24,8 +24,8 @@ returns-in-Bytes-clause-could c = λ types x holds.
 pub returns-in-Lines-clause-ok : goal.returns-in-Lines-clause-ok
 returns-in-Lines-clause-ok c = λ types m x stands holds.
     let new = c.pump_on.new in
-    subst (λ (w : changes.Change). OnOk c.pump_on.result (MakesHeld types m c.args.last_tick w x new.connection new.api)) (sym c.in-Lines.is)
-    (on_ok_weaker c.pump_on.result (λ turned. (with_turn (pumped m c.in-Lines.max) x, (refl, c.pump_on.ensures.stands types m stands), turned)) (c.pump_on.ensures.ok types m x stands holds))
+    subst (λ (w : changes.Change). OnOk c.pump_on.result (MakesHeld types m c.args.last_tick w x new.connection new.shared)) (sym c.in-Lines.is)
+    (on_ok_weaker c.pump_on.result (λ turned. (with_turn (pumped m c.in-Lines.max) x, (refl, c.pump_on.ensures.serves types m stands), turned)) (c.pump_on.ensures.ok types m x stands holds))
 
 pub returns-in-Lines-clause-could : goal.returns-in-Lines-clause-could
 returns-in-Lines-clause-could c = λ types x holds.
@@ -33,9 +33,9 @@ returns-in-Lines-clause-could c = λ types x holds.
     (on_err_then c.pump_on.result (λ were. sym (same_watching types c.args.connection.now x holds) ∙ were) c.pump_on.ensures.watched)
 
 pub returns-in-Lines-clause-err : goal.returns-in-Lines-clause-err
-returns-in-Lines-clause-err c = λ types m stands. on_err c.pump_on.result (c.pump_on.ensures.stands types m stands)
+returns-in-Lines-clause-err c = λ types m stands. on_err c.pump_on.result (c.pump_on.ensures.serves types m stands)
 
 pub returns-in-Gone-clause-ok : goal.returns-in-Gone-clause-ok
 returns-in-Gone-clause-ok c = λ types m x stands holds.
-    subst (λ (w : changes.Change). MakesHeld types m c.args.last_tick w x c.go_from.new.connection c.args.api.now) (sym c.in-Gone.is)
-    (goes_held types m c.args.last_tick x c.args.connection.now c.go_from.new.connection c.args.api.now stands holds (c.go_from.ensures types x))
+    subst (λ (w : changes.Change). MakesHeld types m c.args.last_tick w x c.go_from.new.connection c.args.shared.now) (sym c.in-Gone.is)
+    (goes_held types m c.args.last_tick x c.args.connection.now c.go_from.new.connection c.args.shared.now stands holds (c.go_from.ensures types x))

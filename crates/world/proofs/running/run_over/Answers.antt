@@ -25,7 +25,7 @@ returns-clause-runs g c =
       runs = all.2;
       shows = traces_as (λ b o. g.I.IndexBy.keys b o) (indexes_in client) c.args.indexes.items (names_in client) (map (λ b. g.I.IndexBy.title b) c.args.indexes.items) task.settings.label (string_bytes c.args.settings.label) all.0 all.1 c.in_ok-trace.field-0
           c.in_ok-world.ensures.indexes c.in_ok-world.ensures.names (ap (λ s. s.label) stands.2) traces;
-      right = (c.headline.ensures (types_view c.args.types) task events all.0 all.1 c.types_are_of_objects.ensures stands.1 all.2 all.3.hub.0.0.0.machine.unicode).0;
+      right = (c.headline.ensures (types_view c.args.types) task events all.0 all.1 c.types_are_of_objects.ensures stands.1 all.2 all.3.hub.0.0.0.machine.0.unicode).0;
     }
 
 pub returns-in_err-reports-clause-settings : goal.returns-in_err-reports-clause-settings

@@ -12,7 +12,7 @@ use Rattle.httpedge.proofs.connections.Connections.change.Goals as goal
 pub returns-in-None-clause-known : goal.returns-in-None-clause-known
 returns-in-None-clause-known c = λ types m d x stands at holds.
     let self = c.args.self.now in
-    pass_known types m c.args.last_tick c.args.what c.args.id d x self _ c.args.api.now (outcome_of c.pass.result) stands (sym c.in-None.ensures.value)
+    pass_known types m c.args.last_tick c.args.what c.args.id d x self _ c.args.shared.now (outcome_of c.pass.result) stands (sym c.in-None.ensures.value)
     (ap (with_held self) c.get_mut.follows.holds-at-none) c.pass.ensures.outcome at holds
 
 pub returns-in-None-clause-unknown : goal.returns-in-None-clause-unknown
@@ -51,7 +51,7 @@ returns-in-Err-clause-known c = λ types m d x stands at holds.
     let holds' = subst (λ (e : conns.Connection). Holds types e x) same holds in
     let dead = on_err_is c.change-changed.result _ c.in-Err.is (c.change-changed.ensures.dead types x holds') in
     let still = c.is_open-still_open.ensures ∙ same_open types new (with_standing x ended) dead in
-    subst (Changes types m c.args.last_tick c.args.what id x self c.forget.new.self c.change-changed.new.api) (sym (fails_starved ⊤ _ c.from.result c.from.ensures)) (
+    subst (Changes types m c.args.last_tick c.args.what id x self c.forget.new.self c.change-changed.new.shared) (sym (fails_starved ⊤ _ c.from.result c.from.ensures)) (
       on_err_is c.change-changed.result _ c.in-Err.is (c.change-changed.ensures.could types x holds'),
       on_err_is c.change-changed.result _ c.in-Err.is (c.change-changed.ensures.err types m stands),
       becomes_at types _ (with_standing x ended) id self c.close.new.self c.forget.new.self (c.get_mut.follows.lender new) new dead (ap is_some (sym c.in-Some.ensures.value)) at.2

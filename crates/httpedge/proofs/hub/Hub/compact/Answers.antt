@@ -1,7 +1,7 @@
 use Rattle.std.proofs.Common.{false, refl}
 use Rattle.std.specs.Prelude.{⊤}
 use Rattle.httpedge.specs.Steps.{compacts}
-use Rattle.httpedge.proofs.Representing.{Answers, compacts_well, done_fits, early_refused, failed_fits, failed_handled, fails_starved, late_refused, same_api, same_held}
+use Rattle.httpedge.proofs.Representing.{Answers, compacts_well, done_fits, early_refused, failed_fits, failed_handled, fails_starved, late_refused, same_shared, same_held}
 use Rattle.httpedge.proofs.hub.Hub.compact.Goals as goal
 
 pub returns-in-Ok : goal.returns-in-Ok
@@ -15,7 +15,7 @@ returns-in-Ok c = λ s is.
 
 pub returns-in-Err-Expired : goal.returns-in-Err-Expired
 returns-in-Err-Expired c = (
-  same_api c.args.self.now c.compact.new.self c.in-Err-Expired.ensures.unchanged,
+  same_shared c.args.self.now c.compact.new.self c.in-Err-Expired.ensures.unchanged,
   λ s is.
       let stands = is.0.machine in
       let answers : Answers s c.args.revision c.compact.result = (c.compact.ensures.expired s.types s.machine stands, c.compact.ensures.too_large s.types s.machine stands) in
@@ -24,7 +24,7 @@ returns-in-Err-Expired c = (
 
 pub returns-in-Err-TooLarge : goal.returns-in-Err-TooLarge
 returns-in-Err-TooLarge c = (
-  same_api c.args.self.now c.compact.new.self c.in-Err-TooLarge.ensures.unchanged,
+  same_shared c.args.self.now c.compact.new.self c.in-Err-TooLarge.ensures.unchanged,
   λ s is.
       let stands = is.0.machine in
       let answers : Answers s c.args.revision c.compact.result = (c.compact.ensures.expired s.types s.machine stands, c.compact.ensures.too_large s.types s.machine stands) in

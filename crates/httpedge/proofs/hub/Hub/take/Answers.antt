@@ -8,7 +8,7 @@ use Rattle.httpedge.proofs.hub.Hub.take.Goals as goal
 pub returns-clause-takes : goal.returns-clause-takes
 returns-clause-takes c = λ s is.
     let self = c.args.self.now in
-    let taken = takes_well s c.args.id c.args.n self.api self.connections c.take.new.self is.0 (c.take.ensures.known s.types) c.take.ensures.unknown in
+    let taken = takes_well s c.args.id c.args.n self.shared self.connections c.take.new.self is.0 (c.take.ensures.known s.types) c.take.ensures.unknown in
     (taken.0, is.1 ∙ sym taken.1)
 
 pub returns-clause-runs : goal.returns-clause-runs

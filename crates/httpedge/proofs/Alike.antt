@@ -1,0 +1,81 @@
+-- Watches that stand alike have the same turn.
+use Rattle.std.proofs.Common.{◌≡◌, ℕ, zero, suc, Bool, true, false, cond, List, ◌++◌, Option, None, refl, sym, ap, ap₂, subst, ◌∙◌}
+use Rattle.std.specs.Prelude.{nat_lt}
+use Rattle.history.specs.History.{History, Key, Object}
+use Rattle.watchline.specs.Views.{lines_in, turn_of}
+use Rattle.watchline.specs.Watches.{Cursor, IsPlain, Left, Source, none_left, left_from, Turn, entries_left, expiring, from_history, left_behind, left_past, moved, pumped, telling, with_bookmarks}
+use Rattle.watchline.specs.declared.cursor.Pumped.{Pumped as ThePumped}
+use Rattle.requests.specs.ReplyBytes.{chunks}
+use Rattle.httpedge.specs.Held.{Pumps}
+use Rattle.httpedge.specs.Shares.{IsLast}
+use Rattle.httpedge.specs.declared.shared.LastTurn.{LastTurn}
+
+-- ---- bookmarks alone are told otherwise
+
+abbrev with_next : Turn → Bool → Turn
+with_next t bookmarks = record t { next = with_bookmarks t.next bookmarks }
+
+by_side : (c bookmarks : Bool) (x y : Turn) → cond c (with_next x bookmarks) (with_next y bookmarks) ≡ with_next (cond c x y) bookmarks
+by_side true bookmarks x y = refl
+by_side false bookmarks x y = refl
+
+pumped_alike : (s : Source) (max : ℕ) (w : Cursor) (bookmarks : Bool) → pumped s max (with_bookmarks w bookmarks) ≡ with_next (pumped s max w) bookmarks
+pumped_alike s max w bookmarks = by_side (nat_lt w.position s.compacted) bookmarks (expiring s w) (telling s max w)
+
+abbrev turn_with : List (List ℕ) → Bool → Cursor → Turn
+turn_with lines ended next = record { lines = lines; ended = ended; next = next }
+
+-- ---- a watch without objects left has none left afterwards
+
+abbrev Stays : Cursor → Cursor → Type 0
+Stays w next = next ≡ moved w next.position next.told w.left
+
+from_isnt : (place : Option (List ℕ × List ℕ)) → left_from place ≡ none_left → ⊥
+from_isnt place e = cc
+
+either : (b : Bool) → left_behind (cond b None None) ≡ none_left
+either true = refl
+either false = refl
+
+none_past : (max kind : ℕ) (left : Left) (es : List (Key × Object)) → left ≡ none_left → left_past max (entries_left kind left es) left ≡ left
+none_past zero kind left es none = refl
+none_past (suc n) kind none_left es none = either (nat_lt (suc n) 0)
+none_past (suc n) kind (left_from place) es none = absurd (from_isnt place none)
+
+plain_stays : (s : Source) (max : ℕ) (w : Cursor) → w.left ≡ none_left → Stays w (pumped s max w).next
+plain_stays s max w none = go (nat_lt w.position s.compacted)
+  where
+    go : (c : Bool) → Stays w (cond c (expiring s w) (telling s max w)).next
+    go true = refl
+    go false = ap (moved w (telling s max w).next.position (telling s max w).next.told) (none_past max w.kind w.left _ none)
+
+-- ---- the last turn
+
+-- what a watch told is the turn of its copy
+pub is_last : (m : History) (last : LastTurn) (w next : Cursor) (p : ThePumped) → turn_of p next ≡ pumped (from_history m) last.max w → last.before ≡ w → IsPlain last.before
+    → last.reach.position ≡ next.position → last.reach.told ≡ next.told → last.has_ended ≡ p.ended → last.bytes.items ≡ chunks (lines_in p.lines.items) p.ended → IsLast m last
+is_last m last w next p told is plain position at ended bytes = record {
+  lines = lines_in p.lines.items;
+  told = was ∙ ap₂ (turn_with (lines_in p.lines.items)) (sym ended) (stays ∙ ap₂ (λ (x y : ℕ). moved last.before x y last.before.left) (sym position) (sym at));
+  bytes = bytes ∙ ap (chunks (lines_in p.lines.items)) (sym ended);
+}
+  where
+    was : pumped (from_history m) last.max last.before ≡ turn_of p next
+    was = ap (pumped (from_history m) last.max) is ∙ sym told
+
+    stays : Stays last.before next
+    stays = subst (Stays last.before) (ap (λ (t : Turn). t.next) was) (plain_stays (from_history m) last.max last.before plain.1)
+
+-- a watch that stands alike has that turn
+pub repeats : (m : History) (last : LastTurn) (max : ℕ) (w : Cursor) (old new : List ℕ) → IsLast m last → max ≡ last.max → w ≡ with_bookmarks last.before w.bookmarks → new ≡ old ++ last.bytes.items
+    → Pumps (pumped (from_history m) max w) last.has_ended (moved w last.reach.position last.reach.told w.left) old new
+repeats m last max w old new is same alike written =
+    subst (λ (t : Turn). Pumps t last.has_ended (moved w last.reach.position last.reach.told w.left) old new) (sym turn)
+    (written ∙ ap (λ (b : List ℕ). old ++ b) is.bytes, refl, ap (λ (x : Cursor). moved x last.reach.position last.reach.told x.left) alike)
+  where
+    then : Turn
+    then = turn_with is.lines last.has_ended (moved last.before last.reach.position last.reach.told last.before.left)
+
+    turn : pumped (from_history m) max w ≡ with_next then w.bookmarks
+    turn = ap₂ (λ (n : ℕ) (x : Cursor). pumped (from_history m) n x) same alike ∙ pumped_alike (from_history m) last.max last.before w.bookmarks
+        ∙ ap (λ (t : Turn). with_next t w.bookmarks) is.told

@@ -1,0 +1,19 @@
+-- What all connections share stands for: the API for its machine, and the last turn of a watch for what a watch tells from that machine.
+use Rattle.std.specs.Prelude.{◌≡◌, ℕ, List, IfSome}
+use Rattle.schema.specs.TypesFile.{ServedShape}
+use Rattle.history.specs.History.{History}
+use Rattle.verbs.specs.Seen.{Stands}
+use Rattle.watchline.specs.Watches.{from_history, moved, pumped}
+use Rattle.requests.specs.ReplyBytes.{chunks}
+use Rattle.httpedge.specs.declared.shared.LastTurn.{LastTurn}
+use Rattle.httpedge.specs.declared.shared.Shared.{Shared}
+
+-- a watch that stands as the turn's did tells these lines, and its bytes are their chunks
+pub record IsLast (m : History) (last : LastTurn) : Type 0 where
+  pub lines : List (List ℕ)
+  pub told : pumped (from_history m) last.max last.before
+      ≡ record { lines = lines; ended = last.has_ended; next = moved last.before last.reach.position last.reach.told last.before.left }
+  pub bytes : last.bytes.items ≡ chunks lines last.has_ended
+
+abbrev pub Serves : Shared → List ServedShape → History → Type 0
+Serves shared types m = Stands shared.api types m × IfSome shared.last (IsLast m)

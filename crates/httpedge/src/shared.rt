@@ -1,0 +1,163 @@
+//! What all connections share: the API, and the last turn in which a watch told lines. How a turn changes a watch stands in
+//! `watching`.
+
+ghost use Rattle.std.specs.Prelude.{◌≡◌, ◌↔◌, ◌<◌, ◌++◌, List, Err, Ok, IfErr, IfOk, IfSome, IsTrue, OnErr, OnOk};
+ghost use Rattle.schema.specs.TypesFile.{ServedShape};
+ghost use Rattle.history.specs.History.{History, compacted_to};
+ghost use Rattle.serde_json.specs.View as value;
+ghost use Rattle.verbs.specs.Retyping.{retyped, retyping};
+ghost use Rattle.verbs.specs.Seen.{Stands, retype_refusal};
+ghost use Rattle.watchline.specs.Watches.{from_history, moved, pumped, with_bookmarks};
+ghost use Rattle.httpedge.specs.Held.{Pumps, left};
+ghost use Rattle.httpedge.specs.Shares.{IsLast, Serves};
+
+use crate::out::Out;
+use requests::chunks;
+use revstore::CompactFault;
+use serde_json::Value;
+use std::alloc::Global;
+use verbs::{Api, Fault, RetypeFault};
+use watchline::{Reach, WatchCursor};
+
+/// The bytes of a turn are kept up to so many: 1 MiB.
+const MOST_BYTES: usize = 1048576;
+
+/// A turn at a pump: where a watch stood and how many lines it could tell, then what it wrote, whether it had ended, and up to
+/// where it had told.
+#[derive(Drop)]
+pub(crate) struct LastTurn {
+    before: WatchCursor,
+    max: usize,
+    bytes: Vec<u8>,
+    has_ended: bool,
+    reach: Reach,
+}
+
+impl LastTurn {
+    /// Whether a watch that stands so and may tell so many lines has the same turn.
+    fn is_of(&self, cursor: &WatchCursor, max: usize) -> bool
+        ensures max { IsTrue result → max ≡ self.now.max }
+        ensures alike { IsTrue result → cursor.now ≡ with_bookmarks self.now.before cursor.now.bookmarks }
+    {
+        self.max == max && cursor.is_alike(&self.before)
+    }
+}
+
+/// The API, and the last turn of a watch while what it was told from stands. A change of a connection that may write, a
+/// compaction and other types drop it.
+#[derive(Drop)]
+pub(crate) struct Shared {
+    pub(crate) api: Api,
+    pub(crate) last: Option<LastTurn>,
+}
+
+impl Shared {
+    pub(crate) fn new(api: Api) -> Shared
+        ensures { (types : List ServedShape) (m : History) → Stands api types m → Serves result types m }
+    {
+        Shared { api, last: None }
+    }
+
+    /// The next lines of a watch are written, at most `max`; whether it has ended. One that stands as the last one did writes
+    /// what that wrote. Out of memory nothing is written.
+    pub(crate) fn pump(
+        &mut self,
+        alloc: Global,
+        cursor: &mut WatchCursor,
+        out: &mut Out,
+        max: usize,
+    ) -> Result<bool, Fault>
+        ensures ok { (types : List ServedShape) (m : History) → Serves self.old types m
+            → IfOk result (λ has_ended. Pumps (pumped (from_history m) max cursor.old) has_ended cursor.new (left out.old) (left out.new)) }
+        ensures err { OnErr result (left out.new ≡ left out.old) }
+        ensures serves { (types : List ServedShape) (m : History) → Serves self.old types m → Serves self.new types m }
+    {
+        if let Some(last) = &self.last {
+            if last.is_of(cursor, max) {
+                out.add(&last.bytes)?;
+                cursor.move_to(last.reach);
+                return Ok(last.has_ended);
+            }
+        }
+        self.pump_anew(alloc, cursor, out, max)
+    }
+
+    fn pump_anew(
+        &mut self,
+        alloc: Global,
+        cursor: &mut WatchCursor,
+        out: &mut Out,
+        max: usize,
+    ) -> Result<bool, Fault>
+        ensures ok { (types : List ServedShape) (m : History) → Serves self.old types m
+            → IfOk result (λ has_ended. Pumps (pumped (from_history m) max cursor.old) has_ended cursor.new (left out.old) (left out.new)) }
+        ensures err { OnErr result (left out.new ≡ left out.old) }
+        ensures serves { (types : List ServedShape) (m : History) → Serves self.old types m → Serves self.new types m }
+    {
+        let before = cursor.copied(alloc)?;
+        let pumped = self.api.pump(cursor, max)?;
+        let has_ended = pumped.ended;
+        let bytes = chunks(alloc, &pumped.lines, has_ended)?;
+        out.add(&bytes)?;
+        if let Some(before) = before {
+            self.keep(LastTurn {
+                before,
+                max,
+                bytes,
+                has_ended,
+                reach: cursor.reach(),
+            });
+        }
+        Ok(has_ended)
+    }
+
+    /// A turn is the last one now, where it wrote something and not too much to be kept.
+    fn keep(&mut self, turn: LastTurn)
+        ensures { (types : List ServedShape) (m : History) → Serves self.old types m → IsLast m turn → Serves self.new types m }
+    {
+        if !turn.bytes.is_empty() && turn.bytes.len() <= MOST_BYTES {
+            self.last = Some(turn);
+        }
+    }
+
+    /// As the API's call, after which no turn is the last one.
+    pub(crate) fn compact(&mut self, revision: u64) -> Result<(), CompactFault>
+        ensures ok { (types : List ServedShape) (m : History) → Serves self.old types m → OnOk result (Serves self.new types (compacted_to revision m)) }
+        ensures expired { (types : List ServedShape) (m : History) → Serves self.old types m → (result ≡ Err CompactFault.Expired) ↔ (revision < m.compacted) }
+        ensures too_large { (types : List ServedShape) (m : History) → Serves self.old types m → (result ≡ Err CompactFault.TooLarge) ↔ (m.current < revision) }
+        ensures err { (types : List ServedShape) (m : History) → Serves self.old types m → OnErr result (Serves self.new types m) }
+        ensures unchanged { OnErr result (self.new ≡ self.old) }
+    {
+        match self.api.compact(revision) {
+            Ok(()) => {
+                self.last = None;
+                Ok(())
+            }
+            Err(fault) => Err(fault),
+        }
+    }
+
+    /// As the API's call, after which no turn is the last one.
+    pub(crate) fn retype(&mut self, file: &Value) -> Result<(), RetypeFault>
+        ensures ok { (types : List ServedShape) (m : History) → Serves self.old types m
+            → OnOk result ((others : List ServedShape) × (retyping types m (value.view file.now) ≡ Ok others) × Serves self.new others (retyped types others m)) }
+        ensures refused { (types : List ServedShape) (m : History) → Serves self.old types m
+            → IfErr result (λ e. IfSome (retype_refusal e) (λ why. retyping types m (value.view file.now) ≡ Err why)) }
+        ensures unchanged { OnErr result (self.new ≡ self.old) }
+    {
+        match self.api.retype(file) {
+            Ok(()) => {
+                self.last = None;
+                Ok(())
+            }
+            Err(fault) => Err(fault),
+        }
+    }
+
+    /// The current revision and the compacted number.
+    pub(crate) fn marks(&self) -> Result<(u64, u64), Fault>
+        ensures { (types : List ServedShape) (m : History) → Serves self.now types m → result ≡ Ok (m.current, m.compacted) }
+    {
+        self.api.marks()
+    }
+}
