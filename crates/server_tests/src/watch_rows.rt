@@ -229,6 +229,34 @@ stand 3 => 0 false true
 tick 2000 => -
 out 3 => -
 
+watches_alike on widgets: watches that stand alike are told the same; labels, another namespace or room, a write and a compaction count
+serve 1 4 GET widgets?watch=true&resourceVersion=1 => -
+serve 5 5 GET widgets?watch=true&resourceVersion=1&allowWatchBookmarks=true => -
+serve 6 6 GET namespaces/default/widgets?watch=true&resourceVersion=1 => -
+serve 7 8 GET namespaces/other/widgets?watch=true&resourceVersion=1 => -
+serve 9 9 GET widgets?watch=true&resourceVersion=1&labelSelector=tier%3Dweb => -
+ask 10 POST namespaces/default/widgets {"apiVersion":"demo.example/v1","kind":"Widget","metadata":{"name":"w1"}} => 201
+pumped 6 6 5 => 90|${"type":"ADDED","object":{"apiVersion":"demo.example/v1","kind":"Widget","metadata":{"name":"w1","namespace":"default","resourceVersion":"2"}}}$|$
+pumped 1 2 5 => 90|${"type":"ADDED","object":{"apiVersion":"demo.example/v1","kind":"Widget","metadata":{"name":"w1","namespace":"default","resourceVersion":"2"}}}$|$
+pumped 5 5 5 => 90|${"type":"ADDED","object":{"apiVersion":"demo.example/v1","kind":"Widget","metadata":{"name":"w1","namespace":"default","resourceVersion":"2"}}}$|$
+pumped 9 9 5 => -
+pumped 7 7 5 => -
+ask 11 POST namespaces/default/widgets {"apiVersion":"demo.example/v1","kind":"Widget","metadata":{"name":"w2"}} => 201
+pumped 3 3 5 => 90|${"type":"ADDED","object":{"apiVersion":"demo.example/v1","kind":"Widget","metadata":{"name":"w1","namespace":"default","resourceVersion":"2"}}}$|$90|${"type":"ADDED","object":{"apiVersion":"demo.example/v1","kind":"Widget","metadata":{"name":"w2","namespace":"default","resourceVersion":"3"}}}$|$
+pumped 4 4 1 => 90|${"type":"ADDED","object":{"apiVersion":"demo.example/v1","kind":"Widget","metadata":{"name":"w1","namespace":"default","resourceVersion":"2"}}}$|$
+compact 2 => -
+pumped 8 8 5 => a9|${"type":"ERROR","object":{"apiVersion":"v1","code":410,"kind":"Status","message":"too old resource version: 1 (2)","metadata":{},"reason":"Expired","status":"Failure"}}$|$0|$|$
+pumped 7 7 5 => -
+ask 12 DELETE namespaces/default/widgets/w1 => 200
+pumped 3 3 5 => 92|${"type":"DELETED","object":{"apiVersion":"demo.example/v1","kind":"Widget","metadata":{"name":"w1","namespace":"default","resourceVersion":"4"}}}$|$
+pumped 1 2 5 => 90|${"type":"ADDED","object":{"apiVersion":"demo.example/v1","kind":"Widget","metadata":{"name":"w2","namespace":"default","resourceVersion":"3"}}}$|$92|${"type":"DELETED","object":{"apiVersion":"demo.example/v1","kind":"Widget","metadata":{"name":"w1","namespace":"default","resourceVersion":"4"}}}$|$
+compact 4 => -
+pumped 5 6 5 => a9|${"type":"ERROR","object":{"apiVersion":"v1","code":410,"kind":"Status","message":"too old resource version: 2 (4)","metadata":{},"reason":"Expired","status":"Failure"}}$|$0|$|$
+pumped 4 4 1 => a9|${"type":"ERROR","object":{"apiVersion":"v1","code":410,"kind":"Status","message":"too old resource version: 2 (4)","metadata":{},"reason":"Expired","status":"Failure"}}$|$0|$|$
+pumped 1 3 5 => -
+stand 1 => 0 false false
+stand 5 => 0 false true
+
 a_hundred_watches_are_overtaken on widgets: each is told so at its next pump
 serve 1 100 GET namespaces/default/widgets?watch=true => -
 ask 101 POST namespaces/default/widgets {"apiVersion":"demo.example/v1","kind":"Widget","metadata":{"name":"w1"}} => 201
