@@ -8,7 +8,7 @@ use Rattle.std.specs.Ordering.{nat_cmp, eq_by_cmp}
 use Rattle.schema.specs.TypesFile.{ServedShape}
 use Rattle.history.specs.History.{History}
 use Rattle.httpedge.specs.declared.shared.Shared.{Shared}
-use Rattle.httpedge.specs.Shares.{Serves}
+use Rattle.httpedge.specs.Shares.{SharedStands}
 use Rattle.httpedge.specs.declared.connection.Connection as conns
 use Rattle.httpedge.specs.declared.connection.Connection.TheVariants as conn
 use Rattle.httpedge.specs.declared.connections.Connections.{Connections as Kept}
@@ -213,7 +213,7 @@ no_id_there f id q none = go (eq_by_cmp nat_cmp id q) (tied_same id q)
 
 -- ---- a change of one that is over
 
-receives_closed : (types : List ServedShape) (m : History) (last_tick : ℕ) (c : Connection) (st : Standing) (bytes : List ℕ) (shared : Shared) → is_open st ≡ false → Serves shared types m
+receives_closed : (types : List ServedShape) (m : History) (last_tick : ℕ) (c : Connection) (st : Standing) (bytes : List ℕ) (shared : Shared) → is_open st ≡ false → SharedStands shared types m
     → Receives types m last_tick c st bytes c shared
 receives_closed types m last_tick c (waiting front) bytes shared closed stands = absurd (wrong (sym closed))
 receives_closed types m last_tick c (watching w) bytes shared closed stands = absurd (wrong (sym closed))
@@ -221,7 +221,7 @@ receives_closed types m last_tick c ended bytes shared closed stands = (refl, st
 receives_closed types m last_tick c (gone had_ended) bytes shared closed stands = (refl, stands)
 
 -- what it makes of it, and that it is over
-makes_over : (types : List ServedShape) (m : History) (last_tick : ℕ) (what : changes.Change) (c : Connection) (h : Bool) (shared : Shared) → Serves shared types m → Holds types (conn.Over h) c
+makes_over : (types : List ServedShape) (m : History) (last_tick : ℕ) (what : changes.Change) (c : Connection) (h : Bool) (shared : Shared) → SharedStands shared types m → Holds types (conn.Over h) c
     → (c' : Connection) × Makes types m last_tick what c c' shared × Holds types (conn.Over h) c'
 makes_over types m last_tick (change.Bytes bytes) c h shared stands holds = (c, receives_closed types m last_tick c c.standing bytes.now shared holds.0 stands, holds)
 makes_over types m last_tick (change.Lines max) c h shared stands holds = (c, (sym (turn_closed (pumped m max) c c.standing holds.0), stands), holds)
@@ -233,7 +233,7 @@ is_over true b d is = (true, sym (some_of is))
 is_over false true d is = (false, sym (some_of is))
 is_over false false d is = absurd (none_some is)
 
-pub passes : (types : List ServedShape) (m : History) (last_tick : ℕ) (what : changes.Change) (id : ℕ) (d : conns.Connection) (c : Connection) (k : Kept) (shared : Shared) → Serves shared types m
+pub passes : (types : List ServedShape) (m : History) (last_tick : ℕ) (what : changes.Change) (id : ℕ) (d : conns.Connection) (c : Connection) (k : Kept) (shared : Shared) → SharedStands shared types m
     → get nat_cmp k.held id ≡ None → IsAt id d k → Holds types d c → Changes types m last_tick what id c k k shared done
 passes types m last_tick what id d c k shared stands none (at, there, apart) holds =
     let over = is_over (is_in k.ended.ranges id) (is_in k.cut.ranges id) d
@@ -282,7 +282,7 @@ passed_is : (k : Kept) (id : ℕ) (f : Option conns.Connection) (o : Outcome) �
 passed_is k id f o none passes is =
     passes ∙ ap (λ (b : Bool). cond b done (refused unknown_id)) (known_by (is_in k.ended.ranges id) (is_in k.cut.ranges id) f (sym (found_held k id None none) ∙ is))
 
-pub pass_known : (types : List ServedShape) (m : History) (last_tick : ℕ) (what : changes.Change) (id : ℕ) (d : conns.Connection) (c : Connection) (old new : Kept) (shared : Shared) (o : Outcome) → Serves shared types m
+pub pass_known : (types : List ServedShape) (m : History) (last_tick : ℕ) (what : changes.Change) (id : ℕ) (d : conns.Connection) (c : Connection) (old new : Kept) (shared : Shared) (o : Outcome) → SharedStands shared types m
     → get nat_cmp old.held id ≡ None → new ≡ old → Passes old id o → IsAt id d old → Holds types d c → Changes types m last_tick what id c old new shared o
 pass_known types m last_tick what id d c old new shared o stands none same passed at holds =
     subst (Changes types m last_tick what id c old new shared) (sym (passed_is old id (Some d) o none passed at.0))

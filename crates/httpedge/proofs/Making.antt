@@ -12,7 +12,7 @@ use Rattle.httpedge.specs.Changes.{MakesHeld, Receives}
 use Rattle.httpedge.specs.Connections.{Connection, Standing, waiting, watching, ended, gone, has_ended, is_open, opened, with_standing}
 use Rattle.httpedge.specs.Held.{Holds, ReceivedBy, has_ended_in, waiting_for}
 use Rattle.httpedge.specs.declared.event.Change.TheVariants as change
-use Rattle.httpedge.specs.Shares.{IsLast, Serves}
+use Rattle.httpedge.specs.Shares.{IsLast, SharedStands}
 use Rattle.httpedge.specs.Steps.{connection_after, machine_after}
 use Rattle.httpedge.specs.declared.shared.LastTurn.{LastTurn}
 use Rattle.httpedge.specs.declared.shared.Shared.{Shared}
@@ -36,7 +36,7 @@ later types m last_tick front bytes (refused d) = refl
 later types m last_tick front bytes (accepted call) = refl
 
 -- without a last turn the API alone stands
-pub serves : (shared : Shared) (types : List ServedShape) (m : History) → shared.last ≡ None → Stands shared.api types m → Serves shared types m
+pub serves : (shared : Shared) (types : List ServedShape) (m : History) → shared.last ≡ None → Stands shared.api types m → SharedStands shared types m
 serves shared types m none stands = (stands, subst (λ (o : Option LastTurn). IfSome o (IsLast m)) (sym none) tt)
 
 pub received_makes : (types : List ServedShape) (m : History) (last_tick : ℕ) (c : Connection) (st : Standing) (bytes : List ℕ) (d : conns.Connection) (shared : Shared) → shared.last ≡ None → ReceivedBy types m last_tick c st bytes d shared.api
@@ -52,7 +52,7 @@ received_makes types m last_tick c ended bytes d shared none (holds, stands) = (
 received_makes types m last_tick c (gone had_ended) bytes d shared none (holds, stands) = (c, (refl, serves shared types m none stands), holds)
 
 -- its peer goes
-pub goes_held : (types : List ServedShape) (m : History) (last_tick : ℕ) (c : Connection) (d e : conns.Connection) (shared : Shared) → Serves shared types m → Holds types d c
+pub goes_held : (types : List ServedShape) (m : History) (last_tick : ℕ) (c : Connection) (d e : conns.Connection) (shared : Shared) → SharedStands shared types m → Holds types d c
     → Holds types e (with_standing c (gone (has_ended_in d))) → MakesHeld types m last_tick change.Gone c e shared
 goes_held types m last_tick c d e shared stands holds went =
     (with_standing c (gone (has_ended c.standing)), (refl, stands), subst (λ (b : Bool). Holds types e (with_standing c (gone b))) (same_ended types d c holds) went)

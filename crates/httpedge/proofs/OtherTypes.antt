@@ -22,7 +22,7 @@ use Rattle.history.specs.History.{History, last_revision, standing}
 use Rattle.verbs.specs.Admit.{Parts, Place, admitted, has_status, kind_in, kind_with, parts_by, place_admitted, place_by, place_in, place_of, routes}
 use Rattle.verbs.specs.Calls.{Denied, Target}
 use Rattle.verbs.specs.Retyping.{RetypeRefusal, changed_objects, if_declared, if_lawful, if_left, not_lawful, not_types, retyping, too_few_revisions}
-use Rattle.httpedge.specs.Shares.{Serves}
+use Rattle.httpedge.specs.Shares.{SharedStands}
 use Rattle.httpedge.specs.declared.shared.Shared.{Shared}
 use Rattle.verbs.specs.declared.resource.Resource.{Resource}
 use Rattle.verbs.specs.declared.resource.Resource.TheVariants.{AllNamespaces, Collection, Object, Status}
@@ -172,7 +172,7 @@ same_held types others lasts None (Some c) holds = absurd holds
 same_held types others lasts (Some d) None holds = absurd holds
 same_held types others lasts (Some d) (Some c) holds = same_holds types others lasts d c holds
 
-pub others_represent : (s : State) (others : List ServedShape) (m : History) (shared shared' : Shared) (k : Kept) → LastsIn s.types others → Represents shared k s → Serves shared' others m
+pub others_represent : (s : State) (others : List ServedShape) (m : History) (shared shared' : Shared) (k : Kept) → LastsIn s.types others → Represents shared k s → SharedStands shared' others m
     → Represents shared' k (record s { types = others; machine = m })
 others_represent s others m shared shared' k lasts is stands = record {
   machine = stands;

@@ -14,7 +14,7 @@ use Rattle.std.proofs.lemmas.List.{drop_all, length-drop}
 use Rattle.schema.specs.TypesFile.{ServedShape}
 use Rattle.httpedge.specs.declared.shared.Shared.{Shared}
 use Rattle.history.specs.History.{History, compacted_to}
-use Rattle.httpedge.specs.Shares.{Serves}
+use Rattle.httpedge.specs.Shares.{SharedStands}
 use Rattle.revstore.specs.declared.fault.CompactFault.{CompactFault}
 use Rattle.revstore.specs.declared.fault.CompactFault.TheVariants as broken
 use Rattle.revtable.specs.declared.fault.Fault.{Fault as TheirFault}
@@ -178,7 +178,7 @@ no_entry (x ∷ es) e = absurd (omega (arith, e))
 no_entries : fin.entries ((fin.empty {X = Connection} {R = nat_cmp})) ≡ []
 no_entries = no_entry (fin.entries (fin.empty {X = Connection} {R = nat_cmp})) (sym (fin.len-entries (fin.empty {X = Connection} {R = nat_cmp})) ∙ fin.len-empty nat_cmp Connection)
 
-pub start_in : (types : List ServedShape) (m : History) (shared : Shared) (k : Kept) → Serves shared types m → k.held.entries ≡ [] → k.open_ids.keys ≡ [] → ((q : ℕ) → is_in k.ended.ranges q ≡ false)
+pub start_in : (types : List ServedShape) (m : History) (shared : Shared) (k : Kept) → SharedStands shared types m → k.held.entries ≡ [] → k.open_ids.keys ≡ [] → ((q : ℕ) → is_in k.ended.ranges q ≡ false)
     → ((q : ℕ) → is_in k.cut.ranges q ≡ false) → k.highest ≡ None → Represents shared k (start types m)
 start_in types m shared k stands none shut had cut first = record {
   machine = stands;
@@ -265,7 +265,7 @@ same_in s shared old new held same = record {
 
 -- ---- what becomes of one connection
 
-pub moves : (s : State) (m : History) (id : ℕ) (still : Bool) (shared shared' : Shared) (old new : Kept) (c c' : Connection) → Represents shared old s → Serves shared' s.types m → fin.get s.connections id ≡ Some c
+pub moves : (s : State) (m : History) (id : ℕ) (still : Bool) (shared shared' : Shared) (old new : Kept) (c c' : Connection) → Represents shared old s → SharedStands shared' s.types m → fin.get s.connections id ≡ Some c
     → BecomesAt s.types still c' id old new → is_open c.standing && still ≡ is_open c'.standing → Represents shared' new (with_connection (with_machine s m) id c')
 moves s m id still shared shared' old new c c' held serves got becomes stays = record {
   machine = serves;
@@ -297,7 +297,7 @@ still_open false true h = h refl
 still_open false false h = refl
 
 -- it stays as it is
-idles : (s : State) (id : ℕ) (shared shared' : Shared) (old new : Kept) (c c' : Connection) → Represents shared old s → Serves shared' s.types s.machine → fin.get s.connections id ≡ Some c → c' ≡ c
+idles : (s : State) (id : ℕ) (shared shared' : Shared) (old new : Kept) (c c' : Connection) → Represents shared old s → SharedStands shared' s.types s.machine → fin.get s.connections id ≡ Some c → c' ≡ c
     → BecomesAt s.types (is_open c'.standing) c' id old new → Represents shared' new s
 idles s id shared shared' old new c c' held serves got same becomes =
     subst (λ (all : Connections). Represents shared' new (with_connections s all)) (ap (fin.insert s.connections id) same ∙ put_same s.connections id c got)
@@ -330,7 +330,7 @@ comes_done s id bytes shared shared' old new c c' (gone had_ended) held got stan
 -- ---- a peer that goes, and a pump
 
 goes_done : (s : State) (id : ℕ) (shared shared' : Shared) (old new : Kept) (c c' : Connection) → Represents shared old s → fin.get s.connections id ≡ Some c
-    → c' ≡ with_standing c (gone (has_ended c.standing)) → Serves shared' s.types s.machine → BecomesAt s.types (is_open c'.standing) c' id old new → Done s (goes id) shared' new
+    → c' ≡ with_standing c (gone (has_ended c.standing)) → SharedStands shared' s.types s.machine → BecomesAt s.types (is_open c'.standing) c' id old new → Done s (goes id) shared' new
 goes_done s id shared shared' old new c c' held got is serves becomes = (
   with_connection s id c',
   (
@@ -352,7 +352,7 @@ turn_opens turn c ended stands now = now
 turn_opens turn c (gone had_ended) stands now = now
 
 pumps_done : (s : State) (id max : ℕ) (shared shared' : Shared) (old new : Kept) (c c' : Connection) → Represents shared old s → fin.get s.connections id ≡ Some c → (max == 0) ≡ false
-    → c' ≡ with_turn (pumped s.machine max) c → Serves shared' s.types s.machine → BecomesAt s.types (is_open c'.standing) c' id old new → Done s (pumps id max) shared' new
+    → c' ≡ with_turn (pumped s.machine max) c → SharedStands shared' s.types s.machine → BecomesAt s.types (is_open c'.standing) c' id old new → Done s (pumps id max) shared' new
 pumps_done s id max shared shared' old new c c' held got some is serves becomes =
     let turn = pumped s.machine max in (
       with_connection s id c',
@@ -433,7 +433,7 @@ watching_open (gone had_ended) is = absurd (false_true is)
 abbrev pub Starved : State → Event → Shared → Kept → Type 0
 Starved s e shared k = (t : State) × Starves s e (λ q. false) t × Represents shared k t × (t.last_tick ≡ s.last_tick)
 
-dies : (s : State) (id : ℕ) (shared shared' : Shared) (old new : Kept) (c : Connection) → Represents shared old s → Serves shared' s.types s.machine → fin.get s.connections id ≡ Some c → is_open c.standing ≡ true
+dies : (s : State) (id : ℕ) (shared shared' : Shared) (old new : Kept) (c : Connection) → Represents shared old s → SharedStands shared' s.types s.machine → fin.get s.connections id ≡ Some c → is_open c.standing ≡ true
     → BecomesAt s.types false (with_standing c ended) id old new
     → (t : State) × (t ≡ by_connection s (fin.get s.connections id) (λ x. with_connection s id (dead x))) × Represents shared' new t × (t.last_tick ≡ s.last_tick)
 dies s id shared shared' old new c held serves got was_open becomes =
@@ -445,7 +445,7 @@ dies s id shared shared' old new c held serves got was_open becomes =
     )
 
 changes_starve : (s : State) (what : changes.Change) (id : ℕ) (shared shared' : Shared) (old new : Kept) (c : Connection) → (IsNone what → ⊥) → Represents shared old s → fin.get s.connections id ≡ Some c
-    → takes_memory_on what c.standing ≡ true → Serves shared' s.types s.machine → BecomesAt s.types false (with_standing c ended) id old new → Starved s (event_on id what) shared' new
+    → takes_memory_on what c.standing ≡ true → SharedStands shared' s.types s.machine → BecomesAt s.types false (with_standing c ended) id old new → Starved s (event_on id what) shared' new
 changes_starve s (change.Bytes bytes) id shared shared' old new c some held got takes serves becomes =
     let died = dies s id shared shared' old new c held serves got (waiting_open c.standing takes) becomes in (
       died.0,
@@ -483,7 +483,7 @@ abbrev pub with_parts : Hub → Shared → Kept → Hub
 with_parts hub shared k = record { alloc = hub.alloc; shared = shared; connections = k; last_tick = hub.last_tick }
 
 pub changes_handled : (hub : Hub) (what : changes.Change) (id : ℕ) (shared : Shared) (new : Kept) (o : Outcome) → (IsNone what → ⊥)
-    → ((types : List ServedShape) (m : History) (d : conns.Connection) (c : Connection) → Serves hub.shared types m → IsAt id d hub.connections → Holds types d c
+    → ((types : List ServedShape) (m : History) (d : conns.Connection) (c : Connection) → SharedStands hub.shared types m → IsAt id d hub.connections → Holds types d c
     → Changes types m hub.last_tick what id c hub.connections new shared o)
     → (found hub.connections id ≡ None → (o ≡ outcome.refused unknown_id) × (new ≡ hub.connections) × (shared ≡ hub.shared)) → (is_some (found hub.connections id) ≡ true → refusal_in o ≡ None)
     → Handles hub (event_on id what) o (with_parts hub shared new)
@@ -514,7 +514,7 @@ changes_handled hub what id shared new o some known unknown taken = go (found hu
 
 -- ---- compactions
 
-over_shared : (s : State) (m : History) (shared shared' : Shared) (k : Kept) → Represents shared k s → Serves shared' s.types m → Represents shared' k (with_machine s m)
+over_shared : (s : State) (m : History) (shared shared' : Shared) (k : Kept) → Represents shared k s → SharedStands shared' s.types m → Represents shared' k (with_machine s m)
 over_shared s m shared shared' k held stands = record { machine = stands; connections = held.connections; open_is = held.open_is; highest_is = held.highest_is; apart = held.apart }
 
 -- from the compacted number to the current revision
@@ -570,7 +570,7 @@ late_refused A s c r e (early, late) is large = refused_high s c (late.0 (is ∙
 
 -- the same connections over another API
 pub compacts_well : (s : State) (c : ℕ) (hub : Hub) (shared : Shared) → IsIn hub s → refusal s (compacts c) ≡ None
-    → Serves shared s.types (compacted_to c s.machine) → (refusal s (compacts c) ≡ None) × (t : State) × Steps s (compacts c) t × (Represents shared hub.connections t × (hub.last_tick ≡ t.last_tick))
+    → SharedStands shared s.types (compacted_to c s.machine) → (refusal s (compacts c) ≡ None) × (t : State) × Steps s (compacts c) t × (Represents shared hub.connections t × (hub.last_tick ≡ t.last_tick))
 compacts_well s c hub shared is free stands =
     let t = with_machine s (compacted_to c s.machine) in (
       free,
@@ -582,7 +582,7 @@ compacts_well s c hub shared is free stands =
 pub same_shared : (hub : Hub) (shared : Shared) → shared ≡ hub.shared → with_parts hub shared hub.connections ≡ hub
 same_shared hub shared same = ap (λ (a : Shared). with_parts hub a hub.connections) same
 
-pub same_held : (s : State) (hub : Hub) (shared : Shared) → IsIn hub s → Serves shared s.types s.machine → Represents shared hub.connections s × (hub.last_tick ≡ s.last_tick)
+pub same_held : (s : State) (hub : Hub) (shared : Shared) → IsIn hub s → SharedStands shared s.types s.machine → Represents shared hub.connections s × (hub.last_tick ≡ s.last_tick)
 same_held s hub shared is stands = (over_shared s s.machine hub.shared shared hub.connections is.0 stands, is.1)
 
 -- ---- what failed below

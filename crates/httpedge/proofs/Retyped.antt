@@ -4,7 +4,7 @@ use Rattle.std.specs.Prelude.{IfSome}
 use Rattle.serde_json.specs.Data.{Data}
 use Rattle.schema.specs.TypesFile.{ServedShape}
 use Rattle.verbs.specs.Retyping.{RetypeRefusal, retyped, retyping}
-use Rattle.httpedge.specs.Shares.{Serves}
+use Rattle.httpedge.specs.Shares.{SharedStands}
 use Rattle.verbs.specs.Seen.{retype_refusal}
 use Rattle.httpedge.specs.declared.shared.Shared.{Shared}
 use Rattle.verbs.specs.declared.fault.Fault.TheVariants as failed
@@ -23,7 +23,7 @@ use Rattle.httpedge.proofs.OtherTypes.{is_lawful, others_represent, types_last}
 
 -- the others are served, and each connection is held by them
 pub retypes_well : (s : State) (file : Data) (hub : Hub) (shared : Shared) → IsIn hub s
-    → (others : List ServedShape) × (retyping s.types s.machine file ≡ Ok others) × Serves shared others (retyped s.types others s.machine)
+    → (others : List ServedShape) × (retyping s.types s.machine file ≡ Ok others) × SharedStands shared others (retyped s.types others s.machine)
     → (refusal s (retypes file) ≡ None) × (t : State) × Steps s (retypes file) t × (Represents shared hub.connections t × (hub.last_tick ≡ t.last_tick))
 retypes_well s file hub shared is (others, got, stands) = (
   ap unless_retyped got,

@@ -3,7 +3,7 @@ use Rattle.std.specs.Prelude.{◌≡◌, ℕ, Bool, true, false, ◌++◌, List}
 use Rattle.schema.specs.TypesFile.{ServedShape}
 use Rattle.history.specs.History.{History}
 use Rattle.httpedge.specs.declared.shared.Shared.{Shared}
-use Rattle.httpedge.specs.Shares.{Serves}
+use Rattle.httpedge.specs.Shares.{SharedStands}
 use Rattle.requests.specs.Asks.{CallDecision, Asks}
 use Rattle.httpedge.specs.declared.connection.Connection as conns
 use Rattle.httpedge.specs.declared.connections.Connections.{Connections as Kept}
@@ -24,14 +24,14 @@ event_on id change.Gone = goes id
 -- bytes make of a connection that waited what all its bytes ask, and what is shared then stands for the machine that they lead to
 abbrev pub Receives : List ServedShape → History → ℕ → Connection → Standing → List ℕ → Connection → Shared → Type 0
 Receives types m last_tick c (waiting front) bytes c' shared =
-    (asked : CallDecision) × Asks types (front ++ bytes) asked × (c' ≡ connection_after types m last_tick c (front ++ bytes) asked) × Serves shared types (machine_after types m asked)
-Receives types m last_tick c _ bytes c' shared = (c' ≡ c) × Serves shared types m
+    (asked : CallDecision) × Asks types (front ++ bytes) asked × (c' ≡ connection_after types m last_tick c (front ++ bytes) asked) × SharedStands shared types (machine_after types m asked)
+Receives types m last_tick c _ bytes c' shared = (c' ≡ c) × SharedStands shared types m
 
 -- the change makes this connection of one
 abbrev pub Makes : List ServedShape → History → ℕ → changes.Change → Connection → Connection → Shared → Type 0
 Makes types m last_tick (change.Bytes bytes) c c' shared = Receives types m last_tick c c.standing bytes.now c' shared
-Makes types m last_tick (change.Lines max) c c' shared = (c' ≡ with_turn (pumped m max) c) × Serves shared types m
-Makes types m last_tick change.Gone c c' shared = (c' ≡ with_standing c (gone (has_ended c.standing))) × Serves shared types m
+Makes types m last_tick (change.Lines max) c c' shared = (c' ≡ with_turn (pumped m max) c) × SharedStands shared types m
+Makes types m last_tick change.Gone c c' shared = (c' ≡ with_standing c (gone (has_ended c.standing))) × SharedStands shared types m
 
 -- the same, where the code then holds it so
 abbrev pub MakesHeld : List ServedShape → History → ℕ → changes.Change → Connection → conns.Connection → Shared → Type 0
@@ -49,4 +49,4 @@ Changes types m last_tick what id c old new shared done =
     (c' : Connection) × Makes types m last_tick what c c' shared × BecomesAt types (is_open c'.standing) c' id old new
 Changes types m last_tick what id c old new shared (refused why) = ⊥
 Changes types m last_tick what id c old new shared starved =
-    (takes_memory_on what c.standing ≡ true) × Serves shared types m × BecomesAt types false (with_standing c ended) id old new
+    (takes_memory_on what c.standing ≡ true) × SharedStands shared types m × BecomesAt types false (with_standing c ended) id old new

@@ -16,7 +16,7 @@ use Rattle.httpedge.specs.declared.watching.Watch as watches
 use Rattle.requests.specs.Asks.{CallDecision, Asks}
 use Rattle.httpedge.specs.Connections.{Connection, Connections, Standing, waiting, watching, ended, gone, has_ended, is_new, is_open, is_waiting, is_watching, open_on, opened, out_of, with_standing}
 use Rattle.httpedge.specs.Ids.{is_in}
-use Rattle.httpedge.specs.Shares.{Serves}
+use Rattle.httpedge.specs.Shares.{SharedStands}
 use Rattle.httpedge.specs.declared.shared.Shared.{Shared}
 use Rattle.watchline.specs.Watches.{Cursor}
 use Rattle.watchline.specs.Watches as cursors
@@ -146,7 +146,7 @@ IsApart k = (q : ℕ) → is_some (get nat_cmp k.held q) ≡ true → is_in k.en
 
 -- these connections are those of the state, with the ids of those that are open and the highest id, and what they share stands for its machine
 pub record Represents (shared : Shared) (k : Kept) (s : State) : Type 0 where
-  pub machine : Serves shared s.types s.machine
+  pub machine : SharedStands shared s.types s.machine
   pub connections : (id : ℕ) → HoldsAt s.types (found k id) (fin.get s.connections id)
   pub open_is : (id : ℕ) → contains nat_cmp k.open_ids id ≡ open_on s.connections id
   pub highest_is : (id : ℕ) → is_new s.connections id ≡ is_above k.highest id

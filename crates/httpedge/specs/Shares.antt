@@ -1,4 +1,4 @@
--- What all connections share stands for: the API for its machine, and the last turn of a watch for what a watch tells from that machine.
+-- When what all connections share stands for a machine: the API does, and the last turn is what a watch tells from that machine.
 use Rattle.std.specs.Prelude.{◌≡◌, ℕ, List, IfSome}
 use Rattle.schema.specs.TypesFile.{ServedShape}
 use Rattle.history.specs.History.{History}
@@ -15,5 +15,5 @@ pub record IsLast (m : History) (last : LastTurn) : Type 0 where
       ≡ record { lines = lines; ended = last.has_ended; next = moved last.before last.reach.position last.reach.told last.before.left }
   pub bytes : last.bytes.items ≡ chunks lines last.has_ended
 
-abbrev pub Serves : Shared → List ServedShape → History → Type 0
-Serves shared types m = Stands shared.api types m × IfSome shared.last (IsLast m)
+abbrev pub SharedStands : Shared → List ServedShape → History → Type 0
+SharedStands shared types m = Stands shared.api types m × IfSome shared.last (IsLast m)

@@ -12,7 +12,7 @@ ghost use Rattle.httpedge.specs.Connections.{Connections, ended, gone, open_coun
 ghost use Rattle.httpedge.specs.Held.{Becomes, Holds, Received, has_ended_in, is_open_in, is_waiting_in, out_in, over_in};
 ghost use Rattle.requests.specs.Fronts.{front_bytes};
 ghost use Rattle.requests.specs.Pendings.{Awaits, Finds};
-ghost use Rattle.httpedge.specs.Shares.{Serves};
+ghost use Rattle.httpedge.specs.Shares.{SharedStands};
 ghost use Rattle.httpedge.specs.Steps.{answered, opening};
 ghost use Rattle.httpedge.specs.declared.event.Change.TheVariants as changes;
 ghost use Rattle.requests.specs.Replies.{answer_bytes};
@@ -228,9 +228,9 @@ pub(crate) fn receive_on(
     bytes: &[u8],
     last_tick: u64,
 ) -> Result<(), Fault>
-    ensures ok { (types : List ServedShape) (m : History) (c : model.Connection) → Serves shared.old types m → Holds types connection.old c → OnOk result (Received types m last_tick c bytes.now connection.new shared.new.api) }
+    ensures ok { (types : List ServedShape) (m : History) (c : model.Connection) → SharedStands shared.old types m → Holds types connection.old c → OnOk result (Received types m last_tick c bytes.now connection.new shared.new.api) }
     ensures forgotten { shared.new.last ≡ None }
-    ensures err { (types : List ServedShape) (m : History) → Serves shared.old types m → OnErr result (Serves shared.new types m) }
+    ensures err { (types : List ServedShape) (m : History) → SharedStands shared.old types m → OnErr result (SharedStands shared.new types m) }
     ensures waited { OnErr result (is_waiting_in connection.old ≡ true) }
     ensures dead { (types : List ServedShape) (c : model.Connection) → Holds types connection.old c → OnErr result (Holds types connection.new (with_standing c ended)) }
 {
@@ -249,8 +249,8 @@ pub(crate) fn change(
     what: Change,
     last_tick: u64,
 ) -> Result<(), Fault>
-    ensures ok { (types : List ServedShape) (m : History) (c : model.Connection) → Serves shared.old types m → Holds types connection.old c → OnOk result (MakesHeld types m last_tick what.entry c connection.new shared.new) }
-    ensures err { (types : List ServedShape) (m : History) → Serves shared.old types m → OnErr result (Serves shared.new types m) }
+    ensures ok { (types : List ServedShape) (m : History) (c : model.Connection) → SharedStands shared.old types m → Holds types connection.old c → OnOk result (MakesHeld types m last_tick what.entry c connection.new shared.new) }
+    ensures err { (types : List ServedShape) (m : History) → SharedStands shared.old types m → OnErr result (SharedStands shared.new types m) }
     ensures could { (types : List ServedShape) (c : model.Connection) → Holds types connection.old c → OnErr result (takes_memory_on what.entry c.standing ≡ true) }
     ensures dead { (types : List ServedShape) (c : model.Connection) → Holds types connection.old c → OnErr result (Holds types connection.new (with_standing c ended)) }
     ensures gone { what.entry ≡ changes.Gone → result ≡ Ok tt }

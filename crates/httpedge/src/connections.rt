@@ -12,7 +12,7 @@ ghost use Rattle.httpedge.specs.Connections.{open_count, with_taken};
 ghost use Rattle.httpedge.specs.Held.{BecomesAt, Closes, Forgets, Holds, IsApart, IsAt, IsFresh, IsSame, Opens, Represents, found, has_ended_in, is_waiting_in, kept_in, out_in, over_in, over_of};
 ghost use Rattle.httpedge.specs.HubSeen.{done, outcome_of, refusal_in, refused};
 ghost use Rattle.httpedge.specs.Ids.{is_in};
-ghost use Rattle.httpedge.specs.Shares.{Serves};
+ghost use Rattle.httpedge.specs.Shares.{SharedStands};
 ghost use Rattle.httpedge.specs.Steps.{State, start, unknown_id};
 ghost use Rattle.httpedge.specs.Ticks.{TicksIn};
 ghost use Rattle.httpedge.specs.declared.connection.Connection as held;
@@ -49,7 +49,7 @@ pub(crate) struct Connections {
 impl Connections {
     /// None.
     pub(crate) fn new(alloc: Global) -> Connections
-        ensures { (types : List ServedShape) (m : History) (shared : shares.Shared) → Serves shared types m → Represents shared result (start types m) }
+        ensures { (types : List ServedShape) (m : History) (shared : shares.Shared) → SharedStands shared types m → Represents shared result (start types m) }
     {
         Connections {
             held: BTreeMap::new(alloc),
@@ -162,7 +162,7 @@ impl Connections {
         what: Change,
         last_tick: u64,
     ) -> Result<(), HubFault>
-        ensures known { (types : List ServedShape) (m : History) (d : held.Connection) (c : TheConnection) → Serves shared.old types m → IsAt id d self.old → Holds types d c
+        ensures known { (types : List ServedShape) (m : History) (d : held.Connection) (c : TheConnection) → SharedStands shared.old types m → IsAt id d self.old → Holds types d c
             → Changes types m last_tick what.entry id c self.old self.new shared.new (outcome_of result) }
         ensures unknown { found self.old id ≡ None → (outcome_of result ≡ refused unknown_id) × (self.new ≡ self.old) × (shared.new ≡ shared.old) }
         ensures taken { is_some (found self.old id) ≡ true → refusal_in (outcome_of result) ≡ None }

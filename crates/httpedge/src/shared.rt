@@ -9,7 +9,7 @@ ghost use Rattle.verbs.specs.Retyping.{retyped, retyping};
 ghost use Rattle.verbs.specs.Seen.{Stands, retype_refusal};
 ghost use Rattle.watchline.specs.Watches.{from_history, moved, pumped, with_bookmarks};
 ghost use Rattle.httpedge.specs.Held.{Pumps, left};
-ghost use Rattle.httpedge.specs.Shares.{IsLast, Serves};
+ghost use Rattle.httpedge.specs.Shares.{IsLast, SharedStands};
 
 use crate::out::Out;
 use requests::chunks;
@@ -53,7 +53,7 @@ pub(crate) struct Shared {
 
 impl Shared {
     pub(crate) fn new(api: Api) -> Shared
-        ensures { (types : List ServedShape) (m : History) → Stands api types m → Serves result types m }
+        ensures { (types : List ServedShape) (m : History) → Stands api types m → SharedStands result types m }
     {
         Shared { api, last: None }
     }
@@ -67,10 +67,10 @@ impl Shared {
         out: &mut Out,
         max: usize,
     ) -> Result<bool, Fault>
-        ensures ok { (types : List ServedShape) (m : History) → Serves self.old types m
+        ensures ok { (types : List ServedShape) (m : History) → SharedStands self.old types m
             → IfOk result (λ has_ended. Pumps (pumped (from_history m) max cursor.old) has_ended cursor.new (left out.old) (left out.new)) }
         ensures err { OnErr result (left out.new ≡ left out.old) }
-        ensures serves { (types : List ServedShape) (m : History) → Serves self.old types m → Serves self.new types m }
+        ensures serves { (types : List ServedShape) (m : History) → SharedStands self.old types m → SharedStands self.new types m }
     {
         if let Some(last) = &self.last {
             if last.is_of(cursor, max) {
@@ -89,10 +89,10 @@ impl Shared {
         out: &mut Out,
         max: usize,
     ) -> Result<bool, Fault>
-        ensures ok { (types : List ServedShape) (m : History) → Serves self.old types m
+        ensures ok { (types : List ServedShape) (m : History) → SharedStands self.old types m
             → IfOk result (λ has_ended. Pumps (pumped (from_history m) max cursor.old) has_ended cursor.new (left out.old) (left out.new)) }
         ensures err { OnErr result (left out.new ≡ left out.old) }
-        ensures serves { (types : List ServedShape) (m : History) → Serves self.old types m → Serves self.new types m }
+        ensures serves { (types : List ServedShape) (m : History) → SharedStands self.old types m → SharedStands self.new types m }
     {
         let before = cursor.copied(alloc)?;
         let pumped = self.api.pump(cursor, max)?;
@@ -113,7 +113,7 @@ impl Shared {
 
     /// A turn is the last one now, where it wrote something and not too much to be kept.
     fn keep(&mut self, turn: LastTurn)
-        ensures { (types : List ServedShape) (m : History) → Serves self.old types m → IsLast m turn → Serves self.new types m }
+        ensures { (types : List ServedShape) (m : History) → SharedStands self.old types m → IsLast m turn → SharedStands self.new types m }
     {
         if !turn.bytes.is_empty() && turn.bytes.len() <= MOST_BYTES {
             self.last = Some(turn);
@@ -122,10 +122,10 @@ impl Shared {
 
     /// As the API's call, after which no turn is the last one.
     pub(crate) fn compact(&mut self, revision: u64) -> Result<(), CompactFault>
-        ensures ok { (types : List ServedShape) (m : History) → Serves self.old types m → OnOk result (Serves self.new types (compacted_to revision m)) }
-        ensures expired { (types : List ServedShape) (m : History) → Serves self.old types m → (result ≡ Err CompactFault.Expired) ↔ (revision < m.compacted) }
-        ensures too_large { (types : List ServedShape) (m : History) → Serves self.old types m → (result ≡ Err CompactFault.TooLarge) ↔ (m.current < revision) }
-        ensures err { (types : List ServedShape) (m : History) → Serves self.old types m → OnErr result (Serves self.new types m) }
+        ensures ok { (types : List ServedShape) (m : History) → SharedStands self.old types m → OnOk result (SharedStands self.new types (compacted_to revision m)) }
+        ensures expired { (types : List ServedShape) (m : History) → SharedStands self.old types m → (result ≡ Err CompactFault.Expired) ↔ (revision < m.compacted) }
+        ensures too_large { (types : List ServedShape) (m : History) → SharedStands self.old types m → (result ≡ Err CompactFault.TooLarge) ↔ (m.current < revision) }
+        ensures err { (types : List ServedShape) (m : History) → SharedStands self.old types m → OnErr result (SharedStands self.new types m) }
         ensures unchanged { OnErr result (self.new ≡ self.old) }
     {
         match self.api.compact(revision) {
@@ -139,9 +139,9 @@ impl Shared {
 
     /// As the API's call, after which no turn is the last one.
     pub(crate) fn retype(&mut self, file: &Value) -> Result<(), RetypeFault>
-        ensures ok { (types : List ServedShape) (m : History) → Serves self.old types m
-            → OnOk result ((others : List ServedShape) × (retyping types m (value.view file.now) ≡ Ok others) × Serves self.new others (retyped types others m)) }
-        ensures refused { (types : List ServedShape) (m : History) → Serves self.old types m
+        ensures ok { (types : List ServedShape) (m : History) → SharedStands self.old types m
+            → OnOk result ((others : List ServedShape) × (retyping types m (value.view file.now) ≡ Ok others) × SharedStands self.new others (retyped types others m)) }
+        ensures refused { (types : List ServedShape) (m : History) → SharedStands self.old types m
             → IfErr result (λ e. IfSome (retype_refusal e) (λ why. retyping types m (value.view file.now) ≡ Err why)) }
         ensures unchanged { OnErr result (self.new ≡ self.old) }
     {
@@ -156,7 +156,7 @@ impl Shared {
 
     /// The current revision and the compacted number.
     pub(crate) fn marks(&self) -> Result<(u64, u64), Fault>
-        ensures { (types : List ServedShape) (m : History) → Serves self.now types m → result ≡ Ok (m.current, m.compacted) }
+        ensures { (types : List ServedShape) (m : History) → SharedStands self.now types m → result ≡ Ok (m.current, m.compacted) }
     {
         self.api.marks()
     }

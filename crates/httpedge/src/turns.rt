@@ -7,7 +7,7 @@ ghost use Rattle.verbs.specs.Seen.{Stands};
 ghost use Rattle.httpedge.specs.Connections as model;
 ghost use Rattle.httpedge.specs.Connections.{ended, with_standing};
 ghost use Rattle.httpedge.specs.Held.{Holds, is_watching_in};
-ghost use Rattle.httpedge.specs.Shares.{Serves};
+ghost use Rattle.httpedge.specs.Shares.{SharedStands};
 ghost use Rattle.httpedge.specs.Steps.{dead_or_ticked, with_turn, writes_at};
 ghost use Rattle.httpedge.specs.Watches.{pumped};
 
@@ -25,11 +25,11 @@ pub(crate) fn pump_on(
     connection: &mut Connection,
     max: usize,
 ) -> Result<(), Fault>
-    ensures ok { (types : List ServedShape) (m : History) (c : model.Connection) → Serves shared.old types m → Holds types connection.old c
+    ensures ok { (types : List ServedShape) (m : History) (c : model.Connection) → SharedStands shared.old types m → Holds types connection.old c
         → OnOk result (Holds types connection.new (with_turn (pumped m max) c)) }
     ensures dead { (types : List ServedShape) (c : model.Connection) → Holds types connection.old c → OnErr result (Holds types connection.new (with_standing c ended)) }
     ensures watched { OnErr result (is_watching_in connection.old ≡ true) }
-    ensures serves { (types : List ServedShape) (m : History) → Serves shared.old types m → Serves shared.new types m }
+    ensures serves { (types : List ServedShape) (m : History) → SharedStands shared.old types m → SharedStands shared.new types m }
 {
     match connection {
         Connection::Watch(watch, out) => match watch.pump(alloc, shared, out, max) {

@@ -8,7 +8,7 @@ ghost use Rattle.verbs.specs.Seen.{Stands};
 ghost use Rattle.watchline.specs.Views.{watch_from};
 ghost use Rattle.httpedge.specs.Held.{Turns, left, watch_of};
 ghost use Rattle.requests.specs.ReplyBytes.{chunks};
-ghost use Rattle.httpedge.specs.Shares.{Serves};
+ghost use Rattle.httpedge.specs.Shares.{SharedStands};
 ghost use Rattle.httpedge.specs.Watches.{begun_at, is_due, is_over, line_list, pumped, ticked};
 
 use crate::out::Out;
@@ -75,10 +75,10 @@ impl Watch {
         out: &mut Out,
         max: usize,
     ) -> Result<bool, Fault>
-        ensures ok { (types : List ServedShape) (m : History) → Serves shared.old types m
+        ensures ok { (types : List ServedShape) (m : History) → SharedStands shared.old types m
             → IfOk result (λ has_ended. Turns (pumped m max (watch_of self.old)) has_ended (watch_of self.new) (left out.old) (left out.new)) }
         ensures err { OnErr result (left out.new ≡ left out.old) }
-        ensures serves { (types : List ServedShape) (m : History) → Serves shared.old types m → Serves shared.new types m }
+        ensures serves { (types : List ServedShape) (m : History) → SharedStands shared.old types m → SharedStands shared.new types m }
     {
         shared.pump(alloc, &mut self.cursor, out, max)
     }

@@ -3,7 +3,7 @@ use Rattle.std.specs.Prelude.{IfSome}
 use Rattle.schema.specs.TypesFile.{ServedShape}
 use Rattle.history.specs.History.{History}
 use Rattle.httpedge.specs.Held.{left}
-use Rattle.httpedge.specs.Shares.{IsLast, Serves}
+use Rattle.httpedge.specs.Shares.{IsLast, SharedStands}
 use Rattle.httpedge.specs.declared.shared.LastTurn.{LastTurn}
 use Rattle.httpedge.specs.declared.shared.Shared.{Shared}
 use Rattle.httpedge.proofs.Alike.{repeats}
@@ -18,11 +18,11 @@ returns-then-is_of-clause-ok c = λ types m serves.
     (same.0, same.1, c.move_to.ensures ∙ same.2)
 
 -- the branches before change nothing
-still : (c : goal.After-pump_anew) (types : List ServedShape) (m : History) → Serves c.args.self.now types m → Serves c.match-self.self types m
+still : (c : goal.After-pump_anew) (types : List ServedShape) (m : History) → SharedStands c.args.self.now types m → SharedStands c.match-self.self types m
 still c types m serves =
     elim c.match-self.branch [
-      | in-Some+else-is_of w ↦ subst (λ (s : Shared). Serves s types m) (sym w.self-is) serves
-      | in_default w ↦ subst (λ (s : Shared). Serves s types m) (sym w.self-is) serves
+      | in-Some+else-is_of w ↦ subst (λ (s : Shared). SharedStands s types m) (sym w.self-is) serves
+      | in_default w ↦ subst (λ (s : Shared). SharedStands s types m) (sym w.self-is) serves
     ]
 
 pub returns-clause-ok : goal.returns-clause-ok

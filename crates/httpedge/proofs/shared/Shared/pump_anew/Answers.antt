@@ -4,7 +4,7 @@ use Rattle.watchline.specs.Views.{lines_in}
 use Rattle.watchline.specs.Watches.{Cursor, IsPlain, Turn}
 use Rattle.requests.specs.ReplyBytes.{chunks}
 use Rattle.httpedge.specs.Held.{left}
-use Rattle.httpedge.specs.Shares.{Serves}
+use Rattle.httpedge.specs.Shares.{SharedStands}
 use Rattle.httpedge.specs.declared.shared.Shared.{Shared}
 use Rattle.httpedge.proofs.Alike.{is_last}
 use Rattle.httpedge.proofs.shared.Shared.pump_anew.Goals as goal
@@ -26,11 +26,11 @@ returns-clause-serves c = λ types m serves.
     let told = c.in_ok-pumped.ensures.pumped types m serves.0 in
     let still = c.pump.ensures.same types m serves.0 in
     elim c.match-before-13.branch [
-      | in-Some w ↦ subst (λ (s : Shared). Serves s types m) (sym w.self-is)
+      | in-Some w ↦ subst (λ (s : Shared). SharedStands s types m) (sym w.self-is)
           (w.keep.ensures types m (still, serves.1)
           (is_last m _ c.args.cursor.now c.pump.new.cursor c.in_ok-pumped.pumped told
           (subst (λ (o : Option Cursor). IfSome o (λ x. x ≡ c.args.cursor.now)) w.in-Some.is c.in_ok-before.ensures.copied)
           (subst (λ (o : Option Cursor). IfSome o IsPlain) w.in-Some.is c.in_ok-before.ensures.plain)
           w.reach.ensures.position w.reach.ensures.told refl (bytes c)))
-      | in_default w ↦ subst (λ (s : Shared). Serves s types m) (sym w.self-is) (still, serves.1)
+      | in_default w ↦ subst (λ (s : Shared). SharedStands s types m) (sym w.self-is) (still, serves.1)
     ]
