@@ -1,6 +1,7 @@
-//! One requirement on an object's labels: how it is read, and when it is met. A whole selector stands in `selector`.
+//! One requirement on an object's labels: how it is read, when it is met, whether it is the same as another, and copies. A whole
+//! selector stands in `selector`.
 
-ghost use Rattle.std.specs.Prelude.{◌≡◌, [], map, option_map, string_bytes};
+ghost use Rattle.std.specs.Prelude.{◌≡◌, ◌↔◌, [], true, map, IfOk, option_map, string_bytes};
 ghost use Rattle.selector.specs.Grammar.{Gives, required, key_of, value_of, values_of, outside_of, among_of, worded, set_of, equal, different, signed, plain_of, part_of, parts_of};
 ghost use Rattle.selector.specs.Labels.{value_at};
 ghost use Rattle.selector.specs.Requirement.{meets};
@@ -9,7 +10,7 @@ ghost use Rattle.selector.specs.Views.{condition_of, requirement_of, labels_of};
 use crate::fault::{Fault, ReadError};
 use crate::text::{first_part, trimmed};
 use names::{is_label_key, is_label_value};
-use std::alloc::Global;
+use std::alloc::{AllocError, Global};
 use std::collections::BTreeMap;
 
 /// What is asked of the value at a key.
@@ -45,6 +46,53 @@ impl Condition {
             (Condition::Differs(_) | Condition::Outside(_) | Condition::Absent, None) => true,
         }
     }
+
+    /// Whether both ask the same of the value at a key.
+    fn is_same(&self, other: &Condition) -> bool
+        ensures { (result ≡ true) ↔ (condition_of self.now ≡ condition_of other.now) }
+    {
+        match (self, other) {
+            (Condition::Equals(value), Condition::Equals(other)) => value == other,
+            (Condition::Differs(value), Condition::Differs(other)) => value == other,
+            (Condition::Among(values), Condition::Among(others)) => are_same_texts(values, others),
+            (Condition::Outside(values), Condition::Outside(others)) => {
+                are_same_texts(values, others)
+            }
+            (Condition::Exists, Condition::Exists) => true,
+            (Condition::Absent, Condition::Absent) => true,
+            _ => false,
+        }
+    }
+
+    fn try_copy(&self, alloc: Global) -> Result<Condition, AllocError>
+        ensures { IfOk result (λ c. condition_of c ≡ condition_of self.now) }
+    {
+        match self {
+            Condition::Equals(value) => Ok(Condition::Equals(value.clone()?)),
+            Condition::Differs(value) => Ok(Condition::Differs(value.clone()?)),
+            Condition::Among(values) => Ok(Condition::Among(copy_texts(alloc, values)?)),
+            Condition::Outside(values) => Ok(Condition::Outside(copy_texts(alloc, values)?)),
+            Condition::Exists => Ok(Condition::Exists),
+            Condition::Absent => Ok(Condition::Absent),
+        }
+    }
+}
+
+/// Whether these are the same texts, in the same order.
+fn are_same_texts(ones: &Vec<String>, others: &Vec<String>) -> bool
+    ensures { (result ≡ true) ↔ (map string_bytes ones.now.items ≡ map string_bytes others.now.items) }
+{
+    ones == others
+}
+
+fn copy_texts(alloc: Global, texts: &[String]) -> Result<Vec<String>, AllocError>
+    ensures { IfOk result (λ v. map string_bytes v.items ≡ map string_bytes texts.now) }
+{
+    let mut copies = Vec::with_capacity(alloc, texts.len())?;
+    for text in texts {
+        copies.push(text.clone()?)?;
+    }
+    Ok(copies)
 }
 
 impl Requirement {
@@ -53,6 +101,50 @@ impl Requirement {
     {
         self.condition.is_met(labels.get(&self.key))
     }
+
+    fn is_same(&self, other: &Requirement) -> bool
+        ensures { (result ≡ true) ↔ (requirement_of self.now ≡ requirement_of other.now) }
+    {
+        self.key == other.key && self.condition.is_same(&other.condition)
+    }
+
+    fn try_copy(&self, alloc: Global) -> Result<Requirement, AllocError>
+        ensures { IfOk result (λ r. requirement_of r ≡ requirement_of self.now) }
+    {
+        Ok(Requirement {
+            key: self.key.clone()?,
+            condition: self.condition.try_copy(alloc)?,
+        })
+    }
+}
+
+/// Whether these are the same requirements, in the same order.
+pub(crate) fn are_same(ones: &[Requirement], others: &[Requirement]) -> bool
+    ensures { (result ≡ true) ↔ (map requirement_of ones.now ≡ map requirement_of others.now) }
+{
+    if ones.len() != others.len() {
+        return false;
+    }
+    for i in 0..ones.len() {
+        if !ones[i].is_same(&others[i]) {
+            return false;
+        }
+    }
+    true
+}
+
+/// Copies with texts of their own.
+pub(crate) fn copy_all(
+    alloc: Global,
+    requirements: &[Requirement],
+) -> Result<Vec<Requirement>, AllocError>
+    ensures { IfOk result (λ v. map requirement_of v.items ≡ map requirement_of requirements.now) }
+{
+    let mut copies = Vec::with_capacity(alloc, requirements.len())?;
+    for requirement in requirements {
+        copies.push(requirement.try_copy(alloc)?)?;
+    }
+    Ok(copies)
 }
 
 fn key_of(alloc: Global, text: &str) -> Result<String, ReadError>

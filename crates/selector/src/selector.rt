@@ -1,14 +1,14 @@
 //! A list of requirements, all of which have to be met. One requirement stands in `requirement`.
 
-ghost use Rattle.std.specs.Prelude.{◌≡◌, ◌↔◌, [], true};
+ghost use Rattle.std.specs.Prelude.{◌≡◌, ◌↔◌, [], true, IfOk};
 ghost use Rattle.selector.specs.Grammar.{Gives, parse_selector};
 ghost use Rattle.selector.specs.Requirement.{selects};
 ghost use Rattle.selector.specs.Views.{labels_of};
 
 use crate::fault::{Fault, ReadError};
-use crate::requirement::{Requirement, parts_of};
+use crate::requirement::{Requirement, are_same, copy_all, parts_of};
 use crate::text::has_paired_brackets;
-use std::alloc::Global;
+use std::alloc::{AllocError, Global};
 use std::collections::BTreeMap;
 use std::marker::Model;
 
@@ -62,6 +62,21 @@ impl Selector {
         ensures { (result ≡ true) ↔ (self.now ≡ []) }
     {
         self.requirements.is_empty()
+    }
+
+    /// Whether both ask the same requirements, in the same order.
+    pub fn is_same(&self, other: &Selector) -> bool
+        ensures { (result ≡ true) ↔ (self.now ≡ other.now) }
+    {
+        are_same(&self.requirements, &other.requirements)
+    }
+
+    /// A copy with texts of its own.
+    pub fn try_copy(&self, alloc: Global) -> Result<Selector, AllocError>
+        ensures { IfOk result (λ s. s ≡ self.now) }
+    {
+        let requirements = copy_all(alloc, &self.requirements)?;
+        Ok(Selector { requirements })
     }
 
     /// Whether an object with these labels is selected. Takes no memory.
