@@ -1,13 +1,14 @@
 -- Watches that stand alike have the same turn.
-use Rattle.std.proofs.Common.{◌≡◌, ℕ, zero, suc, Bool, true, false, cond, List, ◌++◌, Option, None, refl, sym, ap, ap₂, subst, ◌∙◌}
-use Rattle.std.specs.Prelude.{nat_lt}
+use Rattle.std.proofs.Common.{◌≡◌, ℕ, zero, suc, Bool, true, false, true≢false, cond, List, ◌++◌, Option, None, refl, sym, ap, ap₂, subst, ◌∙◌}
+use Rattle.std.specs.Prelude.{nat_lt, is_some, IfSome}
 use Rattle.history.specs.History.{History, Key, Object}
 use Rattle.watchline.specs.Views.{lines_in, turn_of}
-use Rattle.watchline.specs.Watches.{Cursor, IsPlain, Left, Source, none_left, left_from, Turn, entries_left, expiring, from_history, left_behind, left_past, moved, pumped, telling, with_bookmarks}
+use Rattle.watchline.specs.Watches.{Cursor, Left, Source, is_none_left, none_left, left_from, Turn, entries_left, expiring, from_history, left_behind, left_past, moved, pumped, telling, with_bookmarks}
+use Rattle.watchline.specs.declared.cursor.Reach.{Reach}
 use Rattle.watchline.specs.declared.cursor.Pumped.{Pumped as ThePumped}
 use Rattle.requests.specs.ReplyBytes.{chunks}
 use Rattle.httpedge.specs.Held.{Pumps}
-use Rattle.httpedge.specs.Shares.{IsLast}
+use Rattle.httpedge.specs.Shares.{Ends, IsLast}
 use Rattle.httpedge.specs.declared.shared.LastTurn.{LastTurn}
 
 -- ---- bookmarks alone are told otherwise
@@ -51,20 +52,35 @@ plain_stays s max w none = go (nat_lt w.position s.compacted)
 
 -- ---- the last turn
 
--- what a watch told is the turn of its copy
-pub is_last : (m : History) (last : LastTurn) (w next : Cursor) (p : ThePumped) → turn_of p next ≡ pumped (from_history m) last.max w → last.before ≡ w → IsPlain last.before
-    → last.reach.position ≡ next.position → last.reach.told ≡ next.told → last.has_ended ≡ p.ended → last.bytes.items ≡ chunks (lines_in p.lines.items) p.ended → IsLast m last
-is_last m last w next p told is plain position at ended bytes = record {
+none_left_by : (left : Left) → is_none_left left ≡ true → left ≡ none_left
+none_left_by none_left e = refl
+none_left_by (left_from place) e = absurd (true≢false (sym e))
+
+-- what a watch told is the turn of its copy, moved to where it had told before
+pub is_last : (m : History) (last : LastTurn) (w next : Cursor) (there : Option Reach) (p : ThePumped) → turn_of p next ≡ pumped (from_history m) last.max w
+    → IfSome there (λ r. (r.position ≡ w.position) × (r.told ≡ w.told)) → is_some there ≡ is_none_left w.left → Ends there next last.before last.reach
+    → last.has_ended ≡ p.ended → last.bytes.items ≡ chunks (lines_in p.lines.items) p.ended → IsLast m last
+is_last m last w next there p told stood some ends ended bytes = record {
   lines = lines_in p.lines.items;
-  told = was ∙ ap₂ (turn_with (lines_in p.lines.items)) (sym ended) (stays ∙ ap₂ (λ (x y : ℕ). moved last.before x y last.before.left) (sym position) (sym at));
+  told = was ∙ ap₂ (turn_with (lines_in p.lines.items)) (sym ended)
+      (subst (λ (x : Cursor). Stays x next) (sym is) stays ∙ ap₂ (λ (x y : ℕ). moved last.before x y last.before.left) (sym ends.position) (sym ends.told));
   bytes = bytes ∙ ap (chunks (lines_in p.lines.items)) (sym ended);
 }
   where
+    none : w.left ≡ none_left
+    none = none_left_by w.left (sym some ∙ ap is_some ends.there_is)
+
+    stays : Stays w next
+    stays = subst (Stays w) (ap (λ (t : Turn). t.next) (sym told)) (plain_stays (from_history m) last.max w none)
+
+    at : (ends.start.position ≡ w.position) × (ends.start.told ≡ w.told)
+    at = subst (λ (o : Option Reach). IfSome o (λ r. (r.position ≡ w.position) × (r.told ≡ w.told))) ends.there_is stood
+
+    is : last.before ≡ w
+    is = ends.before_is ∙ ap (λ (x : Cursor). moved x ends.start.position ends.start.told x.left) stays ∙ ap₂ (λ (x y : ℕ). moved w x y w.left) at.0 at.1
+
     was : pumped (from_history m) last.max last.before ≡ turn_of p next
     was = ap (pumped (from_history m) last.max) is ∙ sym told
-
-    stays : Stays last.before next
-    stays = subst (Stays last.before) (ap (λ (t : Turn). t.next) was) (plain_stays (from_history m) last.max last.before plain.1)
 
 -- a watch that stands alike has that turn
 pub repeats : (m : History) (last : LastTurn) (max : ℕ) (w : Cursor) (old new : List ℕ) → IsLast m last → max ≡ last.max → w ≡ with_bookmarks last.before w.bookmarks → new ≡ old ++ last.bytes.items

@@ -30,6 +30,7 @@ use crate::shared::Shared;
 use crate::ticking::{drop_ended, tick_all};
 use std::alloc::{AllocError, Global};
 use std::collections::{BTreeMap, BTreeSet};
+use verbs::Api;
 
 /// The connections of a hub.
 #[derive(Drop)]
@@ -213,10 +214,10 @@ impl Connections {
     }
 
     /// Each open connection has its turn at a tick; whether one was out of memory.
-    pub(crate) fn tick(&mut self, alloc: Global, shared: &Shared, ms: u64) -> bool
-        ensures { (s : State) → Represents shared.now self.old s → TicksIn shared.now ms s self.new result }
+    pub(crate) fn tick(&mut self, alloc: Global, api: &Api, ms: u64) -> bool
+        ensures { (shared : shares.Shared) (s : State) → shared.api ≡ api.now → Represents shared self.old s → TicksIn shared ms s self.new result }
     {
-        let found_none = tick_all(alloc, &shared.api, &mut self.held, &self.open_ids, ms);
+        let found_none = tick_all(alloc, api, &mut self.held, &self.open_ids, ms);
         drop_ended(&mut self.open_ids, &self.held);
         found_none
     }

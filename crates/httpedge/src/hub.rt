@@ -117,7 +117,7 @@ impl Hub {
         if ms < self.last_tick {
             return Err(HubFault::TickBack);
         }
-        let found_none = self.connections.tick(self.alloc, &self.shared, ms);
+        let found_none = self.connections.tick(self.alloc, &self.shared.api, ms);
         self.last_tick = ms;
         if found_none {
             return Err(HubFault::Memory);

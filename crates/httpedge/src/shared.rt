@@ -9,7 +9,7 @@ ghost use Rattle.verbs.specs.Retyping.{retyped, retyping};
 ghost use Rattle.verbs.specs.Seen.{Stands, retype_refusal};
 ghost use Rattle.watchline.specs.Watches.{from_history, moved, pumped, with_bookmarks};
 ghost use Rattle.httpedge.specs.Held.{Pumps, left};
-ghost use Rattle.httpedge.specs.Shares.{IsLast, SharedStands};
+ghost use Rattle.httpedge.specs.Shares.{Ends, IsLast, SharedStands};
 
 use crate::out::Out;
 use requests::chunks;
@@ -41,6 +41,29 @@ impl LastTurn {
     {
         self.max == max && cursor.is_alike(&self.before)
     }
+}
+
+/// How a watch stood before it told these bytes, and up to where it has told; none where the turn isn't kept: it told nothing
+/// or too much, an object was left to be told, or there is no memory for a copy.
+fn ends_to_keep(
+    alloc: Global,
+    bytes: &[u8],
+    before: Option<Reach>,
+    cursor: &WatchCursor,
+) -> Option<(WatchCursor, Reach)>
+    ensures { IfSome result (λ p. Ends before cursor.now p.0 p.1) }
+{
+    if bytes.is_empty() || bytes.len() > MOST_BYTES {
+        return None;
+    }
+    let start = before?;
+    let reach = cursor.reach()?;
+    let Ok(copied) = cursor.copied(alloc) else {
+        return None;
+    };
+    let mut copy = copied?;
+    copy.move_to(start);
+    Some((copy, reach))
 }
 
 /// The API, and the last turn of a watch while what it was told from stands. A change of a connection that may write, a
@@ -94,30 +117,28 @@ impl Shared {
         ensures err { OnErr result (left out.new ≡ left out.old) }
         ensures serves { (types : List ServedShape) (m : History) → SharedStands self.old types m → SharedStands self.new types m }
     {
-        let before = cursor.copied(alloc)?;
+        let before = cursor.reach();
         let pumped = self.api.pump(cursor, max)?;
         let has_ended = pumped.ended;
         let bytes = chunks(alloc, &pumped.lines, has_ended)?;
         out.add(&bytes)?;
-        if let Some(before) = before {
+        if let Some((before, reach)) = ends_to_keep(alloc, &bytes, before, cursor) {
             self.keep(LastTurn {
                 before,
                 max,
                 bytes,
                 has_ended,
-                reach: cursor.reach(),
+                reach,
             });
         }
         Ok(has_ended)
     }
 
-    /// A turn is the last one now, where it wrote something and not too much to be kept.
+    /// A turn is the last one now.
     fn keep(&mut self, turn: LastTurn)
         ensures { (types : List ServedShape) (m : History) → SharedStands self.old types m → IsLast m turn → SharedStands self.new types m }
     {
-        if !turn.bytes.is_empty() && turn.bytes.len() <= MOST_BYTES {
-            self.last = Some(turn);
-        }
+        self.last = Some(turn);
     }
 
     /// As the API's call, after which no turn is the last one.

@@ -1,6 +1,6 @@
 -- Watches: where one stands, what it has still to tell, and what it tells at its turn (Kubernetes docs, "Kubernetes API Concepts",
 -- "Efficient detection of changes", "Semantics for watch").
-use Rattle.std.specs.Prelude.{◌≡◌, ℕ, zero, suc, ◌-◌, max, nat_lt, Bool, true, false, ◌&&◌, if◌then◌else◌, List, [], ◌∷◌, ◌++◌, length, take, map, Option, Some, None, option_map}
+use Rattle.std.specs.Prelude.{ℕ, zero, suc, ◌-◌, max, nat_lt, Bool, true, false, ◌&&◌, if◌then◌else◌, List, [], ◌∷◌, ◌++◌, length, take, map, Option, Some, None, option_map}
 use Rattle.std.specs.FinMap as fin
 use Rattle.selector.specs.Requirement.{Requirement}
 use Rattle.history.specs.History.{Key, Object, Objects, Change, History, later, state_at, up_to}
@@ -48,10 +48,6 @@ moved w position told left = record w { position = position; told = told; left =
 
 abbrev pub with_bookmarks : Cursor → Bool → Cursor
 with_bookmarks w bookmarks = record w { bookmarks = bookmarks }
-
--- it selects all objects of its type and namespace, and has none left to tell
-abbrev pub IsPlain : Cursor → Type 0
-IsPlain w = (w.requirements ≡ []) × (w.left ≡ none_left)
 
 abbrev pub wanted : Cursor → Selection
 wanted w = selection_of w.kind w.namespace w.requirements

@@ -1,8 +1,8 @@
 //! The cursor of a watch: its selection and its position, and the calls on it. What a pump tells stands in `telling`.
 
-ghost use Rattle.std.specs.Prelude.{◌≡◌, [], false, true, IfOk, IfSome, IsTrue, None, Ok, OnErr, Some, is_some, option_map, string_bytes};
+ghost use Rattle.std.specs.Prelude.{◌≡◌, false, IfOk, IfSome, IsTrue, None, Ok, OnErr, Some, is_some, option_map, string_bytes};
 ghost use Rattle.watchline.specs.Opening.{begun, left_of, told_of};
-ghost use Rattle.watchline.specs.Watches.{IsPlain, bookmarked, from_view, is_bookmark_due, moved, none_left, pumped, with_bookmarks};
+ghost use Rattle.watchline.specs.Watches.{bookmarked, from_view, is_bookmark_due, is_none_left, moved, pumped, with_bookmarks};
 ghost use Rattle.watchline.specs.Views.{left_at, marking_of, turn_of, watch_from};
 
 use crate::lines::bookmark_line;
@@ -58,15 +58,14 @@ impl Scope {
         }
     }
 
-    /// Whether both select all objects of one type and namespace.
+    /// Whether both select the same objects: those of one type and namespace that meet the same requirements.
     fn is_alike(&self, other: &Scope) -> bool
         ensures kind { IsTrue result → self.now.kind ≡ other.now.kind }
         ensures namespace { IsTrue result → option_map string_bytes self.now.namespace ≡ option_map string_bytes other.now.namespace }
-        ensures all { IsTrue result → self.now.selector ≡ other.now.selector }
+        ensures selector { IsTrue result → self.now.selector ≡ other.now.selector }
     {
         self.kind == other.kind
-            && self.selector.is_all()
-            && other.selector.is_all()
+            && self.selector.is_same(&other.selector)
             && self.is_of_namespace(other.namespace())
     }
 }
@@ -184,16 +183,19 @@ impl WatchCursor {
         self.scope.bookmarks && standing.left.is_none() && standing.told < standing.position
     }
 
-    /// Up to where it has told.
-    pub fn reach(&self) -> Reach
-        ensures position { result.position ≡ self.now.position }
-        ensures told { result.told ≡ self.now.told }
+    /// Up to where it has told; none while an object is left to be told.
+    pub fn reach(&self) -> Option<Reach>
+        ensures told { IfSome result (λ r. (r.position ≡ self.now.position) × (r.told ≡ self.now.told)) }
+        ensures some { is_some result ≡ is_none_left self.now.left }
     {
         let standing = &self.standing;
-        Reach {
+        if standing.left.is_some() {
+            return None;
+        }
+        Some(Reach {
             position: standing.position,
             told: standing.told,
-        }
+        })
     }
 
     /// It has told up to here.
@@ -204,20 +206,18 @@ impl WatchCursor {
         self.standing.told = reach.told;
     }
 
-    /// A copy, where all objects of the type and namespace are selected and none of them is left to be told; none of
-    /// any other.
+    /// A copy, where no object is left to be told; none of any other.
     pub fn copied(&self, alloc: Global) -> Result<Option<WatchCursor>, AllocError>
         ensures copied { IfOk result (λ o. IfSome o (λ c. c ≡ self.now)) }
-        ensures plain { IfOk result (λ o. IfSome o IsPlain) }
-        ensures always { IsPlain self.now → IfOk result (λ o. is_some o ≡ true) }
+        ensures some { IfOk result (λ o. is_some o ≡ is_none_left self.now.left) }
     {
-        if !self.scope.selector.is_all() || self.standing.left.is_some() {
+        if self.standing.left.is_some() {
             return Ok(None);
         }
         let scope = Scope {
             kind: self.scope.kind,
             namespace: copied(alloc, self.scope.namespace())?,
-            selector: Selector::all(alloc),
+            selector: self.scope.selector.try_copy(alloc)?,
             bookmarks: self.scope.bookmarks,
         };
         let standing = Standing {
@@ -228,8 +228,8 @@ impl WatchCursor {
         Ok(Some(WatchCursor { scope, standing }))
     }
 
-    /// Whether another tells the same at its next turn: both select all objects of one type and namespace, and have
-    /// told the same. One that selects by labels, or has objects left to tell, is like none.
+    /// Whether another tells the same at its next turn: both select the same, of one type and namespace, and have told
+    /// the same. One that has objects left to tell is like none.
     pub fn is_alike(&self, other: &WatchCursor) -> bool
         ensures { IsTrue result → self.now ≡ with_bookmarks other.now self.now.bookmarks }
     {

@@ -1,10 +1,11 @@
 use Rattle.std.proofs.Common.{◌≡◌, ℕ, List, ◌++◌, Option, refl, sym, ap, subst, ◌∙◌}
 use Rattle.std.specs.Prelude.{IfSome}
 use Rattle.watchline.specs.Views.{lines_in}
-use Rattle.watchline.specs.Watches.{Cursor, IsPlain, Turn}
+use Rattle.watchline.specs.declared.cursor.Reach.{Reach}
+use Rattle.watchline.specs.Watches.{Cursor, Turn}
 use Rattle.requests.specs.ReplyBytes.{chunks}
 use Rattle.httpedge.specs.Held.{left}
-use Rattle.httpedge.specs.Shares.{SharedStands}
+use Rattle.httpedge.specs.Shares.{Ends, SharedStands}
 use Rattle.httpedge.specs.declared.shared.Shared.{Shared}
 use Rattle.httpedge.proofs.Alike.{is_last}
 use Rattle.httpedge.proofs.shared.Shared.pump_anew.Goals as goal
@@ -25,12 +26,10 @@ pub returns-clause-serves : goal.returns-clause-serves
 returns-clause-serves c = λ types m serves.
     let told = c.in_ok-pumped.ensures.pumped types m serves.0 in
     let still = c.pump.ensures.same types m serves.0 in
-    elim c.match-before-13.branch [
+    elim c.match-ends_to_keep.branch [
       | in-Some w ↦ subst (λ (s : Shared). SharedStands s types m) (sym w.self-is)
           (w.keep.ensures types m (still, serves.1)
-          (is_last m _ c.args.cursor.now c.pump.new.cursor c.in_ok-pumped.pumped told
-          (subst (λ (o : Option Cursor). IfSome o (λ x. x ≡ c.args.cursor.now)) w.in-Some.is c.in_ok-before.ensures.copied)
-          (subst (λ (o : Option Cursor). IfSome o IsPlain) w.in-Some.is c.in_ok-before.ensures.plain)
-          w.reach.ensures.position w.reach.ensures.told refl (bytes c)))
+          (is_last m _ c.args.cursor.now c.pump.new.cursor c.reach-before.result c.in_ok-pumped.pumped told c.reach-before.ensures.told c.reach-before.ensures.some
+          (subst (λ (o : Option (Cursor × Reach)). IfSome o (λ p. Ends c.reach-before.result c.pump.new.cursor p.0 p.1)) w.in-Some.is c.ends_to_keep.ensures) refl (bytes c)))
       | in_default w ↦ subst (λ (s : Shared). SharedStands s types m) (sym w.self-is) (still, serves.1)
     ]
