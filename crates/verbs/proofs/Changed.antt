@@ -72,7 +72,7 @@ other_key j k apart = go (is_same_key j k) refl
 
 pub calls_change_one_object : CallsChangeOneObject
 calls_change_one_object types m call c is json e =
-    let fits = subst (Fits m.current (standing m) (IsCalled call.target)) e (planned_fits (from_history m) call types) in
+    let fits = subst (Fits m.current (standing m) (IsCalled call)) e (planned_fits (from_history m) call types) in
     let next = subst (λ (o : Option Change). IfSome o (IsNext types m)) e (plans_come_next types m call is json) in
     let made = object_by (suc m.current) c.body in (
       fits.2,

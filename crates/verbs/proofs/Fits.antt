@@ -1,6 +1,7 @@
 -- What is planned may come after what is seen of the store.
-use Rattle.std.proofs.Common.{◌≡◌, ℕ, suc, Bool, true, false, cond, List, Option, Some, None, Ok, Err, refl, sym, ap, subst, is_some}
-use Rattle.std.specs.Prelude.{IfSome, slice_get}
+use Rattle.std.proofs.Common.{◌≡◌, ◌∙◌, ℕ, suc, Bool, true, false, cond, List, Option, Some, None, Ok, Err, refl, ap, subst, is_some}
+use Rattle.std.specs.Prelude.{IfSome, option_and_then, slice_get}
+use Rattle.std.specs.Option.{option_or}
 use Rattle.std.specs.FinMap as fin
 use Rattle.serde_json.specs.Data.{Data}
 use Rattle.params.specs.declared.params.Asked.TheVariants as asked
@@ -25,7 +26,7 @@ use Rattle.verbs.specs.Machine.{ComesAfter, no_state, state_of_live, state_said}
 use Rattle.verbs.specs.Naming.{marks_validated_by, names_validated, required_name}
 use Rattle.verbs.specs.Options.{options_validated}
 use Rattle.verbs.specs.Parameters.{parameters_validated}
-use Rattle.verbs.specs.Promise.{IsCalled}
+use Rattle.verbs.specs.Promise.{IsCalled, name_called}
 use Rattle.verbs.specs.Seen.{objects_in}
 use Rattle.verbs.specs.Size.{size_validated}
 use Rattle.watchline.specs.Watches.{Source, from_view}
@@ -36,6 +37,14 @@ use Rattle.verbs.proofs.Checks.{change_in, no_err, ok_is, passed}
 abbrev pub Fits : ℕ → Objects → (Key → Type 0) → Option Change → Type 0
 Fits current objects Q None = Unit {0}
 Fits current objects Q (Some c) = (c.revision ≡ suc current) × (c.body ≡ None → fin.contains_key objects c.key ≡ true) × Q c.key
+
+body_is : (given : Option Data) (body : Data) → body_of given ≡ Ok body → given ≡ Some body
+body_is None body e = no_err _ body e
+body_is (Some d) body e = ap Some (ok_is d body e)
+
+name_is : (given : Option (List ℕ)) (name : List ℕ) → required_name given ≡ Ok name → given ≡ Some name
+name_is None name e = no_err _ name e
+name_is (Some n) name e = ap Some (ok_is n name e)
 
 module _ (current : ℕ) (objects : Objects) (Q : Key → Type 0) where
   stored_fits : (t : ServedShape) (k : Key) (status : ℕ) (s : State) (p : Plan) → Q k → store_state t current k status s ≡ Ok p → Fits current objects Q p.change
@@ -97,7 +106,7 @@ module _ (current : ℕ) (objects : Objects) (Q : Key → Type 0) where
       let come = passed (version_come values.0.version current) _ p o.2 in
       subst (Fits current objects Q) (ap change_in come.2) tt
 
-  create_fits : (t : ServedShape) (kind : ℕ) (namespace query : List ℕ) (body : Data) (p : Plan) → ((name : List ℕ) → Q (record { kind = kind; namespace = namespace; name = name }))
+  create_fits : (t : ServedShape) (kind : ℕ) (namespace query : List ℕ) (body : Data) (p : Plan) → ((name : List ℕ) → name_in body ≡ Some name → Q (record { kind = kind; namespace = namespace; name = name }))
       → and_then (creation_validated t kind namespace query body) (λ c. created_as t current (fin.get objects c.key) c.key c.intent) ≡ Ok p → Fits current objects Q p.change
   create_fits t kind namespace query body p own e =
       let of : Expected = record { served = t; namespace = namespace; name = None; method = Post; subresource = Main } in
@@ -109,7 +118,7 @@ module _ (current : ℕ) (objects : Objects) (Q : Key → Type 0) where
       let same : made ≡ creation.0 = ok_is made creation.0 name.2 in
       let named = passed (names_validated creation.0.intent.subresource k.namespace k.name creation.0.intent.rest) _ p creation.2 in
       let free = passed (not_there t k.name (fin.get objects k)) _ p named.2 in
-      stored_fits t k 201 (updated_by creation.0.intent no_state) p (subst (λ (c : Creation). Q c.key) same (own name.0)) free.2
+      stored_fits t k 201 (updated_by creation.0.intent no_state) p (subst (λ (c : Creation). Q c.key) same (own name.0 (name_is (name_in body) name.0 name.1))) free.2
 
 module _ (s : Source) (call : Call) where
   abbrev current : ℕ
@@ -119,19 +128,19 @@ module _ (s : Source) (call : Call) where
   objects = s.at s.current
 
   abbrev AllFit : Validated Plan → Type 0
-  AllFit j = (p : Plan) → j ≡ Ok p → Fits current objects (IsCalled call.target) p.change
+  AllFit j = (p : Plan) → j ≡ Ok p → Fits current objects (IsCalled call) p.change
 
-  with_body : (validated : Data → Validated Plan) → ((body : Data) → AllFit (validated body)) → AllFit (and_then (body_of call.body) validated)
+  with_body : (validated : Data → Validated Plan) → ((body : Data) → call.body ≡ Some body → AllFit (validated body)) → AllFit (and_then (body_of call.body) validated)
   with_body validated fits p e =
       let body = passed (body_of call.body) validated p e in
-      fits body.0 p body.2
+      fits body.0 (body_is call.body body.0 body.1) p body.2
 
-  object_fits : (w : Method) (by : Subresource) (t : ServedShape) (k : Key) → IsCalled call.target k → AllFit (object_validated_by w by t current (fin.get objects k) k call.query call.body)
-  object_fits Get by t k own p e = get_fits current objects (IsCalled call.target) t k call.query p e
+  object_fits : (w : Method) (by : Subresource) (t : ServedShape) (k : Key) → IsCalled call k → AllFit (object_validated_by w by t current (fin.get objects k) k call.query call.body)
+  object_fits Get by t k own p e = get_fits current objects (IsCalled call) t k call.query p e
   object_fits Post by t k own p e = no_err _ p e
-  object_fits Put by t k own p e = with_body _ (λ body q f. update_fits current objects (IsCalled call.target) by t k call.query body q own f) p e
-  object_fits Patch by t k own p e = with_body _ (λ body q f. apply_fits current objects (IsCalled call.target) by t k call.query body q own f) p e
-  object_fits Delete Main t k own p e = delete_fits current objects (IsCalled call.target) t k call.query call.body p own e
+  object_fits Put by t k own p e = with_body _ (λ body given q f. update_fits current objects (IsCalled call) by t k call.query body q own f) p e
+  object_fits Patch by t k own p e = with_body _ (λ body given q f. apply_fits current objects (IsCalled call) by t k call.query body q own f) p e
+  object_fits Delete Main t k own p e = delete_fits current objects (IsCalled call) t k call.query call.body p own e
   object_fits Delete Status t k own p e = no_err _ p e
 
   -- a list changes nothing
@@ -140,8 +149,8 @@ module _ (s : Source) (call : Call) where
       let values = passed (parameters_validated asked.List call.query) _ p e in
       answered (shown_by s (collection_of t kind namespace) values.0 values.0.watch) values.2
     where
-      answered : (r : Result Answer Refusal) → list_answered r ≡ Ok p → Fits current objects (IsCalled call.target) p.change
-      answered (Ok answer) f = subst (Fits current objects (IsCalled call.target)) (ap change_in f) tt
+      answered : (r : Result Answer Refusal) → list_answered r ≡ Ok p → Fits current objects (IsCalled call) p.change
+      answered (Ok answer) f = subst (Fits current objects (IsCalled call)) (ap change_in f) tt
       answered (Err refusal) f = no_err _ p f
 
   all_fits : (w : Method) (t : ServedShape) → AllFit (validated_by of_all w t s call)
@@ -151,37 +160,37 @@ module _ (s : Source) (call : Call) where
   all_fits Patch t p e = no_err _ p e
   all_fits Delete t p e = no_err _ p e
 
-  collection_fits : (w : Method) (t : ServedShape) (namespace : List ℕ) → ((name : List ℕ) → IsCalled call.target (key_at call namespace name))
+  collection_fits : (w : Method) (t : ServedShape) (namespace : List ℕ) → ((name : List ℕ) → option_and_then name_in call.body ≡ Some name → IsCalled call (key_at call namespace name))
       → AllFit (validated_by (of_namespace namespace) w t s call)
-  collection_fits Post t namespace own p e = with_body _ (λ body q f. create_fits current objects (IsCalled call.target) t call.target.kind namespace call.query body q own f) p e
+  collection_fits Post t namespace own p e = with_body _ (λ body given q f. create_fits current objects (IsCalled call) t call.target.kind namespace call.query body q (λ name is. own name (ap (option_and_then name_in) given ∙ is)) f) p e
   collection_fits Get t namespace own p e = list_fits t call.target.kind (Some namespace) p e
   collection_fits Put t namespace own p e = no_err _ p e
   collection_fits Patch t namespace own p e = no_err _ p e
   collection_fits Delete t namespace own p e = no_err _ p e
 
-  if_named : (given : Option (List ℕ)) (name : List ℕ) → given ≡ Some name → IfSome given (λ n. n ≡ name)
-  if_named given name is = subst (λ o. IfSome o (λ n. n ≡ name)) (sym is) refl
+  path_name : (name : List ℕ) → call.target.name ≡ Some name → name_called call ≡ Some name
+  path_name name is = ap (λ o. option_or o (option_and_then name_in call.body)) is
 
-  if_none : (given : Option (List ℕ)) (name : List ℕ) → given ≡ None → IfSome given (λ n. n ≡ name)
-  if_none given name is = subst (λ o. IfSome o (λ n. n ≡ name)) (sym is) tt
+  body_name : (name : List ℕ) → call.target.name ≡ None → option_and_then name_in call.body ≡ Some name → name_called call ≡ Some name
+  body_name name is given = ap (λ o. option_or o (option_and_then name_in call.body)) is ∙ given
 
   in_fits : (t : ServedShape) (namespace name : Option (List ℕ)) → call.target.namespace ≡ namespace → call.target.name ≡ name → AllFit (validated_at (Some t) (scope_of namespace name call.target.status) s call)
   in_fits t None None placed is p e = all_fits call.target.method t p e
   in_fits t None (Some name) placed is p e = no_err _ p e
   in_fits t (Some namespace) None placed is p e =
-      collection_fits call.target.method t namespace (λ name. record { kind = refl; namespace = placed; name = if_none call.target.name name is }) p e
+      collection_fits call.target.method t namespace (λ name given. record { kind = refl; namespace = placed; name = body_name name is given }) p e
   in_fits t (Some namespace) (Some name) placed is p e =
-      object_fits call.target.method (subresource_of call.target.status) t (key_at call namespace name) (record { kind = refl; namespace = placed; name = if_named call.target.name name is }) p e
+      object_fits call.target.method (subresource_of call.target.status) t (key_at call namespace name) (record { kind = refl; namespace = placed; name = path_name name is }) p e
 
   at_fits : (found : Option ServedShape) → AllFit (validated_at found (scope_of call.target.namespace call.target.name call.target.status) s call)
   at_fits None p e = no_err _ p e
   at_fits (Some t) p e = in_fits t call.target.namespace call.target.name refl refl p e
 
-  told_fits : (types : List ServedShape) (j : Validated Plan) → validated_over types s call ≡ j → Fits current objects (IsCalled call.target) (plan_for j).change
+  told_fits : (types : List ServedShape) (j : Validated Plan) → validated_over types s call ≡ j → Fits current objects (IsCalled call) (plan_for j).change
   told_fits types (Err d) e = tt
   told_fits types (Ok p) e = at_fits (slice_get types call.target.kind) p e
 
-  pub planned_fits : (types : List ServedShape) → Fits current objects (IsCalled call.target) (planned_over types s call).change
+  pub planned_fits : (types : List ServedShape) → Fits current objects (IsCalled call) (planned_over types s call).change
   planned_fits types = told_fits types (validated_over types s call) refl
 
 if_comes : (v : View) (Q : Key → Type 0) (change : Option Change) → Fits v.current (objects_in v) Q change → IfSome change (ComesAfter v)
@@ -189,4 +198,4 @@ if_comes v Q None is = tt
 if_comes v Q (Some c) is = record { next = is.0; there = is.1 }
 
 pub planned_comes : (types : List ServedShape) (v : View) (call : Call) → IfSome (planned_over types (from_view v) call).change (ComesAfter v)
-planned_comes types v call = if_comes v (IsCalled call.target) _ (planned_fits (from_view v) call types)
+planned_comes types v call = if_comes v (IsCalled call) _ (planned_fits (from_view v) call types)

@@ -55,13 +55,14 @@ preconditions_read ms =
     and_then (no_uid uid) (λ u.
     and_then (text_in (get_member (codes "resourceVersion") ms)) version_given))
 
+-- the version that `preconditions` asks for, if it is there; only an object or null may stand there
 abbrev pub preconditions_in : Option Data → Validated (Option ℕ)
 preconditions_in None = Ok None
 preconditions_in (Some null) = Ok None
 preconditions_in (Some (object ms)) = preconditions_read ms
 preconditions_in (Some d) = bad_options
 
--- no deletion is tried without being made
+-- the version that the options ask for, if any; `dryRun` isn't served, so it has to be blank
 abbrev pub options_in : Option Members → Validated (Option ℕ)
 options_in None = bad_options
 options_in (Some ms) = if is_blank (get_member (codes "dryRun") ms) then preconditions_in (get_member (codes "preconditions") ms) else bad_options

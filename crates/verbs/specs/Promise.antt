@@ -1,6 +1,7 @@
 -- What a call leaves to the managers of other fields (Kubernetes docs, "Server-Side Apply", "Conflicts", "Transferring ownership"; "Custom
 -- Resources", "Status subresource"), and what it leaves of the machine.
-use Rattle.std.specs.Prelude.{◌≡◌, ◌⊎◌, ◌≤◌, ℕ, false, List, length, Some, IfSome, slice_get}
+use Rattle.std.specs.Prelude.{◌≡◌, ◌⊎◌, ◌≤◌, ℕ, false, List, length, Option, Some, IfSome, option_and_then, slice_get}
+use Rattle.std.specs.Option.{option_or}
 use Rattle.std.specs.declared.result.Result.TheVariants.{Ok, Err}
 use Rattle.std.specs.FinMap as fin
 use Rattle.std.specs.List.{AllByRecursion}
@@ -18,7 +19,8 @@ use Rattle.ownership.specs.Keeping.{OthersKeep}
 use Rattle.ownership.specs.Sides.{OtherSideStays, OwnSides}
 use Rattle.objects.specs.Placed.{Owns}
 use Rattle.verbs.specs.declared.method.Method.TheVariants.{Get, Patch, Put}
-use Rattle.verbs.specs.Calls.{Call, Target, subresource_of}
+use Rattle.verbs.specs.Calls.{Call, subresource_of}
+use Rattle.verbs.specs.Envelope.{name_in}
 use Rattle.verbs.specs.Json.{IsJsonBody}
 use Rattle.verbs.specs.Machine.{AreObjectTypes, IsMachine, IsNext, IsSomeTextAt, IsTextAt, state_said, state_under}
 use Rattle.verbs.specs.Parameters.{parameters_validated}
@@ -125,17 +127,21 @@ RefusalsChangeNothing =
 abbrev pub GetsChangeNothing : Type 0
 GetsChangeNothing = (types : List ServedShape) (m : History) (call : Call) → call.target.method ≡ Get → (step types m call).1 ≡ m
 
--- the key is of the type and the namespace that the call is of, and of its name if it has one
-pub record IsCalled (target : Target) (k : Key) : Type 0 where
-  pub kind : k.kind ≡ target.kind
-  pub namespace : target.namespace ≡ Some k.namespace
-  pub name : IfSome target.name (λ n. n ≡ k.name)
+-- the name of the object that a call is of: that of its path, or else the one that its body gives
+abbrev pub name_called : Call → Option (List ℕ)
+name_called call = option_or call.target.name (option_and_then name_in call.body)
 
--- a change is of an object that the call is of, and what stands under every other key stays
+-- the key has the type, the namespace and the name that the call is of
+pub record IsCalled (call : Call) (k : Key) : Type 0 where
+  pub kind : k.kind ≡ call.target.kind
+  pub namespace : call.target.namespace ≡ Some k.namespace
+  pub name : name_called call ≡ Some k.name
+
+-- a change is of the object that the call is of, and what stands under every other key stays
 abbrev pub CallsChangeOneObject : Type 0
 CallsChangeOneObject =
     (types : List ServedShape) (m : History) (call : Call) (c : Change) → IsMachine types m → IsJsonBody call.body → (planned types m call).change ≡ Some c
-    → IsCalled call.target c.key × ((k : Key) → ¬ (k ≡ c.key) → fin.get (standing (step types m call).1) k ≡ fin.get (standing m) k)
+    → IsCalled call c.key × ((k : Key) → ¬ (k ≡ c.key) → fin.get (standing (step types m call).1) k ≡ fin.get (standing m) k)
 
 -- ---- what other types leave
 

@@ -44,7 +44,7 @@ pub fn status_is_apart()
     ensures sides { ManagersOwnTheirSides }
 {}
 
-/// A refused call and a GET change nothing; any other call changes one object at most, one that it is of.
+/// A refused call and a GET change nothing; any other call changes one object at most, the one that it is of.
 pub fn calls_change_one_object()
     ensures refusals { RefusalsChangeNothing }
     ensures gets { GetsChangeNothing }
