@@ -215,8 +215,8 @@ def patch(body, fields=(), target=WIDGETS + "w9?fieldManager=alice", **rest):
 # ---- the rows
 
 def six_lines():
-    """The lines of data/script.jsonl: first_apply, conflict_refused, force_takes_over, an apply of alice that changes nothing,
-    shared_owner_keeps, dropped_but_taken_over."""
+    """The lines of data/script.jsonl: first_apply, conflict_refused, force_takes_over, dropped_but_taken_over, and the two of
+    shared_owner_keeps."""
     def w1(version, owners, replicas):
         return widget("w1", version, owners, {"image": "a", "replicas": replicas})
 

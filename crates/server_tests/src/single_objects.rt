@@ -3,7 +3,7 @@
 
 /// `hub_rows` says what the rows are, and plays them.
 pub const SINGLE_OBJECTS: &str =
-    r#"one_object_after_another on widgets: a conflict and a get after it, a take-over, an apply that changes nothing, shared owners, and updates with a version
+    r#"one_object_after_another on widgets: first_apply, conflict_refused and a get after it, force_takes_over, dropped_but_taken_over, the two of shared_owner_keeps, and update_and_version
 got 1 PATCH namespaces/default/widgets/w1?fieldManager=alice {"apiVersion":"demo.example/v1","kind":"Widget","metadata":{"name":"w1"},"spec":{"image":"a","replicas":3}} => 201 {"apiVersion":"demo.example/v1","kind":"Widget","metadata":{"managedFields":[{"apiVersion":"demo.example/v1","fieldsType":"FieldsV1","fieldsV1":{"f:spec":{"f:image":{},"f:replicas":{}}},"manager":"alice","operation":"Apply"}],"name":"w1","namespace":"default","resourceVersion":"2"},"spec":{"image":"a","replicas":3}}
 got 2 PATCH namespaces/default/widgets/w1?fieldManager=bob {"apiVersion":"demo.example/v1","kind":"Widget","spec":{"replicas":5}} => 409 {"apiVersion":"v1","code":409,"details":{"causes":[{"field":".spec.replicas","message":"conflict with \"alice\" using demo.example/v1","reason":"FieldManagerConflict"}]},"kind":"Status","message":"Apply failed with 1 conflict(s)","metadata":{},"reason":"Conflict","status":"Failure"}
 got 3 GET namespaces/default/widgets/w1 => 200 {"apiVersion":"demo.example/v1","kind":"Widget","metadata":{"managedFields":[{"apiVersion":"demo.example/v1","fieldsType":"FieldsV1","fieldsV1":{"f:spec":{"f:image":{},"f:replicas":{}}},"manager":"alice","operation":"Apply"}],"name":"w1","namespace":"default","resourceVersion":"2"},"spec":{"image":"a","replicas":3}}

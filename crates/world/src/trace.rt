@@ -4,7 +4,7 @@ use indexer::{Object, ObjectKey};
 use std::collections::BTreeMap;
 use std::rc::Rc;
 
-/// A copy of an index: its keys in order of their bytes, and under each the keys of the objects that have it, in order.
+/// A copy of an index: its keys, and under each the keys of the objects that have it.
 #[derive(Debug, Drop)]
 pub struct IndexShot {
     pub name: String,

@@ -10,6 +10,9 @@ use world::{Trace, WorldEvent, run};
 /// How many events are drawn.
 const EVENTS: u64 = 5000;
 
+/// Before which of them the list of ports becomes atomic.
+const TYPES_CHANGE: u64 = 2500;
+
 /// What each is drawn from: `#` is a number below 8, `^` the place among all events, `%` a number below a quarter of it. `!` is
 /// an id that is opened, twenty times the place, `*` the last of these, and `@` that or one of those behind it, which
 /// requests and the client get.
@@ -22,6 +25,7 @@ change a/w#
 delete w#
 delete a/w#
 ask PATCH /apis/demo.example/v1/namespaces/default/widgets/w#?fieldManager=m#&force=true {\"apiVersion\":\"demo.example/v1\",\"kind\":\"Widget\",\"spec\":{\"replicas\":%}}
+ask PATCH /apis/demo.example/v1/namespaces/default/widgets/w#?fieldManager=m#&force=true {\"apiVersion\":\"demo.example/v1\",\"kind\":\"Widget\",\"spec\":{\"ports\":[{\"name\":\"p#\",\"port\":%}]}}
 ask GET /apis/demo.example/v1/widgets?limit=#&resourceVersion=%
 ask GET /apis/demo.example/v1/widgets?watch=true&resourceVersion=%&allowWatchBookmarks=true&timeoutSeconds=#
 ask GET /apis/demo.example/v1/namespaces/a/widgets/w#
@@ -108,6 +112,9 @@ fn drawn(alloc: Global) -> Result<Vec<WorldEvent>, Fail> {
     };
     let mut text = String::new(alloc);
     for place in 0..EVENTS {
+        if place == TYPES_CHANGE {
+            text.push_str("types atomic; ")?;
+        }
         let at = draws.below(count) as usize;
         let step = STEPS.lines().nth(at).ok_or("no step")?;
         push_step(alloc, &mut text, &mut draws, step, place)?;
