@@ -1,5 +1,5 @@
 //! What a server of many connections is asked for: port, what is kept, how many lines at a time, patience. They are
-//! read from a command line in the crate `ssa_server`, and followed in `peers`.
+//! read from a command line in the crate `server_program`, and followed in `peers`.
 
 /// How connections are served.
 #[derive(Clone, Copy, Debug)]

@@ -5,7 +5,7 @@ ghost use Rattle.std.specs.Prelude.{◌≡◌, [], IfOk, Some, codes, map};
 ghost use Rattle.clap.specs.Built.{FitsChain, IsAuto};
 ghost use Rattle.clap.specs.Words.{first_of, matches_of, one_of, rule_of};
 ghost use Rattle.programs.specs.Numbers.{IsCount, IsNumberOr};
-ghost use Rattle.ssa_server.specs.ServerCommand.{IsFlag, IsServerCommand, flag_option, ssa_server};
+ghost use Rattle.server_program.specs.ServerCommand.{IsFlag, IsServerCommand, flag_option, ssa_server};
 
 use crate::fault::ServerFault;
 use clap::{Arg, ArgAction, Command};

@@ -1,9 +1,9 @@
 -- What a parse by the command of `ssa-server` gives.
-use Rattle.std.proofs.Common.{◌≡◌, ◌∷◌, [], List, Bool, true, arith, codes, refl, subst, Option, slice_index}
+use Rattle.std.proofs.Common.{◌≡◌, ◌∷◌, [], List, Bool, true, arith, codes, refl, subst, Option}
 use Rattle.clap.specs.Words.{Text, is_simple}
 use Rattle.clap.proofs.OnLiterals.{clap_on_literals}
 use Rattle.programs.proofs.OptionValues.{IsOwn, differ}
-use Rattle.ssa_server.specs.ServerCommand.{IsFlag, ssa_server}
+use Rattle.server_program.specs.ServerCommand.{IsFlag, ssa_server}
 
 pub is_plain : is_simple ssa_server ≡ true
 unfolding clap_on_literals

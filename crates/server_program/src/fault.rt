@@ -1,7 +1,7 @@
 //! Why a run of `ssa-server` ended. The faults of all programs stand in the crate `programs`.
 
 ghost use Rattle.std.specs.Prelude.{◌≡◌};
-ghost use Rattle.ssa_server.specs.Statuses.{status_of};
+ghost use Rattle.server_program.specs.Statuses.{status_of};
 
 use programs::RunFault;
 use std::alloc::AllocError;
@@ -12,7 +12,7 @@ use verbs::Fault;
 /// Why a run of the program ended before it was done.
 #[derive(Debug, Drop, Error)]
 pub enum ServerFault {
-    /// A fault of the arguments, the types file, the output or the store, or out of memory.
+    /// A fault of the arguments, the types file, the port, the output or the store, or out of memory.
     #[error("{0}")]
     Run(RunFault),
     /// The port cannot be told, or the system cannot say which sockets are ready.

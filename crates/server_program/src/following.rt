@@ -6,6 +6,7 @@ use httpedge::HubFault;
 use polling::Server;
 use programs::{RunFault, types_in, types_text};
 use serde_json::Value;
+use std::rt::{Clock, Files};
 use std::time::{Duration, Instant};
 
 /// The milliseconds between two looks at the file.
@@ -34,7 +35,11 @@ impl<'a> FollowedFile<'a> {
 
     /// Looks at the file, a second after the last look: where it has another text, its types are served, or it is told on
     /// the standard error why not.
-    pub fn look(&mut self, rt: &HostRuntime, server: &mut Server) -> Result<(), ServerFault> {
+    pub fn look<R: Files + Clock + Eprint + AllocGlobal>(
+        &mut self,
+        rt: &R,
+        server: &mut Server,
+    ) -> Result<(), ServerFault> {
         let now = Instant::now(rt).map_err(ServerFault::Clock)?;
         if now.duration_since(self.looked) < Duration::from_millis(LOOKS) {
             return Ok(());
@@ -51,14 +56,14 @@ impl<'a> FollowedFile<'a> {
     }
 
     /// It can't be read, which is told once.
-    fn lose(&mut self, rt: &HostRuntime, fault: &RunFault) {
+    fn lose<R: Eprint>(&mut self, rt: &R, fault: &RunFault) {
         if !self.is_lost {
             self.is_lost = true;
             let _ = rt.eprintln(fault);
         }
     }
 
-    fn take(&mut self, rt: &HostRuntime, server: &mut Server, text: String) {
+    fn take<R: Eprint + AllocGlobal>(&mut self, rt: &R, server: &mut Server, text: String) {
         if self.text == text {
             return;
         }
@@ -70,7 +75,7 @@ impl<'a> FollowedFile<'a> {
     }
 
     /// Serves the types that the text declares; whether that was done or refused.
-    fn serve(&self, rt: &HostRuntime, server: &mut Server, text: &str) -> bool {
+    fn serve<R: Eprint + AllocGlobal>(&self, rt: &R, server: &mut Server, text: &str) -> bool {
         if let Err(fault) = types_in(rt.alloc(), self.path, text) {
             let _ = rt.eprintln(&fault);
             return !matches!(fault, RunFault::Memory);
@@ -90,7 +95,7 @@ impl<'a> FollowedFile<'a> {
         }
     }
 
-    fn tell_served(&self, rt: &HostRuntime, server: &Server) {
+    fn tell_served<R: Eprint>(&self, rt: &R, server: &Server) {
         if let Ok(revision) = server.revision() {
             let _ = eprintln!(rt; "types file {}: served at revision {revision}", self.path);
         }

@@ -5,9 +5,9 @@ use Rattle.clap.specs.Built.{FitsChain}
 use Rattle.programs.specs.Commands.{file_option}
 use Rattle.programs.specs.Numbers.{number_option}
 use Rattle.programs.proofs.OptionValues.{added, given, made}
-use Rattle.ssa_server.specs.ServerCommand.{IsServerCommand, flag_option}
-use Rattle.ssa_server.proofs.ServerArguments.{concurrent_own, keep_own, names_are, names_differ, patience_own, port_own, pump_own, serve_own, types_own}
-use Rattle.ssa_server.proofs.arguments.server_command.Goals as goal
+use Rattle.server_program.specs.ServerCommand.{IsServerCommand, flag_option}
+use Rattle.server_program.proofs.ServerArguments.{concurrent_own, keep_own, names_are, names_differ, patience_own, port_own, pump_own, serve_own, types_own}
+use Rattle.server_program.proofs.arguments.server_command.Goals as goal
 
 pub returns : goal.returns
 returns c =

@@ -7,27 +7,28 @@ use crate::following::FollowedFile;
 use programs::{RunFault, end_with, types_in, types_text};
 use serving::{Limits, Server, serve_all};
 use std::io::{self, ErrorKind};
-use std::net::{Ipv4Addr, SocketAddr, TcpListener, TcpStream};
+use std::net::{Ipv4Addr, Net, OpenListener, SocketAddr, TcpListener};
 use std::process::ExitCode;
+use std::rt::{Clock, Files};
 use std::time::Instant;
 use verbs::Api;
 
 /// Tells the port that is listened on.
-fn tell_port(rt: &HostRuntime, port: u16) -> Result<(), ServerFault> {
+fn tell_port<R: Print>(rt: &R, port: u16) -> Result<(), ServerFault> {
     Ok(println!(rt; "listening on {}:{port}", Ipv4Addr::LOCALHOST).map_err(RunFault::Output)?)
 }
 
 /// Listens on a port of loopback.
-fn listener_on(rt: &HostRuntime, port: u16) -> Result<TcpListener, RunFault> {
+fn listener_on<R: Net>(rt: &R, port: u16) -> Result<R::Listener, RunFault> {
     TcpListener::bind(rt, SocketAddr::from((Ipv4Addr::LOCALHOST, port))).map_err(
         |error| RunFault::of_port(port, error),
     )
 }
 
 /// Serves one connection after another.
-fn serve_in_turn(
-    rt: &HostRuntime,
-    server: &mut Server<TcpStream>,
+fn serve_in_turn<R: Net + Clock + Print>(
+    rt: &R,
+    server: &mut Server<R::Stream>,
     options: &ServerOptions<'_>,
 ) -> Result<(), ServerFault> {
     let listener = listener_on(rt, options.port)?;
@@ -37,7 +38,11 @@ fn serve_in_turn(
     serve_all(rt, &listener, server, options.serve).map_err(ServerFault::Clock)
 }
 
-fn run_in_turn(rt: &HostRuntime, api: Api, options: &ServerOptions<'_>) -> Result<(), ServerFault> {
+fn run_in_turn<R: Net + Clock + Print + AllocGlobal>(
+    rt: &R,
+    api: Api,
+    options: &ServerOptions<'_>,
+) -> Result<(), ServerFault> {
     let limits = Limits {
         keep: options.keep,
         lines: options.pump,
@@ -48,7 +53,7 @@ fn run_in_turn(rt: &HostRuntime, api: Api, options: &ServerOptions<'_>) -> Resul
 
 /// The fault of an error at the start of a server of many connections: the clock's, where the clock can't be read, or
 /// else the port's.
-fn fault_at_start(rt: &HostRuntime, port: u16, error: io::Error) -> ServerFault {
+fn fault_at_start<R: Clock>(rt: &R, port: u16, error: io::Error) -> ServerFault {
     match Instant::now(rt) {
         Ok(_) => ServerFault::from(RunFault::of_port(port, error)),
         Err(error) => ServerFault::Clock(error),
@@ -57,7 +62,7 @@ fn fault_at_start(rt: &HostRuntime, port: u16, error: io::Error) -> ServerFault 
 
 /// The fault of an error while many connections are served at once: the clock's, where the clock can't be read, or else
 /// the socket's.
-fn fault_at_once(rt: &HostRuntime, error: io::Error) -> ServerFault {
+fn fault_at_once<R: Clock>(rt: &R, error: io::Error) -> ServerFault {
     match Instant::now(rt) {
         Ok(_) => ServerFault::from(error),
         Err(error) => ServerFault::Clock(error),
@@ -65,8 +70,8 @@ fn fault_at_once(rt: &HostRuntime, error: io::Error) -> ServerFault {
 }
 
 /// Serves many connections at once, until so many are over, and follows the types file.
-fn serve_at_once(
-    rt: &HostRuntime,
+fn serve_at_once<R: Files + Clock + Print + Eprint + AllocGlobal>(
+    rt: &R,
     server: &mut polling::Server,
     file: &mut FollowedFile<'_>,
     most: u64,
@@ -84,8 +89,8 @@ fn serve_at_once(
     Err(ServerFault::Socket(io::Error::from(ErrorKind::Other)))
 }
 
-fn run_at_once(
-    rt: &HostRuntime,
+fn run_at_once<R: Files + Net + Clock + Print + Eprint + AllocGlobal>(
+    rt: &R,
     api: Api,
     text: String,
     options: &ServerOptions<'_>,
@@ -106,7 +111,10 @@ fn run_at_once(
     serve_at_once(rt, &mut server, &mut file, options.serve)
 }
 
-fn run(rt: &HostRuntime, arguments: &[String]) -> Result<(), ServerFault> {
+fn run<R: Files + Net + Clock + Print + Eprint + AllocGlobal>(
+    rt: &R,
+    arguments: &[String],
+) -> Result<(), ServerFault> {
     let options = options(rt.alloc(), arguments)?;
     let text = types_text(rt, options.types)?;
     let types = types_in(rt.alloc(), options.types, text.as_str())?;
@@ -120,7 +128,10 @@ fn run(rt: &HostRuntime, arguments: &[String]) -> Result<(), ServerFault> {
 
 /// Runs `ssa-server` with its arguments, the program's name first. Answers the exit status; a fault is printed on the
 /// standard error.
-pub fn ssa_server(rt: &HostRuntime, arguments: &[String]) -> ExitCode {
+pub fn ssa_server<R: Files + Net + Clock + Print + Eprint + AllocGlobal>(
+    rt: &R,
+    arguments: &[String],
+) -> ExitCode {
     match run(rt, arguments) {
         Ok(()) => ExitCode::SUCCESS,
         Err(ServerFault::Run(fault)) => end_with(rt, &fault),

@@ -1,8 +1,8 @@
 -- How `ssa-server` tells what it found.
 use Rattle.std.specs.Prelude.{ℕ}
 use Rattle.programs.specs.ReplayProgram as runs
-use Rattle.ssa_server.specs.declared.fault.ServerFault.{ServerFault}
-use Rattle.ssa_server.specs.declared.fault.ServerFault.TheVariants as fault
+use Rattle.server_program.specs.declared.fault.ServerFault.{ServerFault}
+use Rattle.server_program.specs.declared.fault.ServerFault.TheVariants as fault
 
 -- the exit status: 6 for the sockets or the clock, else that of the run's fault
 abbrev pub status_of : ServerFault → ℕ

@@ -1,8 +1,8 @@
 use Rattle.std.proofs.Common.{◌∙◌, Some, codes, refl, sym}
 use Rattle.clap.proofs.CallerLemmas.{some_of_text}
 use Rattle.programs.proofs.OptionValues.{flag_is, number_by, text_is, value_is}
-use Rattle.ssa_server.proofs.ServerArguments.{flag_by, is_plain}
-use Rattle.ssa_server.proofs.arguments.options.Goals as goal
+use Rattle.server_program.proofs.ServerArguments.{flag_by, is_plain}
+use Rattle.server_program.proofs.arguments.options.Goals as goal
 
 pub returns-clause-types : goal.returns-clause-types
 returns-clause-types g c =

@@ -1,0 +1,16 @@
+//! The body of `ssa-server`: it serves the types of a file on loopback, one connection after another or many at once. What a
+//! connection is answered is `httpedge`'s.
+//!
+//! Promises: the values of its arguments are those of `clap`'s exact matches; each fault has its exit status.
+//! Stands on `serving` and `polling` for the turns of connections, on `programs` for what programs share, on `clap` for
+//! the arguments.
+#![tactic(auto)]
+
+mod arguments;
+mod fault;
+mod following;
+mod running;
+
+pub use arguments::{ServerOptions, options};
+pub use fault::ServerFault;
+pub use running::ssa_server;
