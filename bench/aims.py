@@ -49,10 +49,12 @@ def quiet_pump(folder, play):
     return of_one(folder, play, made, pumping, count)
 
 
-def line_of_fifty(folder, play):
-    """A line of a watch, of fifty that follow an object of 1 KB, beside a pump of no line."""
-    none = of_one(folder, play, *serving.followed(50, 500, 0), 500)
-    return (of_one(folder, play, *serving.followed(50, 500), 500) - none) / 50
+def line_of_fifty(asks):
+    """A line of a watch, of fifty that ask so and follow an object of 1 KB, beside a pump of no line."""
+    def line(folder, play):
+        none = of_one(folder, play, *serving.followed(50, 500, 0, asks), 500)
+        return (of_one(folder, play, *serving.followed(50, 500, asks=asks), 500) - none) / 50
+    return line
 
 
 def write_through_server(folder, _):
@@ -80,7 +82,8 @@ def memory(objects):
 ROWS = (
     ("a pump after which nothing was written, us", "0.5", quiet_pump),
     ("a pump that finds nothing, us", "0.5", idle_pump),
-    ("a line to 50 watchers through the hub, us", "1", line_of_fifty),
+    ("a line to 50 watchers through the hub, us", "1", line_of_fifty("")),
+    ("a line to 50 that ask for the same labels", "1", line_of_fifty("&labelSelector=app%3Dweb")),
     ("a GET of 10 fields through the hub, us", "4", requests("GET", 10, 16_000)),
     ("a GET of 100 fields", "", requests("GET", 100, 6000)),
     ("an apply of 10 fields through the hub, us", "", requests("PATCH", 10, 4000)),

@@ -230,8 +230,8 @@ def refusal_rows(crate):
 
 
 def refusals():
-    status = arms_of(next(it for it in of_crate("verbs") if called(it) == "Reason::code"))
-    rows = {(value_of(status[reason], TOP) or status[reason], reason, text, f"{short(file)}: {where}")
+    status, sent = (arms_of(next(it for it in of_crate("verbs") if called(it) == f"Reason::{name}")) for name in ("code", "text"))
+    rows = {(value_of(status[reason], TOP) or status[reason], value_of(sent[reason], TOP) or sent[reason], text, f"{short(file)}: {where}")
             for crate in crates() for reasons, texts, where, file in refusal_rows(crate) for reason in reasons for text in texts}
     return ["# Refusals\n", HEAD, "", "The status, the reason and the message of each refusal, and the function that makes it. What stands in braces is filled in.\n",
             "| status | reason | message | where |", "|---|---|---|---|",
