@@ -84,6 +84,7 @@ ROWS = (
     ("a pump that finds nothing, us", "0.5", idle_pump),
     ("a line to 50 watchers through the hub, us", "1", line_of_fifty("")),
     ("a line to 50 that ask for the same labels", "1", line_of_fifty("&labelSelector=app%3Dweb")),
+    ("a line to 50 that ask for labels of their own", "1", line_of_fifty("&labelSelector=app%20in%20%28web%2Cx{}%29")),
     ("a GET of 10 fields through the hub, us", "4", requests("GET", 10, 16_000)),
     ("a GET of 100 fields", "", requests("GET", 100, 6000)),
     ("an apply of 10 fields through the hub, us", "", requests("PATCH", 10, 4000)),

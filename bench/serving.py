@@ -94,10 +94,11 @@ def lists(program, folder):
 
 
 def followed(watches, changes, lines=100, asks=""):
-    """Watches of one type that ask so, and changes of an object of 1 KB; after each change each watch is pumped for so many lines."""
+    """Watches of one type that ask so (`{}` is the watch's number), and changes of an object of 1 KB; after each change each watch
+    is pumped for so many lines."""
     made = Script()
     made.request("PATCH", WIDGETS + "/w1?fieldManager=alice", filled("w1", 1024, 0))
-    ids = [made.request("GET", BASE + "widgets?watch=true&resourceVersion=2" + asks) for _ in range(watches)]
+    ids = [made.request("GET", BASE + "widgets?watch=true&resourceVersion=2" + asks.format(watch)) for watch in range(watches)]
     script = made.copy()
     for turn in range(1, changes + 1):
         script.request("PATCH", WIDGETS + "/w1?fieldManager=alice", filled("w1", 1024, turn))

@@ -5,3 +5,4 @@ pub mod Lists
 pub mod Rows
 pub mod Views
 pub mod Tokens
+pub mod RecentLabels

@@ -62,7 +62,7 @@ fn labels_copied(
 }
 
 /// The labels that an object's text gives. A text that is in order, as all texts of objects are, is read where it lies.
-fn labels_of(alloc: Global, text: &str) -> Result<BTreeMap<String, String>, AllocError>
+pub(crate) fn labels_of(alloc: Global, text: &str) -> Result<BTreeMap<String, String>, AllocError>
     ensures { IfOk result (λ m. selector.labels_of m ≡ labels_of text.now) }
 {
     let mut scratch = Scratch::new(alloc);
@@ -98,7 +98,7 @@ impl Keep for Labelled<'_> {
 }
 
 /// Whether the labels in an object's text are selected; the text isn't read where nothing is asked of them.
-pub fn is_selected(alloc: Global, selector: &Selector, text: &str) -> Result<bool, Fault>
+pub(crate) fn is_selected(alloc: Global, selector: &Selector, text: &str) -> Result<bool, Fault>
     ensures { IfOk result (λ b. b ≡ selects selector.now (labels_of text.now)) }
 {
     Ok(Labelled { alloc, selector }.keeps(text)?)

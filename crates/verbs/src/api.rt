@@ -13,6 +13,7 @@ use crate::retyping::{catalog_in, writes_under};
 use crate::route::Routes;
 use crate::watching::bookmarked;
 use crate::writing::{write_all, write_change};
+use lists::RecentLabels;
 use revstore::{CompactFault, Store};
 use revtable::Table;
 use schema::Types;
@@ -38,6 +39,8 @@ pub struct Api {
     catalog: Catalog,
     routes: Routes,
     store: Store,
+    /// The labels of texts that watches have read, so that the next watch of a change need not read its text.
+    labels: RecentLabels,
 }
 
 // It is written out, so that what holds an API does not prove again how each part is dropped.
@@ -48,6 +51,7 @@ impl Drop for Api {
             catalog: _,
             routes: _,
             store: _,
+            labels: _,
         } = self;
     }
 }
@@ -91,6 +95,7 @@ impl Api {
             catalog,
             routes,
             store,
+            labels: RecentLabels::new(alloc),
         })
     }
 
@@ -147,7 +152,7 @@ impl Api {
         ensures unchanged { self.new ≡ self.old }
     {
         watches_by_views();
-        Ok(cursor.pump(self.alloc, &mut self.store, max)?)
+        Ok(cursor.pump(&mut self.labels, &mut self.store, max)?)
     }
 
     /// The line of a bookmark, where one is due: the version up to which the watch has told all. On an error the

@@ -14,9 +14,9 @@ ghost use Rattle.watchline.specs.Views.{change_seen};
 use crate::cursor::Scope;
 use crate::seen::{Seen, seen_each};
 use history::Change;
+use lists::RecentLabels;
 use revstore::{ChangesFault, Store};
 use revtable::Fault;
-use std::alloc::Global;
 
 /// How many changes are read at once at most.
 const MAX_CHANGES: usize = 500;
@@ -94,7 +94,7 @@ fn cut(found: Vec<Seen>, max: usize) -> Vec<Seen>
 /// The first that a watch sees after a revision, at most so much. Where little is seen of what is read, more is read
 /// at once: twice as many changes each time.
 pub(crate) fn seen_after(
-    alloc: Global,
+    labels: &mut RecentLabels,
     store: &mut Store,
     scope: &Scope,
     after: u64,
@@ -105,7 +105,7 @@ pub(crate) fn seen_after(
     ensures seen { IfOk result (λ v. map change_seen v.items ≡ take max (seen_in (selection_of scope.now.kind (option_map string_bytes scope.now.namespace) scope.now.selector) store.old after store.old.current)) }
     ensures same { store.new ≡ store.old }
 {
-    let mut found = Vec::new(alloc);
+    let mut found = Vec::new(labels.allocator());
     let mut left = Some(after);
     let mut batch = first_batch(max);
     while let Some(after) = left {
@@ -113,7 +113,7 @@ pub(crate) fn seen_after(
             return Ok(cut(found, max));
         }
         let (changes, next) = next_changes(store, scope, after, batch)?;
-        let mut more = seen_each(alloc, store, &scope.selector, changes)?;
+        let mut more = seen_each(labels, store, &scope.selector, changes)?;
         found.append(&mut more)?;
         left = next;
         batch = batch.saturating_mul(2).min(MAX_CHANGES);

@@ -9,7 +9,7 @@ use crate::lines::bookmark_line;
 use crate::opening::{Initial, WatchFrom};
 use crate::telling::{expired, told};
 use json_values::copied;
-use lists::{Collection, Start};
+use lists::{Collection, RecentLabels, Start};
 use revstore::Store;
 use revtable::Fault;
 use selector::Selector;
@@ -233,12 +233,18 @@ impl WatchCursor {
     pub fn is_alike(&self, other: &WatchCursor) -> bool
         ensures { IsTrue result → self.now ≡ with_bookmarks other.now self.now.bookmarks }
     {
-        self.scope.is_alike(&other.scope) && self.standing.is_alike(&other.standing)
+        self.standing.is_alike(&other.standing) && self.scope.is_alike(&other.scope)
     }
 
     /// The next lines, at most `max`: of objects that are left, each as added, then of changes that are seen after
-    /// the position. Where changes after it were forgotten, the one line says so and the watch has ended.
-    pub fn pump(&mut self, alloc: Global, store: &mut Store, max: usize) -> Result<Pumped, Fault>
+    /// the position. Where changes after it were forgotten, the one line says so and the watch has ended. Watches that are
+    /// pumped with the same recent labels read a text once for its labels.
+    pub fn pump(
+        &mut self,
+        labels: &mut RecentLabels,
+        store: &mut Store,
+        max: usize,
+    ) -> Result<Pumped, Fault>
         ensures pumped { IfOk result (λ p. turn_of p self.new ≡ pumped (from_view store.old) max self.old) }
         ensures err { OnErr result (self.new ≡ self.old) }
         ensures same { store.new ≡ store.old }
@@ -246,9 +252,9 @@ impl WatchCursor {
         let position = self.standing.position;
         let compacted = store.compacted();
         if position < compacted {
-            return Ok(expired(alloc, position, compacted)?);
+            return Ok(expired(labels.allocator(), position, compacted)?);
         }
-        let (pumped, standing) = told(alloc, store, &self.scope, &self.standing, max)?;
+        let (pumped, standing) = told(labels, store, &self.scope, &self.standing, max)?;
         self.standing = standing;
         Ok(pumped)
     }

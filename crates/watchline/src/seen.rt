@@ -8,11 +8,10 @@ ghost use Rattle.watchline.specs.Batches.{AreBetween, if_labelled, seen_each, se
 ghost use Rattle.watchline.specs.Views.{change_seen, kind_seen, seen_list};
 
 use history::{Change, Key, Object};
-use lists::is_selected;
+use lists::RecentLabels;
 use revstore::Store;
 use revtable::Fault;
 use selector::Selector;
-use std::alloc::Global;
 
 #[derive(Clone, Copy, Debug, PartialEq, Eq)]
 pub(crate) enum SeenKind {
@@ -56,36 +55,37 @@ fn seen_by(revision: u64, key: Key, before: Option<String>, after: Option<String
     }
 }
 
-/// A body, where its labels are selected.
+/// The body of an object, where its labels are selected.
 fn if_labelled(
-    alloc: Global,
+    labels: &mut RecentLabels,
     selector: &Selector,
-    body: Option<String>,
+    object: Option<Object>,
 ) -> Result<Option<String>, Fault>
-    ensures { IfOk result (λ o. option_map string_bytes o ≡ if_labelled selector.now (option_map string_bytes body)) }
+    ensures { IfOk result (λ o. option_map string_bytes o ≡ if_labelled selector.now (option_map (λ o. o.body) (option_map object_of object))) }
 {
-    let Some(body) = body else {
+    let Some(object) = object else {
         return Ok(None);
     };
-    if is_selected(alloc, selector, body.as_str())? {
-        Ok(Some(body))
+    if labels.is_selected(selector, object.revision, object.body.as_str())? {
+        Ok(Some(object.body))
     } else {
         Ok(None)
     }
 }
 
-fn body_of(object: Option<Object>) -> Option<String>
-    ensures { option_map string_bytes result ≡ option_map (λ o. o.body) (option_map object_of object) }
+/// What stands after a change of this revision.
+fn object_after(revision: u64, body: Option<String>) -> Option<Object>
+    ensures { option_map (λ o. o.body) (option_map object_of result) ≡ option_map string_bytes body }
 {
-    match object {
-        Some(object) => Some(object.body),
+    match body {
+        Some(body) => Some(Object { revision, body }),
         None => None,
     }
 }
 
 /// What is seen of a change of the type and namespace, if anything.
 fn seen_of(
-    alloc: Global,
+    labels: &mut RecentLabels,
     store: &mut Store,
     selector: &Selector,
     change: Change,
@@ -96,14 +96,15 @@ fn seen_of(
     ensures same { store.new ≡ store.old }
 {
     let stood = store.before(&change.key, change.revision)?;
-    let before = if_labelled(alloc, selector, body_of(stood))?;
-    let after = if_labelled(alloc, selector, change.body)?;
+    let before = if_labelled(labels, selector, stood)?;
+    let stands = object_after(change.revision, change.body);
+    let after = if_labelled(labels, selector, stands)?;
     Ok(seen_by(change.revision, change.key, before, after))
 }
 
 /// Keeps what is seen of a change.
 fn push_seen(
-    alloc: Global,
+    labels: &mut RecentLabels,
     store: &mut Store,
     selector: &Selector,
     found: &mut Vec<Seen>,
@@ -115,7 +116,7 @@ fn push_seen(
         ≡ map change_seen found.old.items ++ seen_labelled selector.now (state_in store.old (change.revision - 1)) (change_of change)) }
     ensures same { store.new ≡ store.old }
 {
-    let Some(seen) = seen_of(alloc, store, selector, change)? else {
+    let Some(seen) = seen_of(labels, store, selector, change)? else {
         return Ok(());
     };
     found.push(seen)?;
@@ -124,7 +125,7 @@ fn push_seen(
 
 /// What is seen of these changes of the type and namespace, one after the other.
 pub(crate) fn seen_each(
-    alloc: Global,
+    labels: &mut RecentLabels,
     store: &mut Store,
     selector: &Selector,
     changes: Vec<Change>,
@@ -133,9 +134,9 @@ pub(crate) fn seen_each(
     ensures seen { IfOk result (λ v. map change_seen v.items ≡ seen_each selector.now store.old (map change_of changes.items)) }
     ensures same { store.new ≡ store.old }
 {
-    let mut found = Vec::new(alloc);
+    let mut found = Vec::new(labels.allocator());
     for change in changes {
-        push_seen(alloc, store, selector, &mut found, change)?;
+        push_seen(labels, store, selector, &mut found, change)?;
     }
     Ok(found)
 }

@@ -13,7 +13,7 @@ use crate::lines::{change_line, error_line, object_line};
 use crate::objects::objects_told;
 use crate::seen::{Seen, reached};
 use history::Entry;
-use lists::Start;
+use lists::{RecentLabels, Start};
 use revstore::Store;
 use revtable::Fault;
 use std::alloc::{AllocError, Global};
@@ -80,7 +80,7 @@ fn moved(
 
 /// The next lines of a watch that has missed nothing, at most so many, and where it then stands.
 pub(crate) fn told(
-    alloc: Global,
+    labels: &mut RecentLabels,
     store: &mut Store,
     scope: &Scope,
     standing: &Standing,
@@ -90,10 +90,11 @@ pub(crate) fn told(
     ensures told { IfOk result (λ p. turn_of p.0 (cursor_of scope.now p.1) ≡ telling (from_view store.old) max (cursor_of scope.now standing.now)) }
     ensures same { store.new ≡ store.old }
 {
+    let alloc = labels.allocator();
     let current = store.current();
     let (objects, left) = objects_told(alloc, store, scope, standing, max)?;
     let room = max.saturating_sub(objects.len());
-    let changes = seen_after(alloc, store, scope, standing.position, room)?;
+    let changes = seen_after(labels, store, scope, standing.position, room)?;
     let lines = lines_of(alloc, &objects, &changes)?;
     let next = moved(standing, &changes, left, lines.len() < max, current);
     Ok((

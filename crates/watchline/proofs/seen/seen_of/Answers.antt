@@ -8,5 +8,5 @@ use Rattle.watchline.proofs.seen.seen_of.Goals as goal
 pub returns-clause-seen : goal.returns-clause-seen
 returns-clause-seen c =
     c.seen_by.ensures ∙ ap₂ (λ a b. seen_by c.args.change.revision (key_of c.args.change.key) a b)
-    (c.in_ok-before.ensures ∙ ap (if_labelled c.args.selector.now) (c.body_of.ensures ∙ ap (option_map (λ o. o.body)) c.in_ok-stood.ensures.ok))
-    c.in_ok-after.ensures
+    (c.in_ok-before.ensures ∙ ap (if_labelled c.args.selector.now) (ap (option_map (λ o. o.body)) c.in_ok-stood.ensures.ok))
+    (c.in_ok-after.ensures ∙ ap (if_labelled c.args.selector.now) c.object_after-stands.ensures)

@@ -10,7 +10,7 @@ use Rattle.verbs.proofs.api.Api.commit.Goals as goal
 pub returns-in-Some-clause-ok : goal.returns-in-Some-clause-ok
 returns-in-Some-clause-ok c = λ types m stands next.
     let old = c.args.self.now in
-    let new : Api = record { alloc = old.alloc; catalog = old.catalog; routes = old.routes; store = c.write_change.new.store } in
+    let new : Api = record { alloc = old.alloc; catalog = old.catalog; routes = old.routes; store = c.write_change.new.store; labels = old.labels } in
     let comes = subst (λ (o : Option Change). IfSome o (λ x. IsNext types m (change_of x))) c.in-Some.is next in
     subst (λ (o : Option Change). OnOk c.write_change.result (Stands new types (after m (option_map change_of o)))) (sym c.in-Some.is)
     (on_ok c.write_change.result (λ store. stands_next old new types m (change_of c.in-Some.change) stands comes (strings_utf8 (λ s. s.value) c.in-Some.change.text) refl store) c.write_change.ensures.ok)

@@ -41,7 +41,7 @@ pub returns-clause-ok : goal.returns-clause-ok
 returns-clause-ok c = λ types m stands.
     let others = c.in_ok-catalog.catalog in
     let api = c.args.self.now in
-    let new_api : Api = record { alloc = api.alloc; catalog = others; routes = api.routes; store = c.write_all.new.store } in
+    let new_api : Api = record { alloc = api.alloc; catalog = others; routes = api.routes; store = c.write_all.new.store; labels = api.labels } in
     let ws = c.in_ok-writes.writes.items in
     let old : types_view c.types-old.result.now ≡ types = c.types-old.ensures ∙ stands.serves in
     let new : types_view c.types-new.result.now ≡ others = c.types-new.ensures in
