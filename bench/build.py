@@ -21,9 +21,9 @@ import sys
 TOP = os.path.dirname(os.path.dirname(os.path.realpath(__file__)))
 LIBRARIES = {
     "tables": "history revtable revstore anyhow",
-    "connections": "schema serde_json verbs httpedge anyhow",
-    "layers": "selector indexer wireclient decoder reflector schema typed ownership serde_json anyhow",
-    "runs": "schema verbs httpedge wireclient indexer world serde_json anyhow",
+    "connections": "api_types serde_json verbs httpedge anyhow",
+    "layers": "selector indexer wireclient decoder reflector schema api_types typed ownership serde_json anyhow",
+    "runs": "api_types verbs httpedge wireclient indexer world serde_json anyhow",
 }
 
 

@@ -3,7 +3,7 @@
 
     examples/plain_http.py [PROGRAM]
 
-PROGRAM is ./ssa-server where none is named. The status is 0 if each reply is the expected one.
+PROGRAM is what SSA_SERVER names, else ./ssa-server. The status is 0 if each reply is the expected one.
 """
 import json
 import os
@@ -86,7 +86,8 @@ def play(server):
 
 def main(words):
     os.environ["no_proxy"] = "127.0.0.1"
-    with Server(words[0] if words else f"{TOP}/ssa-server", f"{TOP}/examples/widgets.json") as server:
+    program = words[0] if words else os.environ.get("SSA_SERVER", f"{TOP}/ssa-server")
+    with Server(program, f"{TOP}/examples/widgets.json") as server:
         play(server)
     print("each reply is the expected one")
 

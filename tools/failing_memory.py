@@ -1,7 +1,8 @@
 #!/usr/bin/env python3
 """Refuses each allocation of a crate's tests, or of a program, in turn, and says what each run then did.
 
-Usage: tools/failing_memory.py [--stay] [--jobs N] CRATE [NAME..]
+Usage: tools/failing_memory.py --gate
+       tools/failing_memory.py [--stay] [--jobs N] CRATE [NAME..]
        tools/failing_memory.py [--all] [--stay] [--jobs N] PROGRAM -- [ARGUMENT..]
 
 CRATE     a crate's name, whose tests `rt test` or the gate built as crates/CRATE/out/CRATE_tests, or the path of such a program
@@ -24,6 +25,10 @@ numbers of the allocations stand behind.
              ample memory; or a signal ended the program; or it didn't end; or nothing was refused, since it made fewer
              allocations
 
+GATE. With --gate it refuses each allocation of the tests that GATE lists, with and without --stay. A test that isn't there is
+a finding, as is one of any crate that has `refused_memory` in its name and isn't listed. The last line counts the tests,
+`N passed, M failed`.
+
 The status is 1 where there is a finding.
 """
 import argparse
@@ -40,6 +45,18 @@ TOP = os.path.dirname(os.path.dirname(os.path.abspath(__file__)))
 HERE = os.path.dirname(os.path.abspath(__file__))
 SECONDS = 60
 MOST_TOLD = 10
+WORDS = "refused_memory"
+GATE = {
+    "contents_tests": ["an_apply_that_is_refused_memory", "a_write_by_status_that_is_refused_memory"],
+    "store_client_tests": [
+        "a_put_that_is_refused_memory", "a_replace_that_is_refused_memory",                     # of cached
+        "a_put_that_is_refused_memory", "a_prune_that_is_refused_memory",                       # of tables
+        "a_write_that_is_refused_memory", "a_compaction_that_is_refused_memory",                # of stores
+    ],
+    "client_tests": ["a_piece_that_is_refused_memory_is_given_up", "a_page_that_is_refused_memory_is_given_up"],
+    "server_tests": ["calls_that_are_refused_memory"],
+    "world_tests": ["a_run_that_is_refused_memory"],
+}
 
 
 class Run:
@@ -167,12 +184,15 @@ def read_options():
         place = given.index("--")
         given, arguments = given[:place], given[place + 1:]
     reads = argparse.ArgumentParser(description=__doc__, formatter_class=argparse.RawDescriptionHelpFormatter)
+    reads.add_argument("--gate", action="store_true", help="sweep the tests of the gate")
     reads.add_argument("--all", action="store_true", help="tell each run of a program")
     reads.add_argument("--stay", action="store_true", help="let each refusal last to the end of the part or run")
     reads.add_argument("--jobs", type=int, default=os.cpu_count() or 2)
-    reads.add_argument("program", metavar="CRATE|PROGRAM")
+    reads.add_argument("program", metavar="CRATE|PROGRAM", nargs="?")
     reads.add_argument("names", nargs="*", metavar="NAME")
     options = reads.parse_intermixed_args(given)
+    if bool(options.program) == options.gate:
+        reads.error("it takes --gate, or a crate or a program")
     if arguments is not None and options.names:
         reads.error("names of tests stand beside a program's arguments")
     return options, arguments
@@ -189,9 +209,35 @@ def built(name, end, how):
     return os.path.abspath(path)
 
 
-def sweep_tests(shim, program, options):
+def tests_of(program):
+    """The names of a program's tests."""
     listed = subprocess.run([program, "--list"], stdout=subprocess.PIPE, check=True, text=True).stdout
-    tests = re.findall(r"^(.+): test$", listed, re.M)
+    return re.findall(r"^(.+): test$", listed, re.M)
+
+
+def sweep_gate(shim, options):
+    """Sweeps the tests of the gate, and counts them; returns whether all is well."""
+    counts = collections.Counter()
+    folders = os.path.join(TOP, "crates")
+    others = [it for it in sorted(os.listdir(folders)) if it not in GATE]
+    for crate, wanted in {**GATE, **dict.fromkeys(others, [])}.items():
+        program = os.path.join(folders, crate, "out", f"{crate}_tests")
+        found = [it for it in tests_of(program) if WORDS in it] if os.path.isfile(program) else []
+        names = collections.Counter(it.rpartition("::")[2] for it in found)
+        wanted = collections.Counter(wanted)
+        for name in [*(wanted - names).elements(), *(names - wanted).elements()]:
+            why = "isn't there" if wanted[name] > names[name] else "isn't in the list of the gate"
+            print(f"  FINDING: {crate}: {name} {why}", flush=True)
+            counts[False] += 1
+        for options.stay in (False, True):
+            counts.update(sweep_test(shim, program, it, options) for it in found)
+    print(f"{counts[True]} passed, {counts[False]} failed")
+    return not counts[False]
+
+
+def sweep_tests(shim, program, options):
+    """Sweeps tests of a program; returns whether all is well."""
+    tests = tests_of(program)
     if options.names:
         tests = [it for it in tests if any(name in it for name in options.names)]
     if not tests:
@@ -202,12 +248,14 @@ def sweep_tests(shim, program, options):
 def main():
     options, arguments = read_options()
     is_test = arguments is None
-    program = built(options.program, "_tests", "rt test") if is_test else built(options.program, "", "rt run")
+    program = None if options.gate else built(options.program, "_tests", "rt test") if is_test else built(options.program, "", "rt run")
     resource.setrlimit(resource.RLIMIT_CORE, (0, 0))
     with tempfile.TemporaryDirectory() as room:
         shim = f"{room}/failing_memory.so"
         subprocess.run(["cc", "-O2", "-shared", "-fPIC", "-o", shim, f"{HERE}/failing_memory.c"], check=True)
-        if is_test:
+        if options.gate:
+            is_well = sweep_gate(shim, options)
+        elif is_test:
             is_well = sweep_tests(shim, program, options)
         else:
             is_well = sweep_program(shim, [program] + arguments, options)

@@ -11,7 +11,9 @@ begin with such a line, in the order of the page; the lines behind one are what 
 fresh server, on a free port in place of the page's; the next ones set variables (NAME=VALUE), the first of them the server's
 address; those after them are run by bash.
 urllib leaves out the commands of curl -si, whose replies are shown with their heads: it can't make some of these requests.
-The status is 1 where something differs.
+Each command has to end with status 0, with each one of a pipe, and a server may not end by itself. A page has to have so
+many commands at the least, and no line "$ COMMAND" outside of such blocks. The last line counts the commands, `N passed, M
+failed`; the status is 1 where something differs.
 """
 import itertools
 import json
@@ -24,9 +26,12 @@ import urllib.error
 import urllib.request
 
 TOP = os.path.dirname(os.path.dirname(os.path.realpath(__file__)))
-PAGES = ["README.md", "docs/API.md", "docs/REPLAY.md", "examples/crd.md"]
+# The pages, each with the least number of its commands.
+PAGES = {"README.md": 5, "docs/API.md": 20, "docs/REPLAY.md": 1, "examples/crd.md": 3}
 PORT = "8001"
 SETTING = re.compile(r"[A-Z]+=\S+$")
+# The commands, and the pages, of which something differs.
+different = set()
 
 
 def commands(page):
@@ -43,6 +48,17 @@ def commands(page):
             else:
                 found[-1][1].append(line)
     return [(command, "\n".join(lines)) for command, lines in found]
+
+
+def missing():
+    """Tells of pages with commands that this script wouldn't find."""
+    for page, least in PAGES.items():
+        with open(f"{TOP}/{page}", encoding="utf-8") as it:
+            written = len(re.findall(r"^\s*\$ ", it.read(), re.M))
+        found = len(commands(page))
+        differs(page, f"{page}: lines that begin with $", found, written)
+        if found < least:
+            differs(page, f"{page}: commands", found, f"{least} or more")
 
 
 def sessions():
@@ -82,6 +98,7 @@ class Server:
     """The server that a page's command starts, on a free port."""
 
     def __init__(self, program, command, mode):
+        self.command = command
         words = [program, *shlex.split(command)[1:], *mode]
         words[words.index(PORT)] = "0"
         self.process = subprocess.Popen(words, cwd=TOP, stdout=subprocess.PIPE, text=True)
@@ -92,24 +109,33 @@ class Server:
         return self
 
     def __exit__(self, *_):
+        differs(self.command, f"the server's status before its end: {self.command}", self.process.poll(), None)
         self.process.kill()
         self.process.wait()
 
 
-def differs(what, got, wanted):
-    if got == wanted:
-        return 0
-    print(f"{what}\n  printed {got}\n  wanted  {wanted}")
-    return 1
+def differs(command, what, got, wanted):
+    """Tells where something of a command isn't what it should be."""
+    if got != wanted:
+        print(f"{what}\n  is     {got}\n  wanted {wanted}")
+        different.add(command)
+
+
+def compare_run(command, wanted, seconds, names=None):
+    """Runs a command and compares what it prints."""
+    words, env = ["bash", "-o", "pipefail", "-c", command], {**os.environ, **(names or {})}
+    try:
+        done = subprocess.run(words, cwd=TOP, env=env, stdout=subprocess.PIPE, text=True, timeout=seconds, check=False)
+        differs(command, command, done.stdout.rstrip("\n"), wanted)
+        differs(command, f"status of {command}", done.returncode, 0)
+    except subprocess.TimeoutExpired:
+        differs(command, command, f"no end in {seconds} seconds", wanted)
 
 
 def by_curl(names, rows):
-    """How many commands print something else."""
-    count = 0
+    """Runs a session's commands."""
     for command, wanted in rows:
-        done = subprocess.run(["bash", "-c", command], env={**os.environ, **names}, stdout=subprocess.PIPE, text=True, timeout=30, check=False)
-        count += differs(command, done.stdout.rstrip("\n"), wanted)
-    return count
+        compare_run(command, wanted, 30, names)
 
 
 def request_of(words):
@@ -145,9 +171,8 @@ def status_of(body):
 
 
 def by_urllib(names, rows):
-    """How many requests have another reply. Of a command with a watch in the background that is opened, then the other
-    request is made, and the watch's lines are read."""
-    count = 0
+    """Makes a session's requests. Of a command with a watch in the background that is opened, then the other request is
+    made, and the watch's lines are read."""
     for command, wanted in rows:
         if " -si " in command:
             continue
@@ -158,11 +183,10 @@ def by_urllib(names, rows):
             body = "".join(replies[0].readline().decode() for _ in wanted.splitlines()).rstrip("\n")
         else:
             body = replies[0].read().decode().rstrip("\n")
-            count += differs(f"status of {command}", replies[0].status if status_of(body) else None, status_of(body))
-        count += differs(f"urllib: {command}", body, wanted)
+            differs(command, f"urllib: status of {command}", replies[0].status if status_of(body) else None, status_of(body))
+        differs(command, f"urllib: {command}", body, wanted)
         for reply in replies:
             reply.close()
-    return count
 
 
 def main(words):
@@ -170,22 +194,22 @@ def main(words):
     if not os.access(program, os.X_OK):
         sys.exit(f"newcomer: {program} isn't built: run `rt run` in crates/ssa_server")
     os.environ["no_proxy"] = "127.0.0.1"
-    count = played = 0
+    missing()
+    played = [row[0] for row in plays()]
     for command, wanted in plays():
         # A program that isn't built is compiled first.
-        done = subprocess.run(["bash", "-c", command], cwd=TOP, stdout=subprocess.PIPE, text=True, timeout=600, check=False)
-        count += differs(command, done.stdout.rstrip("\n"), wanted)
-        played += 1
+        compare_run(command, wanted, 600)
     for (start, said), *rows in sessions():
         modes = [[]] if " --concurrent" in start else [[], ["--concurrent"]]
         asked = rows[len(settings(rows, PORT)):]
-        played += len(asked)
+        played += [start, *(command for command, _ in asked)]
         for mode, ask in itertools.product(modes, (by_curl, by_urllib)):
             with Server(os.path.realpath(program), start, mode) as server:
-                count += differs(start, server.said.replace(server.port, PORT), said)
-                count += ask(settings(rows, server.port), asked)
-    print(f"{played} commands, those of servers by curl and by urllib, {count} differences")
-    return int(count > 0)
+                differs(start, start, server.said.replace(server.port, PORT), said)
+                ask(settings(rows, server.port), asked)
+    print(f"{len(played)} commands, those of servers by curl and by urllib")
+    print(f"{len(played) - len(different & {*played})} passed, {len(different)} failed")
+    return int(bool(different))
 
 
 if __name__ == "__main__":

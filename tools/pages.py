@@ -114,16 +114,16 @@ def contract_line(function, crate):
     cited = {names[word] for word in re.findall(r"(?<![\w.])\w+", text) if word in names}
     cited |= {(modules[module], word) for module, word in re.findall(r"(?<![\w.])(\w+)\.(\w+)", text) if module in modules}
     by_file = "; ".join(f"{file}: {', '.join(sorted(word for where, word in cited if where == file))}" for file in sorted({where for where, _ in cited}))
-    named = ", ".join(clause for clause in clauses if clause)
+    named = ", ".join(clause for clause in clauses if clause) if "ensures" in function.contract else "no contract"
     line = f"- `{called(function)}`{f' ({named})' if named else ''}"
     return line + f": {sentence(function.doc)}." * bool(function.doc) + f" [{by_file}]" * bool(by_file)
 
 
 def contracts():
     page = ["# Contracts by function\n", HEAD, "", "A public function, the clauses of its contract that have a name, what it is for, and in brackets the definitions that",
-            "the clauses cite, by file of `specs/` (with the crate, where it is another's). What a call needs is a clause `requires`.\n"]
+            "the clauses cite, by file of `specs/` (with the crate, where it is another's). What a call needs is a clause `requires`; a call of which nothing is said has `no contract`.\n"]
     for crate in crates():
-        lines = [contract_line(function, crate) for function in exported(crate) if "ensures" in function.contract]
+        lines = [contract_line(function, crate) for function in exported(crate)]
         page += [f"### {crate}\n", *lines, ""] if lines else []
     return page
 
@@ -146,7 +146,7 @@ def turned(edit):
 
 def edits_page():
     page = ["# Wrong bodies, by function\n", HEAD, "", "The edits that the prover has to refuse, by the function that they turn. Those in bold stand in `must-fail/` and are",
-            "tried by the gate, the others in `more-edits/` and are tried by `tools/more-edits`.\n"]
+            "tried by each gate, the others in `more-edits/` and are tried by `tools/more-edits`, and by the gate as far as its time reaches.\n"]
     for crate in crates():
         by_function = {}
         for edit in sorted((it for it in edits(crate) if os.path.isfile(it.file)), key=lambda it: (it.file, it.folder != "must-fail", it.name)):
@@ -230,7 +230,7 @@ def refusal_rows(crate):
 
 
 def refusals():
-    status, sent = (arms_of(next(it for it in of_crate("verbs") if called(it) == f"Reason::{name}")) for name in ("code", "text"))
+    status, sent = (arms_of(next(it for it in of_crate("api_request") if called(it) == f"Reason::{name}")) for name in ("code", "text"))
     rows = {(value_of(status[reason], TOP) or status[reason], value_of(sent[reason], TOP) or sent[reason], text, f"{short(file)}: {where}")
             for crate in crates() for reasons, texts, where, file in refusal_rows(crate) for reason in reasons for text in texts}
     return ["# Refusals\n", HEAD, "", "The status, the reason and the message of each refusal, and the function that makes it. What stands in braces is filled in.\n",

@@ -8,8 +8,8 @@ use mirroring::Dial;
 use reflector::{Informer, Trouble};
 use std::alloc::Global;
 use std::test::Fail;
-use streams::read_piece;
 use summary::Summary;
+use wire::read_piece;
 
 /// One connection: a request, its reply, and what the notices tell. Answers why the reply was given up, if it was; then
 /// the caller waits before the next one.

@@ -3,9 +3,9 @@
 
 use crate::mirrors::server_of;
 use crate::rows::expect_text;
+use api_types::Types;
 use mirror_program::{MirrorOptions, ProgramFault, options, print_changes};
 use programs::Resource;
-use schema::Types;
 use serde_json::Value;
 use std::alloc::Global;
 use std::io;

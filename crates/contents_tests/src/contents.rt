@@ -15,10 +15,12 @@
 use crate::borrowed::answer_borrowed;
 use crate::given::{first_schema, path, printed, shown_paths, tree, types_of};
 use crate::two_contents::answer_of_two;
+use api_types::{Types, is_lawful};
 use fieldset::FieldSet;
 use json_texts::TextWriter;
+use objects::paths_in;
 use ownership::{Identity, ObjectFault, Owned};
-use schema::{Schema, Types};
+use schema::Schema;
 use serde_json::Value;
 use std::alloc::Global;
 use std::test::Fail;
@@ -49,7 +51,7 @@ pub fn play_under(alloc: Global, types: &str, examples: &str) -> Result<(), Fail
 pub fn answer_under(alloc: Global, schema: &Schema, question: &str) -> Result<String, Fail> {
     let (call, text) = first_word(question);
     match call {
-        "lawful" => told(alloc, schema.lawful()),
+        "lawful" => told(alloc, is_lawful(schema)),
         "place" => placed(alloc, schema, text),
         "read" => read(alloc, schema, text),
         "paths" => paths(alloc, schema, text),
@@ -74,7 +76,7 @@ fn read(alloc: Global, schema: &Schema, text: &str) -> Result<String, Fail> {
 }
 
 fn paths(alloc: Global, schema: &Schema, text: &str) -> Result<String, Fail> {
-    shown_paths(alloc, &tree(alloc, schema, text)?.paths(alloc)?)
+    shown_paths(alloc, &paths_in(&tree(alloc, schema, text)?, alloc)?)
 }
 
 fn print(alloc: Global, schema: &Schema, text: &str) -> Result<String, Fail> {

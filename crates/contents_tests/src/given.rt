@@ -1,9 +1,10 @@
 //! What several tests are given: texts, paths, and a types file of widgets. Questions about contents are answered in
 //! `contents`, those about paths in `elements` and `sets`.
 
+use api_types::Types;
 use fieldpath::{ElemText, Path};
 use fieldset::FieldSet;
-use schema::{Schema, Types};
+use schema::Schema;
 use serde_json::Value;
 use std::alloc::{AllocError, Global};
 use std::test::Fail;

@@ -13,10 +13,11 @@
 
 use crate::contents::w1;
 use crate::given::{READY_TYPES, WIDGET_TYPES, first_schema, printed, push_paths, tree, types_of};
+use api_types::Types;
 use ownership::{
     ApplyFault, Conflict, Manager, Operation, Owned, Subresource, apply, is_same, update,
 };
-use schema::{Schema, Types};
+use schema::Schema;
 use std::alloc::{AllocError, Global};
 use std::test::Fail;
 use test_rows::{Answers, first_word, mark, play, told};

@@ -11,10 +11,11 @@
 
 use crate::given::{printed, push_paths, tree};
 use fieldset::FieldSet;
+use objects::{Changes, changed_from, compare, paths_in, without};
 use schema::Schema;
 use std::alloc::{AllocError, Global};
 use std::test::Fail;
-use typed::{Changes, Tree};
+use typed::Tree;
 
 /// The answer to a question about the contents of two texts.
 pub fn answer_of_two(
@@ -56,7 +57,7 @@ fn merged(alloc: Global, one: Tree, other: &Tree) -> Result<Tree, AllocError> {
 }
 
 fn less(alloc: Global, one: Tree, other: &Tree) -> Result<Tree, AllocError> {
-    Ok(one.without(&other.paths(alloc)?))
+    Ok(without(one, &paths_in(other, alloc)?))
 }
 
 fn compared(alloc: Global, schema: &Schema, text: &str, old: &Tree) -> Result<String, Fail> {
@@ -75,11 +76,11 @@ fn push_compared(
 ) -> Result<(), AllocError> {
     push_own(alloc, text, new)?;
     push_changed(alloc, text, new, old)?;
-    push_changes(alloc, text, &new.compare(alloc, old)?)
+    push_changes(alloc, text, &compare(new, alloc, old)?)
 }
 
 fn push_own(alloc: Global, text: &mut String, new: &Tree) -> Result<(), AllocError> {
-    push_part(alloc, text, &new.paths(alloc)?)
+    push_part(alloc, text, &paths_in(new, alloc)?)
 }
 
 fn push_changed(
@@ -88,7 +89,7 @@ fn push_changed(
     new: &Tree,
     old: &Tree,
 ) -> Result<(), AllocError> {
-    push_part(alloc, text, &new.changed_from(alloc, old)?)
+    push_part(alloc, text, &changed_from(new, alloc, old)?)
 }
 
 fn push_changes(alloc: Global, text: &mut String, changes: &Changes) -> Result<(), AllocError> {

@@ -11,7 +11,7 @@
 
 use crate::contents::play_under;
 use crate::given::{WIDGET_TYPES, first_schema, types_of};
-use schema::{Types, TypesFault};
+use api_types::{Types, TypesFault, is_lawful};
 use serde_json::Value;
 use std::alloc::Global;
 use std::test::Fail;
@@ -90,7 +90,7 @@ fn told_with_law(alloc: Global, text: &str, is_lawful: bool) -> Result<String, F
 
 fn kind_of(alloc: Global, types: &Types, place: &str) -> Result<String, Fail> {
     match types.get(place.parse::<u32>().ok().ok_or("no place")?) {
-        Some(served) => told_with_law(alloc, served.kind.as_str(), served.schema.lawful()),
+        Some(served) => told_with_law(alloc, served.kind.as_str(), is_lawful(&served.schema)),
         None => Ok(String::from_str(alloc, "none")?),
     }
 }
@@ -106,7 +106,7 @@ fn made(alloc: Global, schema: &str) -> Result<String, Fail> {
     told_with_law(
         alloc,
         shown(alloc, &types, "0")?.as_str(),
-        first_schema(&types)?.lawful(),
+        is_lawful(first_schema(&types)?),
     )
 }
 

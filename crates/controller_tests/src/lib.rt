@@ -2,5 +2,7 @@
 //! deletes them, gives the informer its turn, and looks at what it was told and what it keeps.
 #![tactic(auto)]
 
+#[cfg(test)]
 mod controller;
+#[cfg(test)]
 mod process;

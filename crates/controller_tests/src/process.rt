@@ -1,9 +1,9 @@
 //! A server of widgets and an informer of them, in one process. What a controller does with it stands in `controller`.
 
+use api_types::Types;
 use httpedge::{Event, Hub};
 use indexer::{IndexBy, Indexer, Object};
 use reflector::{Informer, Notice, Source};
-use schema::Types;
 use serde_json::Value;
 use std::alloc::{AllocError, Global};
 use std::test::Fail;

@@ -33,7 +33,7 @@ use Rattle.fieldset.proofs.Saying.{IsDue, Said, said}
 use Rattle.fieldset.proofs.Marks.{content_or, dot_next, joined_parts, not_ok, same_ok}
 use Rattle.fieldset.proofs.Ordered.{Each, Rising, each_rising, found, get_each_member, get_first, none_above, put_rising, rising_members, same_members}
 use Rattle.fieldset.proofs.Placed.{IsPlacedBelow, at_placed, is_set, members_placed, set_or, when_some}
-use Rattle.fieldset.proofs.Places.{next}
+use Rattle.schema.proofs.Places.{next}
 use Rattle.fieldset.proofs.Splits.{IsMarks, get_top, get_top_below, mark_when}
 use Rattle.fieldset.proofs.Written.{type_good, type_not_leaf}
 

@@ -22,7 +22,7 @@ use Rattle.schema.specs.Steps.{Spot, value_of, set_item, map_item, is_leaf, step
 use Rattle.schema.proofs.Steps.{name_in, name-of}
 use Rattle.fieldset.specs.FieldsV1.{each, members_of, members_of_field, with_item}
 use Rattle.fieldset.specs.Below.{members_some, members_under}
-use Rattle.fieldset.proofs.Places.{item_next_none, leaf_next, next, place-next, place_at, place_next, step_read}
+use Rattle.schema.proofs.Places.{item_next_none, leaf_next, next, place-next, place_at, place_next, step_read}
 use Rattle.fieldset.proofs.Walks.{field-some, members-each, members-leaf}
 
 pub none_some : {A : Type 0} (a : A) → None ≡ Some a → ⊥

@@ -2,7 +2,6 @@ pub mod Walks
 pub mod Lent
 pub mod Owning
 pub mod Taking
-pub mod Places
 pub mod Splits
 pub mod Fronts
 pub mod Marks

@@ -18,7 +18,7 @@ use Rattle.schema.specs.Shape.{Fields, shape_at}
 use Rattle.schema.specs.Steps.{Spot, value_of, set_item, map_item, step}
 use Rattle.fieldset.specs.FieldsV1.{each, leaf, put_names, Reading, Refusal, and_then, dot, element_in, has_keys, is_empty, is_key_field, joined, may_have_dot, not_canonical, off_schema, read_at, read_below, read_mark, read_member, read_members, some_or}
 use Rattle.fieldset.proofs.Fronts.{none_some}
-use Rattle.fieldset.proofs.Places.{next, step_read}
+use Rattle.schema.proofs.Places.{next, step_read}
 use Rattle.fieldset.proofs.Splits.{each_inside}
 use Rattle.fieldset.proofs.Taking.{joined-nothing}
 

@@ -17,7 +17,7 @@ use Rattle.fieldset.specs.BothWays.{HavePlaces, ReadHavePlaces}
 use Rattle.fieldset.specs.FieldsV1.{Refusal, Reading, and_then, needs_members, bad_key, dot, element_in, is_empty, is_key_field, is_marked, joined, may_have_dot, not_an_object, not_canonical, off_schema, read_at, read_below, read_mark, read_member, read_members, some_or, top}
 use Rattle.fieldset.proofs.Fronts.{IsPlacedAt}
 use Rattle.fieldset.proofs.Marks.{joined_parts, mark_nothing, not_ok, same_ok}
-use Rattle.fieldset.proofs.Places.{next, place-here, place-next, place_at, place_next, step_read}
+use Rattle.schema.proofs.Places.{next, place-here, place-next, place_at, place_next, step_read}
 use Rattle.fieldset.proofs.Splits.{get_top, get_top_below, mark_when}
 
 -- nothing stands at the top, and the rest has places

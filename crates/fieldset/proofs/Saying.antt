@@ -13,7 +13,7 @@ use Rattle.schema.specs.Steps.{Spot, value_of, set_item, map_item, step}
 use Rattle.fieldset.specs.FieldsV1.{leaf, Reading, and_then, bad_key, dot, element_in, is_key_field, may_have_dot, not_an_object, not_canonical, off_schema, read_below, read_mark, read_member, some_or}
 use Rattle.fieldset.proofs.Fronts.{none_some}
 use Rattle.fieldset.proofs.Marks.{dot_next, not_ok, same_ok}
-use Rattle.fieldset.proofs.Places.{next, step_read}
+use Rattle.schema.proofs.Places.{next, step_read}
 
 abbrev name_or : List ℕ → Option (List ℕ) → List ℕ
 name_or f None = f

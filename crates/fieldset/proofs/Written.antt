@@ -24,7 +24,7 @@ use Rattle.fieldset.specs.BothWays.{WrittenIsRead}
 use Rattle.fieldset.specs.FieldsV1.{each, leaf, members_of, put_names, with_item, Reading, and_then, dot, is_empty, joined, not_canonical, read_at, read_members, top}
 use Rattle.fieldset.proofs.Fronts.{IsGood, IsPlacedAt, Leads, all_lead, base-each, base_at, first_of, good_next, inner_at, inner_of, members_at, none_some, second_of}
 use Rattle.fieldset.proofs.Marks.{IsRead, dot_marks, each_read, has_all, keys_mark, marked_read, no_dot}
-use Rattle.fieldset.proofs.Places.{item_next_none, leaf_next, next, place-here}
+use Rattle.schema.proofs.Places.{item_next_none, leaf_next, next, place-here}
 use Rattle.fieldset.proofs.Splits.{IsBounded, IsMarks, absent, bounded, each_inside, mark_when, marks_inside, split, total}
 
 -- ---- where something stands

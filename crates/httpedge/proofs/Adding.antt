@@ -4,8 +4,8 @@ use Rattle.std.specs.Prelude.{◌&&◌, nat_le}
 use Rattle.std.specs.FinMap as fin
 use Rattle.std.proofs.lemmas.List.Elements.{filter-append}
 use Rattle.serde_json.specs.Data.{Data}
-use Rattle.schema.specs.Becoming.{types_may_become}
-use Rattle.schema.specs.TypesFile.{ServedShape}
+use Rattle.api_types.specs.Retyping.{types_may_become}
+use Rattle.api_types.specs.TypesFile.{ServedShape}
 use Rattle.history.specs.History.{Change, History, IsRising, Key, up_to}
 use Rattle.history.specs.Whole.{IsGapless}
 use Rattle.history.specs.Writes.{changes_by, written_all}

@@ -6,11 +6,11 @@ use Rattle.std.specs.Str.{is_utf8}
 use Rattle.serde_json.specs.Data.{Data}
 use Rattle.serde_json.specs.Read.{read}
 use Rattle.fieldpath.proofs.Spelled.{spelled-read}
-use Rattle.schema.specs.TypesFile.{ServedShape}
+use Rattle.api_types.specs.TypesFile.{ServedShape}
 use Rattle.history.specs.History.{History}
-use Rattle.verbs.specs.Admit.{admitted}
-use Rattle.verbs.specs.Calls.{Call}
-use Rattle.verbs.specs.Json.{IsJsonBody}
+use Rattle.api_request.specs.Admit.{admitted}
+use Rattle.api_request.specs.Calls.{Call}
+use Rattle.api_request.specs.Json.{IsJsonBody}
 use Rattle.verbs.specs.Machine.{IsMachine}
 use Rattle.verbs.specs.Retyping.{RetypeRefusal, retyping}
 use Rattle.verbs.proofs.Machines.{compactions_keep_machines}

@@ -11,21 +11,22 @@ use Rattle.std.proofs.lemmas.Slice.Eq.{bytes_eq-Decides}
 use Rattle.matchit.specs.Params.{named}
 use Rattle.matchit.specs.Seek.{first}
 use Rattle.serde_json.specs.Data.{Data}
-use Rattle.schema.specs.Becoming.{may_become, type_may_become, types_may_become}
+use Rattle.schema.specs.Becoming.{may_become}
+use Rattle.api_types.specs.Retyping.{type_may_become, types_may_become}
 use Rattle.schema.specs.ObjectShape.{field_of}
 use Rattle.schema.specs.ObjectTest.{is_object_shape}
-use Rattle.schema.specs.Refusals as schemas
+use Rattle.api_types.specs.Refusals as schemas
 use Rattle.schema.specs.Shape.{text}
-use Rattle.schema.specs.TypesFile.{ServedShape, declared_types, is_named, number_from, type_number}
-use Rattle.schema.proofs.Keeping.{fields_stay}
+use Rattle.api_types.specs.TypesFile.{ServedShape, declared_types, is_named, number_from, type_number}
+use Rattle.api_types.proofs.Keeping.{fields_stay}
 use Rattle.history.specs.History.{History, last_revision, standing}
-use Rattle.verbs.specs.Admit.{Parts, Place, admitted, has_status, kind_in, kind_with, parts_by, place_admitted, place_by, place_in, place_of, routes}
-use Rattle.verbs.specs.Calls.{Denied, Target}
+use Rattle.api_request.specs.Admit.{Parts, Place, admitted, has_status, kind_in, kind_with, parts_by, place_admitted, place_by, place_in, place_of, routes}
+use Rattle.api_request.specs.Calls.{Denied, Target}
 use Rattle.verbs.specs.Retyping.{RetypeRefusal, changed_objects, if_declared, if_lawful, if_left, not_lawful, not_types, retyping, too_few_revisions}
 use Rattle.httpedge.specs.Shares.{SharedStands}
 use Rattle.httpedge.specs.declared.shared.Shared.{Shared}
-use Rattle.verbs.specs.declared.resource.Resource.{Resource}
-use Rattle.verbs.specs.declared.resource.Resource.TheVariants.{AllNamespaces, Collection, Object, Status}
+use Rattle.api_request.specs.declared.resource.Resource.{Resource}
+use Rattle.api_request.specs.declared.resource.Resource.TheVariants.{AllNamespaces, Collection, Object, Status}
 use Rattle.requests.specs.declared.asking.Pending as pendings
 use Rattle.requests.specs.Asks.{Asks, CallDecision, asked_by, call_in, call_with}
 use Rattle.requests.specs.Bodies.{body_in, checked_media, path_of}

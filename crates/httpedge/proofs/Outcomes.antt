@@ -2,7 +2,7 @@
 use Rattle.std.proofs.Common.{◌≡◌, ◌≢◌, ℕ, true, false, cond, List, [], ◌∷◌, ◌++◌, Option, Some, None, refl, sym, ap, subst, ◌∙◌, append_assoc}
 use Rattle.std.specs.Prelude.{is_some, option_and_then}
 use Rattle.std.specs.FinMap as fin
-use Rattle.schema.specs.TypesFile.{ServedShape}
+use Rattle.api_types.specs.TypesFile.{ServedShape}
 use Rattle.history.specs.History.{History}
 use Rattle.verbs.specs.Machine.{after}
 use Rattle.watchline.specs.Opening.{WatchFrom}

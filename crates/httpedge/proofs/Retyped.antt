@@ -2,7 +2,7 @@
 use Rattle.std.proofs.Common.{◌≡◌, false, List, Result, Ok, Err, None, refl, sym, ap, subst}
 use Rattle.std.specs.Prelude.{IfSome}
 use Rattle.serde_json.specs.Data.{Data}
-use Rattle.schema.specs.TypesFile.{ServedShape}
+use Rattle.api_types.specs.TypesFile.{ServedShape}
 use Rattle.verbs.specs.Retyping.{RetypeRefusal, retyped, retyping}
 use Rattle.httpedge.specs.Shares.{SharedStands}
 use Rattle.verbs.specs.Seen.{retype_refusal}

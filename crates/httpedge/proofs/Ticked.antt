@@ -12,7 +12,7 @@ use Rattle.std.specs.Ordering.{nat_cmp, eq_by_cmp, is_eq}
 use Rattle.std.specs.declared.cmp.Ordering.{Ordering}
 use Rattle.std.specs.declared.cmp.Ordering.TheVariants.{Less}
 use Rattle.std.proofs.lemmas.Map.Views.{any-filter_same}
-use Rattle.schema.specs.TypesFile.{ServedShape}
+use Rattle.api_types.specs.TypesFile.{ServedShape}
 use Rattle.httpedge.specs.declared.shared.Shared.{Shared}
 use Rattle.httpedge.specs.declared.connection.Connection as conns
 use Rattle.httpedge.specs.declared.connections.Connections.{Connections as Kept}

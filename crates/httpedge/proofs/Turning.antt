@@ -3,14 +3,14 @@ use Rattle.std.proofs.Common.{arith, ◌≡◌, ℕ, ◌+◌, ◌≤◌, Bool, t
 use Rattle.std.specs.Prelude.{is_none, option_map, String, string_bytes}
 use Rattle.std.specs.declared.alloc.Global.{Global}
 use Rattle.std.proofs.lemmas.List.{drop-append-le, length-append}
-use Rattle.schema.specs.TypesFile.{ServedShape}
+use Rattle.api_types.specs.TypesFile.{ServedShape}
 use Rattle.history.specs.History.{History}
 use Rattle.watchline.specs.Opening.{WatchFrom}
 use Rattle.watchline.specs.Watches.{Cursor, Marking, from_history}
 use Rattle.watchline.specs.Watches as cursors
 use Rattle.watchline.specs.Views.{marking_of, watch_from}
 use Rattle.watchline.specs.declared.opening.WatchFrom.{WatchFrom as TheWatchFrom}
-use Rattle.verbs.specs.Calls.{Answer}
+use Rattle.api_request.specs.Calls.{Answer}
 use Rattle.verbs.specs.Watching.{bookmarked_in}
 use Rattle.httpedge.specs.declared.connection.Connection as conns
 use Rattle.httpedge.specs.declared.connection.Connection.TheVariants as conn

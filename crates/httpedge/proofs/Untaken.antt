@@ -4,7 +4,7 @@ use Rattle.std.specs.Prelude.{◌&&◌, option_map, unwrap_or}
 use Rattle.std.specs.Cmp.{nat_cmp_total}
 use Rattle.std.specs.FinMap as fin
 use Rattle.std.specs.Ordering.{nat_cmp, eq_by_cmp}
-use Rattle.schema.specs.TypesFile.{ServedShape}
+use Rattle.api_types.specs.TypesFile.{ServedShape}
 use Rattle.history.specs.History.{History}
 use Rattle.requests.specs.Asks.{CallDecision}
 use Rattle.httpedge.specs.Connections.{AllIsOut, Connection, Connections, IsUntaken, Standing, waiting, watching, ended, gone, each, has_gone, is_open, left_out, opened, out_of, out_on, with_standing, with_written, written_on}

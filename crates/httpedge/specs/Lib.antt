@@ -4,6 +4,7 @@ pub mod Steps
 pub mod Runs
 pub mod Ids
 pub mod Shares
+pub mod Served
 pub mod Held
 pub mod Ticks
 pub mod HubSeen

@@ -3,7 +3,7 @@ use Rattle.std.specs.Prelude.{◌≡◌, ◌≢◌, ◌≤◌, ℕ, Bool, true, 
 use Rattle.std.specs.FinMap as fin
 use Rattle.schema.specs.ObjectShape.{field_of}
 use Rattle.schema.specs.Shape.{text}
-use Rattle.schema.specs.TypesFile.{ServedShape}
+use Rattle.api_types.specs.TypesFile.{ServedShape}
 use Rattle.history.specs.History.{Change}
 use Rattle.history.specs.Whole.{IsGapless}
 use Rattle.requests.specs.Asks.{CallDecision, Asks}

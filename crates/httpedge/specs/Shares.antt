@@ -1,6 +1,6 @@
 -- When what all connections share stands for a machine: the API does, and the last turn is what a watch tells from that machine.
 use Rattle.std.specs.Prelude.{◌≡◌, ℕ, List, Option, Some, IfSome}
-use Rattle.schema.specs.TypesFile.{ServedShape}
+use Rattle.api_types.specs.TypesFile.{ServedShape}
 use Rattle.history.specs.History.{History}
 use Rattle.verbs.specs.Seen.{Stands}
 use Rattle.watchline.specs.Watches.{Cursor, from_history, moved, pumped}

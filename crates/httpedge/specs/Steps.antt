@@ -5,9 +5,9 @@ use Rattle.std.specs.declared.result.Result.TheVariants.{Ok, Err}
 use Rattle.std.specs.List.{list_any}
 use Rattle.std.specs.FinMap as fin
 use Rattle.serde_json.specs.Data.{Data}
-use Rattle.schema.specs.TypesFile.{ServedShape}
+use Rattle.api_types.specs.TypesFile.{ServedShape}
 use Rattle.history.specs.History.{History, compacted_to}
-use Rattle.verbs.specs.Calls.{Answer}
+use Rattle.api_request.specs.Calls.{Answer}
 use Rattle.verbs.specs.Machine.{after}
 use Rattle.verbs.specs.Retyping.{RetypeRefusal, retyped, retyping}
 use Rattle.verbs.specs.Step.{planned}

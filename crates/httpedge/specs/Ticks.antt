@@ -2,7 +2,7 @@
 -- without them.
 use Rattle.std.specs.Prelude.{◌≡◌, ℕ, Bool, true, false, List, Option, Some, None, option_map, unwrap_or}
 use Rattle.std.specs.FinMap as fin
-use Rattle.schema.specs.TypesFile.{ServedShape}
+use Rattle.api_types.specs.TypesFile.{ServedShape}
 use Rattle.httpedge.specs.declared.shared.Shared.{Shared}
 use Rattle.httpedge.specs.declared.connection.Connection as conns
 use Rattle.httpedge.specs.declared.connections.Connections.{Connections as Kept}

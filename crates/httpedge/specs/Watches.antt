@@ -1,7 +1,7 @@
 -- Watches in the hub (Kubernetes docs, "Kubernetes API Concepts", "Efficient detection of changes"): what one writes at its turn, and how
 -- long it lasts. What its lines say, and where it stands in the history, is told by the definitions of watches themselves.
 use Rattle.std.specs.Prelude.{ℕ, ◌*◌, ◌-◌, Bool, ◌&&◌, ◌||◌, nat_lt, nat_le, if◌then◌else◌, List, [], ◌∷◌, Option, Some, None}
-use Rattle.schema.specs.TypesFile.{ServedShape}
+use Rattle.api_types.specs.TypesFile.{ServedShape}
 use Rattle.history.specs.History.{History}
 use Rattle.watchline.specs.Opening.{WatchFrom, begun}
 use Rattle.watchline.specs.Watches.{Cursor, Marking, from_history, is_bookmark_due}

@@ -2,9 +2,9 @@
 //! `connections`.
 
 ghost use Rattle.std.specs.Prelude.{◌≡◌, ◌++◌, ℕ, List, None, true, Ok, IfOk, OnOk, OnErr, option_map};
-ghost use Rattle.schema.specs.TypesFile.{ServedShape};
+ghost use Rattle.api_types.specs.TypesFile.{ServedShape};
 ghost use Rattle.history.specs.History.{History};
-ghost use Rattle.verbs.specs.Calls.{Answer};
+ghost use Rattle.api_request.specs.Calls.{Answer};
 ghost use Rattle.verbs.specs.Seen.{Stands};
 ghost use Rattle.httpedge.specs.Changes.{MakesHeld, takes_memory_on};
 ghost use Rattle.httpedge.specs.Connections as model;
@@ -18,12 +18,13 @@ ghost use Rattle.httpedge.specs.declared.event.Change.TheVariants as changes;
 ghost use Rattle.requests.specs.Replies.{answer_bytes};
 ghost use Rattle.watchline.specs.Views.{watch_from};
 
+use crate::answering::{Served, serve};
 use crate::event::Change;
 use crate::out::Out;
 use crate::shared::Shared;
 use crate::turns::pump_on;
 use crate::watching::Watch;
-use requests::{Front, Pending, Progress, Refusal, Served, ask, ask_on, refusal_reply, serve};
+use requests::{Front, Pending, Progress, Refusal, ask, ask_on, refusal_reply};
 use std::alloc::{AllocError, Global};
 use std::mem;
 use verbs::{Api, Fault};
@@ -179,7 +180,7 @@ fn receive_head(
 {
     let mut front = front.with(bytes)?;
     let end = front.find_end();
-    match ask(alloc, api, front.bytes(), end)? {
+    match ask(alloc, api.routes(), api.types(), front.bytes(), end)? {
         None => Ok(Connection::Head(front)),
         Some(asked) => decided(alloc, api, asked, last_tick),
     }

@@ -1,6 +1,6 @@
 //! Why an event is refused, or what failed. Refusals of requests stand in the crate `requests`.
 
-use schema::TypesFault;
+use api_types::TypesFault;
 use std::alloc::{AllocError, AllocFailed};
 use thiserror::Error;
 use verbs::{RetypeFault, STORE_FAILED};

@@ -3,7 +3,7 @@
 
 ghost use Rattle.std.specs.Prelude.{◌≡◌, ◌≤◌, ◌++◌, ℕ, Bool, true, false, List, [], Some, None, drop, option_map, take};
 ghost use Rattle.std.specs.FinMap as fin;
-ghost use Rattle.schema.specs.TypesFile.{ServedShape};
+ghost use Rattle.api_types.specs.TypesFile.{ServedShape};
 ghost use Rattle.history.specs.History.{History, up_to};
 ghost use Rattle.verbs.specs.Machine.{IsMachine};
 ghost use Rattle.httpedge.specs.Connections.{AllIsOut, Connection, Connections, IsUntaken, each, ended_on, gone_on, has_gone, out_on, watching_on, written_on};

@@ -4,10 +4,11 @@
 //! What each event makes of the hub's machine and of its connections is a function of its state and of the event; a watch
 //! writes at a pump or a tick.
 //!
-//! Stands on `requests` for what a connection's bytes ask and for the bytes of a reply, on `verbs` for the machine and on
-//! `watchline` for what a watch tells.
+//! Stands on `requests` for what a connection's bytes ask and for the bytes of a reply, on `api_request` for calls, on `verbs` for
+//! the machine and on `watchline` for what a watch tells.
 #![tactic(auto)]
 
+mod answering;
 mod connection;
 mod connections;
 mod event;

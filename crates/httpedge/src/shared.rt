@@ -2,7 +2,7 @@
 //! `watching`.
 
 ghost use Rattle.std.specs.Prelude.{◌≡◌, ◌↔◌, ◌<◌, ◌++◌, List, Err, Ok, IfErr, IfOk, IfSome, IsTrue, OnErr, OnOk};
-ghost use Rattle.schema.specs.TypesFile.{ServedShape};
+ghost use Rattle.api_types.specs.TypesFile.{ServedShape};
 ghost use Rattle.history.specs.History.{History, compacted_to};
 ghost use Rattle.serde_json.specs.View as value;
 ghost use Rattle.verbs.specs.Retyping.{retyped, retyping};

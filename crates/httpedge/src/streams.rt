@@ -1,5 +1,5 @@
 //! What every server of streams does with a hub: it hands over events, reads on after a reply, and forgets what isn't
-//! kept. What an event changes stands in `hub`; how streams are read and written, in the crate `streams`.
+//! kept. What an event changes stands in `hub`; how streams are read and written, in the crate `wire`.
 
 ghost use Rattle.std.specs.Prelude.{◌≡◌, true};
 ghost use Rattle.httpedge.specs.HubSeen.{event_of};

@@ -1,7 +1,7 @@
 //! The turns of connections: what watches write at a pump or a tick. The watch itself stands in `watching`.
 
 ghost use Rattle.std.specs.Prelude.{◌≡◌, List, true, OnOk, OnErr};
-ghost use Rattle.schema.specs.TypesFile.{ServedShape};
+ghost use Rattle.api_types.specs.TypesFile.{ServedShape};
 ghost use Rattle.history.specs.History.{History};
 ghost use Rattle.verbs.specs.Seen.{Stands};
 ghost use Rattle.httpedge.specs.Connections as model;

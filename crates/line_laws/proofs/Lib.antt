@@ -1,5 +1,9 @@
 pub mod Feeds
 pub mod Kept
+pub mod LabelTexts
+pub mod LabelsPrinted
+pub mod LabelsRead
+pub mod LabelsAgreed
 pub mod Objects
 pub mod Pages
 pub mod Renumbered

@@ -20,9 +20,8 @@ use Rattle.pathmap.specs.Insides.{heads, inside}
 use Rattle.pathmap.proofs.Contents.{get-nothing}
 use Rattle.pathmap.proofs.Levels.{get-here-top}
 use Rattle.schema.specs.Lawful.{are_well_formed, is_well_formed, names_of}
-use Rattle.schema.specs.ObjectShape.{IsObjectShape}
+use Rattle.schema.specs.ObjectShape.{IsObjectShape, metadata}
 use Rattle.schema.specs.Shape.{Shape, text, whole, truth, struct_of, map_of, list_of, Fields, no_fields, field, shape_at}
-use Rattle.schema.specs.TypesFile.{metadata}
 use Rattle.typed.specs.Placed.{ArePlaced, IsPlaced}
 use Rattle.typed.specs.Printing.{each_member, object_or_none, print, print_fields, value_of, with_member, with_named}
 use Rattle.typed.proofs.Fitting.{content_placed}

@@ -21,7 +21,7 @@ use Rattle.typed.specs.Fitting.{IsContent}
 use Rattle.typed.specs.Placed.{ReadsBack}
 use Rattle.typed.specs.Printing.{print}
 use Rattle.typed.proofs.Depths.{content_deep}
-use Rattle.typed.proofs.FieldTexts.{members_fine, put_depth}
+use Rattle.objects.proofs.FieldTexts.{members_fine, put_depth}
 use Rattle.typed.proofs.Fitting.{content_placed}
 use Rattle.typed.proofs.RoundTrip.{round}
 use Rattle.typed.proofs.Spelling.{lawful_depth}

@@ -1,3 +1,5 @@
 pub mod Shown
 pub mod Following
 pub mod Listed
+pub mod Labels
+pub mod LabelReaders

@@ -1,6 +1,6 @@
 -- What a mirror's options ask a client for.
 use Rattle.std.specs.Prelude.{◌≡◌, ◌&&◌, ℕ, List, [], Option, Some, None, if◌then◌else◌, is_ok, is_none, option_and_then, option_map, slice_get, string_bytes}
-use Rattle.schema.specs.TypesFile.{ServedShape, type_number}
+use Rattle.api_types.specs.TypesFile.{ServedShape, type_number}
 use Rattle.selector.specs.Grammar.{parse_selector}
 use Rattle.decoder.specs.declared.wanted.Source as sources
 use Rattle.reflector.specs.Faults.{fault_in}

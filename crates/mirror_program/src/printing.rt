@@ -2,7 +2,7 @@
 //! faults that end them.
 
 ghost use Rattle.std.specs.Prelude.{◌≡◌, IfErr, OnErr, OnOk, None, Some};
-ghost use Rattle.schema.specs.Served.{types_view};
+ghost use Rattle.api_types.specs.Served.{types_view};
 ghost use Rattle.reflector.specs.Requests.{Settings};
 ghost use Rattle.mirroring.specs.Turns.{Answers};
 ghost use Rattle.mirror_program.specs.Asked.{asked_of, settings_of};
@@ -12,8 +12,8 @@ ghost use Rattle.mirror_program.specs.Statuses.{status_of};
 use crate::arguments::MirrorOptions;
 use crate::fault::{ProgramFault, ended_by};
 use crate::settings::informer_of;
+use api_types::Types;
 use mirroring::{Dial, mirror};
-use schema::Types;
 use std::alloc::Global;
 use std::io::Write;
 

@@ -1,8 +1,8 @@
 //! The client that a mirror's options ask for. Its turns are `mirroring`'s.
 
 ghost use Rattle.std.specs.Prelude.{◌≡◌, ◌⊎◌, [], IfErr, IfOk, OnOk, Some, None, true, false, is_ok, option_map, string_bytes};
-ghost use Rattle.schema.specs.Served.{types_view};
-ghost use Rattle.schema.specs.TypesFile.{ServedShape};
+ghost use Rattle.api_types.specs.Served.{types_view};
+ghost use Rattle.api_types.specs.TypesFile.{ServedShape};
 ghost use Rattle.selector.specs.Grammar.{parse_selector};
 ghost use Rattle.reflector.specs.Client.{fresh};
 ghost use Rattle.reflector.specs.Informer.{Runs, settings_in};
@@ -14,10 +14,10 @@ ghost use Rattle.programs.specs.declared.run_fault.RunFault.TheVariants.{Memory}
 
 use crate::arguments::MirrorOptions;
 use crate::fault::ProgramFault;
+use api_types::Types;
 use indexer::{IndexBy, Indexer, IndexerFault, Object};
 use programs::{Resource, RunFault};
 use reflector::{Informer, Source};
-use schema::Types;
 use selector::{ReadError, Selector};
 use std::alloc::{AllocError, Global};
 

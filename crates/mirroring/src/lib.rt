@@ -3,7 +3,7 @@
 //! Promises: each turn sends the request that is due, and all items of the bytes that are read count, however they are
 //! cut. What is written is the text of the first list's revision and of each notice, once and in order; after a fault a
 //! front of it.
-//! Stands on `reflector` for what items lead to, on `streams` for pieces.
+//! Stands on `reflector` for what items lead to, on `wire` for pieces.
 #![tactic(auto)]
 
 mod dial;

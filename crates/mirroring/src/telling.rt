@@ -13,7 +13,7 @@ use reflector::Notice;
 use std::alloc::{AllocError, Global};
 use std::io;
 use std::io::Write;
-use streams::write_whole;
+use wire::write_whole;
 
 fn object_line(alloc: Global, what: &str, object: &Object) -> Result<String, AllocError>
     ensures { IfOk result (λ s. string_bytes s ≡ object_line what.now (stored_of object.now)) }

@@ -17,7 +17,7 @@ use indexer::IndexBy;
 use reflector::{Informer, Trouble};
 use std::alloc::{AllocError, Global};
 use std::io::{ErrorKind, Read, Write};
-use streams::read_piece;
+use wire::read_piece;
 
 /// The informer takes a piece of its reply, and what it then has to tell is written.
 fn take_piece<I: IndexBy, W: Write>(

@@ -18,14 +18,13 @@ use Rattle.names.proofs.Decimals.{exact}
 use Rattle.pathmap.specs.Contents.{Content}
 use Rattle.pathmap.specs.Insides.{inside}
 use Rattle.schema.specs.Lawful.{is_lawful, is_well_formed, names_of, are_well_formed}
-use Rattle.schema.specs.ObjectShape.{IsObjectShape}
+use Rattle.schema.specs.ObjectShape.{IsObjectShape, metadata}
 use Rattle.schema.specs.Shape.{Shape, text, whole, truth, struct_of, map_of, list_of, Fields, shape_at}
-use Rattle.schema.specs.TypesFile.{metadata}
 use Rattle.typed.specs.Faults.{Read}
 use Rattle.typed.specs.Fitting.{IsContent}
 use Rattle.typed.specs.Printing.{object_or_none, print, print_fields}
 use Rattle.typed.specs.Reading.{content_of}
-use Rattle.typed.proofs.FieldTexts.{put_depth}
+use Rattle.objects.proofs.FieldTexts.{put_depth}
 use Rattle.typed.proofs.Fitting.{content_placed}
 use Rattle.typed.proofs.Keeping.{reading_content}
 use Rattle.typed.proofs.Places.{places}

@@ -15,7 +15,7 @@ use Rattle.pathmap.specs.Contents.{Content}
 use Rattle.pathmap.specs.Insides.{inside}
 use Rattle.schema.specs.Lawful.{names_of}
 use Rattle.schema.specs.Shape.{Shape, text, struct_of, map_of, Fields, no_fields, field, shape_at}
-use Rattle.schema.specs.TypesFile.{metadata}
+use Rattle.schema.specs.ObjectShape.{metadata}
 use Rattle.typed.specs.Placed.{ReadsBack}
 use Rattle.typed.specs.Printing.{object_or_none, with_member, print, print_fields}
 use Rattle.typed.specs.Reading.{content_of}

@@ -8,6 +8,7 @@ pub mod Rising
 pub mod Standing
 pub mod Envelopes
 pub mod Entered
+pub mod FieldTexts
 pub mod Textual
 pub mod Appended
 pub mod Between

@@ -17,7 +17,7 @@ use Rattle.typed.specs.Fitting.{IsContent, IsTextual}
 use Rattle.typed.specs.Placed.{ReadsBack}
 use Rattle.typed.specs.Printing.{print}
 use Rattle.typed.proofs.Depths.{content_deep}
-use Rattle.typed.proofs.FieldTexts.{Fine, fine_none, fine_more, members_fine, put_depth}
+use Rattle.objects.proofs.FieldTexts.{Fine, fine_none, fine_more, members_fine, put_depth}
 use Rattle.typed.proofs.Fitting.{content_placed}
 use Rattle.typed.proofs.Floats.{both, neither, put_clean}
 use Rattle.typed.proofs.RoundTrip.{round}

@@ -14,3 +14,4 @@ pub mod EntryTexts
 pub mod Appended
 pub mod InOrder
 pub mod Carried
+pub mod FieldTexts

@@ -1,10 +1,12 @@
 //! An object, its content and who owns which paths of it, and its text both ways. What a write does to it is
 //! `ownership`'s.
 //!
-//! Promises: an object's text says one version, content and owners, and every text that is none is refused.
+//! Promises: an object's text says one version, content and owners, and every text that is none is refused;
+//! how one content differs from another is its equation on sets of paths.
 //! Stands on `fieldset` for sets of paths, on `typed` for contents, on `json_texts` for texts read as values, and written.
 #![tactic(auto)]
 
+mod changes;
 mod envelope;
 mod fault;
 mod labels;
@@ -19,8 +21,11 @@ mod object_text;
 mod owned;
 mod read_back;
 
+pub use changes::{
+    Changes, changed_from, compare, has_all, is_unchanged_from, lacking, paths_in, without,
+};
 pub use fault::ObjectFault;
-pub use laws::objects_are_one_for_one;
+pub use laws::{fields_v1_are_textual, objects_are_one_for_one};
 pub use manager::{Manager, Operation, Subresource};
 pub use managers::{Entry, Managers};
 pub use object::Identity;

@@ -14,6 +14,7 @@ ghost use Rattle.objects.specs.ReadBack.{IsReadBack};
 ghost use Rattle.objects.specs.Views.{identity_of, state_of};
 ghost use Rattle.pathmap.specs.Contents.{dom};
 
+use crate::changes::has_all;
 use crate::envelope::{fields_of, split, version_in};
 use crate::fault::ObjectFault;
 use crate::managed_fields::read_owners;
@@ -73,7 +74,7 @@ fn all_stand_in(tree: &Tree, entries: &[Entry]) -> bool
     ensures { result ≡ all_within (dom tree.now) (pairs entries.now) }
 {
     for entry in entries {
-        if !tree.has_all(&entry.paths) {
+        if !has_all(tree, &entry.paths) {
             return false;
         }
     }

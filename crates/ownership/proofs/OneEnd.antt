@@ -8,7 +8,7 @@ use Rattle.fieldpath.specs.Paths.{PathTexts}
 use Rattle.schema.specs.Place.{fits, fit_keys, place_of}
 use Rattle.schema.specs.Shape.{atomic, set, keyed, Shape, text, whole, truth, struct_of, map_of, list_of, Fields, shape_at}
 use Rattle.schema.specs.Steps.{Spot, value_of, set_item, map_item, step, step_item}
-use Rattle.fieldset.proofs.Places.{next, place-next, place_at, place_next, step_read}
+use Rattle.schema.proofs.Places.{next, place-next, place_at, place_next, step_read}
 use Rattle.ownership.specs.Keeping.{is_end}
 
 -- whether an element is that of a field or of a set item

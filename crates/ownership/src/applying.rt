@@ -18,7 +18,9 @@ ghost use Rattle.objects.specs.Views.{state_of};
 use crate::conflict::{ApplyFault, Conflict};
 use crate::parts::own_part;
 use fieldset::FieldSet;
-use objects::{Entry, Manager, Managers, Operation, Owned, Subresource};
+use objects::{
+    Entry, Manager, Managers, Operation, Owned, Subresource, changed_from, paths_in, without,
+};
 use std::alloc::{AllocError, Global};
 use typed::Tree;
 
@@ -108,9 +110,9 @@ fn applied(
 ) -> Result<Owned, AllocError>
     ensures { changed.now ≡ changed_paths config live.now.tree → IfOk result (λ o. state_of o ≡ applied (state_of live.now) config (manager_view manager)) }
 {
-    let owned = config.paths(alloc)?;
+    let owned = paths_in(&config, alloc)?;
     let dropped = dropped(alloc, live, &manager, &owned)?;
-    let tree = config.laid_over(alloc, &live.tree)?.without(&dropped);
+    let tree = without(config.laid_over(alloc, &live.tree)?, &dropped);
     let managers = live.managers.taken_over(alloc, manager, changed, owned)?;
     Ok(Owned { tree, managers })
 }
@@ -144,7 +146,7 @@ pub fn apply(
 {
     let manager = Manager::by(alloc, manager, Operation::Apply, subresource)?;
     let config = own_part(subresource, config);
-    let changed = config.changed_from(alloc, &live.tree)?;
+    let changed = changed_from(&config, alloc, &live.tree)?;
     let conflicts = conflicts_with_others(&live.managers, alloc, &manager, &changed)?;
     if is_refused(&conflicts, force) {
         return Err(ApplyFault::Conflicts(conflicts));

@@ -7,7 +7,7 @@ ghost use Rattle.objects.specs.Placed.{IsPlacedState};
 ghost use Rattle.objects.specs.Views.{state_of};
 ghost use Rattle.ownership.specs.Carry.{Carries};
 
-use objects::Owned;
+use objects::{Owned, lacking, paths_in};
 use schema::NewSchema;
 use std::alloc::{AllocError, Global};
 
@@ -35,8 +35,8 @@ fn carried(alloc: Global, object: &Owned, schemas: NewSchema<'_>) -> Result<Owne
     ensures { IfOk result (λ o. Carries (shape schemas.entry.old.now) (shape schemas.entry.new.now) (state_of object.now) (state_of o)) }
 {
     let tree = object.tree.carried(alloc, schemas)?;
-    let stands = tree.paths(alloc)?;
-    let made = object.tree.lacking(alloc, &stands)?;
+    let stands = paths_in(&tree, alloc)?;
+    let made = lacking(&object.tree, alloc, &stands)?;
     let managers = object.managers.carried(alloc, &stands, &made)?;
     Ok(Owned { tree, managers })
 }

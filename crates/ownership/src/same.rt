@@ -5,7 +5,7 @@ ghost use Rattle.objects.specs.Managers.{pair, pairs};
 ghost use Rattle.objects.specs.Views.{state_of};
 ghost use Rattle.ownership.specs.Sameness.{same_content, same_entries, same_entry, same_state};
 
-use objects::{Entry, Owned};
+use objects::{Entry, Owned, is_unchanged_from};
 use typed::Tree;
 
 fn is_same_entry(mine: &Entry, theirs: &Entry) -> bool
@@ -33,7 +33,7 @@ fn are_same_entries(mine: &[Entry], theirs: &[Entry]) -> bool
 fn is_same_content(mine: &Tree, theirs: &Tree) -> bool
     ensures { result ≡ same_content mine.now theirs.now }
 {
-    mine.is_unchanged_from(theirs) && theirs.is_unchanged_from(mine)
+    is_unchanged_from(mine, theirs) && is_unchanged_from(theirs, mine)
 }
 
 /// Whether both have the same content and the same owners.

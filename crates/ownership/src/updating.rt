@@ -14,7 +14,7 @@ ghost use Rattle.ownership.specs.Update.{removed, updated};
 
 use crate::parts::beside_others;
 use fieldset::FieldSet;
-use objects::{Manager, Managers, Operation, Owned, Subresource};
+use objects::{Manager, Managers, Operation, Owned, Subresource, changed_from, lacking, paths_in};
 use std::alloc::{AllocError, Global};
 use typed::Tree;
 
@@ -22,7 +22,7 @@ use typed::Tree;
 fn removed(alloc: Global, live: &Tree, new: &Tree) -> Result<FieldSet, AllocError>
     ensures { IfOk result (λ s. s ≡ removed live.now new.now) }
 {
-    new.lacking(alloc, &live.paths(alloc)?)
+    lacking(new, alloc, &paths_in(live, alloc)?)
 }
 
 /// What the manager owned and is not gone, and what it changed.
@@ -76,7 +76,7 @@ pub fn update(
 {
     let manager = Manager::by(alloc, manager, Operation::Update, subresource)?;
     let new = beside_others(alloc, subresource, new, &live.tree)?;
-    let changed = new.changed_from(alloc, &live.tree)?;
+    let changed = changed_from(&new, alloc, &live.tree)?;
     let gone = removed(alloc, &live.tree, &new)?;
     let managers = owners_then(&live.managers, alloc, manager, changed, &gone)?;
     Ok(Owned {

@@ -13,7 +13,7 @@ use Rattle.httpedge.specs.Steps.{Event, State, comes, with_bytes_taken}
 use Rattle.httpedge.specs.Streams.{Compacts, MovesBy, Hands, HandsIf}
 use Rattle.httpedge.specs.declared.hub.Hub.{Hub}
 use Rattle.httpedge.proofs.Handed.{by_hands, runs_then}
-use Rattle.streams.proofs.Pieces.{reads_none}
+use Rattle.wire.proofs.Pieces.{reads_none}
 use Rattle.polling.specs.Happens.{Each, Hears, IsAny, IsComing, IsOn, IsTaking, Leads, LeadsBy, LeadsOn, Tells}
 
 wrong : false ≡ true → ⊥

@@ -8,7 +8,7 @@ use httpedge::{Event, Hub, hand};
 use std::alloc::Global;
 use std::io;
 use std::io::{ErrorKind, Read};
-use streams::read_piece;
+use wire::read_piece;
 
 /// The most reads of one connection in its turn.
 const READS: u32 = 16;

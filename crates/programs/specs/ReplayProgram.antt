@@ -3,12 +3,12 @@ use Rattle.std.specs.Prelude.{◌≡◌, ℕ, List, Option, Some, None, Result, 
 use Rattle.clap.specs.Values.{kind_of}
 use Rattle.clap.specs.declared.error.kind.ErrorKind.{ErrorKind}
 use Rattle.clap.specs.declared.error.kind.ErrorKind.TheVariants as kind
-use Rattle.schema.specs.FaultPlaces.{IsPlaceOf}
-use Rattle.schema.specs.Refusals.{Refusal, unknown_keyword, unknown_type, misfit, too_deep, same_names, not_the_form}
-use Rattle.schema.specs.Seen.{Fails}
-use Rattle.schema.specs.Served.{types_view}
-use Rattle.schema.specs.TypesFile.{ServedShape, declared_types}
-use Rattle.schema.specs.declared.types.Types.{Types}
+use Rattle.api_types.specs.FaultPlaces.{IsPlaceOf}
+use Rattle.api_types.specs.Refusals.{Refusal, unknown_keyword, unknown_type, misfit, too_deep, same_names, not_the_form}
+use Rattle.api_types.specs.Seen.{Fails}
+use Rattle.api_types.specs.Served.{types_view}
+use Rattle.api_types.specs.TypesFile.{ServedShape, declared_types}
+use Rattle.api_types.specs.declared.types.Types.{Types}
 use Rattle.serde_json.specs.Data.{Data}
 use Rattle.serde_json.specs.Read.{read as read_json}
 use Rattle.programs.specs.declared.run_fault.RunFault.{RunFault}

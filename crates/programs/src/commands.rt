@@ -16,7 +16,7 @@ pub const TYPES: &str = "types";
 pub const TYPES_HELP: &str = "The types to serve, one JSON object {\"types\":[..]}";
 
 /// What `--version` prints after the name of each program.
-const VERSION: &str = "0.1.0";
+const VERSION: &str = "1.0.0";
 
 /// A program's command before its options: `about` says in a line what it does, and `notes` end its help.
 pub fn program<'a>(alloc: Global, name: &'a str, about: &'a str, notes: &'a str) -> Command<'a>

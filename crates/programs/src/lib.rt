@@ -4,7 +4,7 @@
 //! Promises: the text of a types file gives the types that it declares, or a fault that names the file and the refusal;
 //! each fault has its exit status. The number of an option is read exactly where its text tells one in the option's
 //! range.
-//! Stands on `verbs` and `schema` for the types file, on `clap` for the arguments.
+//! Stands on `api_types` for the types file, on `clap` for the arguments.
 #![tactic(auto)]
 
 mod arguments;

@@ -11,7 +11,6 @@ use std::alloc::{AllocError, Global};
 use std::io;
 use std::process::ExitCode;
 use thiserror::Error;
-use verbs::{Fault, STORE_FAILED};
 
 /// The exit status of wrong usage.
 pub const WRONG_USAGE: u8 = 2;
@@ -47,7 +46,7 @@ pub enum RunFault {
     #[error("out of memory")]
     Memory,
     /// The store refused a statement, for memory or for size.
-    #[error("{}", STORE_FAILED)]
+    #[error("the store failed")]
     Store,
 }
 
@@ -102,15 +101,6 @@ impl From<clap::Error> for RunFault {
         match error.kind() {
             ErrorKind::OutOfMemory => RunFault::Memory,
             _ => RunFault::Arguments(error),
-        }
-    }
-}
-
-impl From<Fault> for RunFault {
-    fn from(fault: Fault) -> RunFault {
-        match fault {
-            Fault::Memory => RunFault::Memory,
-            Fault::Store | Fault::Unreadable => RunFault::Store,
         }
     }
 }

@@ -1,15 +1,15 @@
-//! Types files: the types that a file declares, or the fault that names the file. Its text is read in the crate `schema`.
+//! Types files: the types that a file declares, or the fault that names the file. Its text is read in the crate `api_types`.
 ghost use Rattle.std.specs.Prelude.{◌≡◌, ℕ, List, Result, IfOk, IfSome, None, Err};
-ghost use Rattle.schema.specs.Refusals.{Refusal};
-ghost use Rattle.schema.specs.Seen.{Fails};
-ghost use Rattle.schema.specs.TypesFile.{ServedShape, declared_types};
+ghost use Rattle.api_types.specs.Refusals.{Refusal};
+ghost use Rattle.api_types.specs.Seen.{Fails};
+ghost use Rattle.api_types.specs.TypesFile.{ServedShape, declared_types};
 ghost use Rattle.serde_json.specs.Read.{read as read_json};
 ghost use Rattle.serde_json.specs.View.{view};
 ghost use Rattle.programs.specs.ReplayProgram.{IsNumberOf, IsRefusal, IsRefused, Tells};
 
 use crate::run_fault::{RunFault, unread_path};
 use crate::types_refusal::TypesRefusal;
-use schema::{Types, TypesFault, first_place};
+use api_types::{Types, TypesFault, first_place};
 use serde_json::Value;
 use std::alloc::{AllocError, Global};
 use std::fs;

@@ -1,6 +1,6 @@
 //! Why a types file is refused, as it is told: the refusal by its number, and where. What finds it stands in `types_file`.
 
-use schema::{FaultPlace, TypesFault};
+use api_types::{FaultPlace, TypesFault};
 use std::fmt;
 
 /// Why a types file declares no types.

@@ -3,7 +3,7 @@ use Rattle.std.proofs.Common.{arith, ◌≡◌, ◌≢◌, ℕ, ◌≤◌, Bool,
 use Rattle.std.proofs.lemmas.Bool.{ltb-false, le-ltb}
 use Rattle.std.proofs.lemmas.List.{take-append-le}
 use Rattle.serde_json.specs.Data.{Data}
-use Rattle.verbs.specs.Calls.{Denied}
+use Rattle.api_request.specs.Calls.{Denied}
 use Rattle.requests.specs.Decision.{Decision, undecided, and_then, decided_by}
 use Rattle.requests.specs.Heads.{Request}
 use Rattle.requests.specs.Bodies.{json_in, some_json, body_of, declared_body, declared_length, body_in}

@@ -1,7 +1,7 @@
 -- What bytes ask stays asked, whatever bytes follow, and nothing else is asked.
 use Rattle.std.proofs.Common.{◌≡◌, ◌≢◌, ℕ, List, ◌++◌, Result, Ok, Err, refl, sym, ap, ◌∙◌}
-use Rattle.schema.specs.TypesFile.{ServedShape}
-use Rattle.verbs.specs.Calls.{Denied, Target}
+use Rattle.api_types.specs.TypesFile.{ServedShape}
+use Rattle.api_request.specs.Calls.{Denied, Target}
 use Rattle.requests.specs.Asks.{CallDecision, Asks, call_with, asked_by}
 use Rattle.requests.specs.Bodies.{body_in}
 use Rattle.requests.specs.Decision.{undecided, refused, accepted, and_then, decided_by}

@@ -1,10 +1,9 @@
--- What is written for an answer, and what is asked once a head has come.
-use Rattle.std.proofs.Common.{◌≡◌, ℕ, false, List, ◌++◌, Result, Ok, Err, refl, sym, ap, subst, ◌∙◌, append_assoc}
-use Rattle.std.specs.Prelude.{OnErr}
+-- What is written for a refusal, and what is asked once a head has come.
+use Rattle.std.proofs.Common.{◌≡◌, ℕ, false, List, ◌++◌, refl, sym, ap, subst, ◌∙◌, append_assoc}
 use Rattle.serde_json.specs.Written.{has_float}
-use Rattle.schema.specs.TypesFile.{ServedShape}
-use Rattle.verbs.specs.declared.reason.Reason.{Reason}
-use Rattle.verbs.specs.Status.{status_value}
+use Rattle.api_types.specs.TypesFile.{ServedShape}
+use Rattle.api_request.specs.declared.reason.Reason.{Reason}
+use Rattle.api_request.specs.Status.{status_value}
 use Rattle.requests.specs.declared.asking.Progress as askings
 use Rattle.requests.specs.declared.asking.Progress.TheVariants as asking
 use Rattle.requests.specs.declared.asking.Pending as pendings
@@ -13,10 +12,6 @@ use Rattle.requests.specs.Decision.{accepted}
 use Rattle.requests.specs.Heads.{Request, ReadsHead}
 use Rattle.requests.specs.Pendings.{Awaits, Carries, Finds, asked_of, pending_call}
 use Rattle.requests.proofs.Cuts.{reads_more}
-
-pub on_err : {A E P : Type 0} (r : Result A E) → P → OnErr r P
-on_err (Ok a) p = tt {0}
-on_err (Err e) p = p
 
 pub status_plain : (r : Reason) (message : List ℕ) → has_float (status_value r message) ≡ false
 status_plain r message = refl

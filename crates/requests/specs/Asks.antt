@@ -1,9 +1,9 @@
 -- What a connection asks, by all the bytes that came on it.
 use Rattle.std.specs.Prelude.{◌≡◌, ℕ, List, Option}
 use Rattle.serde_json.specs.Data.{Data}
-use Rattle.schema.specs.TypesFile.{ServedShape}
-use Rattle.verbs.specs.Admit.{admitted}
-use Rattle.verbs.specs.Calls.{Call, Target}
+use Rattle.api_types.specs.TypesFile.{ServedShape}
+use Rattle.api_request.specs.Admit.{admitted}
+use Rattle.api_request.specs.Calls.{Call, Target}
 use Rattle.requests.specs.Decision.{Decision, accepted, and_then, decided_by}
 use Rattle.requests.specs.Heads.{Request, HeadDecision, ReadsHead}
 use Rattle.requests.specs.Bodies.{body_in, checked_media, path_of, query_of}

@@ -7,10 +7,10 @@ use Rattle.serde_json.specs.Data.{Data}
 use Rattle.serde_json.specs.Read.{read}
 use Rattle.std.specs.declared.result.Result.{Result}
 use Rattle.std.specs.declared.result.Result.TheVariants.{Ok, Err}
-use Rattle.verbs.specs.Admit.{method_named}
-use Rattle.verbs.specs.Calls.{Denied}
-use Rattle.verbs.specs.declared.method.Method.{Method}
-use Rattle.verbs.specs.declared.method.Method.TheVariants.{Get, Post, Put, Patch, Delete}
+use Rattle.api_request.specs.Admit.{method_named}
+use Rattle.api_request.specs.Calls.{Denied}
+use Rattle.api_request.specs.declared.method.Method.{Method}
+use Rattle.api_request.specs.declared.method.Method.TheVariants.{Get, Post, Put, Patch, Delete}
 use Rattle.requests.specs.Decision.{Decision, undecided, accepted, and_then, decided_by}
 use Rattle.requests.specs.Refusals.{transfer_encoding, no_length, bad_length, body_too_large, not_json, as_denied, refuse}
 use Rattle.requests.specs.Heads.{Length, missing, malformed, number, Request}

@@ -1,7 +1,7 @@
 -- What the bytes that came on a connection come to: more are needed, or they are refused or accepted.
 use Rattle.std.specs.declared.result.Result.{Result}
 use Rattle.std.specs.declared.result.Result.TheVariants.{Ok, Err}
-use Rattle.verbs.specs.Calls.{Denied}
+use Rattle.api_request.specs.Calls.{Denied}
 
 pub data Decision (A : Type 0) : Type 0 where
   undecided : Decision A

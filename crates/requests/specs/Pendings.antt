@@ -1,8 +1,8 @@
 -- What the code knows of a request whose head has come.
 use Rattle.std.specs.Prelude.{◌≡◌, ℕ, List, ◌++◌, Option, Some, None, ⊤}
-use Rattle.schema.specs.TypesFile.{ServedShape}
-use Rattle.verbs.specs.Calls.{Target}
-use Rattle.verbs.specs.Seen.{call_of, denied_of, target_of}
+use Rattle.api_types.specs.TypesFile.{ServedShape}
+use Rattle.api_request.specs.Calls.{Target}
+use Rattle.api_request.specs.Seen.{call_of, denied_of, target_of}
 use Rattle.requests.specs.declared.asking.Progress as askings
 use Rattle.requests.specs.declared.asking.Progress.TheVariants as asking
 use Rattle.requests.specs.declared.asking.Pending as pendings

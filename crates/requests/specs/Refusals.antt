@@ -1,8 +1,8 @@
 -- Requests that are refused before a call is made of them.
 use Rattle.std.specs.Prelude.{ℕ, List, None, codes}
-use Rattle.verbs.specs.declared.reason.Reason.{Reason}
-use Rattle.verbs.specs.declared.reason.Reason.TheVariants.{BadRequest, LengthRequired, RequestEntityTooLarge, RequestHeaderFieldsTooLarge, NotImplemented, ServiceUnavailable, HttpVersionNotSupported}
-use Rattle.verbs.specs.Calls.{Denied}
+use Rattle.api_request.specs.declared.reason.Reason.{Reason}
+use Rattle.api_request.specs.declared.reason.Reason.TheVariants.{BadRequest, LengthRequired, RequestEntityTooLarge, RequestHeaderFieldsTooLarge, NotImplemented, ServiceUnavailable, HttpVersionNotSupported}
+use Rattle.api_request.specs.Calls.{Denied}
 use Rattle.requests.specs.Decision.{Decision, refused}
 
 pub data Refusal : Type 0 where

@@ -1,15 +1,9 @@
 -- What is written of a refusal and of a call's answer.
-use Rattle.std.specs.Prelude.{◌≡◌, ℕ, List, Option, Some, None}
+use Rattle.std.specs.Prelude.{ℕ, List, Option, Some, None}
 use Rattle.serde_json.specs.Written.{compact_text}
-use Rattle.schema.specs.TypesFile.{ServedShape}
-use Rattle.history.specs.History.{History}
-use Rattle.verbs.specs.declared.api.Api.{Api}
-use Rattle.verbs.specs.Calls.{Answer, Call, Denied}
-use Rattle.verbs.specs.Machine.{after}
-use Rattle.verbs.specs.Reasons.{code_of}
-use Rattle.verbs.specs.Seen.{Stands}
-use Rattle.verbs.specs.Status.{status_value}
-use Rattle.verbs.specs.Step.{planned}
+use Rattle.api_request.specs.Calls.{Answer, Denied}
+use Rattle.api_request.specs.Reasons.{code_of}
+use Rattle.api_request.specs.Status.{status_value}
 use Rattle.requests.specs.ReplyBytes.{reply, watch_head}
 use Rattle.watchline.specs.Opening.{WatchFrom}
 
@@ -25,8 +19,3 @@ answer_reply a = reply a.status None a.body
 abbrev pub answer_bytes : Answer → Option WatchFrom → List ℕ
 answer_bytes a None = answer_reply a
 answer_bytes a (Some from) = watch_head a.status
-
--- these bytes and this watch answer the call, and the API then stands for the machine after it
-abbrev pub Serves : List ServedShape → History → Call → List ℕ → Option WatchFrom → Api → Type 0
-Serves types m call bytes watch api =
-    (bytes ≡ answer_bytes (planned types m call).answer watch) × (watch ≡ (planned types m call).answer.watch) × Stands api types (after m (planned types m call).change)

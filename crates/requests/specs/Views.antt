@@ -9,10 +9,10 @@ use Rattle.httparse.specs.Spans.{IsRequestAt}
 use Rattle.serde_json.specs.Data.{Data}
 use Rattle.std.specs.declared.result.Result.{Result}
 use Rattle.std.specs.declared.result.Result.TheVariants.{Ok, Err}
-use Rattle.verbs.specs.declared.admitting.Denied.{Denied as TheDenied}
-use Rattle.verbs.specs.declared.body.Body.{Body}
-use Rattle.verbs.specs.Calls.{Denied}
-use Rattle.verbs.specs.Seen.{body_seen, denied_of}
+use Rattle.api_request.specs.declared.admitting.Denied.{Denied as TheDenied}
+use Rattle.api_request.specs.declared.body.Body.{Body}
+use Rattle.api_request.specs.Calls.{Denied}
+use Rattle.api_request.specs.Seen.{body_seen, denied_of}
 use Rattle.wire.specs.Lengths.{decimal_value}
 use Rattle.requests.specs.declared.refusal.Refusal as refusals
 use Rattle.requests.specs.declared.refusal.Refusal.TheVariants as refusal

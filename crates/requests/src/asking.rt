@@ -1,10 +1,11 @@
 //! What a connection asks, by all the bytes that came on it. Checks, in order: size and form of the head, number of fields,
-//! version, `Host`, request target (`read_to` of `head`); route, method, media type (`Api::admit`); of a body Transfer-Encoding
+//! version, `Host`, request target (`read_to` of `head`); route, method, media type (`Routes::admit`); of a body Transfer-Encoding
 //! and length (`declared_length` of `body`), and once it has come JSON (`body_of`).
 
 ghost use Rattle.std.specs.Prelude.{◌≡◌, ◌++◌, ℕ, List, IfOk, take};
-ghost use Rattle.schema.specs.TypesFile.{ServedShape};
-ghost use Rattle.verbs.specs.Seen.{target_of, types_of};
+ghost use Rattle.api_types.specs.Served.{types_view};
+ghost use Rattle.api_types.specs.TypesFile.{ServedShape};
+ghost use Rattle.api_request.specs.Seen.{target_of};
 ghost use Rattle.wire.specs.Heads.{head_end, max_head};
 ghost use Rattle.requests.specs.Asks.{call_with, call_in};
 ghost use Rattle.requests.specs.Bodies.{body_in, declared_body};
@@ -15,8 +16,9 @@ use crate::body::{body_of, declared_length};
 use crate::decision::Decision;
 use crate::head::{Head, read_to};
 use crate::request_target::{checked_media, path_of, query_of};
+use api_request::{AdmitFault, Call, Denied, Routes, Target};
+use api_types::Types;
 use std::alloc::{AllocError, Global};
-use verbs::{Api, Call, Denied, Target};
 
 /// A request whose head has come, and of its body this much.
 #[derive(Debug, Drop)]
@@ -142,35 +144,43 @@ fn ask_admitted(alloc: Global, target: Target, head: &Head<'_>) -> Result<Progre
 }
 
 /// What a request asks that has this head; it is admitted before its body is read.
-fn ask_by_head(alloc: Global, api: &Api, head: &Head<'_>) -> Result<Progress, AllocError>
-    ensures asks { IfOk result (λ a. asked_of a ≡ call_in (types_of api.now) (request_in head.now) head.now.rest.now) }
-    ensures carries { IfOk result (Carries (call_in (types_of api.now) (request_in head.now)) head.now.rest.now) }
+fn ask_by_head(
+    alloc: Global,
+    routes: &Routes,
+    types: &Types,
+    head: &Head<'_>,
+) -> Result<Progress, AllocError>
+    ensures asks { IfOk result (λ a. asked_of a ≡ call_in (types_view types.now) (request_in head.now) head.now.rest.now) }
+    ensures carries { IfOk result (Carries (call_in (types_view types.now) (request_in head.now)) head.now.rest.now) }
 {
-    match api.admit(
+    match routes.admit(
+        alloc,
+        types,
         head.method,
         path_of(head.request_target),
         checked_media(head),
     ) {
         Ok(target) => ask_admitted(alloc, target, head),
-        Err(verbs::AdmitFault::Denied(denied)) => Ok(Progress::Refused(denied)),
-        Err(verbs::AdmitFault::Memory) => Err(AllocError),
+        Err(AdmitFault::Denied(denied)) => Ok(Progress::Refused(denied)),
+        Err(AdmitFault::Memory) => Err(AllocError),
     }
 }
 
-/// What the bytes that came on a connection ask of this API, by how many of them the head has (`Front::find_end`); none while
+/// What the bytes that came on a connection ask where these types are served, by how many of them the head has (`Front::find_end`); none while
 /// more of its head is to come.
 pub fn ask(
     alloc: Global,
-    api: &Api,
+    routes: &Routes,
+    types: &Types,
     bytes: &[u8],
     end: Option<usize>,
 ) -> Result<Option<Progress>, AllocError>
     requires { end ≡ head_end (take max_head bytes.now) }
-    ensures { IfOk result (λ o. FindsAll (types_of api.now) bytes.now o) }
+    ensures { IfOk result (λ o. FindsAll (types_view types.now) bytes.now o) }
 {
     match read_to(bytes, end) {
         Decision::Undecided => Ok(None),
         Decision::Refused(denied) => Ok(Some(Progress::Refused(denied))),
-        Decision::Accepted(head) => Ok(Some(ask_by_head(alloc, api, &head)?)),
+        Decision::Accepted(head) => Ok(Some(ask_by_head(alloc, routes, types, &head)?)),
     }
 }

@@ -9,8 +9,8 @@ ghost use Rattle.requests.specs.Views.{data_of, decision_of, declared_of, length
 use crate::decision::Decision;
 use crate::head::{Head, Length};
 use crate::refusal::Refusal;
+use api_request::{Body, Denied, Method};
 use std::alloc::{AllocError, Global};
-use verbs::{Body, Denied, Method};
 use wire::decimal_value;
 
 pub(crate) const MAX_BODY: usize = 262_144;

@@ -1,6 +1,6 @@
 //! Undecided, refused or accepted: how far bytes were read. It is decided in `head`, `body` and `asking`.
 
-use verbs::Denied;
+use api_request::Denied;
 
 /// What the bytes that came on a connection decide.
 #[derive(Debug, Drop)]

@@ -2,7 +2,7 @@
 //! law. Bytes are read in `asking`.
 
 ghost use Rattle.std.specs.Prelude.{◌≡◌, ◌≢◌, ◌++◌, ℕ, List};
-ghost use Rattle.schema.specs.TypesFile.{ServedShape};
+ghost use Rattle.api_types.specs.TypesFile.{ServedShape};
 ghost use Rattle.requests.specs.Asks.{CallDecision, Asks};
 ghost use Rattle.requests.specs.Decision.{undecided};
 

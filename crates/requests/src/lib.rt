@@ -4,8 +4,8 @@
 //! is written byte for byte as the definitions say, and so is a watch, a chunk for each line. Connections, and what they do
 //! one after the other, are the crate above (`httpedge`).
 //!
-//! Stands on `wire` for what both ends say alike, on `verbs` for what a call answers, on `watchline` for where a watch
-//! begins, on `httparse` for the grammar of a head (RFC 9112), on `http` for phrases and on `serde_json`.
+//! Stands on `wire` for what both ends say alike, on `api_request` for calls, answers and refusals, on `schema` for the types that
+//! a request is admitted by, on `httparse` for the grammar of a head (RFC 9112), on `http` for phrases and on `serde_json`.
 #![tactic(auto)]
 
 mod answering;
@@ -21,7 +21,7 @@ mod reply;
 mod request_target;
 mod watch_chunks;
 
-pub use answering::{Served, refusal_reply, serve};
+pub use answering::{answer_bytes, refusal_reply};
 pub use asking::{Pending, Progress, ask, ask_on};
 pub use decision::Decision;
 pub use front::Front;

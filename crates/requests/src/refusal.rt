@@ -1,12 +1,12 @@
-//! Requests that are refused before a call is made of them. Refusals of calls stand in the crate `verbs`.
+//! Requests that are refused before a call is made of them. Refusals of calls stand in the crate `api_request`.
 
 ghost use Rattle.std.specs.Prelude.{◌≡◌};
 ghost use Rattle.requests.specs.Refusals.{as_denied, reason_of, message_of};
 ghost use Rattle.requests.specs.Views.{refusal_seen};
-ghost use Rattle.verbs.specs.Seen.{denied_of};
+ghost use Rattle.api_request.specs.Seen.{denied_of};
 
 use crate::body::BODY_TOO_LARGE;
-use verbs::{Denied, NOT_JSON, Reason};
+use api_request::{Denied, NOT_JSON, Reason};
 
 /// For its head (RFC 9112, sections 2, 3 and 6), its body, or as too many connections are open.
 #[derive(Clone, Copy, Debug, PartialEq, Eq)]

@@ -4,9 +4,9 @@ ghost use Rattle.std.specs.Prelude.{◌≡◌, [], IfOk, option_map, unwrap_or, 
 ghost use Rattle.http.specs.StatusCode.{reason_phrase};
 ghost use Rattle.requests.specs.ReplyBytes.{phrase_of, allow_field, reply, watch_head};
 
+use api_request::JSON_TYPE;
 use http::StatusCode;
 use std::alloc::{AllocError, Global};
-use verbs::JSON_TYPE;
 
 fn standard_phrase(status: StatusCode) -> &'static str
     ensures { result.now ≡ unwrap_or (reason_phrase status) [] }

@@ -1,3 +1,4 @@
+pub mod Among
 pub mod KeyNames
 pub mod Shape
 pub mod Place
@@ -7,16 +8,4 @@ pub mod Spots
 pub mod Lawful
 pub mod ObjectShape
 pub mod ObjectTest
-pub mod Depths
-pub mod Named
-pub mod Names
-pub mod Refusals
-pub mod Keywords
-pub mod Forms
-pub mod TypesFile
-pub mod ServedView
-pub mod Served
-pub mod Seen
-pub mod FaultPlaces
 pub mod Becoming
-pub mod ChangeLaws

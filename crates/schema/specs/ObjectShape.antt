@@ -1,9 +1,12 @@
 -- Which shapes are those of objects.
 -- Objects' own fields: Kubernetes docs, "Kubernetes API Concepts".
-use Rattle.std.specs.Prelude.{◌≡◌, ℕ, true, List, Option, Some, None, codes}
+use Rattle.std.specs.Prelude.{◌≡◌, ℕ, true, false, List, Option, Some, None, codes}
 use Rattle.schema.specs.Lawful.{is_granular_struct, is_lawful}
-use Rattle.schema.specs.Shape.{Shape, struct_of, shape_at}
-use Rattle.schema.specs.TypesFile.{metadata}
+use Rattle.schema.specs.Shape.{Shape, text, struct_of, map_of, no_fields, field, shape_at}
+
+-- the struct that every type has beside its own fields: `labels` and `annotations`, granular maps of texts
+abbrev pub metadata : Shape
+metadata = struct_of (field (codes "annotations") (map_of text false) (field (codes "labels") (map_of text false) no_fields)) false
 
 -- the shape of a struct's field
 abbrev pub field_of : List ℕ → Shape → Option Shape

@@ -1,4 +1,4 @@
-//! Schemas as values. `read` makes them of JSON, `lawful` says which keep the rules, `step` and `place` walk them.
+//! Schemas as values. `step` and `place` walk them; the crate `api_types` makes them of JSON and says which keep the rules.
 
 /// How a list merges (Server-Side Apply, "Merge strategy").
 #[derive(Debug, Drop)]

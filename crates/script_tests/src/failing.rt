@@ -2,7 +2,7 @@
 //! sockets fail. What a program makes of that is tested in `replays`.
 
 use crate::failing_net::{FailingNet, Fate};
-use schema::Types;
+use api_types::Types;
 use scripts::{OverLoopback, ReplayFault, read_script, replay};
 use serde_json::Value;
 use std::alloc::{AllocError, Global};

@@ -1,7 +1,7 @@
 -- What a program's arguments ask of a run.
 use Rattle.std.specs.Prelude.{◌≡◌, ◌⊎◌, ℕ, List, [], Option, Some, None, Result, Ok, Err, ⊤, option_map, codes}
 use Rattle.programs.specs.declared.run_fault.RunFault.TheVariants as run
-use Rattle.schema.specs.TypesFile.{ServedShape, type_number}
+use Rattle.api_types.specs.TypesFile.{ServedShape, type_number}
 use Rattle.world_laws.specs.Tasks.{RunSettings, settings_fault}
 use Rattle.world_laws.specs.World.{WorldEvent}
 use Rattle.scripts.specs.Plays.{Plays, PlaysFront, index_names}

@@ -1,7 +1,7 @@
 -- The play of a script: a run of its events, and what is printed of it.
 use Rattle.std.specs.Prelude.{◌≡◌, ◌⊎◌, ◌≢◌, ℕ, List, [], ◌∷◌, Option, Some, None, Result, Ok, Err, ⊤, codes}
 use Rattle.indexer.specs.Objects.{Stored}
-use Rattle.schema.specs.TypesFile.{ServedShape}
+use Rattle.api_types.specs.TypesFile.{ServedShape}
 use Rattle.world_laws.specs.Tasks.{RunSettings}
 use Rattle.world_laws.specs.World.{WorldEvent}
 use Rattle.world.specs.Traces.{IsTraceOf}

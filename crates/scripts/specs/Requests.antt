@@ -4,7 +4,7 @@ use Rattle.form_urlencoded.specs.Form.{append_pair}
 use Rattle.serde_json.specs.Data.{Data, depth}
 use Rattle.serde_json.specs.Read.{max_depth, read}
 use Rattle.serde_json.specs.Written.{compact_text, has_float}
-use Rattle.verbs.specs.Admit.{apply_type}
+use Rattle.api_request.specs.Admit.{apply_type}
 use Rattle.wireclient.specs.Request.{request}
 
 -- a body applied to an object, whose path is the target, by a manager

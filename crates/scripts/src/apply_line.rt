@@ -3,10 +3,10 @@ ghost use Rattle.std.specs.Prelude.{◌≡◌, IfOk, string_bytes};
 ghost use Rattle.scripts.specs.Seen.{apply_of};
 ghost use Rattle.scripts.specs.Requests.{IsRequestOf, query_of, request_target_of};
 
+use api_request::APPLY_TYPE;
 use form_urlencoded::Serializer;
 use serde_json::Value;
 use std::alloc::{AllocError, Global};
-use verbs::APPLY_TYPE;
 use wireclient::request_bytes;
 
 /// One apply of a body.

@@ -1,7 +1,7 @@
 //! Plays the text of a script as a program's options ask. The programs stand in `program`.
 ghost use Rattle.std.specs.Prelude.{◌≡◌, ◌≢◌, ℕ, List, Err, OnErr, OnOk, false};
 ghost use Rattle.std.specs.Io.KnownBytes.{Appends};
-ghost use Rattle.schema.specs.Served.{types_view};
+ghost use Rattle.api_types.specs.Served.{types_view};
 ghost use Rattle.scripts.specs.Asked.{Ends, PlaysAsked, PlaysFrontAsked, settings_asked};
 ghost use Rattle.scripts.specs.Script.{lines_of};
 
@@ -10,7 +10,7 @@ use crate::program_fault::ProgramFault;
 use crate::replaying::replay;
 use crate::script::read_script;
 use crate::settings::settings_of;
-use schema::Types;
+use api_types::Types;
 use std::alloc::Global;
 use std::io::Write;
 use world::Link;

@@ -178,7 +178,7 @@ fn write<W: Write>(writer: &mut W, text: &[u8]) -> Result<(), ReplayFault>
     ensures front { (told : List ℕ) × (rest : List ℕ) × (text.now ≡ told ++ rest) × Appends (W.contents writer.old) (W.contents writer.new) told }
     ensures fault { IfErr result IsOfOutput }
 {
-    streams::write_whole(writer, text).map_err(ReplayFault::Write)
+    wire::write_whole(writer, text).map_err(ReplayFault::Write)
 }
 
 fn write_parts<W: Write>(

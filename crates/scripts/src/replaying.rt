@@ -2,7 +2,7 @@
 //! `script`, and what is printed is put together in `printing`.
 ghost use Rattle.std.specs.Prelude.{◌≡◌, ◌≢◌, ℕ, List, false, Err, OnErr, OnOk, map};
 ghost use Rattle.std.specs.Io.KnownBytes.{Appends};
-ghost use Rattle.schema.specs.Served.{types_view};
+ghost use Rattle.api_types.specs.Served.{types_view};
 ghost use Rattle.world_laws.specs.Tasks.{settings_fault};
 ghost use Rattle.world.specs.Seen.{event_seen, settings_seen};
 ghost use Rattle.scripts.specs.Plays.{Answers, Plays, PlaysFront, index_names};
@@ -10,7 +10,7 @@ ghost use Rattle.scripts.specs.Plays.{Answers, Plays, PlaysFront, index_names};
 use crate::by_namespace::ByNamespace;
 use crate::printing::print;
 use crate::replay_fault::ReplayFault;
-use schema::Types;
+use api_types::Types;
 use std::alloc::Global;
 use std::io::Write;
 use world::{Link, Settings, WorldEvent, run_over};

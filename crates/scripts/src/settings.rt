@@ -1,6 +1,6 @@
 //! The settings of a run that a program's arguments ask for.
 ghost use Rattle.std.specs.Prelude.{◌≡◌, ◌⊎◌, IfErr, IfOk, None, Some, option_map, string_bytes};
-ghost use Rattle.schema.specs.Served.{types_view};
+ghost use Rattle.api_types.specs.Served.{types_view};
 ghost use Rattle.world.specs.Seen.{settings_seen};
 ghost use Rattle.programs.specs.declared.run_fault.RunFault.TheVariants.{Memory};
 ghost use Rattle.scripts.specs.Asked.{settings_asked};
@@ -8,7 +8,7 @@ ghost use Rattle.scripts.specs.declared.program_fault.ProgramFault.TheVariants.{
 
 use crate::arguments::PlayerOptions;
 use crate::program_fault::ProgramFault;
-use schema::Types;
+use api_types::Types;
 use std::alloc::{AllocError, Global};
 use world::Settings;
 

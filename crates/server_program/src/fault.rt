@@ -56,7 +56,10 @@ impl From<AllocError> for ServerFault {
 
 impl From<Fault> for ServerFault {
     fn from(fault: Fault) -> ServerFault {
-        ServerFault::Run(RunFault::from(fault))
+        ServerFault::Run(match fault {
+            Fault::Memory => RunFault::Memory,
+            Fault::Store | Fault::Unreadable => RunFault::Store,
+        })
     }
 }
 

@@ -1,5 +1,5 @@
 //! Follows the types file while its types are served: each second its text is read, and where it has another the types that
-//! this declares are served from then on. Which change of types is lawful stands in `schema`.
+//! this declares are served from then on. Which change of types is lawful stands in `api_types`.
 
 use crate::fault::ServerFault;
 use httpedge::HubFault;

@@ -1,12 +1,13 @@
 //! What a call would change, as it is told before it is made. Calls that are made stand in `single_objects`.
 
 use crate::given::WIDGET_TYPES;
-use schema::Types;
+use api_request::{APPLY_TYPE, Body, Call, Plan};
+use api_types::Types;
 use serde_json::Value;
 use std::alloc::Global;
 use std::mem;
 use std::test::Fail;
-use verbs::{APPLY_TYPE, Api, Body, Call, Plan};
+use verbs::Api;
 
 const APPLY: &str =
     r#"{"apiVersion":"demo.example/v1","kind":"Widget","spec":{"image":"a","replicas":3}}"#;

@@ -9,7 +9,7 @@ use httpedge::{Event, Hub, hand};
 use std::alloc::Global;
 use std::io;
 use std::io::{ErrorKind, Read, Write};
-use streams::{read_piece, write_front};
+use wire::{read_piece, write_front};
 
 fn open(hub: &mut Hub, id: u64) -> io::Result<()>
     ensures { HasTurns id hub.old [] [] hub.new }

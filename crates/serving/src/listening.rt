@@ -12,7 +12,7 @@ use std::net::{OpenListener, OpenStream, Shutdown};
 use std::rt::Clock;
 use std::time::{Duration, Instant};
 use std::{io, thread};
-use streams::PIECE;
+use wire::PIECE;
 
 /// How many milliseconds a listener waits after it could not accept, as where no descriptors are left.
 const PAUSE: u64 = 10;

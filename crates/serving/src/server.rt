@@ -2,7 +2,7 @@
 //! `conversing`.
 
 ghost use Rattle.std.specs.Prelude.{◌≡◌, ◌+◌, ◌^◌, ◌<◌, ◌++◌, ◌∷◌, [], List, map, true};
-ghost use Rattle.schema.specs.TypesFile.{ServedShape};
+ghost use Rattle.api_types.specs.TypesFile.{ServedShape};
 ghost use Rattle.history.specs.History.{History};
 ghost use Rattle.verbs.specs.Seen.{Stands};
 ghost use Rattle.httpedge.specs.HubSeen.{IsIn};

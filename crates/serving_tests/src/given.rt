@@ -1,7 +1,7 @@
 //! What several tests are given: an API of widgets, requests, and the replies that they get. Streams over memory stand
 //! in `over_memory`.
 
-use schema::Types;
+use api_types::Types;
 use serde_json::Value;
 use std::alloc::Global;
 use std::io::{ErrorKind, Read, Write};

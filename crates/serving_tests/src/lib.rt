@@ -1,6 +1,6 @@
 //! Tests of turns of connections, one after another (`serving`) and many at once (`polling`), by public calls alone:
-//! over memory, where streams fail, and over loopback within this process; and of the arguments of `ssa-server`. What a
-//! hub answers is tested in `server_tests`.
+//! over memory, where streams fail, and over loopback within this process; and of the arguments and the faults of `ssa-server`.
+//! What a hub answers is tested in `server_tests`.
 //!
 //! Each call stands in a helper with no clause, so that a test carries few facts; one function of each module holds a hub
 //! or a server, and lets it go without a drop, which would be expensive to prove.
@@ -8,6 +8,8 @@
 
 #[cfg(test)]
 mod arguments;
+#[cfg(test)]
+mod faults;
 #[cfg(test)]
 mod given;
 #[cfg(test)]

@@ -25,7 +25,7 @@ use Rattle.schema.specs.Steps.{Spot, value_of, set_item, map_item, is_leaf}
 use Rattle.schema.specs.declared.place.Place.{Place}
 use Rattle.schema.specs.declared.place.Place.TheVariants.{Leaf, SetItem, MapItem}
 use Rattle.schema.proofs.Steps.{name_in, name-of}
-use Rattle.fieldset.proofs.Places.{leaf_next, next, place-here, place-next, place_at, place_next, step_read, item_next_none}
+use Rattle.schema.proofs.Places.{leaf_next, next, place-here, place-next, place_at, place_next, step_read, item_next_none}
 use Rattle.schema.specs.Becoming.{becomes, fields_become}
 use Rattle.typed.specs.Carried.{IsCarried, IsNewLeaf, LeavesStand, printed_from, printed_here}
 use Rattle.typed.specs.Carried as carrying

@@ -25,7 +25,6 @@ pub mod Fitting
 pub mod Keeping
 pub mod Depths
 pub mod Spelling
-pub mod FieldTexts
 pub mod Rows
 pub mod Between
 pub mod Writes

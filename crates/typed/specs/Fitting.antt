@@ -15,7 +15,6 @@ use Rattle.fieldpath.specs.Spelled.{IsSpelled}
 use Rattle.pathmap.specs.Contents.{Standing, Content, PathSet, here, over}
 use Rattle.pathmap.specs.Contents as standing
 use Rattle.pathmap.specs.Beside.{without}
-use Rattle.fieldset.specs.FieldsV1.{fields_v1_of}
 use Rattle.schema.specs.Lawful.{is_well_formed, is_lawful}
 use Rattle.schema.specs.Place.{fits, fit_keys}
 use Rattle.schema.specs.Shape.{atomic, set, keyed, Shape, text, whole, truth, struct_of, map_of, list_of, Fields, no_fields, field}
@@ -97,9 +96,6 @@ RemainsAreContents = (s : Shape) (c : Content) (paths : PathSet) → IsContent s
 abbrev pub IsTextual : Data → Type 0
 IsTextual d = IsSpelled d × (has_float d ≡ false) × (depth d ≤ max_depth) × (read (compact_text d) ≡ Some d)
 
--- what is printed of a content, and the FieldsV1 value of a set of paths
+-- what is printed of a content
 abbrev pub PrintedIsTextual : Type 0
 PrintedIsTextual = (s : Shape) (c : Content) (d : Data) → is_lawful s ≡ true → IsContent s c → print s c ≡ Some d → IsTextual d
-
-abbrev pub FieldsV1IsTextual : Type 0
-FieldsV1IsTextual = (s : Shape) (paths : PathSet) → is_lawful s ≡ true → IsTextual (fields_v1_of s paths)

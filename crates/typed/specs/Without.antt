@@ -2,7 +2,7 @@
 use Rattle.std.specs.Prelude.{ℕ, Bool, List, map, if◌then◌else◌}
 use Rattle.std.specs.Str.{bytes_eq}
 use Rattle.serde_json.specs.Data.{Data, null, boolean, number, string, array, object, Members, no_members, member}
-use Rattle.schema.specs.Keywords.{is_in}
+use Rattle.schema.specs.Among.{is_in}
 use Rattle.typed.specs.declared.omitted.Omitted.{Omitted as TheOmitted}
 
 -- what is left out of an object: its members of these names, and of its member `inside` those of the inner names

@@ -11,7 +11,6 @@ mod borrowed_items;
 mod bounds;
 mod carried;
 mod carried_law;
-mod changes;
 mod fault;
 mod items;
 mod omitted;
@@ -27,7 +26,6 @@ mod write;
 mod write_items;
 
 pub use carried_law::carried_is_one;
-pub use changes::Changes;
 pub use fault::{Cause, ReadFault};
 pub use omitted::Omitted;
 pub use pathmap::Part;

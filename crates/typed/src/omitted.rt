@@ -2,7 +2,7 @@
 
 ghost use Rattle.std.specs.Prelude.{◌≡◌, ◌||◌, IfOk, map};
 ghost use Rattle.serde_json.specs.View.{members_view, view};
-ghost use Rattle.schema.specs.Keywords.{is_in};
+ghost use Rattle.schema.specs.Among.{is_in};
 ghost use Rattle.typed.specs.Reading.{is_null};
 ghost use Rattle.typed.specs.Without.{but, kept, members_kept, omitted_of, without};
 

@@ -1,6 +1,6 @@
 //! Laws: what is printed of a content reads back as it, and has no float. Contents are printed in `print`.
 
-ghost use Rattle.typed.specs.Fitting.{ContentsArePlaced, FieldsV1IsTextual, OversAreContents, PrintedIsTextual, ReadingsAreContents, RemainsAreContents};
+ghost use Rattle.typed.specs.Fitting.{ContentsArePlaced, OversAreContents, PrintedIsTextual, ReadingsAreContents, RemainsAreContents};
 ghost use Rattle.typed.specs.Placed.{HavePlaces, PrintedHasNoFloat, ReadingsArePlaced, RoundTrip};
 
 /// What is printed of a content reads back as that content; where nothing is printed, nothing stands.
@@ -36,9 +36,7 @@ pub fn contents_are_kept()
     ensures remains { RemainsAreContents }
 {}
 
-/// What is printed of a content of a lawful schema, and the FieldsV1 value of any set of paths:
-/// no float, no more than 127 deep, and read again from its compact text.
+/// What is printed of a content of a lawful schema: no float, no more than 127 deep, and read again from its compact text.
 pub fn printed_is_textual()
-    ensures printed { PrintedIsTextual }
-    ensures fields_v1 { FieldsV1IsTextual }
+    ensures { PrintedIsTextual }
 {}

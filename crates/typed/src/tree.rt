@@ -99,19 +99,22 @@ impl Tree {
         }
     }
 
-    pub(crate) fn of(map: PathMap) -> Tree
+    /// The content of a map.
+    pub fn of(map: PathMap) -> Tree
         ensures { result ≡ content map }
     {
         Tree { map }
     }
 
-    pub(crate) fn map(&self) -> &PathMap
+    /// The map that holds it.
+    pub fn map(&self) -> &PathMap
         ensures { content result.now ≡ self.now }
     {
         &self.map
     }
 
-    pub(crate) fn into_map(self) -> PathMap
+    /// The map that held it.
+    pub fn into_map(self) -> PathMap
         ensures { content result ≡ self }
     {
         self.map

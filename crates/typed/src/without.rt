@@ -6,7 +6,7 @@
 ghost use Rattle.std.specs.Prelude.{false, map};
 ghost use Rattle.serde_json.specs.View.{members_view, view};
 ghost use Rattle.pathmap.specs.Maps.{content};
-ghost use Rattle.schema.specs.Keywords.{is_in};
+ghost use Rattle.schema.specs.Among.{is_in};
 ghost use Rattle.schema.specs.Shape.{fields_in, shape, struct_of};
 ghost use Rattle.typed.specs.Faults.{Gives};
 ghost use Rattle.typed.specs.Reading.{content_of, content_of_field, members_at};

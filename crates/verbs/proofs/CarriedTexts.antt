@@ -4,10 +4,11 @@ use Rattle.std.specs.Prelude.{option_and_then, option_map, slice_get}
 use Rattle.std.specs.Str.{bytes_eq}
 use Rattle.std.proofs.lemmas.Bool.{and_parts}
 use Rattle.std.proofs.lemmas.Slice.Eq.{bytes_eq-Decides}
-use Rattle.schema.specs.Becoming.{may_become, type_may_become, types_may_become}
+use Rattle.schema.specs.Becoming.{may_become}
+use Rattle.api_types.specs.Retyping.{type_may_become, types_may_become}
 use Rattle.schema.specs.ObjectShape.{IsObjectShape}
 use Rattle.schema.specs.Shape.{Shape}
-use Rattle.schema.specs.TypesFile.{ServedShape}
+use Rattle.api_types.specs.TypesFile.{ServedShape}
 use Rattle.history.specs.History.{Key, Object, last_revision}
 use Rattle.objects.specs.ObjectText.{object_text}
 use Rattle.objects.specs.Placed.{IsPlacedState}

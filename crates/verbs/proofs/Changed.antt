@@ -5,20 +5,20 @@ use Rattle.std.specs.FinMap as fin
 use Rattle.std.specs.declared.result.Result.{Result}
 use Rattle.lists.specs.declared.refusal.Refusal.{Refusal}
 use Rattle.params.specs.declared.params.Asked.TheVariants as asked
-use Rattle.schema.specs.TypesFile.{ServedShape}
+use Rattle.api_types.specs.TypesFile.{ServedShape}
 use Rattle.history.specs.History.{Change, Key, Objects, is_same_key, object_by, standing}
 use Rattle.history.proofs.Keys.{get-put_or_remove, tied}
-use Rattle.verbs.specs.declared.method.Method.{Method}
-use Rattle.verbs.specs.declared.method.Method.TheVariants.{Get}
-use Rattle.verbs.specs.Calls.{Answer, Call, Plan, Scope, of_all, of_namespace, of_object, scope_of}
+use Rattle.api_request.specs.declared.method.Method.{Method}
+use Rattle.api_request.specs.declared.method.Method.TheVariants.{Get}
+use Rattle.api_request.specs.Calls.{Answer, Call, Plan, Scope, of_all, of_namespace, of_object, scope_of}
 use Rattle.verbs.specs.Machine.{IsNext, after}
-use Rattle.verbs.specs.Parameters.{parameters_validated}
+use Rattle.api_validation.specs.Parameters.{parameters_validated}
 use Rattle.verbs.specs.Promise.{CallsChangeOneObject, GetsChangeNothing, IsCalled, RefusalsChangeNothing}
 use Rattle.verbs.specs.Step.{collection_of, get_validated, key_at, list_answered, list_validated, object_at, plan_for, shown_by, there, validated_at, validated_by, validated_over, version_come}
-use Rattle.verbs.specs.Validated.{Validated}
+use Rattle.api_request.specs.Validated.{Validated}
 use Rattle.watchline.specs.Watches.{Source, from_history}
 use Rattle.verbs.proofs.Changes.{standing_next}
-use Rattle.verbs.proofs.Checks.{change_in, no_err, passed}
+use Rattle.api_request.proofs.Checks.{change_in, no_err, passed}
 use Rattle.verbs.proofs.Fits.{Fits, planned_fits}
 use Rattle.verbs.proofs.Promise.{plans_come_next}
 

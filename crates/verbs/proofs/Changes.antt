@@ -3,7 +3,7 @@ use Rattle.std.proofs.Common.{◌≡◌, ℕ, suc, ◌≤◌, Bool, true, false,
 use Rattle.std.specs.Prelude.{IfSome, nat_le}
 use Rattle.std.specs.FinMap as fin
 use Rattle.std.specs.List.{AllByRecursion}
-use Rattle.schema.specs.TypesFile.{ServedShape}
+use Rattle.api_types.specs.TypesFile.{ServedShape}
 use Rattle.history.specs.History.{Key, Change, Object, Objects, History, IsHistory, changed, is_same_key, key_cmp, left_by, object_by, put_or_remove, standing, state_at, up_to, written}
 use Rattle.history.specs.Whole.{IsWhole}
 use Rattle.history.proofs.Keys.{get-put_or_remove, tied}

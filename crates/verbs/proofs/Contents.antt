@@ -8,21 +8,22 @@ use Rattle.fieldpath.specs.Spelled.{IsSpelled, MembersAreSpelled}
 use Rattle.fieldpath.proofs.Spelled.{put_ascend, put_spelled}
 use Rattle.params.specs.declared.params.Asked.{Asked}
 use Rattle.pathmap.specs.Contents.{Content}
-use Rattle.schema.specs.Keywords.{is_in}
+use Rattle.schema.specs.Among.{is_in}
 use Rattle.schema.specs.Lawful.{is_well_formed}
 use Rattle.typed.specs.Faults.{Read}
 use Rattle.typed.specs.Fitting.{IsContent}
 use Rattle.typed.specs.Reading.{content_of}
-use Rattle.typed.proofs.FieldTexts.{put_depth}
+use Rattle.objects.proofs.FieldTexts.{put_depth}
 use Rattle.typed.proofs.Keeping.{reading_content}
 use Rattle.schema.specs.ObjectShape.{IsObjectShape}
 use Rattle.objects.proofs.Taken.{Kept, found_spelled, found_depth}
-use Rattle.verbs.specs.Json.{IsJson}
-use Rattle.verbs.specs.Envelope.{Envelope, Expected, envelope_of, given_validated, kind_validated, managers_by, member_of, members_but, metadata_in, metadata_validated, metadata_names, put_metadata, rest_of, top_names, version_allowed, version_validated, with_others}
-use Rattle.verbs.specs.Validated.{Validated}
-use Rattle.verbs.specs.Parameters.{parameters_validated}
-use Rattle.verbs.specs.Step.{Intent, intent_of, shape_validated}
-use Rattle.verbs.proofs.Checks.{no_err, ok_is, passed}
+use Rattle.api_request.specs.Json.{IsJson}
+use Rattle.api_validation.specs.Envelope.{Envelope, Expected, envelope_of, given_validated, kind_validated, managers_by, member_of, members_but, metadata_in, metadata_validated, metadata_names, put_metadata, rest_of, top_names, version_allowed, version_validated, with_others}
+use Rattle.api_request.specs.Validated.{Validated}
+use Rattle.api_validation.specs.Parameters.{parameters_validated}
+use Rattle.api_validation.specs.Shapes.{shape_validated}
+use Rattle.verbs.specs.Step.{Intent, intent_of}
+use Rattle.api_request.proofs.Checks.{no_err, ok_is, passed}
 
 -- ---- members left out
 

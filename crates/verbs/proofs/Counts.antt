@@ -5,8 +5,8 @@ use Rattle.serde_json.specs.Data.{Data, Members, no_members, member}
 use Rattle.serde_json.specs.Events.{members_len}
 use Rattle.serde_json.specs.Find.{as_object, get}
 use Rattle.objects.specs.Labels.{label_count, labels_of, size}
-use Rattle.verbs.specs.Naming.{metadata_object}
-use Rattle.verbs.specs.Size.{count, count_if_there}
+use Rattle.api_validation.specs.Naming.{metadata_object}
+use Rattle.api_validation.specs.Size.{count, count_if_there}
 
 same_count : (ms : Members) → members_len ms ≡ count ms
 same_count no_members = refl

@@ -5,7 +5,7 @@ use Rattle.std.specs.Option.{option_or}
 use Rattle.std.specs.FinMap as fin
 use Rattle.serde_json.specs.Data.{Data}
 use Rattle.params.specs.declared.params.Asked.TheVariants as asked
-use Rattle.schema.specs.TypesFile.{ServedShape}
+use Rattle.api_types.specs.TypesFile.{ServedShape}
 use Rattle.history.specs.History.{Change, Key, Object, Objects}
 use Rattle.history.specs.View.{View}
 use Rattle.objects.specs.State.{State}
@@ -15,23 +15,23 @@ use Rattle.objects.specs.Owners.{apply_operation}
 use Rattle.ownership.specs.Sides.{own_part}
 use Rattle.ownership.specs.Sameness.{same_state}
 use Rattle.objects.proofs.Taken.{no_some}
-use Rattle.verbs.specs.declared.method.Method.{Method}
-use Rattle.verbs.specs.declared.method.Method.TheVariants.{Delete, Get, Patch, Post, Put}
-use Rattle.verbs.specs.Calls.{Answer, Call, Plan, of_all, of_namespace, scope_of, subresource_of}
-use Rattle.verbs.specs.Envelope.{Expected, api_version_of, name_in}
+use Rattle.api_request.specs.declared.method.Method.{Method}
+use Rattle.api_request.specs.declared.method.Method.TheVariants.{Delete, Get, Patch, Post, Put}
+use Rattle.api_request.specs.Calls.{Answer, Call, Plan, of_all, of_namespace, scope_of, subresource_of}
+use Rattle.api_validation.specs.Envelope.{Expected, api_version_of, name_in}
 use Rattle.std.specs.declared.result.Result.{Result}
 use Rattle.lists.specs.declared.refusal.Refusal.{Refusal}
-use Rattle.verbs.specs.Validated.{Validated, and_then}
+use Rattle.api_request.specs.Validated.{Validated, and_then}
 use Rattle.verbs.specs.Machine.{ComesAfter, no_state, state_of_live, state_said}
-use Rattle.verbs.specs.Naming.{marks_validated_by, names_validated, required_name}
-use Rattle.verbs.specs.Options.{options_validated}
-use Rattle.verbs.specs.Parameters.{parameters_validated}
+use Rattle.api_validation.specs.Naming.{marks_validated_by, names_validated, required_name}
+use Rattle.api_validation.specs.Options.{options_validated}
+use Rattle.api_validation.specs.Parameters.{parameters_validated}
 use Rattle.verbs.specs.Promise.{IsCalled, name_called}
 use Rattle.verbs.specs.Seen.{objects_in}
-use Rattle.verbs.specs.Size.{size_validated}
+use Rattle.api_validation.specs.Size.{size_validated}
 use Rattle.watchline.specs.Watches.{Source, from_view}
 use Rattle.verbs.specs.Step.{Creation, Intent, apply_validated, at_path, body_of, created_as, creation_validated, delete_validated, deleted_over, get_validated, intent_of, validated_at, validated_by, validated_over, as_it_stands, key_at, manager_for, not_there, object_validated_by, plan_for, planned_over, ownership_validated, printed, revisions_left, store_state, store_unless_same, there, there_for, update_validated, updated_by, updated_over, version_checked, version_come, collection_of, list_answered, list_validated, shown_by}
-use Rattle.verbs.proofs.Checks.{change_in, no_err, ok_is, passed}
+use Rattle.api_request.proofs.Checks.{change_in, no_err, ok_is, passed}
 
 -- and its key is one of those that Q says
 abbrev pub Fits : ℕ → Objects → (Key → Type 0) → Option Change → Type 0

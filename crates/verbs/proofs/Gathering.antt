@@ -7,10 +7,10 @@ use Rattle.std.specs.Prelude.{is_some, option_and_then, option_map, slice_get, I
 use Rattle.std.specs.List.{AllByRecursion}
 use Rattle.std.specs.Str.{bytes_eq}
 use Rattle.std.specs.FinMap as fin
-use Rattle.schema.specs.Served.{served, types_view}
+use Rattle.api_types.specs.Served.{served, types_view}
 use Rattle.schema.specs.Shape.{Shape}
-use Rattle.schema.specs.declared.types.Types.{Types}
-use Rattle.schema.specs.TypesFile.{ServedShape}
+use Rattle.api_types.specs.declared.types.Types.{Types}
+use Rattle.api_types.specs.TypesFile.{ServedShape}
 use Rattle.history.specs.History.{Key, Object, Objects, last_revision, left_by, put_or_remove}
 use Rattle.history.specs.Page.{listed}
 use Rattle.history.specs.Whole.{AreThere}

@@ -4,7 +4,7 @@ use Rattle.std.specs.Prelude.{◌==◌, nat_lt, slice_get}
 use Rattle.std.specs.declared.result.Result.{Result}
 use Rattle.std.specs.FinMap as fin
 use Rattle.std.specs.List.{AllByRecursion}
-use Rattle.schema.specs.TypesFile.{ServedShape}
+use Rattle.api_types.specs.TypesFile.{ServedShape}
 use Rattle.history.specs.History.{History, Objects, standing, state_at}
 use Rattle.history.specs.Seen.{selected}
 use Rattle.history.specs.View.{state_in, view}
@@ -21,12 +21,12 @@ use Rattle.watchline.specs.declared.opening.Initial.TheVariants.{Changes}
 use Rattle.watchline.specs.Opening.{WatchFrom, from_parts, initial_in, initial_of, started, opened_by, starts}
 use Rattle.watchline.specs.Watches.{from_history, from_view}
 use Rattle.history.proofs.Wholes.{whole_compacts, whole_fresh}
-use Rattle.verbs.specs.Calls.{Call, Scope, of_all, of_namespace, of_object, scope_of}
-use Rattle.verbs.specs.Json.{IsJsonBody}
-use Rattle.verbs.specs.Parameters.{parameters_validated}
-use Rattle.verbs.specs.Validated.{Validated, and_then}
-use Rattle.verbs.specs.declared.method.Method.{Method}
-use Rattle.verbs.specs.declared.method.Method.TheVariants.{Get, Post, Put, Patch, Delete}
+use Rattle.api_request.specs.Calls.{Call, Scope, of_all, of_namespace, of_object, scope_of}
+use Rattle.api_request.specs.Json.{IsJsonBody}
+use Rattle.api_validation.specs.Parameters.{parameters_validated}
+use Rattle.api_request.specs.Validated.{Validated, and_then}
+use Rattle.api_request.specs.declared.method.Method.{Method}
+use Rattle.api_request.specs.declared.method.Method.TheVariants.{Get, Post, Put, Patch, Delete}
 use Rattle.verbs.specs.Machine.{IsMachine}
 use Rattle.verbs.specs.Promise.{CallsKeepMachines, CompactionsKeepMachines, MachinesBegin, PlansByViews}
 use Rattle.verbs.specs.Step.{body_of, collection_of, created_as, creation_validated, key_at, list_answered, object_validated_by, page_shown, plan_for, shown_by, step, steps, validated_at, validated_by, validated_over, watch_shown}

@@ -5,7 +5,7 @@ use Rattle.std.specs.declared.alloc.Global.{Global}
 use Rattle.std.proofs.lemmas.Str.{IsUtf8-string_bytes}
 use Rattle.std.specs.declared.result.Result.{Result}
 use Rattle.std.specs.FinMap as fin
-use Rattle.schema.specs.TypesFile.{ServedShape}
+use Rattle.api_types.specs.TypesFile.{ServedShape}
 use Rattle.history.specs.History.{Change, History, Key, Object, Objects, compacted_to}
 use Rattle.history.specs.View.{View, compacted_in, written_in}
 use Rattle.history.proofs.Seen.{view_compacts, view_writes}
@@ -13,17 +13,18 @@ use Rattle.objects.specs.ReadBack.{IsObjectText}
 use Rattle.objects.proofs.Taken.{same_some}
 use Rattle.watchline.specs.Watches.{from_history, from_view}
 use Rattle.verbs.specs.declared.api.Api.{Api}
-use Rattle.verbs.specs.declared.body.Body.{Body}
-use Rattle.verbs.specs.declared.calls.Call.{Call as TheCall}
-use Rattle.verbs.specs.declared.calls.Plan.{Plan as ThePlan}
-use Rattle.verbs.specs.declared.change.Change.{Change as TheChange}
-use Rattle.verbs.specs.Json.{IsJsonBody}
-use Rattle.verbs.specs.Calls.{Call, Plan}
+use Rattle.api_request.specs.declared.body.Body.{Body}
+use Rattle.api_request.specs.declared.calls.Call.{Call as TheCall}
+use Rattle.api_request.specs.declared.calls.Plan.{Plan as ThePlan}
+use Rattle.api_request.specs.declared.change.Change.{Change as TheChange}
+use Rattle.api_request.specs.Json.{IsJsonBody}
+use Rattle.api_request.specs.Calls.{Call, Plan}
 use Rattle.verbs.specs.Machine.{AreTexts, IsMachine, IsNext, IsReadable, after, identity_of}
 use Rattle.verbs.proofs.Changes.{all_push, is_history, machine_next}
 use Rattle.verbs.proofs.Machines.{compactions_keep_machines, over_seen, standing_seen}
 use Rattle.verbs.proofs.Promise.{plans_come_next}
-use Rattle.verbs.specs.Seen.{Stands, body_seen, call_of, change_of, plan_of, types_of, objects_in}
+use Rattle.api_request.specs.Seen.{body_seen, call_of, change_of, plan_of}
+use Rattle.verbs.specs.Seen.{Stands, types_of, objects_in}
 use Rattle.verbs.specs.Step.{plan_for, planned, planned_over, validated_over}
 
 module _ (api : Api) (types : List ServedShape) (m : History) (call : Call) (stands : Stands api types m) where

@@ -10,7 +10,7 @@ use Rattle.names.specs.Names.{is_dns_label, is_dns_subdomain}
 use Rattle.params.specs.Values.{Values}
 use Rattle.params.specs.declared.params.Asked.{Asked}
 use Rattle.params.specs.declared.params.Asked.TheVariants as asked
-use Rattle.schema.specs.TypesFile.{ServedShape}
+use Rattle.api_types.specs.TypesFile.{ServedShape}
 use Rattle.pathmap.specs.Contents.{Standing, Content, dom}
 use Rattle.pathmap.specs.Beside.{changed, same_value}
 use Rattle.pathmap.proofs.Contents.{path_cmp_total}
@@ -35,25 +35,26 @@ use Rattle.ownership.specs.Apply.{conflicts, applied, is_refused}
 use Rattle.ownership.specs.Keeping.{OthersKeep}
 use Rattle.ownership.specs.Sameness.{same_state}
 use Rattle.ownership.proofs.Keeping.{others_keep}
-use Rattle.verbs.specs.declared.method.Method.{Method}
-use Rattle.verbs.specs.declared.method.Method.TheVariants.{Get, Post, Put, Patch, Delete}
-use Rattle.verbs.specs.Calls.{Answer, Call, Plan, Scope, of_all, of_namespace, of_object, scope_of, subresource_of}
-use Rattle.verbs.specs.Json.{IsJson, IsJsonBody}
-use Rattle.verbs.specs.Envelope.{Expected, api_version_of, envelope_of, name_in}
+use Rattle.api_request.specs.declared.method.Method.{Method}
+use Rattle.api_request.specs.declared.method.Method.TheVariants.{Get, Post, Put, Patch, Delete}
+use Rattle.api_request.specs.Calls.{Answer, Call, Plan, Scope, of_all, of_namespace, of_object, scope_of, subresource_of}
+use Rattle.api_request.specs.Json.{IsJson, IsJsonBody}
+use Rattle.api_validation.specs.Envelope.{Expected, api_version_of, envelope_of, name_in}
 use Rattle.std.specs.declared.result.Result.{Result}
 use Rattle.lists.specs.declared.refusal.Refusal.{Refusal}
-use Rattle.verbs.specs.declared.reason.Reason.TheVariants.{Invalid}
-use Rattle.verbs.specs.Validated.{Validated, and_then, require}
+use Rattle.api_request.specs.declared.reason.Reason.TheVariants.{Invalid}
+use Rattle.api_request.specs.Validated.{Validated, and_then, require}
 use Rattle.verbs.specs.Machine.{AreTexts, IsMachine, IsNamed, IsNext, IsOfTypes, IsSomeTextAt, IsTextAt, after, identity_of, no_state, state_by, state_of_live, state_said, state_under}
-use Rattle.verbs.specs.Naming.{marks_validated_by, metadata_object, names_validated, path_validated, required_name}
-use Rattle.verbs.specs.Options.{options_validated}
-use Rattle.verbs.specs.Parameters.{parameters_validated}
+use Rattle.api_validation.specs.Naming.{marks_validated_by, metadata_object, names_validated, path_validated, required_name}
+use Rattle.api_validation.specs.Options.{options_validated}
+use Rattle.api_validation.specs.Parameters.{parameters_validated}
 use Rattle.verbs.specs.Promise.{AppliesKeepOthers, BodiesSayStates, ManagersOwnTheirSides, OthersKeepUnchanged, PlansAreShort, PlansComeNext, SaysState, StandingTextsSayStates, StepsKeepMachines, TextsSayStates, UpdatesTakeChanges, WritesLeaveOtherSide}
-use Rattle.verbs.specs.Size.{count_if_there, is_over, max_bytes, max_labels, size_validated}
-use Rattle.verbs.specs.Step.{Intent, applied_over, apply_validated, at_path, body_of, manager_for, conflict_refusal, Creation, created_as, creation_validated, delete_validated, deleted_over, get_validated, intent_of, object_at, validated_at, validated_by, validated_over, as_it_stands, key_at, not_there, object_validated_by, ownership_validated, planned, printed, revisions_left, shape_validated, store_state, store_unless_same, text_at, there, there_for, plan_for, step, update_validated, updated_by, updated_over, version_checked, version_come, collection_of, list_answered, list_validated, shown_by}
+use Rattle.api_validation.specs.Size.{count_if_there, is_over, max_bytes, max_labels, size_validated}
+use Rattle.api_validation.specs.Shapes.{shape_validated}
+use Rattle.verbs.specs.Step.{Intent, applied_over, apply_validated, at_path, body_of, manager_for, conflict_refusal, Creation, created_as, creation_validated, delete_validated, deleted_over, get_validated, intent_of, object_at, validated_at, validated_by, validated_over, as_it_stands, key_at, not_there, object_validated_by, ownership_validated, planned, printed, revisions_left, store_state, store_unless_same, text_at, there, there_for, plan_for, step, update_validated, updated_by, updated_over, version_checked, version_come, collection_of, list_answered, list_validated, shown_by}
 use Rattle.watchline.specs.Watches.{Source, from_history}
 use Rattle.verbs.proofs.Changes.{machine_next, standing_next, texts_at}
-use Rattle.verbs.proofs.Checks.{change_in, held, no_err, ok_is, passed}
+use Rattle.api_request.proofs.Checks.{change_in, held, no_err, ok_is, passed}
 use Rattle.verbs.proofs.Contents.{intended_content}
 use Rattle.verbs.proofs.Sides.{IsStored, live_stored, nothing_stored, owned_apart, owned_stored, stands_own, updated_by_apart, updated_stored}
 use Rattle.verbs.proofs.Said.{Shapes, printed_is_text, said_back, shapes_of}

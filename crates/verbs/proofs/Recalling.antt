@@ -3,12 +3,12 @@ use Rattle.std.proofs.Common.{◌≡◌, Ok, Err, Option, Some, None, sym, subst
 use Rattle.std.specs.Prelude.{◌<◌, IfOk, IfSome, OnOk, slice_get, string_bytes}
 use Rattle.std.specs.declared.result.Result.{Result}
 use Rattle.schema.specs.ObjectShape.{IsObjectShape}
-use Rattle.schema.specs.TypesFile.{ServedShape}
+use Rattle.api_types.specs.TypesFile.{ServedShape}
 use Rattle.history.specs.History.{Key, last_revision}
 use Rattle.objects.specs.State.{State}
 use Rattle.objects.specs.Placed.{IsPlacedState}
 use Rattle.objects.proofs.Taken.{same_some}
-use Rattle.verbs.specs.declared.calls.Plan.{Plan as ThePlan}
+use Rattle.api_request.specs.declared.calls.Plan.{Plan as ThePlan}
 use Rattle.verbs.specs.declared.remembered.Remembered.{Remembered}
 use Rattle.verbs.specs.Remembered.{IsRight, IsRightAt, IsSaidBy}
 use Rattle.verbs.specs.Step.{text_at}

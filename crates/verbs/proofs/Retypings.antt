@@ -8,12 +8,12 @@ use Rattle.std.specs.Cmp.Derive.{both_true}
 use Rattle.std.proofs.lemmas.Bool.{and_parts}
 use Rattle.std.proofs.lemmas.List.Elements.{All-nil, All-cons, All-head, All-tail}
 use Rattle.serde_json.specs.Data.{Data}
-use Rattle.schema.specs.Becoming.{types_may_become}
+use Rattle.api_types.specs.Retyping.{types_may_become}
 use Rattle.schema.specs.ObjectShape.{IsObjectShape}
 use Rattle.schema.specs.ObjectTest.{is_object_shape}
-use Rattle.schema.specs.Refusals as schemas
-use Rattle.schema.specs.TypesFile.{ServedShape, declared_types}
-use Rattle.schema.proofs.Keeping.{itself}
+use Rattle.api_types.specs.Refusals as schemas
+use Rattle.api_types.specs.TypesFile.{ServedShape, declared_types}
+use Rattle.api_types.proofs.Keeping.{itself}
 use Rattle.schema.proofs.ObjectTests.{test, tested}
 use Rattle.history.specs.History.{Change, History, Key, Object, last_revision, object_by, standing}
 use Rattle.history.specs.Whole.{IsWhole}

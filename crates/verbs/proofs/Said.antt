@@ -8,7 +8,7 @@ use Rattle.serde_json.specs.Written.{has_float}
 use Rattle.fieldpath.specs.Paths.{PathTexts, path_cmp}
 use Rattle.pathmap.specs.Contents.{Content, PathSet, nothing}
 use Rattle.schema.specs.Shape.{Shape}
-use Rattle.schema.specs.TypesFile.{ServedShape}
+use Rattle.api_types.specs.TypesFile.{ServedShape}
 use Rattle.typed.specs.Fitting.{IsContent}
 use Rattle.history.specs.History.{Key}
 use Rattle.objects.specs.State.{State}

@@ -8,14 +8,14 @@ use Rattle.std.specs.List.{All, AllByRecursion, list_all}
 use Rattle.std.specs.declared.result.Result.{Result}
 use Rattle.std.specs.FinMap as fin
 use Rattle.serde_json.specs.Data.{Data}
-use Rattle.schema.specs.Becoming.{types_may_become}
+use Rattle.api_types.specs.Retyping.{types_may_become}
 use Rattle.schema.specs.ObjectShape.{IsObjectShape}
 use Rattle.schema.specs.ObjectTest.{is_object_shape}
-use Rattle.schema.specs.Refusals as schemas
-use Rattle.schema.specs.TypesFile.{ServedShape, declared_types}
-use Rattle.schema.specs.Seen.{Fails}
-use Rattle.schema.specs.declared.fault.TypesFault.{TypesFault}
-use Rattle.schema.specs.declared.fault.TypesFault.TheVariants as types_fault
+use Rattle.api_types.specs.Refusals as schemas
+use Rattle.api_types.specs.TypesFile.{ServedShape, declared_types}
+use Rattle.api_types.specs.Seen.{Fails}
+use Rattle.api_types.specs.declared.fault.TypesFault.{TypesFault}
+use Rattle.api_types.specs.declared.fault.TypesFault.TheVariants as types_fault
 use Rattle.schema.proofs.ObjectTests.{test}
 use Rattle.history.specs.History.{Change, History, Key, Object, Objects, last_revision, standing}
 use Rattle.history.specs.Read.{write_of}

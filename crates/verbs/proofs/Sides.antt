@@ -2,7 +2,7 @@
 use Rattle.std.proofs.Common.{◌≡◌, ◌∙◌, ℕ, Bool, true, false, cond, List, Option, Some, None, Ok, Err, refl, sym, subst, true≢false}
 use Rattle.std.specs.Prelude.{slice_get}
 use Rattle.std.specs.FinMap as fin
-use Rattle.schema.specs.TypesFile.{ServedShape}
+use Rattle.api_types.specs.TypesFile.{ServedShape}
 use Rattle.pathmap.specs.Contents.{Content}
 use Rattle.typed.specs.Fitting.{IsContent}
 use Rattle.history.specs.History.{Key, Object, Objects}
@@ -16,7 +16,7 @@ use Rattle.ownership.proofs.Placed.{applied_placed, updated_placed}
 use Rattle.ownership.proofs.Sides.{applied_apart, applied_sides, beside_content, own_content, updated_apart, updated_sides}
 use Rattle.verbs.specs.Machine.{AreTexts, no_state, state_by, state_of_live, state_said, state_under}
 use Rattle.verbs.specs.Step.{Intent, conflict_refusal, manager_for, ownership_validated, updated_by}
-use Rattle.verbs.proofs.Checks.{no_err, ok_is}
+use Rattle.api_request.proofs.Checks.{no_err, ok_is}
 use Rattle.verbs.proofs.Said.{Shapes, nobody_owns, nothing_placed, said_back}
 
 -- a content of the type, with owners of its paths, each of paths that its subresource writes

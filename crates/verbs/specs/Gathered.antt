@@ -1,13 +1,13 @@
 -- For private clauses: what is gathered to be written where other types are to be served.
 use Rattle.std.specs.Prelude.{◌≡◌, ◌+◌, ◌<◌, ◌≤◌, ℕ, true, false, List, filter, is_some, length, Option, Some, None, IfSome, option_and_then, option_map, slice_get}
 use Rattle.std.specs.List.{AllByRecursion}
-use Rattle.schema.specs.Served.{types_view}
-use Rattle.schema.specs.TypesFile.{ServedShape}
+use Rattle.api_types.specs.Served.{types_view}
+use Rattle.api_types.specs.TypesFile.{ServedShape}
 use Rattle.history.specs.History.{Key, Object, last_revision}
 use Rattle.objects.specs.State.{State}
 use Rattle.ownership.specs.Carry.{carried_state}
-use Rattle.schema.specs.declared.fault.TypesFault.{TypesFault}
-use Rattle.schema.specs.declared.fault.TypesFault.TheVariants as types_fault
+use Rattle.api_types.specs.declared.fault.TypesFault.{TypesFault}
+use Rattle.api_types.specs.declared.fault.TypesFault.TheVariants as types_fault
 use Rattle.verbs.specs.declared.fault.Fault.TheVariants.{Memory}
 use Rattle.verbs.specs.declared.fault.RetypeFault.{RetypeFault}
 use Rattle.verbs.specs.declared.fault.RetypeFault.TheVariants.{Failed, NotTypes}

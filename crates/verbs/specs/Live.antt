@@ -1,6 +1,6 @@
 -- What a write starts from: the object that stands, and the state that its text says.
 use Rattle.std.specs.Prelude.{◌≡◌, Option, option_map}
-use Rattle.schema.specs.TypesFile.{ServedShape}
+use Rattle.api_types.specs.TypesFile.{ServedShape}
 use Rattle.objects.specs.Placed.{IsPlacedState}
 use Rattle.objects.specs.Views.{state_of}
 use Rattle.history.specs.History.{Object}

@@ -5,7 +5,7 @@ use Rattle.std.specs.FinMap as fin
 use Rattle.std.specs.List.{All, AllByRecursion}
 use Rattle.serde_json.specs.Read.{read}
 use Rattle.schema.specs.Shape.{Shape}
-use Rattle.schema.specs.TypesFile.{ServedShape}
+use Rattle.api_types.specs.TypesFile.{ServedShape}
 use Rattle.pathmap.specs.Contents.{nothing}
 use Rattle.history.specs.History.{Key, Change, Object, Objects, History, last_revision, standing, written}
 use Rattle.history.specs.View.{View, state_in}
@@ -17,7 +17,7 @@ use Rattle.schema.specs.ObjectShape.{IsObjectShape}
 use Rattle.objects.specs.ReadBack.{IsObjectText}
 use Rattle.ownership.specs.Sides.{OwnSides}
 use Rattle.names.specs.Names.{is_dns_label, is_dns_subdomain}
-use Rattle.verbs.specs.Envelope.{api_version_of}
+use Rattle.api_validation.specs.Envelope.{api_version_of}
 
 -- ---- what stands
 

@@ -1,12 +1,12 @@
 -- What a plan is made from: a type, a call, and the revision at which the store stands.
 use Rattle.std.specs.Prelude.{◌≤◌}
 use Rattle.schema.specs.ObjectShape.{IsObjectShape}
-use Rattle.schema.specs.Served.{served}
-use Rattle.schema.specs.TypesFile.{ServedShape}
+use Rattle.api_types.specs.Served.{served}
+use Rattle.api_types.specs.TypesFile.{ServedShape}
 use Rattle.history.specs.History.{last_revision}
 use Rattle.verbs.specs.declared.planner.Planner.{Planner}
-use Rattle.verbs.specs.Calls.{Call}
-use Rattle.verbs.specs.Seen.{call_of}
+use Rattle.api_request.specs.Calls.{Call}
+use Rattle.api_request.specs.Seen.{call_of}
 
 abbrev pub type_of : Planner → ServedShape
 type_of p = served p.served.now

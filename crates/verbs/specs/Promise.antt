@@ -8,7 +8,7 @@ use Rattle.std.specs.List.{AllByRecursion}
 use Rattle.params.specs.Values.{Values}
 use Rattle.params.specs.declared.params.Asked.TheVariants as asked
 use Rattle.serde_json.specs.Data.{Data}
-use Rattle.schema.specs.TypesFile.{ServedShape, declared_types}
+use Rattle.api_types.specs.TypesFile.{ServedShape, declared_types}
 use Rattle.fieldpath.specs.Paths.{PathTexts}
 use Rattle.history.specs.History.{Change, Key, Object, History, compacted_to, fresh, last_revision, standing, state_at}
 use Rattle.history.specs.View.{view}
@@ -18,19 +18,19 @@ use Rattle.ownership.specs.Carry.{carried_state}
 use Rattle.ownership.specs.Keeping.{OthersKeep}
 use Rattle.ownership.specs.Sides.{OtherSideStays, OwnSides}
 use Rattle.objects.specs.Placed.{Owns}
-use Rattle.verbs.specs.declared.method.Method.TheVariants.{Get, Patch, Put}
-use Rattle.verbs.specs.Calls.{Call, subresource_of}
-use Rattle.verbs.specs.Envelope.{name_in}
-use Rattle.verbs.specs.Json.{IsJsonBody}
+use Rattle.api_request.specs.declared.method.Method.TheVariants.{Get, Patch, Put}
+use Rattle.api_request.specs.Calls.{Call, subresource_of}
+use Rattle.api_validation.specs.Envelope.{name_in}
+use Rattle.api_request.specs.Json.{IsJsonBody}
 use Rattle.verbs.specs.Machine.{AreObjectTypes, IsMachine, IsNext, IsSomeTextAt, IsTextAt, state_said, state_under}
-use Rattle.verbs.specs.Parameters.{parameters_validated}
+use Rattle.api_validation.specs.Parameters.{parameters_validated}
 use Rattle.verbs.specs.Retyping.{is_changed, retyped, retyping}
-use Rattle.verbs.specs.Size.{max_bytes}
+use Rattle.api_validation.specs.Size.{max_bytes}
 use Rattle.lists.specs.declared.refusal.Refusal.TheVariants.{Expired}
 use Rattle.watchline.specs.Lines.{expired_message, expired_value}
 use Rattle.watchline.specs.Watches.{from_history}
 use Rattle.verbs.specs.Step.{list_refusal, planned, planned_in, step, steps, validated_over}
-use Rattle.verbs.specs.Status.{CallRefusal, call_refusal_value}
+use Rattle.api_request.specs.Status.{CallRefusal, call_refusal_value}
 
 -- what a call plans may come next, so the machine is one after each call whose body is a value that a JSON text spells
 abbrev pub PlansComeNext : Type 0

@@ -1,7 +1,7 @@
 -- What is remembered of texts: the states that they say.
 use Rattle.std.specs.Prelude.{◌≡◌, ℕ, IfSome, List, Some, slice_get, string_bytes}
 use Rattle.std.specs.List.{All}
-use Rattle.schema.specs.TypesFile.{ServedShape}
+use Rattle.api_types.specs.TypesFile.{ServedShape}
 use Rattle.objects.specs.State.{State}
 use Rattle.objects.specs.Placed.{IsPlacedState}
 use Rattle.objects.specs.Views.{state_of}

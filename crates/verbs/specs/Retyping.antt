@@ -7,10 +7,10 @@ use Rattle.std.specs.FinMap as fin
 use Rattle.std.specs.List.{list_all}
 use Rattle.std.specs.Str.{bytes_eq}
 use Rattle.serde_json.specs.Data.{Data}
-use Rattle.schema.specs.Becoming.{types_may_become}
+use Rattle.api_types.specs.Retyping.{types_may_become}
 use Rattle.schema.specs.ObjectTest.{is_object_shape}
-use Rattle.schema.specs.Refusals as schemas
-use Rattle.schema.specs.TypesFile.{ServedShape, declared_types}
+use Rattle.api_types.specs.Refusals as schemas
+use Rattle.api_types.specs.TypesFile.{ServedShape, declared_types}
 use Rattle.history.specs.History.{Key, Object, Objects, History, last_revision, standing}
 use Rattle.history.specs.Writes.{written_all}
 use Rattle.ownership.specs.Carry.{carried_state}

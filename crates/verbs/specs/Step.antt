@@ -8,10 +8,7 @@ use Rattle.serde_json.specs.Data.{Data, string, object, Items, no_items, item, n
 use Rattle.serde_json.specs.Written.{compact_text}
 use Rattle.fieldpath.specs.Elements.{shown}
 use Rattle.pathmap.specs.Contents.{Content}
-use Rattle.schema.specs.TypesFile.{ServedShape}
-use Rattle.typed.specs.declared.fault.Cause.{Cause}
-use Rattle.typed.specs.declared.fault.Cause.TheVariants.{NotAnObject, UnknownField, WrongType, DuplicateItem, KeyFieldMissing}
-use Rattle.typed.specs.Faults.{Read, cause_text}
+use Rattle.api_types.specs.TypesFile.{ServedShape}
 use Rattle.typed.specs.Reading.{content_of}
 use Rattle.objects.specs.declared.manager.Operation.{Operation}
 use Rattle.objects.specs.declared.manager.Subresource.{Subresource}
@@ -35,35 +32,21 @@ use Rattle.params.specs.declared.params.Asked.TheVariants as asked
 use Rattle.watchline.specs.Lines.{expired_message}
 use Rattle.watchline.specs.Opening.{WatchFrom, started}
 use Rattle.watchline.specs.Watches.{Source, from_history, from_view}
-use Rattle.verbs.specs.declared.method.Method.{Method}
-use Rattle.verbs.specs.declared.method.Method.TheVariants.{Get, Post, Put, Patch, Delete}
-use Rattle.verbs.specs.declared.reason.Reason.{Reason}
-use Rattle.verbs.specs.declared.reason.Reason.TheVariants.{BadRequest, NotFound, MethodNotAllowed, AlreadyExists, Invalid, ServiceUnavailable, Timeout}
-use Rattle.verbs.specs.declared.reason.Reason.TheVariants as reason
-use Rattle.verbs.specs.Reasons.{code_of}
-use Rattle.verbs.specs.Status.{CallRefusal, call_refusal_value}
-use Rattle.verbs.specs.Validated.{Validated, and_then, call_refusal, refused_for, require}
+use Rattle.api_request.specs.declared.method.Method.{Method}
+use Rattle.api_request.specs.declared.method.Method.TheVariants.{Get, Post, Put, Patch, Delete}
+use Rattle.api_request.specs.declared.reason.Reason.TheVariants.{BadRequest, NotFound, MethodNotAllowed, AlreadyExists, ServiceUnavailable, Timeout}
+use Rattle.api_request.specs.declared.reason.Reason.TheVariants as reason
+use Rattle.api_request.specs.Reasons.{code_of}
+use Rattle.api_request.specs.Status.{CallRefusal, call_refusal_value}
+use Rattle.api_request.specs.Validated.{Validated, and_then, call_refusal, refused_for, require}
 use Rattle.verbs.specs.Machine.{after, identity_of, no_state, state_of_live, state_said}
-use Rattle.verbs.specs.Calls.{Scope, of_all, of_namespace, of_object, scope_of, Call, Answer, Plan}
-use Rattle.verbs.specs.Envelope.{Expected, api_version_of, envelope_of, name_in}
-use Rattle.verbs.specs.Parameters.{parameters_validated}
-use Rattle.verbs.specs.Naming.{marks_validated_by, names_validated, required_name}
-use Rattle.verbs.specs.Options.{options_validated}
-use Rattle.verbs.specs.Size.{size_validated}
-
--- ---- shape
-
-abbrev pub fault_reason : Cause → Reason
-fault_reason NotAnObject = BadRequest
-fault_reason UnknownField = BadRequest
-fault_reason WrongType = BadRequest
-fault_reason DuplicateItem = Invalid
-fault_reason KeyFieldMissing = Invalid
-
--- a fault in the shape, with its path
-abbrev pub shape_validated : Read Content → Validated Content
-shape_validated (Ok c) = Ok c
-shape_validated (Err e) = refused_for (fault_reason e.0) (e.1 ++ (codes ": " ++ cause_text e.0))
+use Rattle.api_request.specs.Calls.{Scope, of_all, of_namespace, of_object, scope_of, Call, Answer, Plan}
+use Rattle.api_validation.specs.Envelope.{Expected, api_version_of, envelope_of, name_in}
+use Rattle.api_validation.specs.Parameters.{parameters_validated}
+use Rattle.api_validation.specs.Naming.{marks_validated_by, names_validated, required_name}
+use Rattle.api_validation.specs.Options.{options_validated}
+use Rattle.api_validation.specs.Shapes.{shape_validated}
+use Rattle.api_validation.specs.Size.{size_validated}
 
 -- ---- the object
 

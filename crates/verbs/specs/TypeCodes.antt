@@ -2,7 +2,7 @@
 use Rattle.std.specs.Prelude.{◌≡◌, ◌==◌, refl, ℕ, Bool, false, List, [], ◌∷◌, if◌then◌else◌}
 use Rattle.std.specs.Coded.{Coded, code_by, coded×, coded_bool, coded_list, coded_ℕ}
 use Rattle.schema.specs.Shape.{Shape, text, whole, truth, struct_of, map_of, list_of, Fields, no_fields, field, Kind, atomic, set, keyed}
-use Rattle.schema.specs.TypesFile.{ServedShape}
+use Rattle.api_types.specs.TypesFile.{ServedShape}
 
 -- ---- a shape as what a machine with a stack of shapes and one of fields builds it by: after its parts
 

@@ -1,8 +1,8 @@
 -- Bookmarks of watches of served types (Kubernetes docs, "Kubernetes API Concepts", "Watch bookmarks").
 use Rattle.std.specs.Prelude.{List, Option, Some, None, slice_get}
-use Rattle.schema.specs.TypesFile.{ServedShape}
+use Rattle.api_types.specs.TypesFile.{ServedShape}
 use Rattle.watchline.specs.Watches.{Cursor, Marking, bookmarked}
-use Rattle.verbs.specs.Envelope.{api_version_of}
+use Rattle.api_validation.specs.Envelope.{api_version_of}
 
 -- a bookmark is an object of the watch's type; none is told of a type that isn't served, which no call opens a watch of
 abbrev pub bookmarked_as : Option ServedShape → Cursor → Marking

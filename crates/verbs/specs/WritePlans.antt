@@ -1,9 +1,9 @@
 -- The plan of a write, and what is remembered of it.
 use Rattle.std.specs.Prelude.{IfSome}
-use Rattle.schema.specs.TypesFile.{ServedShape}
-use Rattle.verbs.specs.Calls.{Plan}
+use Rattle.api_types.specs.TypesFile.{ServedShape}
+use Rattle.api_request.specs.Calls.{Plan}
 use Rattle.verbs.specs.Remembered.{IsRight}
-use Rattle.verbs.specs.Seen.{plan_of}
+use Rattle.api_request.specs.Seen.{plan_of}
 use Rattle.verbs.specs.declared.remembered.WritePlan.{WritePlan}
 
 abbrev pub written_plan : WritePlan → Plan

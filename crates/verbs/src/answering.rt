@@ -3,18 +3,15 @@
 
 ghost use Rattle.std.specs.Prelude.{◌≡◌, ◌≢◌, Err, IfOk, None, option_map, string_bytes};
 ghost use Rattle.serde_json.specs.View.{view};
-ghost use Rattle.verbs.specs.Json.{IsJson};
-ghost use Rattle.verbs.specs.Calls as calls;
-ghost use Rattle.verbs.specs.Seen.{Gives, answer_of, call_of, call_refusal_of, plan_of};
+ghost use Rattle.api_request.specs.Json.{IsJson};
+ghost use Rattle.api_request.specs.Calls as calls;
+ghost use Rattle.api_request.specs.Seen.{Gives, answer_of, call_of, call_refusal_of, plan_of};
 ghost use Rattle.verbs.specs.Step.{body_of, plan_for, refused};
-ghost use Rattle.verbs.specs.Validated.{Validated, refused_for};
+ghost use Rattle.api_request.specs.Validated.{Validated, refused_for};
 ghost use Rattle.watchline.specs.Views.{watch_from};
 
-use crate::body::NOT_JSON;
-use crate::call_refusal::CallRefusal;
-use crate::calls::{Answer, Call, OK, Plan};
-use crate::fault::{CallError, Fault};
-use crate::reason::Reason;
+use crate::fault::Fault;
+use api_request::{Answer, Call, CallError, CallRefusal, NOT_JSON, OK, Plan, Reason};
 use serde_json::Value;
 use std::alloc::{AllocError, Global};
 use watchline::WatchFrom;

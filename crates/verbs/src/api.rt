@@ -4,19 +4,17 @@ ghost use Rattle.std.specs.Prelude.{◌≡◌, ◌≢◌, ◌≤◌, Err, IfOk};
 ghost use Rattle.history.specs.History.{fresh, last_revision};
 ghost use Rattle.history.specs.View.{view};
 
-use crate::admitting::{AdmitFault, admitted};
-use crate::calls::{Call, Plan, Target};
 use crate::catalog::Catalog;
 use crate::fault::{Fault, RetypeFault};
 use crate::plans::planned;
 use crate::retyping::{catalog_in, writes_under};
-use crate::route::Routes;
 use crate::watching::bookmarked;
 use crate::writing::{write_all, write_change};
+use api_request::{AdmitFault, Call, Plan, Routes, Target};
+use api_types::Types;
 use lists::RecentLabels;
 use revstore::{CompactFault, Store};
 use revtable::Table;
-use schema::Types;
 use serde_json::Value;
 use std::alloc::Global;
 use watchline::{Pumped, WatchCursor, watches_by_views};
@@ -58,15 +56,16 @@ impl Drop for Api {
 
 impl Api {
     ghost use Rattle.std.specs.Prelude.{◌≡◌, ◌≢◌, ◌↔◌, ◌<◌, ◌≤◌, List, Ok, Err, IfErr, IfOk, IfSome, None, OnOk, OnErr, false, option_map};
-    ghost use Rattle.schema.specs.Served as types;
-    ghost use Rattle.schema.specs.Served.{types_view};
-    ghost use Rattle.schema.specs.TypesFile.{ServedShape};
-    ghost use Rattle.verbs.specs.Admit.{admitted};
+    ghost use Rattle.api_types.specs.Served as types;
+    ghost use Rattle.api_types.specs.Served.{types_view};
+    ghost use Rattle.api_types.specs.TypesFile.{ServedShape};
+    ghost use Rattle.api_request.specs.Admit.{admitted};
     ghost use Rattle.history.specs.History.{History, compacted_to, fresh, last_revision};
     ghost use Rattle.verbs.specs.Machine.{IsNext, after};
     ghost use Rattle.serde_json.specs.View as value;
     ghost use Rattle.verbs.specs.Retyping.{retyped, retyping};
-    ghost use Rattle.verbs.specs.Seen.{Admits, ComesNext, Stands, call_of, change_of, plan_of, retype_refusal, types_of};
+    ghost use Rattle.api_request.specs.Seen.{Admits, call_of, change_of, plan_of};
+    ghost use Rattle.verbs.specs.Seen.{ComesNext, Stands, retype_refusal, types_of};
     ghost use Rattle.verbs.specs.Step.{planned};
     ghost use Rattle.verbs.specs.Watching.{bookmarked_in};
     ghost use Rattle.watchline.specs.Views.{marking_of, turn_of};
@@ -99,6 +98,18 @@ impl Api {
         })
     }
 
+    /// The types that it serves.
+    pub fn types(&self) -> &Types
+        ensures { types_view result.now ≡ types_of self.now }
+    {
+        self.catalog.types()
+    }
+
+    /// The routes to the objects of all types.
+    pub fn routes(&self) -> &Routes {
+        &self.routes
+    }
+
     /// What a request asks, by its method, its path and the value of its `Content-Type`: the route is validated first,
     /// then the method, then the media type.
     pub fn admit(
@@ -109,8 +120,8 @@ impl Api {
     ) -> Result<Target, AdmitFault>
         ensures { Admits result (admitted (types_of self.now) method.now path.now (option_map (λ b. b.now) media.entry)) }
     {
-        let place = self.routes.place(self.catalog.types(), path);
-        admitted(self.alloc, place, method, media)
+        self.routes
+            .admit(self.alloc, self.catalog.types(), method, path, media)
     }
 
     /// The plan of a call: its answer, and the change that it makes, if any. It changes nothing.

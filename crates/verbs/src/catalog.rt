@@ -1,10 +1,10 @@
 //! The types that are served, and of some of their objects the states that their texts say. These states only save time:
 //! a write that finds none reads the object's text, with the same result. They are kept in the slots of `slot`.
 
-use crate::calls::{Plan, Scope, Target};
 use crate::remembered::Remembered;
 use crate::slot::{Slot, empty_slots, put_in, slot_of, taken_from};
-use schema::Types;
+use api_request::{Plan, Scope, Target};
+use api_types::Types;
 use std::alloc::{AllocError, Global};
 use std::marker::Model;
 
@@ -19,8 +19,8 @@ pub struct Catalog {
 
 impl Model for Catalog {
     ghost use Rattle.std.specs.Prelude.{List};
-    ghost use Rattle.schema.specs.Served.{types_view};
-    ghost use Rattle.schema.specs.TypesFile.{ServedShape};
+    ghost use Rattle.api_types.specs.Served.{types_view};
+    ghost use Rattle.api_types.specs.TypesFile.{ServedShape};
     ghost use Rattle.verbs.specs.Remembered.{AreRight};
     ghost use Rattle.verbs.specs.TypeCodes.{coded_types};
 
@@ -52,7 +52,7 @@ fn slot_at(target: &Target) -> Option<usize> {
 
 impl Catalog {
     ghost use Rattle.std.specs.Prelude.{◌≡◌, IfOk, IfSome};
-    ghost use Rattle.schema.specs.Served.{types_view};
+    ghost use Rattle.api_types.specs.Served.{types_view};
     ghost use Rattle.verbs.specs.Remembered.{IsRightAt};
 
     /// These types, of whose objects nothing is remembered.

@@ -1,51 +1,8 @@
-//! The errors of calls: of a check, which refuses the call or is out of memory, and of a whole call, which is no
-//! refusal: memory, the store, or a stored text that is no object's. A refusal itself stands in `call_refusal`.
+//! The errors of a whole call, which are no refusals: memory, the store, or a stored text that is no object's.
 
-ghost use Rattle.std.specs.Prelude.{◌≡◌, ℕ, IfOk, List, string_bytes};
-ghost use Rattle.verbs.specs.Seen.{RefusesFor};
-
-use crate::call_refusal::CallRefusal;
-use crate::reason::Reason;
-use schema::TypesFault;
-use std::alloc::{AllocError, Global};
+use api_types::TypesFault;
+use std::alloc::AllocError;
 use thiserror::Error;
-
-/// Why a check doesn't pass.
-#[derive(Debug, Drop)]
-pub enum CallError {
-    Refused(CallRefusal),
-    Memory,
-}
-
-impl CallError {
-    /// A refusal with this message, which was put together for it, unless there was no room in memory.
-    pub fn told(alloc: Global, reason: Reason, message: Result<String, AllocError>) -> CallError
-        ensures { (text : List ℕ) → IfOk message (λ s. string_bytes s ≡ text) → RefusesFor result reason text }
-    {
-        match message {
-            Ok(message) => CallError::Refused(CallRefusal::new(alloc, reason, message)),
-            Err(_) => CallError::Memory,
-        }
-    }
-
-    /// A refusal with a copy of this message.
-    pub fn refused_for(alloc: Global, reason: Reason, message: &str) -> CallError
-        ensures { RefusesFor result reason message.now }
-    {
-        CallError::told(alloc, reason, String::from_str(alloc, message))
-    }
-}
-
-impl From<AllocError> for CallError {
-    ghost use Rattle.std.specs.Prelude.{◌≡◌};
-    ghost use Rattle.verbs.specs.declared.fault.CallError.TheVariants.{Memory};
-
-    ghost from_gives = { λ _ e. e ≡ Memory };
-
-    fn from(_: AllocError) -> CallError {
-        CallError::Memory
-    }
-}
 
 /// How the faults of this crate and of those above tell that the store failed.
 pub const STORE_FAILED: &str = "the store failed";

@@ -1,15 +1,15 @@
 //! The identity of an object, by its type and key: what its text names. What a body has to name stands in `envelope`.
 
 ghost use Rattle.std.specs.Prelude.{◌≡◌};
-ghost use Rattle.schema.specs.Served as types;
+ghost use Rattle.api_types.specs.Served as types;
 ghost use Rattle.objects.specs.Views as objects;
 ghost use Rattle.history.specs.Read.{key_of};
-ghost use Rattle.verbs.specs.Envelope.{api_version_of};
+ghost use Rattle.api_validation.specs.Envelope.{api_version_of};
 ghost use Rattle.verbs.specs.Machine.{identity_of};
 
+use api_types::Served;
 use history::Key;
 use ownership::Identity;
-use schema::Served;
 
 /// The identity of an object of the type and the key; the text of its `group/version` is given.
 pub fn identity_of<'a>(served: &'a Served, key: &'a Key, api_version: &'a str) -> Identity<'a>

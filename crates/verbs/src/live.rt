@@ -2,24 +2,24 @@
 //! `remembered`.
 
 ghost use Rattle.std.specs.Prelude.{◌≡◌, ◌≢◌, Err, IfOk, IfSome, Some, option_map};
-ghost use Rattle.schema.specs.Served as types;
+ghost use Rattle.api_types.specs.Served as types;
 ghost use Rattle.objects.specs.Placed.{IsPlacedState};
 ghost use Rattle.objects.specs.Views.{state_of};
 ghost use Rattle.schema.specs.ObjectShape.{IsObjectShape};
-ghost use Rattle.schema.specs.TypesFile.{ServedShape};
+ghost use Rattle.api_types.specs.TypesFile.{ServedShape};
 ghost use Rattle.history.specs.Read.{key_of};
 ghost use Rattle.verbs.specs.Live.{IsLive, object_in};
 ghost use Rattle.verbs.specs.Machine.{IsReadable, state_of_live, state_said};
 ghost use Rattle.verbs.specs.Remembered.{IsRight};
 ghost use Rattle.verbs.specs.Seen.{object_of};
 
-use crate::envelope::api_version_of;
 use crate::fault::Fault;
 use crate::identity::identity_of;
 use crate::remembered::Remembered;
+use api_types::Served;
+use api_validation::api_version_of;
 use history::{Key, Object};
 use ownership::{ObjectFault, Owned};
-use schema::Served;
 use std::alloc::Global;
 
 /// What stands under a key, and the state that its text says: an empty one where nothing stands.

@@ -5,9 +5,9 @@ ghost use Rattle.history.specs.Read.{key_of};
 ghost use Rattle.verbs.specs.Planner.{asked_of};
 ghost use Rattle.verbs.specs.Step.{key_at};
 
-use crate::calls::Call;
+use api_request::Call;
+use api_types::Served;
 use history::Key;
-use schema::Served;
 use std::alloc::{AllocError, Global};
 
 /// The call, the type of the objects that it is of, and the revision at which the store stands.

@@ -3,35 +3,33 @@
 
 ghost use Rattle.std.specs.Prelude.{◌≡◌, ◌≢◌, Err, IfOk, IfSome, List, Some, slice_get};
 ghost use Rattle.std.specs.FinMap as fin;
-ghost use Rattle.schema.specs.Served.{types_view};
-ghost use Rattle.schema.specs.TypesFile.{ServedShape};
+ghost use Rattle.api_types.specs.Served.{types_view};
+ghost use Rattle.api_types.specs.TypesFile.{ServedShape};
 ghost use Rattle.history.specs.Read.{key_of};
-ghost use Rattle.verbs.specs.Calls as calls;
+ghost use Rattle.api_request.specs.Calls as calls;
 ghost use Rattle.verbs.specs.Live.{IsLive, object_in};
 ghost use Rattle.verbs.specs.Machine.{AreTexts, IsReadable};
 ghost use Rattle.verbs.specs.Planner.{IsPlanner, asked_of, type_of};
 ghost use Rattle.verbs.specs.Remembered.{IsRight, IsRightAt};
-ghost use Rattle.verbs.specs.Seen.{Gives, call_of, objects_in, plan_of, scope_seen};
+ghost use Rattle.api_request.specs.Seen.{Gives, call_of, plan_of, scope_seen};
+ghost use Rattle.verbs.specs.Seen.{objects_in};
 ghost use Rattle.verbs.specs.Step.{body_of, create_validated, get_validated, key_at, plan_for, planned_over, validated_by, write_validated_by};
-ghost use Rattle.verbs.specs.Validated.{Validated, and_then};
+ghost use Rattle.api_request.specs.Validated.{Validated, and_then};
 ghost use Rattle.verbs.specs.WritePlans.{RemembersRight, written_plan};
 ghost use Rattle.watchline.specs.Watches.{from_view};
 
-use crate::admitting::{NO_PATH, NOT_SERVED};
 use crate::answering::{plan_for, refused_for};
-use crate::calls::{Call, Plan, Scope};
 use crate::catalog::Catalog;
-use crate::fault::{CallError, Fault};
+use crate::fault::Fault;
 use crate::live::{Live, live_at};
-use crate::method::Method;
 use crate::planner::Planner;
-use crate::reason::Reason;
 use crate::remembered::{Remembered, WritePlan};
 use crate::validating::Creation;
+use api_request::{Call, CallError, Method, NO_PATH, NOT_SERVED, Plan, Reason, Scope};
+use api_types::Types;
 use history::Key;
 use ownership::Subresource;
 use revstore::Store;
-use schema::Types;
 use std::alloc::Global;
 
 /// The plan of a write, or of its refusal. After a change the state that it stored is what is known, and nothing of an object that

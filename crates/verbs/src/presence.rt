@@ -2,14 +2,14 @@
 
 ghost use Rattle.std.specs.Prelude.{codes, option_map};
 ghost use Rattle.history.specs.Read.{key_of};
-ghost use Rattle.verbs.specs.declared.reason.Reason.TheVariants.{AlreadyExists, NotFound};
+ghost use Rattle.api_request.specs.declared.reason.Reason.TheVariants.{AlreadyExists, NotFound};
 ghost use Rattle.verbs.specs.Planner.{type_of};
-ghost use Rattle.verbs.specs.Seen.{Gives, RefusesFor, object_of};
+ghost use Rattle.api_request.specs.Seen.{Gives, RefusesFor};
+ghost use Rattle.verbs.specs.Seen.{object_of};
 ghost use Rattle.verbs.specs.Step.{said_of_object, there_for};
 
-use crate::fault::CallError;
 use crate::planner::Planner;
-use crate::reason::Reason;
+use api_request::{CallError, Reason};
 use history::{Key, Object};
 use ownership::Subresource;
 

@@ -1,11 +1,11 @@
 //! What is remembered of an object's text: the state that it says. It is kept in the slots of `slot`.
 
 ghost use Rattle.std.specs.Prelude.{◌≡◌, IfSome, string_bytes};
-ghost use Rattle.schema.specs.TypesFile.{ServedShape};
+ghost use Rattle.api_types.specs.TypesFile.{ServedShape};
 ghost use Rattle.objects.specs.Views.{state_of};
 ghost use Rattle.verbs.specs.Remembered.{IsRight, IsSaidBy};
 
-use crate::calls::Plan;
+use api_request::Plan;
 use ownership::Owned;
 
 /// An object's text, and the state that it says.

@@ -1,14 +1,14 @@
 //! Other types in the place of those that are served: which objects' texts change, and what is written of each. How an object is
-//! carried to its new type stands in `ownership`, and which types may follow which in `schema`.
+//! carried to its new type stands in `ownership`, and which types may follow which in `api_types`.
 
 ghost use Rattle.std.specs.Prelude.{◌≡◌, ◌≢◌, ◌+◌, ◌++◌, [], ◌∷◌, Err, IfErr, IfOk, IfSome, List, None, OnOk, Ok, Some, length, map, option_map, slice_get, string_bytes};
 ghost use Rattle.std.specs.FinMap as fin;
 ghost use Rattle.std.specs.List.{All};
 ghost use Rattle.serde_json.specs.View as value;
 ghost use Rattle.schema.specs.ObjectShape.{IsObjectShape};
-ghost use Rattle.schema.specs.Served as types;
-ghost use Rattle.schema.specs.Served.{types_view};
-ghost use Rattle.schema.specs.TypesFile.{ServedShape, declared_types};
+ghost use Rattle.api_types.specs.Served as types;
+ghost use Rattle.api_types.specs.Served.{types_view};
+ghost use Rattle.api_types.specs.TypesFile.{ServedShape, declared_types};
 ghost use Rattle.typed.specs.Fitting.{IsContent};
 ghost use Rattle.objects.specs.Placed.{IsPlacedState};
 ghost use Rattle.objects.specs.Views.{state_of};
@@ -23,14 +23,14 @@ ghost use Rattle.verbs.specs.Seen.{objects_in, retype_refusal};
 ghost use Rattle.verbs.specs.Step.{text_at};
 
 use crate::catalog::Catalog;
-use crate::envelope::api_version_of;
 use crate::fault::{Fault, RetypeFault};
 use crate::identity::identity_of;
 use crate::live::read_stored;
+use api_types::{Retyping, Served, Types, TypesFault};
+use api_validation::api_version_of;
 use history::{Entry, Key, LAST_REVISION, Write};
 use ownership::{Carry, Owned};
 use revstore::{ListFault, Store};
-use schema::{Retyping, Served, Types, TypesFault};
 use serde_json::Value;
 use std::alloc::{AllocError, Global};
 

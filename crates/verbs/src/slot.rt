@@ -4,7 +4,7 @@
 //! text that says it. A state is matched with its text in `remembered`.
 
 ghost use Rattle.std.specs.Prelude.{◌≡◌, IfOk, IfSome, List};
-ghost use Rattle.schema.specs.TypesFile.{ServedShape};
+ghost use Rattle.api_types.specs.TypesFile.{ServedShape};
 ghost use Rattle.verbs.specs.Remembered.{AreRight, IsRightAt, IsRightIn};
 
 use crate::remembered::Remembered;

@@ -2,14 +2,14 @@
 //! stands in the crate `watchline`.
 
 ghost use Rattle.std.specs.Prelude.{◌≡◌, ◌≢◌, Err, IfOk, None, Ok, OnErr, false};
-ghost use Rattle.schema.specs.Served.{types_view};
+ghost use Rattle.api_types.specs.Served.{types_view};
 ghost use Rattle.watchline.specs.Views.{marking_of};
 ghost use Rattle.watchline.specs.Watches.{is_bookmark_due};
 ghost use Rattle.verbs.specs.Watching.{bookmarked_in};
 
-use crate::envelope::api_version_of;
 use crate::fault::Fault;
-use schema::Types;
+use api_types::Types;
+use api_validation::api_version_of;
 use std::alloc::Global;
 use watchline::WatchCursor;
 

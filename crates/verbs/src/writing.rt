@@ -7,11 +7,11 @@ ghost use Rattle.history.specs.View.{written_in};
 ghost use Rattle.history.specs.Writes.{written_all_in};
 ghost use Rattle.verbs.specs.Gathered.{AreWritable};
 ghost use Rattle.verbs.specs.Machine.{ComesAfter};
-ghost use Rattle.verbs.specs.Seen.{change_of};
-ghost use Rattle.verbs.specs.Stored.{Stores};
+ghost use Rattle.api_request.specs.Seen.{change_of};
+ghost use Rattle.api_request.specs.Stored.{Stores};
 
-use crate::change::Change;
 use crate::fault::Fault;
+use api_request::Change;
 use history::Write;
 use revstore::{Store, WriteFault};
 

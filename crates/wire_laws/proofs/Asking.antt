@@ -3,10 +3,10 @@ use Rattle.std.proofs.Common.{◌≡◌, ℕ, ◌≤◌, Bool, true, false, List
 use Rattle.std.specs.Prelude.{◌&&◌, if◌then◌else◌}
 use Rattle.std.specs.List.{list_any}
 use Rattle.serde_json.specs.Data.{Data}
-use Rattle.schema.specs.TypesFile.{ServedShape}
-use Rattle.verbs.specs.Admit.{admitted, method_named}
-use Rattle.verbs.specs.declared.method.Method.{Method}
-use Rattle.verbs.specs.declared.method.Method.TheVariants.{Get, Post, Put, Patch, Delete}
+use Rattle.api_types.specs.TypesFile.{ServedShape}
+use Rattle.api_request.specs.Admit.{admitted, method_named}
+use Rattle.api_request.specs.declared.method.Method.{Method}
+use Rattle.api_request.specs.declared.method.Method.TheVariants.{Get, Post, Put, Patch, Delete}
 use Rattle.requests.specs.Asks.{CallDecision, Asks}
 use Rattle.requests.specs.Bodies.{body_in, checked_media, declared_body, deletes, max_body, may_have_body, needed_length, needs_body, optional_length, path_of, query_of, writes_by_body}
 use Rattle.requests.specs.Decision.{Decision, accepted, and_then, decided_by}

@@ -1,7 +1,7 @@
 -- What an event makes of a connection that doesn't watch: it waits, or has its reply and has ended.
 use Rattle.std.proofs.Common.{◌≡◌, ℕ, Bool, true, false, cond, List, ◌++◌, Option, Some, None, ap, subst, ◌∙◌}
 use Rattle.std.specs.FinMap as fin
-use Rattle.verbs.specs.Calls.{Answer, Call, Denied}
+use Rattle.api_request.specs.Calls.{Answer, Call, Denied}
 use Rattle.verbs.specs.Step.{planned}
 use Rattle.watchline.specs.Opening.{WatchFrom}
 use Rattle.requests.specs.Asks.{Asks, CallDecision}

@@ -2,7 +2,7 @@
 use Rattle.std.proofs.Common.{◌≡◌, ℕ, ◌≤◌, ◌<◌, Bool, true, false, true≢false, List, [], Option, None, Some, Result, Ok, Err, IsUtf8, sym, ap, subst, ◌∙◌, arith}
 use Rattle.std.proofs.lemmas.Bool.{le-ltb, lt-ltb, ne_eqb}
 use Rattle.std.specs.Prelude.{if◌then◌else◌, nat_lt, slice_get}
-use Rattle.schema.specs.TypesFile.{ServedShape}
+use Rattle.api_types.specs.TypesFile.{ServedShape}
 use Rattle.names.specs.Names.{is_dns_label, is_dns_subdomain}
 use Rattle.history.specs.History.{History, IsHistory, Key, Object, Objects, state_at}
 use Rattle.history.proofs.Wholes.{whole_is}
@@ -21,13 +21,13 @@ use Rattle.watchline.specs.declared.opening.Initial.TheVariants.{Changes}
 use Rattle.watchline.specs.Opening.{from_parts, initial_in, opened_by, starts}
 use Rattle.watchline.specs.Watches.{from_history}
 use Rattle.line_laws.specs.Listed.{AreKept, IsKept, IsReadAsPage, IsWanted}
-use Rattle.verbs.specs.declared.method.Method.TheVariants.{Get}
-use Rattle.verbs.specs.Calls.{Call, Plan, of_all, of_namespace, scope_of}
+use Rattle.api_request.specs.declared.method.Method.TheVariants.{Get}
+use Rattle.api_request.specs.Calls.{Call, Plan, of_all, of_namespace, scope_of}
 use Rattle.verbs.specs.Machine.{IsMachine, IsSomeTextAt, identity_of}
-use Rattle.verbs.specs.Parameters.{parameters_validated}
+use Rattle.api_validation.specs.Parameters.{parameters_validated}
 use Rattle.verbs.specs.Promise.{TextsSayStates}
 use Rattle.verbs.specs.Step.{collection_of, list_answered, list_refusal, list_validated, page_shown, plan_for, planned, refused, shown_by, validated_at, validated_by, validated_over, watch_shown}
-use Rattle.verbs.specs.Validated.{Validated, and_then}
+use Rattle.api_request.specs.Validated.{Validated, and_then}
 use Rattle.wire_laws.specs.Listings.{IsListing, IsWatching, listed_by, page_plan, watch_after, watch_plan}
 
 -- ---- what is kept

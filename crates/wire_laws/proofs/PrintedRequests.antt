@@ -10,7 +10,7 @@ use Rattle.std.specs.List.{All, flat_map, starts_with}
 use Rattle.std.specs.declared.result.Result.{Result}
 use Rattle.std.specs.declared.result.Result.TheVariants.{Ok, Err}
 use Rattle.serde_json.specs.Data.{Data}
-use Rattle.verbs.specs.Calls.{Denied}
+use Rattle.api_request.specs.Calls.{Denied}
 use Rattle.httparse.specs.Grammar as grammar
 use Rattle.httparse.specs.Grammar.{AllPass, is_token_byte, is_value_byte, Field, IsField, print_section, RequestHead, IsRequestHead, print_request, trim_ows}
 use Rattle.wire.specs.Heads.{crlf, head_end, max_head}

@@ -4,7 +4,7 @@ use Rattle.std.specs.Prelude.{IfSome, ◌==◌, decimal, nat_lt, slice_get}
 use Rattle.std.specs.List.{AllByRecursion, list_any}
 use Rattle.std.proofs.lemmas.List.Elements.{All-cons, All-nil}
 use Rattle.serde_json.specs.Written.{compact_text}
-use Rattle.schema.specs.TypesFile.{ServedShape}
+use Rattle.api_types.specs.TypesFile.{ServedShape}
 use Rattle.history.specs.History.{Change, History, Key, Object, object_by}
 use Rattle.history.specs.Seen.{SeenChange, SeenKind}
 use Rattle.objects.specs.State.{State}
@@ -19,7 +19,7 @@ use Rattle.line_laws.proofs.Renumbered.{has_room}
 use Rattle.line_laws.proofs.Said.{bookmark_fits, expired_fits, shown_text}
 use Rattle.line_laws.proofs.Told.{marked_line as with_mark, unmarked}
 use Rattle.line_laws.proofs.SeenBodies.{AllSeen, Leaves, Stays, all_coming, all_taken}
-use Rattle.verbs.specs.Envelope.{api_version_of}
+use Rattle.api_validation.specs.Envelope.{api_version_of}
 use Rattle.verbs.specs.Machine.{AreUnicode, IsMachine, IsOfTypes, IsSomeTextAt, identity_of}
 use Rattle.verbs.specs.Watching.{bookmarked_as}
 use Rattle.httpedge.specs.Watches.{Watch, line_list, marked, pumped, ticked, turned}

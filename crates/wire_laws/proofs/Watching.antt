@@ -2,7 +2,7 @@
 use Rattle.std.proofs.Common.{◌≡◌, ℕ, Bool, false, cond, List, ◌++◌, Option, Some, None, ap, ap₂, ◌∙◌}
 use Rattle.std.specs.Prelude.{◌==◌, is_some, nat_lt, option_map}
 use Rattle.std.specs.FinMap as fin
-use Rattle.verbs.specs.Calls.{Answer, Call}
+use Rattle.api_request.specs.Calls.{Answer, Call}
 use Rattle.verbs.specs.Step.{planned}
 use Rattle.watchline.specs.Opening.{WatchFrom}
 use Rattle.requests.specs.Asks.{Asks}

@@ -14,15 +14,15 @@ use Rattle.objects.specs.declared.manager.Subresource.TheVariants as subresource
 use Rattle.objects.specs.Owners.{apply_operation}
 use Rattle.ownership.specs.Sides.{own_part}
 use Rattle.ownership.specs.Sameness.{same_state}
-use Rattle.schema.specs.TypesFile.{ServedShape}
-use Rattle.verbs.specs.declared.method.Method.{Method}
-use Rattle.verbs.specs.declared.method.Method.TheVariants as method
-use Rattle.verbs.specs.declared.reason.Reason.{Reason}
-use Rattle.verbs.specs.declared.reason.Reason.TheVariants as reason
-use Rattle.verbs.specs.declared.resource.Resource.{Resource}
-use Rattle.verbs.specs.declared.resource.Resource.TheVariants as resource
-use Rattle.verbs.specs.Admit.{Place, admitted, allowed, not_admitted, method_admitted, method_named, method_served, place_admitted, place_of, accepts_media, target_at}
-use Rattle.verbs.specs.Calls.{Answer, Call, Denied, Plan, Scope, Target, of_all, of_namespace, of_object, scope_of}
+use Rattle.api_types.specs.TypesFile.{ServedShape}
+use Rattle.api_request.specs.declared.method.Method.{Method}
+use Rattle.api_request.specs.declared.method.Method.TheVariants as method
+use Rattle.api_request.specs.declared.reason.Reason.{Reason}
+use Rattle.api_request.specs.declared.reason.Reason.TheVariants as reason
+use Rattle.api_request.specs.declared.resource.Resource.{Resource}
+use Rattle.api_request.specs.declared.resource.Resource.TheVariants as resource
+use Rattle.api_request.specs.Admit.{Place, admitted, allowed, not_admitted, method_admitted, method_named, method_served, place_admitted, place_of, accepts_media, target_at}
+use Rattle.api_request.specs.Calls.{Answer, Call, Denied, Plan, Scope, Target, of_all, of_namespace, of_object, scope_of}
 use Rattle.lists.specs.declared.refusal.Refusal.{Refusal as ListRefusal}
 use Rattle.lists.specs.Body.{Collection}
 use Rattle.lists.specs.Lists.{list_of}
@@ -30,17 +30,17 @@ use Rattle.params.specs.Values.{Values, Watch}
 use Rattle.watchline.specs.Opening.{WatchFrom, started}
 use Rattle.watchline.specs.Watches.{Source, from_history}
 use Rattle.params.specs.declared.params.Asked.TheVariants as asked
-use Rattle.verbs.specs.Envelope.{api_version_of}
-use Rattle.verbs.specs.Validated as validated
-use Rattle.verbs.specs.Validated.{Validated}
+use Rattle.api_validation.specs.Envelope.{api_version_of}
+use Rattle.api_request.specs.Validated as validated
+use Rattle.api_request.specs.Validated.{Validated}
 use Rattle.history.specs.History.{History, Key, Object}
 use Rattle.verbs.specs.Machine.{no_state, state_of_live, state_said}
-use Rattle.verbs.specs.Naming.{marks_validated_by, names_validated}
-use Rattle.verbs.specs.Options.{options_validated}
-use Rattle.verbs.specs.Parameters.{parameters_validated}
-use Rattle.verbs.specs.Reasons.{code_of}
-use Rattle.verbs.specs.Status.{CallRefusal, status_value}
-use Rattle.verbs.specs.Size.{size_validated}
+use Rattle.api_validation.specs.Naming.{marks_validated_by, names_validated}
+use Rattle.api_validation.specs.Options.{options_validated}
+use Rattle.api_validation.specs.Parameters.{parameters_validated}
+use Rattle.api_request.specs.Reasons.{code_of}
+use Rattle.api_request.specs.Status.{CallRefusal, status_value}
+use Rattle.api_validation.specs.Size.{size_validated}
 use Rattle.verbs.specs.Step as step
 use Rattle.requests.specs.Asks.{CallDecision, Asks, call_in, call_with}
 use Rattle.wire.specs.Heads.{head_end, max_head}

@@ -1,15 +1,15 @@
 -- A call that lists (Kubernetes API Concepts, "Retrieving large results sets in chunks"), one that watches, and their plans.
 use Rattle.std.specs.Prelude.{◌≡◌, ℕ, List, [], None, Some, slice_get}
 use Rattle.std.specs.declared.result.Result.TheVariants.{Ok}
-use Rattle.schema.specs.TypesFile.{ServedShape}
+use Rattle.api_types.specs.TypesFile.{ServedShape}
 use Rattle.params.specs.Values.{Values, Watch}
 use Rattle.params.specs.declared.params.Asked.TheVariants as asked
 use Rattle.lists.specs.Body.{Collection}
-use Rattle.verbs.specs.declared.method.Method.TheVariants.{Get}
+use Rattle.api_request.specs.declared.method.Method.TheVariants.{Get}
 use Rattle.watchline.specs.Opening.{WatchFrom, from_parts}
 use Rattle.watchline.specs.declared.opening.Initial.TheVariants.{Changes}
-use Rattle.verbs.specs.Calls.{Call, Plan}
-use Rattle.verbs.specs.Parameters.{parameters_validated}
+use Rattle.api_request.specs.Calls.{Call, Plan}
+use Rattle.api_validation.specs.Parameters.{parameters_validated}
 use Rattle.verbs.specs.Step.{collection_of}
 
 -- a GET of a served type, in a namespace or in all, without a name; its query says these values, and no watch

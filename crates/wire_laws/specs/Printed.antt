@@ -2,9 +2,9 @@
 use Rattle.std.specs.Prelude.{◌≡◌, ℕ, ◌+◌, ◌<◌, ◌≤◌, ◌^◌, Bool, true, false, ◌==◌, List, ◌∷◌, length, Option, None, Some, codes, nat_eq, IsUtf8}
 use Rattle.std.specs.List.{starts_with}
 use Rattle.httparse.specs.Grammar.{AllPass, IsToken, is_uri_byte, is_value_byte, trim_ows}
-use Rattle.schema.specs.TypesFile.{ServedShape}
+use Rattle.api_types.specs.TypesFile.{ServedShape}
 use Rattle.wire.specs.Heads.{max_head}
-use Rattle.verbs.specs.Admit.{admitted}
+use Rattle.api_request.specs.Admit.{admitted}
 use Rattle.requests.specs.Asks.{CallDecision}
 use Rattle.requests.specs.Bodies.{json_in, some_json}
 use Rattle.requests.specs.Decision.{accepted, and_then, decided_by}

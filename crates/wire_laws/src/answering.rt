@@ -2,7 +2,7 @@
 
 ghost use Rattle.std.specs.Prelude.{◌≡◌, ◌++◌, ℕ, List, None, Some, true, false};
 ghost use Rattle.std.specs.FinMap as fin;
-ghost use Rattle.verbs.specs.Calls.{Call, Denied};
+ghost use Rattle.api_request.specs.Calls.{Call, Denied};
 ghost use Rattle.verbs.specs.Step.{planned};
 ghost use Rattle.requests.specs.Asks.{Asks};
 ghost use Rattle.requests.specs.Decision.{accepted, refused, undecided};

@@ -5,7 +5,7 @@ ghost use Rattle.std.specs.List.{All, list_any};
 ghost use Rattle.form_urlencoded.specs.Form.{extend_pairs};
 ghost use Rattle.lists.specs.Tokens.{IsTextPair};
 ghost use Rattle.params.specs.Query.{pairs_in};
-ghost use Rattle.schema.specs.TypesFile.{ServedShape};
+ghost use Rattle.api_types.specs.TypesFile.{ServedShape};
 ghost use Rattle.requests.specs.Asks.{Asks};
 ghost use Rattle.requests.specs.Bodies.{body_in, max_body, needs_body, path_of, query_of, some_json, json_in};
 ghost use Rattle.requests.specs.Heads.{ReadsHead};

@@ -1,7 +1,7 @@
 //! The plans of calls that list and that watch. What a client reads in a page stands in `replies`.
 
 ghost use Rattle.std.specs.Prelude.{◌≡◌, ◌≤◌, ◌<◌, ℕ, List, Ok, Err};
-ghost use Rattle.schema.specs.TypesFile.{ServedShape};
+ghost use Rattle.api_types.specs.TypesFile.{ServedShape};
 ghost use Rattle.history.specs.History.{History, state_at};
 ghost use Rattle.params.specs.Values.{Values, Watch};
 ghost use Rattle.lists.specs.Body.{list_text};
@@ -9,7 +9,7 @@ ghost use Rattle.lists.specs.Lists.{page_of};
 ghost use Rattle.lists.specs.Revision.{revision_of};
 ghost use Rattle.lists.specs.declared.refusal.Refusal.{Refusal};
 ghost use Rattle.lists.specs.declared.refusal.Refusal.TheVariants.{Expired};
-ghost use Rattle.verbs.specs.Calls.{Call};
+ghost use Rattle.api_request.specs.Calls.{Call};
 ghost use Rattle.verbs.specs.Step.{list_refusal, planned, refused};
 ghost use Rattle.wire_laws.specs.Listings.{IsListing, IsWatching, listed_by, page_plan, watch_after, watch_plan};
 

@@ -3,10 +3,10 @@
 
 ghost use Rattle.std.specs.Prelude.{◌≡◌, ◌<◌, ◌^◌, ℕ, IsUtf8, List, None, length};
 ghost use Rattle.std.specs.List.{AllByRecursion};
-ghost use Rattle.schema.specs.TypesFile.{ServedShape};
+ghost use Rattle.api_types.specs.TypesFile.{ServedShape};
 ghost use Rattle.history.specs.History.{History};
 ghost use Rattle.watchline.specs.Watches.{Cursor, coming, from_history};
-ghost use Rattle.verbs.specs.Calls.{Call};
+ghost use Rattle.api_request.specs.Calls.{Call};
 ghost use Rattle.verbs.specs.Machine.{AreUnicode, IsMachine};
 ghost use Rattle.verbs.specs.Step.{planned};
 ghost use Rattle.requests.specs.Replies.{answer_bytes};

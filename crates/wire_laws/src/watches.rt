@@ -4,7 +4,7 @@ ghost use Rattle.std.specs.Prelude.{◌+◌, ◌<◌, length, ◌≡◌, ◌++�
 ghost use Rattle.std.specs.FinMap as fin;
 ghost use Rattle.std.specs.List.{All, flat_map};
 ghost use Rattle.http.specs.StatusCode.{IsStatusCode};
-ghost use Rattle.verbs.specs.Calls.{Call};
+ghost use Rattle.api_request.specs.Calls.{Call};
 ghost use Rattle.verbs.specs.Step.{planned};
 ghost use Rattle.watchline.specs.Lines.{line};
 ghost use Rattle.watchline.specs.Opening.{WatchFrom};

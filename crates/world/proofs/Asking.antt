@@ -1,7 +1,7 @@
 -- The settings' fault, as the code finds it.
 use Rattle.std.proofs.Common.{◌≡◌, ◌∙◌, ℕ, Bool, true, false, cond, List, Option, Some, None, ap, refl, sym}
 use Rattle.std.specs.Prelude.{is_ok, is_some, slice_get}
-use Rattle.schema.specs.TypesFile.{ServedShape}
+use Rattle.api_types.specs.TypesFile.{ServedShape}
 use Rattle.selector.specs.Grammar.{parse_selector}
 use Rattle.indexer.specs.Names.{are_distinct}
 use Rattle.reflector.specs.Faults.{is_namespace_or_all, is_page}

@@ -9,7 +9,7 @@ use Rattle.std.proofs.lemmas.List.{map-append, map_more}
 use Rattle.std.specs.Ordering.{eq_by_cmp, nat_cmp}
 use Rattle.std.specs.declared.cmp.Ordering.TheVariants.{Greater}
 use Rattle.std.proofs.lemmas.Bool.{and_parts, ltb-true}
-use Rattle.schema.specs.TypesFile.{ServedShape}
+use Rattle.api_types.specs.TypesFile.{ServedShape}
 use Rattle.history.specs.History.{History}
 use Rattle.verbs.specs.Retyping.{retyping}
 use Rattle.requests.specs.Asks.{CallDecision}

@@ -3,7 +3,7 @@ use Rattle.std.specs.Prelude.{◌≡◌, ℕ, List, drop, option_map, String, Ve
 use Rattle.std.specs.declared.alloc.Global.{Global}
 use Rattle.indexer.specs.Objects.{Place}
 use Rattle.httpedge.specs.HubSeen.{event_of}
-use Rattle.schema.specs.TypesFile.{ServedShape}
+use Rattle.api_types.specs.TypesFile.{ServedShape}
 use Rattle.decoder.specs.declared.wanted.Source as sources
 use Rattle.world_laws.specs.Tasks.{RunSettings}
 use Rattle.world_laws.specs.World.{ClientConnection, WorldEvent, other, request, send, to_server, to_client, cut, restart, reconcile}

@@ -7,7 +7,7 @@ use Rattle.reflector.specs.Mirrors.{keyed}
 use Rattle.reflector.specs.Standing.{keys_in}
 use Rattle.summary.specs.Counts.{counts_of}
 use Rattle.summary.specs.Summary.{counts_in}
-use Rattle.schema.specs.TypesFile.{ServedShape}
+use Rattle.api_types.specs.TypesFile.{ServedShape}
 use Rattle.world_laws.specs.Reports.{AreRight, Report, Runs}
 use Rattle.world_laws.specs.Tasks.{IsTask, RunSettings, Task}
 use Rattle.world_laws.specs.World.{World, WorldEvent, replies, start}

@@ -2,7 +2,7 @@
 
 ghost use Rattle.std.specs.Prelude.{◌≡◌, ◌≢◌, ◌++◌, ℕ, List, false, Err, IfOk, OnOk, map, string_bytes};
 ghost use Rattle.std.specs.Option.{option_to_list};
-ghost use Rattle.schema.specs.Served.{types_view};
+ghost use Rattle.api_types.specs.Served.{types_view};
 ghost use Rattle.reflector.specs.Client.{Objects, kept};
 ghost use Rattle.reflector.specs.Informer.{indexes_in, names_in};
 ghost use Rattle.world_laws.specs.Reports as reported;
@@ -20,8 +20,8 @@ use crate::reporting::report;
 use crate::settings::Settings;
 use crate::trace::{Report, Trace};
 use crate::world::World;
+use api_types::Types;
 use indexer::IndexBy;
-use schema::Types;
 use std::alloc::Global;
 
 /// Keeps a report, if there is one.

@@ -2,7 +2,7 @@
 //! `world`.
 
 ghost use Rattle.std.specs.Prelude.{◌≡◌, ◌≢◌, ◌++◌, Err, IfOk, OnOk, map, option_map};
-ghost use Rattle.schema.specs.Served.{types_view};
+ghost use Rattle.api_types.specs.Served.{types_view};
 ghost use Rattle.history.specs.History.{fresh};
 ghost use Rattle.httpedge.specs.Connections.{ended_on, next_id, written_on};
 ghost use Rattle.httpedge.specs.HubSeen.{event_of};
@@ -14,9 +14,9 @@ ghost use Rattle.world.specs.Serving.{Left, Serves, all_written, is_over_in, ope
 
 use crate::connection::ClientConnection;
 use crate::fault::RunFault;
+use api_types::Types;
 use httpedge::Event;
 use recorder::{Recorder, RecorderFault};
-use schema::Types;
 use std::alloc::{AllocError, Global};
 use verbs::Api;
 

@@ -1,8 +1,8 @@
 //! What a run is asked for, and the client that does it. The run itself stands in `world`.
 
 ghost use Rattle.std.specs.Prelude.{◌≡◌, is_ok, is_some, [], IfOk, map, option_map, slice_get, string_bytes, None, Some};
-ghost use Rattle.schema.specs.Served.{types_view};
-ghost use Rattle.schema.specs.TypesFile.{ServedShape};
+ghost use Rattle.api_types.specs.Served.{types_view};
+ghost use Rattle.api_types.specs.TypesFile.{ServedShape};
 ghost use Rattle.selector.specs.Grammar.{parse_selector};
 ghost use Rattle.indexer.specs.Indexer.{indexes_of, names_of};
 ghost use Rattle.indexer.specs.Names.{are_distinct};
@@ -15,9 +15,9 @@ ghost use Rattle.world.specs.Seen.{IsSourceOf, settings_seen};
 ghost use Rattle.world.specs.Standing.{setup_in};
 
 use crate::fault::WorldFault;
+use api_types::Types;
 use indexer::{IndexBy, Indexer, IndexerFault};
 use reflector::{Informer, SettingsFault, Source};
-use schema::Types;
 use selector::{ReadError, Selector};
 use std::alloc::{AllocError, Global};
 

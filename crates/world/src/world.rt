@@ -15,10 +15,10 @@ use crate::fault::{RunFault, WorldFault};
 use crate::link::Link;
 use crate::server::Server;
 use crate::settings::{Settings, client_of};
+use api_types::Types;
 use httpedge::Event;
 use indexer::IndexBy;
 use reflector::Informer;
-use schema::Types;
 use std::alloc::Global;
 use summary::Summary;
 
@@ -50,7 +50,7 @@ fn close_if_over<I: IndexBy>(server: &Server, client: &mut Informer<I>, id: u64,
 
 impl<I: IndexBy> World<I> {
     ghost use Rattle.std.specs.Prelude.{◌≡◌, ◌≢◌, false, map, Err, IfOk, OnOk};
-    ghost use Rattle.schema.specs.Served.{types_view};
+    ghost use Rattle.api_types.specs.Served.{types_view};
     ghost use Rattle.std.specs.FinMap as fin;
     ghost use Rattle.httpedge.specs.HubSeen.{event_of};
     ghost use Rattle.reflector.specs.Client.{Objects, kept};

@@ -2,11 +2,11 @@
 use Rattle.std.proofs.Common.{◌≡◌, ◌⊎◌, inl, inr, ℕ, ◌≤◌, false, List, [], ◌∷◌, ◌++◌, Option, Some, None, refl, sym, ap, subst, ◌∙◌, arith, true≢false, append-nil}
 use Rattle.std.proofs.lemmas.List.Elements.{All-nil}
 use Rattle.std.specs.Prelude.{option_map}
-use Rattle.schema.specs.TypesFile.{ServedShape}
+use Rattle.api_types.specs.TypesFile.{ServedShape}
 use Rattle.history.specs.History.{History, last_revision}
-use Rattle.verbs.specs.Calls.{Answer, Call}
+use Rattle.api_request.specs.Calls.{Answer, Call}
 use Rattle.verbs.specs.Machine.{AreUnicode, IsMachine}
-use Rattle.verbs.specs.Reasons.{code_of}
+use Rattle.api_request.specs.Reasons.{code_of}
 use Rattle.verbs.specs.Step.{planned}
 use Rattle.watchline.specs.Opening.{WatchFrom}
 use Rattle.requests.proofs.Deciding.{asks_one}

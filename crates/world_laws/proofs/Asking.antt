@@ -6,17 +6,17 @@ use Rattle.std.specs.Prelude.{nat_le}
 use Rattle.std.specs.declared.result.Result.TheVariants.{Ok}
 use Rattle.form_urlencoded.specs.Form.{extend_pairs}
 use Rattle.httparse.specs.Grammar.{IsToken, is_token_byte}
-use Rattle.schema.specs.TypesFile.{ServedShape}
+use Rattle.api_types.specs.TypesFile.{ServedShape}
 use Rattle.history.specs.History.{History, Key, last_revision}
 use Rattle.params.specs.Query.{Pairs}
 use Rattle.lists.specs.Body.{continued_at}
 use Rattle.lists.specs.Tokens.{next_pairs}
 use Rattle.lists.proofs.Tokens.{query_is_read}
-use Rattle.verbs.specs.declared.method.Method.TheVariants.{Get}
-use Rattle.verbs.specs.Admit.{Place, admitted, place_admitted}
-use Rattle.verbs.specs.Calls.{Call, Target}
+use Rattle.api_request.specs.declared.method.Method.TheVariants.{Get}
+use Rattle.api_request.specs.Admit.{Place, admitted, place_admitted}
+use Rattle.api_request.specs.Calls.{Call, Target}
 use Rattle.verbs.specs.Machine.{AreUnicode, IsMachine}
-use Rattle.verbs.specs.Parameters.{read_or_refused}
+use Rattle.api_validation.specs.Parameters.{read_or_refused}
 use Rattle.wire.specs.Heads.{max_head}
 use Rattle.wire.proofs.Lines.{passes_each}
 use Rattle.indexer.specs.Objects.{Stored}

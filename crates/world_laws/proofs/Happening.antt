@@ -4,7 +4,7 @@ use Rattle.std.specs.FinMap as fin
 use Rattle.std.specs.Prelude.{nat_le, if◌then◌else◌}
 use Rattle.history.specs.History.{History}
 use Rattle.verbs.specs.Machine.{AreUnicode}
-use Rattle.verbs.specs.Reasons.{code_of}
+use Rattle.api_request.specs.Reasons.{code_of}
 use Rattle.requests.specs.Refusals.{as_denied, too_many_connections}
 use Rattle.requests.specs.Replies.{refusal_reply}
 use Rattle.httpedge.proofs.NextIds.{next_is_new}

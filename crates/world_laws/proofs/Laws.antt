@@ -1,11 +1,11 @@
 -- What the crates below say of the hub and of bytes that are read, as the proofs here use it.
 use Rattle.std.specs.Prelude.{◌≡◌, ℕ, ◌≤◌, Bool, true, List, ◌∷◌, ◌++◌, map}
 use Rattle.std.specs.List.{All}
-use Rattle.schema.specs.TypesFile.{ServedShape}
+use Rattle.api_types.specs.TypesFile.{ServedShape}
 use Rattle.history.specs.History.{up_to}
-use Rattle.verbs.specs.Calls.{Denied}
+use Rattle.api_request.specs.Calls.{Denied}
 use Rattle.verbs.specs.Machine.{IsMachine}
-use Rattle.verbs.specs.Reasons.{code_of}
+use Rattle.api_request.specs.Reasons.{code_of}
 use Rattle.requests.specs.Asks.{Asks}
 use Rattle.requests.specs.Decision.{refused}
 use Rattle.requests.specs.Refusals.{as_denied, too_many_connections}

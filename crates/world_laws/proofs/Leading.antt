@@ -4,7 +4,7 @@ use Rattle.std.specs.Prelude.{◌==◌, nat_lt}
 use Rattle.std.proofs.lemmas.Bool.{and_parts}
 use Rattle.std.specs.FinMap as fin
 use Rattle.std.specs.List.{AllByRecursion}
-use Rattle.schema.specs.TypesFile.{ServedShape}
+use Rattle.api_types.specs.TypesFile.{ServedShape}
 use Rattle.history.specs.History.{History, IsHistory, Key, Object, last_revision}
 use Rattle.history.specs.Page.{is_in_namespace}
 use Rattle.history.specs.Seen.{Added, Deleted, IsNextSeen, Modified, SeenChange, SeenKind, by_kind, reached, seen_changes}

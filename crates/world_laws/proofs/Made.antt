@@ -5,9 +5,9 @@ use Rattle.std.specs.List.{All}
 use Rattle.std.proofs.lemmas.List.Elements.{All-head, All-tail}
 use Rattle.std.specs.declared.result.Result.{Result}
 use Rattle.std.specs.declared.result.Result.TheVariants.{Ok, Err}
-use Rattle.schema.proofs.Numbering.{number_found}
-use Rattle.schema.specs.Named.{has_names}
-use Rattle.schema.specs.TypesFile.{ServedShape, names_differ}
+use Rattle.api_types.proofs.Numbering.{number_found}
+use Rattle.api_types.specs.Named.{has_names}
+use Rattle.api_types.specs.TypesFile.{ServedShape, names_differ}
 use Rattle.selector.specs.Grammar.{parse_selector}
 use Rattle.selector.specs.Requirement.{Requirement}
 use Rattle.selector.specs.declared.fault.Fault.{Fault}

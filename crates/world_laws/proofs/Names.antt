@@ -12,7 +12,7 @@ use Rattle.std.specs.Char.{is_ascii_alphanumeric}
 use Rattle.std.specs.List.{join_with_byte, list_all, slice_split}
 use Rattle.std.specs.Str.{IsUtf8}
 use Rattle.names.specs.Names.{has_alphanumeric_ends, is_dns_byte, is_dns_label, is_dns_part, is_dns_subdomain}
-use Rattle.schema.specs.Names.{is_kind_name}
+use Rattle.api_types.specs.Names.{is_kind_name}
 
 -- bytes below 128
 utf8_by : (p : ℕ → Bool) → ((b : ℕ) → p b ≡ true → b < 128) → (text : List ℕ) → list_all p text ≡ true → IsUtf8 text

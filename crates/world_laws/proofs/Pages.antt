@@ -5,7 +5,7 @@ use Rattle.std.specs.Prelude.{nat_le, nat_lt}
 use Rattle.std.specs.Ordering.{is_lt}
 use Rattle.std.specs.FinMap as fin
 use Rattle.std.specs.List.{AllByRecursion, last_or}
-use Rattle.schema.specs.TypesFile.{ServedShape}
+use Rattle.api_types.specs.TypesFile.{ServedShape}
 use Rattle.history.specs.History.{History, IsHistory, Key, Object, key_cmp, last_revision, state_at}
 use Rattle.history.specs.Seen.{IsFront, IsLimit, SeenPage, last_key, left_after, limited, past, seen_page}
 use Rattle.history.proofs.Leading as leading
@@ -34,8 +34,8 @@ use Rattle.reflector.specs.Items.{begun, page_or_unfit, unfit}
 use Rattle.line_laws.specs.Listed.{AreReadAs, IsReadAsPage, page_with}
 use Rattle.line_laws.proofs.Kept.{standing_read}
 use Rattle.line_laws.proofs.SeenBodies.{all_taken}
-use Rattle.verbs.specs.Calls.{Call}
-use Rattle.verbs.specs.Calls as calls
+use Rattle.api_request.specs.Calls.{Call}
+use Rattle.api_request.specs.Calls as calls
 use Rattle.verbs.specs.Machine.{AreUnicode, IsMachine, IsNamed}
 use Rattle.verbs.specs.Step.{collection_of, list_refusal, planned, refused}
 use Rattle.requests.specs.Replies.{answer_reply}

@@ -1,14 +1,14 @@
 -- What the joined run asks of its parts: the calls that the client's requests ask, what answers them, and the turns of the client's watch.
 use Rattle.std.specs.Prelude.{◌≡◌, ◌⊎◌, ℕ, ◌≤◌, true, List, ◌∷◌, ◌++◌, map, codes, Option, Some, None, ⊤}
 use Rattle.std.specs.List.{All}
-use Rattle.schema.specs.TypesFile.{ServedShape}
+use Rattle.api_types.specs.TypesFile.{ServedShape}
 use Rattle.history.specs.History.{History}
 use Rattle.params.specs.Values.{Values, no_values}
 use Rattle.params.specs.Values as params
 use Rattle.watchline.specs.Opening.{WatchFrom}
 use Rattle.watchline.specs.Watches.{none_left}
 use Rattle.watchline.specs.declared.opening.Initial.TheVariants.{Changes}
-use Rattle.verbs.specs.Calls.{Call}
+use Rattle.api_request.specs.Calls.{Call}
 use Rattle.verbs.specs.Step.{planned}
 use Rattle.requests.specs.Asks.{Asks}
 use Rattle.requests.specs.Decision.{accepted}

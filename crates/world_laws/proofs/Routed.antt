@@ -11,13 +11,13 @@ use Rattle.std.specs.Char.{is_ascii}
 use Rattle.std.specs.List.{AllByRecursion, join_with_byte, list_all, list_any, slice_split}
 use Rattle.matchit.specs.Seek.{has_slash}
 use Rattle.names.specs.Names.{is_dns_byte, is_dns_label, is_dns_part, is_dns_subdomain}
-use Rattle.schema.specs.Names.{is_kind_name, is_plural}
-use Rattle.schema.specs.TypesFile.{ServedShape, type_number}
-use Rattle.verbs.specs.declared.resource.Resource.{Resource}
-use Rattle.verbs.specs.declared.resource.Resource.TheVariants.{AllNamespaces, Collection}
-use Rattle.verbs.specs.Admit.{place_of}
-use Rattle.verbs.specs.Routes.{IsPart, path_of, place_for}
-use Rattle.verbs.proofs.Leading.{paths_of_all, paths_of_collections}
+use Rattle.api_types.specs.Names.{is_kind_name, is_plural}
+use Rattle.api_types.specs.TypesFile.{ServedShape, type_number}
+use Rattle.api_request.specs.declared.resource.Resource.{Resource}
+use Rattle.api_request.specs.declared.resource.Resource.TheVariants.{AllNamespaces, Collection}
+use Rattle.api_request.specs.Admit.{place_of}
+use Rattle.api_request.specs.Routes.{IsPart, path_of, place_for}
+use Rattle.api_request.proofs.Leading.{paths_of_all, paths_of_collections}
 use Rattle.reflector.specs.Faults.{is_namespace_or_all}
 use Rattle.reflector.specs.Requests as requests
 use Rattle.wire_laws.specs.Printed.{is_question}

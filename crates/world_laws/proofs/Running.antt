@@ -1,7 +1,7 @@
 -- Over a run each report is right, and what is kept is.
 use Rattle.std.proofs.Common.{◌≡◌, ℕ, suc, ◌≤◌, Bool, true, false, List, [], ◌∷◌, ◌++◌, Option, Some, None, sym, subst, arith}
 use Rattle.std.specs.Prelude.{nat_lt, if◌then◌else◌}
-use Rattle.schema.specs.TypesFile.{ServedShape}
+use Rattle.api_types.specs.TypesFile.{ServedShape}
 use Rattle.verbs.proofs.Machines.{machines_begin}
 use Rattle.history.specs.History.{History, fresh}
 use Rattle.verbs.specs.Machine.{AreObjectTypes, AreUnicode, IsMachine}

@@ -3,7 +3,7 @@ use Rattle.std.proofs.Common.{◌≡◌, ℕ, Bool, true, false, cond, List, [],
 use Rattle.std.specs.Prelude.{IfSome, nat_le, nat_lt}
 use Rattle.std.specs.FinMap as fin
 use Rattle.std.specs.List.{AllByRecursion}
-use Rattle.schema.specs.TypesFile.{ServedShape}
+use Rattle.api_types.specs.TypesFile.{ServedShape}
 use Rattle.history.specs.History.{Change, History, Key, Object, Objects, changed, is_same_key, key_cmp, later, left_by, object_by, put_or_remove, state_at, up_to}
 use Rattle.history.specs.Seen.{Added, Deleted, Modified, SeenChange, SeenKind, Selection, if_wanted, seen_among, seen_by, seen_changes, seen_of}
 use Rattle.history.proofs.Keys.{get-put_or_remove, tied}

@@ -3,7 +3,7 @@ use Rattle.std.proofs.Common.{◌≡◌, ℕ, suc, Bool, List, [], ◌∷◌, ma
 use Rattle.std.proofs.lemmas.Option.{slice_get-map}
 use Rattle.std.specs.Prelude.{if◌then◌else◌, option_map, slice_get, unwrap_or}
 use Rattle.schema.specs.Shape.{Shape}
-use Rattle.schema.specs.TypesFile.{ServedShape, is_named, number_from}
+use Rattle.api_types.specs.TypesFile.{ServedShape, is_named, number_from}
 use Rattle.history.specs.History.{History}
 use Rattle.httpedge.specs.Runs.{lasting}
 use Rattle.httpedge.specs.Watches.{Turn, Watch}

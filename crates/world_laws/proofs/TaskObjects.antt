@@ -5,8 +5,8 @@ use Rattle.std.proofs.lemmas.Str.{IsUtf8-append}
 use Rattle.std.specs.FinMap as fin
 use Rattle.std.specs.List.{AllByRecursion}
 use Rattle.names.specs.Names.{is_dns_label, is_dns_subdomain}
-use Rattle.schema.specs.Names.{is_kind_name, is_plural}
-use Rattle.schema.specs.TypesFile.{ServedShape}
+use Rattle.api_types.specs.Names.{is_kind_name, is_plural}
+use Rattle.api_types.specs.TypesFile.{ServedShape}
 use Rattle.history.specs.History.{History, Objects, state_at}
 use Rattle.lists.specs.Body.{Collection}
 use Rattle.line_laws.specs.Listed.{AreKept, IsWanted}

@@ -4,7 +4,7 @@ use Rattle.std.specs.Prelude.{◌&&◌, ◌==◌, decimal, nat_le, nat_lt, slice
 use Rattle.std.specs.FinMap as fin
 use Rattle.std.proofs.lemmas.List.Elements.{All-cons, All-nil}
 use Rattle.serde_json.specs.Written.{compact_text}
-use Rattle.schema.specs.TypesFile.{ServedShape}
+use Rattle.api_types.specs.TypesFile.{ServedShape}
 use Rattle.history.specs.History.{History, IsHistory, Key, Object, last_revision, state_at}
 use Rattle.history.specs.Seen.{SeenChange, Selection, put_all_seen, reached, seen_changes, selected}
 use Rattle.history.proofs.Following.{IsFrontSeen, between, front_seen}
@@ -25,8 +25,8 @@ use Rattle.line_laws.proofs.Feeds.{text_has_none}
 use Rattle.line_laws.proofs.Said.{bookmark_fits, bookmark_read, error_read, expired_fits}
 use Rattle.line_laws.proofs.SeenBodies.{all_taken}
 use Rattle.line_laws.proofs.Told.{left_stays, marked_line, unmarked}
-use Rattle.verbs.specs.Calls.{Answer, Call, Plan}
-use Rattle.verbs.specs.Envelope.{api_version_of}
+use Rattle.api_request.specs.Calls.{Answer, Call, Plan}
+use Rattle.api_validation.specs.Envelope.{api_version_of}
 use Rattle.verbs.specs.Machine.{AreUnicode, IsMachine}
 use Rattle.verbs.specs.Step.{list_refusal, planned, refused}
 use Rattle.verbs.specs.Watching.{bookmarked_as, bookmarked_in}

@@ -1,6 +1,6 @@
 -- Whatever happens, what the client keeps and reports is what the machine had.
 use Rattle.std.specs.Prelude.{List}
-use Rattle.schema.specs.TypesFile.{ServedShape}
+use Rattle.api_types.specs.TypesFile.{ServedShape}
 use Rattle.verbs.specs.Machine.{AreObjectTypes, AreUnicode}
 use Rattle.world_laws.specs.Tasks.{IsTask, Task}
 use Rattle.world_laws.specs.Reports.{AreRight, IsKeptRight, Report, Runs, last_reported}

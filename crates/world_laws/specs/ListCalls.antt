@@ -3,8 +3,8 @@ use Rattle.std.specs.Prelude.{◌≡◌, ℕ, List, Option, Some, None}
 use Rattle.std.specs.List.{last_or}
 use Rattle.indexer.specs.Objects.{Stored}
 use Rattle.params.specs.Values.{Token, Values, no_values}
-use Rattle.schema.specs.TypesFile.{ServedShape}
-use Rattle.verbs.specs.Calls.{Call}
+use Rattle.api_types.specs.TypesFile.{ServedShape}
+use Rattle.api_request.specs.Calls.{Call}
 use Rattle.wire_laws.specs.Listings.{IsListing}
 use Rattle.world_laws.specs.Tasks.{Task}
 

@@ -1,9 +1,9 @@
 -- What a client mirrors and counts (Kubernetes API Concepts, "Resource URIs"; "Labels and Selectors").
 use Rattle.std.specs.Prelude.{◌≡◌, ℕ, Bool, true, if◌then◌else◌, is_ok, is_some, List, Option, Some, None, slice_get}
 use Rattle.std.specs.declared.result.Result.TheVariants.{Ok}
-use Rattle.schema.specs.Named.{has_names}
+use Rattle.api_types.specs.Named.{has_names}
 use Rattle.schema.specs.Shape.{Shape}
-use Rattle.schema.specs.TypesFile.{ServedShape, type_number}
+use Rattle.api_types.specs.TypesFile.{ServedShape, type_number}
 use Rattle.history.specs.History.{History}
 use Rattle.history.specs.History as history
 use Rattle.history.specs.Seen.{Selection, seen_at}

@@ -2,7 +2,7 @@
 -- whose request and reply move in pieces.
 use Rattle.std.specs.Prelude.{◌≡◌, ℕ, ◌+◌, Bool, true, false, ◌&&◌, ◌==◌, nat_le, if◌then◌else◌, List, [], ◌∷◌, ◌++◌, length, map, take, drop, Option, Some, None}
 use Rattle.std.specs.FinMap as fin
-use Rattle.schema.specs.TypesFile.{ServedShape}
+use Rattle.api_types.specs.TypesFile.{ServedShape}
 use Rattle.history.specs.History as history
 use Rattle.httpedge.specs.Connections.{ended_on, next_id, written_on}
 use Rattle.httpedge.specs.Runs as runs

@@ -1,13 +1,13 @@
 //! Law: what a client is answered that asks for a page of its task's list.
 
 ghost use Rattle.std.specs.Prelude.{◌≡◌, ◌≤◌, ℕ, List, None, Some};
-ghost use Rattle.schema.specs.TypesFile.{ServedShape};
+ghost use Rattle.api_types.specs.TypesFile.{ServedShape};
 ghost use Rattle.history.specs.History.{History, Key, state_at};
 ghost use Rattle.history.specs.Seen.{seen_page};
 ghost use Rattle.lists.specs.Lists.{page_limit};
 ghost use Rattle.lists.specs.Tokens.{token_after};
 ghost use Rattle.line_laws.specs.Listed.{IsReadAsPage};
-ghost use Rattle.verbs.specs.Calls.{Call};
+ghost use Rattle.api_request.specs.Calls.{Call};
 ghost use Rattle.verbs.specs.Machine.{AreUnicode, IsMachine};
 ghost use Rattle.verbs.specs.Step.{planned};
 ghost use Rattle.world_laws.specs.ListCalls.{IsListCall};

@@ -1,8 +1,8 @@
 //! What a run is asked for.
 
 use crate::indexes::{ByLabel, ByNamespace};
+use api_types::Types;
 use indexer::IndexBy;
-use schema::Types;
 use serde_json::Value;
 use std::alloc::{AllocError, Global};
 use std::test::Fail;

@@ -1,5 +1,5 @@
 use Rattle.std.proofs.Common.{refl, sym, ap, subst, ◌∙◌}
-use Rattle.verbs.specs.Seen.{call_of, denied_of}
+use Rattle.api_request.specs.Seen.{call_of, denied_of}
 use Rattle.verbs.specs.Step.{planned}
 use Rattle.requests.specs.Replies.{answer_bytes}
 use Rattle.requests.specs.Decision.{refused, accepted}

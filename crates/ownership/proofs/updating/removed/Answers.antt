@@ -6,4 +6,4 @@ use Rattle.ownership.proofs.updating.removed.Goals as goal
 
 pub returns : goal.returns
 unfolding removed
-returns c = subst (λ t. IfOk c.lacking-2.result (λ s. s ≡ t)) (ap (λ s. set.difference s (dom c.args.new.now)) c.in_ok-paths.ensures) c.lacking-2.ensures
+returns c = subst (λ t. IfOk c.lacking-2.result (λ s. s ≡ t)) (ap (λ s. set.difference s (dom c.args.new.now)) c.in_ok-paths_in.ensures) c.lacking-2.ensures

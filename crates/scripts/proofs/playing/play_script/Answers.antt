@@ -1,6 +1,6 @@
 use Rattle.std.proofs.Common.{[], Err, List, ap, map, refl, inl, inr, subst}
 use Rattle.std.proofs.KnownBytes.{Appends-nil}
-use Rattle.schema.specs.Served.{types_view}
+use Rattle.api_types.specs.Served.{types_view}
 use Rattle.world_laws.specs.World.{WorldEvent}
 use Rattle.world.specs.Seen.{event_seen, settings_seen}
 use Rattle.scripts.specs.Asked.{settings_asked}

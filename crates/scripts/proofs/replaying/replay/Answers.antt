@@ -2,8 +2,8 @@ use Rattle.std.proofs.Common.{◌≡◌, ◌∙◌, [], ◌∷◌, List, Err, ap
 use Rattle.std.specs.Prelude.{codes}
 use Rattle.std.proofs.KnownBytes.{Appends-nil}
 use Rattle.std.proofs.lemmas.Result.{on_err_weaker, on_ok_weaker}
-use Rattle.schema.specs.Served.{types_view}
-use Rattle.schema.specs.TypesFile.{ServedShape}
+use Rattle.api_types.specs.Served.{types_view}
+use Rattle.api_types.specs.TypesFile.{ServedShape}
 use Rattle.world_laws.specs.Tasks.{RunSettings, settings_fault}
 use Rattle.world_laws.specs.World.{WorldEvent}
 use Rattle.world.specs.Seen.{event_seen, settings_seen}

@@ -1,6 +1,6 @@
 use Rattle.std.proofs.Common.{◌∙◌, ℕ, ap, sym}
 use Rattle.std.specs.Prelude.{◌==◌}
-use Rattle.streams.proofs.Pieces.{reads_none}
+use Rattle.wire.proofs.Pieces.{reads_none}
 use Rattle.serving.proofs.Hearing.{none_read}
 use Rattle.serving.proofs.conversing.read_some.Goals as goal
 

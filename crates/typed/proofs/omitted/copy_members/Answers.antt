@@ -1,5 +1,5 @@
 use Rattle.std.proofs.Common.{rules, sym, ◌∙◌}
-use Rattle.schema.specs.Keywords.{is_in}
+use Rattle.schema.specs.Among.{is_in}
 use Rattle.serde_json.specs.View.{members_view}
 use Rattle.typed.specs.Without.{kept, omitted_of}
 use Rattle.typed.proofs.LeftOut.{copy_adds, copy_begins, copy_ends, copy_passes}

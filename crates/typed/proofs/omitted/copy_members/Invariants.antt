@@ -1,5 +1,5 @@
 use Rattle.serde_json.specs.View.{members_view}
-use Rattle.schema.specs.Keywords.{is_in}
+use Rattle.schema.specs.Among.{is_in}
 use Rattle.typed.specs.Without.{kept, omitted_of}
 use Rattle.typed.proofs.LeftOut.{AreCopiedSoFar}
 use Rattle.typed.proofs.omitted.copy_members.Given as goal

@@ -1,6 +1,6 @@
 use Rattle.std.proofs.Common.{map}
 use Rattle.serde_json.specs.View.{members_view}
-use Rattle.schema.specs.Keywords.{is_in}
+use Rattle.schema.specs.Among.{is_in}
 use Rattle.typed.proofs.LeftOut.{AreCopiedSoFar}
 use Rattle.typed.proofs.omitted.copy_members_but.Given as goal
 

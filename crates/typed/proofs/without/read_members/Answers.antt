@@ -4,7 +4,7 @@ use Rattle.serde_json.specs.View.{members_view, view}
 use Rattle.std.proofs.lemmas.Result.{err_from_is_err_and}
 use Rattle.pathmap.specs.Contents.{Content}
 use Rattle.pathmap.specs.Maps.{content}
-use Rattle.schema.specs.Keywords.{is_in}
+use Rattle.schema.specs.Among.{is_in}
 use Rattle.schema.specs.Shape.{fields_in}
 use Rattle.typed.specs.Faults.{Read}
 use Rattle.typed.specs.Reading.{content_of_field}

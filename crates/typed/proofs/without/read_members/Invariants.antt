@@ -1,6 +1,6 @@
 use Rattle.serde_json.specs.View.{members_view}
 use Rattle.pathmap.specs.Maps.{content}
-use Rattle.schema.specs.Keywords.{is_in}
+use Rattle.schema.specs.Among.{is_in}
 use Rattle.schema.specs.Shape.{fields_in}
 use Rattle.typed.specs.Reading.{content_of_field}
 use Rattle.typed.specs.Without.{kept, omitted_of}

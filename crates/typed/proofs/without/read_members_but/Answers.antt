@@ -3,7 +3,7 @@ use Rattle.serde_json.specs.Data.{Data}
 use Rattle.serde_json.specs.View.{members_view, view}
 use Rattle.pathmap.specs.Maps.{content}
 use Rattle.pathmap.specs.Contents.{Content}
-use Rattle.schema.specs.Keywords.{is_in}
+use Rattle.schema.specs.Among.{is_in}
 use Rattle.schema.specs.Shape.{fields_in}
 use Rattle.typed.specs.Faults.{Read}
 use Rattle.typed.specs.Reading.{content_of_field}

@@ -1,7 +1,7 @@
 use Rattle.std.proofs.Common.{map}
 use Rattle.serde_json.specs.View.{members_view}
 use Rattle.pathmap.specs.Maps.{content}
-use Rattle.schema.specs.Keywords.{is_in}
+use Rattle.schema.specs.Among.{is_in}
 use Rattle.schema.specs.Shape.{fields_in}
 use Rattle.typed.specs.Reading.{content_of_field}
 use Rattle.typed.proofs.LeftOut.{AreReadSoFar}

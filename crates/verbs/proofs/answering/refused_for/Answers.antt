@@ -1,6 +1,6 @@
-use Rattle.verbs.specs.Calls.{Plan}
-use Rattle.verbs.specs.Validated.{refused_for}
-use Rattle.verbs.proofs.Refusals.{refuses_fails}
+use Rattle.api_request.specs.Calls.{Plan}
+use Rattle.api_request.specs.Validated.{refused_for}
+use Rattle.api_request.proofs.Refusals.{refuses_fails}
 use Rattle.verbs.proofs.answering.refused_for.Goals as goal
 
 pub returns-clause-planned : goal.returns-clause-planned

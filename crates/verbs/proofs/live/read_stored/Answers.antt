@@ -1,5 +1,5 @@
 use Rattle.std.proofs.Common.{Err, ap, subst, sym, ◌∙◌, List, ℕ}
-use Rattle.schema.specs.Served.{served}
+use Rattle.api_types.specs.Served.{served}
 use Rattle.history.specs.Read.{key_of}
 use Rattle.objects.specs.ObjectText.{Identity}
 use Rattle.objects.specs.ReadBack.{IsObjectText, IsReadBack}

@@ -1,5 +1,5 @@
 use Rattle.std.proofs.Common.{sym}
-use Rattle.schema.specs.Served.{types_view}
+use Rattle.api_types.specs.Served.{types_view}
 use Rattle.verbs.proofs.Recalling.{right_of}
 use Rattle.verbs.proofs.plans.planned_over.Goals as goal
 

@@ -1,6 +1,6 @@
 use Rattle.std.proofs.Common.{◌∙◌, ap, sym}
 use Rattle.std.proofs.lemmas.Result.{IfOk-weaker}
-use Rattle.schema.specs.Served.{served}
+use Rattle.api_types.specs.Served.{served}
 use Rattle.history.specs.Read.{key_of}
 use Rattle.objects.specs.ObjectText.{Identity, object_text}
 use Rattle.objects.specs.Views.{state_of}

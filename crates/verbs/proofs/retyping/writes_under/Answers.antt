@@ -1,6 +1,6 @@
 use Rattle.std.proofs.Common.{◌∙◌, ap, map, sym}
 use Rattle.std.specs.Prelude.{is_ok}
-use Rattle.schema.specs.Served.{types_view}
+use Rattle.api_types.specs.Served.{types_view}
 use Rattle.history.specs.Read.{write_of}
 use Rattle.verbs.proofs.Served.{lawful_seen, refused_seen, writes_seen}
 use Rattle.verbs.proofs.retyping.writes_under.Goals as goal

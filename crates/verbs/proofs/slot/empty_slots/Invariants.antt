@@ -1,5 +1,5 @@
 use Rattle.std.proofs.Common.{List}
-use Rattle.schema.specs.TypesFile.{ServedShape}
+use Rattle.api_types.specs.TypesFile.{ServedShape}
 use Rattle.verbs.specs.Remembered.{AreRight}
 use Rattle.verbs.proofs.slot.empty_slots.Given as goal
 

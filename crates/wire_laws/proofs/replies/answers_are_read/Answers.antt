@@ -1,5 +1,5 @@
 use Rattle.std.proofs.Common.{None}
-use Rattle.verbs.specs.Calls.{Answer}
+use Rattle.api_request.specs.Calls.{Answer}
 use Rattle.verbs.specs.Step.{planned}
 use Rattle.wire_laws.proofs.Written.{status_is}
 use Rattle.wire_laws.proofs.replies.answers_are_read.Goals as goal

@@ -1,6 +1,6 @@
 use Rattle.std.proofs.Common.{sym, subst}
-use Rattle.verbs.specs.Calls.{Denied}
-use Rattle.verbs.specs.Reasons.{code_of}
+use Rattle.api_request.specs.Calls.{Denied}
+use Rattle.api_request.specs.Reasons.{code_of}
 use Rattle.requests.specs.Refusals.{too_many_connections}
 use Rattle.wire_laws.proofs.Written.{IsReadable, asked_readable, code_is, refusal_readable}
 use Rattle.wire_laws.proofs.PrintedReplies.{short_read}

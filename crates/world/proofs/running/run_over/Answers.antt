@@ -1,5 +1,5 @@
 use Rattle.std.proofs.Common.{Err, ap, map, string_bytes}
-use Rattle.schema.specs.Served.{types_view}
+use Rattle.api_types.specs.Served.{types_view}
 use Rattle.reflector.specs.Informer.{indexes_in, names_in}
 use Rattle.world_laws.specs.World as worlds
 use Rattle.world.specs.Seen.{event_seen}

@@ -1,6 +1,6 @@
 use Rattle.std.proofs.Common.{◌∙◌, None, Some, ap, map, sym}
 use Rattle.std.specs.Prelude.{is_ok}
-use Rattle.schema.specs.Served.{types_view}
+use Rattle.api_types.specs.Served.{types_view}
 use Rattle.selector.specs.Grammar.{parse_selector}
 use Rattle.world_laws.specs.Tasks.{or_fault}
 use Rattle.world.specs.Seen.{settings_seen}

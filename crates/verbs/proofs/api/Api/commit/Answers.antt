@@ -1,9 +1,10 @@
 use Rattle.std.proofs.Common.{Option, refl, sym, subst}
 use Rattle.std.specs.Prelude.{IfSome, OnOk, option_map}
 use Rattle.verbs.specs.declared.api.Api.{Api}
-use Rattle.verbs.specs.declared.change.Change.{Change}
+use Rattle.api_request.specs.declared.change.Change.{Change}
 use Rattle.verbs.specs.Machine.{IsNext, after}
-use Rattle.verbs.specs.Seen.{Stands, change_of}
+use Rattle.api_request.specs.Seen.{change_of}
+use Rattle.verbs.specs.Seen.{Stands}
 use Rattle.verbs.proofs.Planning.{on_ok, stands_next, strings_utf8}
 use Rattle.verbs.proofs.api.Api.commit.Goals as goal
 

@@ -1,4 +1,4 @@
-use Rattle.schema.specs.Served.{types_view}
+use Rattle.api_types.specs.Served.{types_view}
 use Rattle.verbs.proofs.Machines.{machines_begin}
 use Rattle.verbs.proofs.api.Api.new_at.Goals as goal
 

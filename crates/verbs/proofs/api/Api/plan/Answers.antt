@@ -2,9 +2,10 @@ use Rattle.std.proofs.Common.{◌∙◌, subst, sym}
 use Rattle.std.proofs.lemmas.Result.{IfOk-weaker}
 use Rattle.std.specs.Prelude.{IfSome}
 use Rattle.history.specs.View.{View}
-use Rattle.verbs.specs.Calls.{Plan}
+use Rattle.api_request.specs.Calls.{Plan}
 use Rattle.verbs.specs.Machine.{ComesAfter}
-use Rattle.verbs.specs.Seen.{call_of, change_of, types_of}
+use Rattle.api_request.specs.Seen.{call_of, change_of}
+use Rattle.verbs.specs.Seen.{types_of}
 use Rattle.verbs.proofs.Fits.{planned_comes}
 use Rattle.verbs.proofs.Planning.{planned_is, planned_next, seen_change, stands_texts}
 use Rattle.verbs.proofs.api.Api.plan.Goals as goal

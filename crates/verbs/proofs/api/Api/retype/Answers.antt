@@ -2,8 +2,8 @@ use Rattle.std.proofs.Common.{rules, ◌≡◌, ◌∙◌, List, Ok, Err, ap, ma
 use Rattle.std.specs.Prelude.{IfSome}
 use Rattle.std.proofs.lemmas.Result.{IfErr-weaker}
 use Rattle.serde_json.specs.View as value
-use Rattle.schema.specs.Served.{types_view}
-use Rattle.schema.specs.TypesFile.{ServedShape}
+use Rattle.api_types.specs.Served.{types_view}
+use Rattle.api_types.specs.TypesFile.{ServedShape}
 use Rattle.history.specs.Read.{write_of}
 use Rattle.history.specs.View.{View}
 use Rattle.history.specs.Writes.{written_all_in}

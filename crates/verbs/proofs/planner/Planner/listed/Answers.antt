@@ -1,11 +1,11 @@
 use Rattle.std.proofs.Common.{◌≡◌, ℕ, List, IfOk, option_map, subst}
 use Rattle.params.specs.declared.params.Asked.TheVariants as asked
-use Rattle.verbs.specs.Parameters.{parameters_validated}
+use Rattle.api_validation.specs.Parameters.{parameters_validated}
 use Rattle.verbs.specs.Planner.{asked_of, type_of}
-use Rattle.verbs.specs.Seen.{plan_of}
+use Rattle.api_request.specs.Seen.{plan_of}
 use Rattle.verbs.specs.Step.{collection_of, list_answered, list_validated, plan_for, shown_by}
 use Rattle.watchline.specs.Watches.{from_view}
-use Rattle.verbs.proofs.Refusals.{fails_then}
+use Rattle.api_request.proofs.Refusals.{fails_then}
 use Rattle.verbs.proofs.planner.Planner.listed.Goals as goal
 
 pub returns-in-Err-clause-planned : goal.returns-in-Err-clause-planned

@@ -1,7 +1,7 @@
 use Rattle.std.proofs.Common.{◌≡◌, Ok, subst}
 use Rattle.params.specs.declared.params.Asked.TheVariants as asked
 use Rattle.serde_json.specs.View.{view}
-use Rattle.verbs.specs.declared.method.Method.TheVariants.{Patch}
+use Rattle.api_request.specs.declared.method.Method.TheVariants.{Patch}
 use Rattle.history.specs.Read.{key_of}
 use Rattle.verbs.specs.Planner.{asked_of, type_of}
 use Rattle.verbs.specs.Seen.{intent_seen}

@@ -1,9 +1,9 @@
 use Rattle.std.proofs.Common.{None}
 use Rattle.params.specs.declared.params.Asked.TheVariants as asked
 use Rattle.serde_json.specs.View.{view}
-use Rattle.verbs.specs.declared.method.Method.TheVariants.{Post}
+use Rattle.api_request.specs.declared.method.Method.TheVariants.{Post}
 use Rattle.objects.specs.declared.manager.Subresource.TheVariants.{Main}
-use Rattle.verbs.specs.Envelope.{Expected}
+use Rattle.api_validation.specs.Envelope.{Expected}
 use Rattle.verbs.specs.Planner.{asked_of, type_of}
 use Rattle.verbs.specs.Seen.{intent_seen}
 use Rattle.verbs.proofs.Contents.{intended_content}

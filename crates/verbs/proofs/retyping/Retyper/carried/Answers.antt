@@ -1,5 +1,5 @@
 use Rattle.std.proofs.Common.{rules}
-use Rattle.schema.specs.Served.{served}
+use Rattle.api_types.specs.Served.{served}
 use Rattle.history.specs.Read.{entry_of}
 use Rattle.verbs.specs.Gathered.{old_types}
 use Rattle.verbs.proofs.Gathering.{readable_entry}

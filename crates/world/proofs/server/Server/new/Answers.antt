@@ -1,6 +1,6 @@
 use Rattle.std.proofs.Common.{◌∙◌}
 use Rattle.history.specs.History.{fresh}
-use Rattle.schema.specs.Served.{types_view}
+use Rattle.api_types.specs.Served.{types_view}
 use Rattle.world.proofs.Ids.{no_ids}
 use Rattle.world.proofs.server.Server.new.Goals as goal
 

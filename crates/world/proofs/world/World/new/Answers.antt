@@ -2,7 +2,7 @@ use Rattle.std.proofs.Common.{◌∙◌, [], ap, map, refl, sym}
 use Rattle.std.specs.Prelude.{slice_get}
 use Rattle.std.specs.FinMap as fin
 use Rattle.std.proofs.lemmas.Str.{IsUtf8-string_bytes}
-use Rattle.schema.specs.Served.{types_view}
+use Rattle.api_types.specs.Served.{types_view}
 use Rattle.summary.specs.Counts.{summed_of}
 use Rattle.world_laws.specs.Tasks.{RunSettings, client_settings, wanted_by}
 use Rattle.world.specs.Seen.{settings_seen}

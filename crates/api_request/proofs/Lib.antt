@@ -1,0 +1,10 @@
+pub mod Ascii
+pub mod Blanks
+pub mod Checks
+pub mod Found
+pub mod Leading
+pub mod Places
+pub mod Refusals
+pub mod Seeking
+pub mod Statuses
+pub mod Walking

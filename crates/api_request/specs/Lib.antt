@@ -1,0 +1,9 @@
+pub mod Reasons
+pub mod Status
+pub mod Validated
+pub mod Json
+pub mod Calls
+pub mod Stored
+pub mod Admit
+pub mod Routes
+pub mod Seen

@@ -1,0 +1,105 @@
+//! The checks before a body is read: route, method, media type. What stands in a body is checked in `envelope` and
+//! `naming`.
+
+ghost use Rattle.std.specs.Prelude.{◌≡◌, IfOk, Err, option_map};
+ghost use Rattle.api_request.specs.Admit.{not_admitted, method_served, place_admitted, target_at};
+ghost use Rattle.api_request.specs.Seen.{Admits, place_seen, target_of};
+
+use crate::calls::Target;
+use crate::media::accepts_media;
+use crate::method::Method;
+use crate::place::Place;
+use crate::reason::Reason;
+use crate::resource::Resource;
+use json_values::copied;
+use std::alloc::{AllocError, Global};
+use thiserror::Error;
+
+/// The message where a path leads nowhere.
+pub const NO_PATH: &str = "no such path";
+
+/// The message where a path doesn't serve a method.
+pub const NOT_SERVED: &str = "method not served here";
+
+/// Why a request is refused before a call is made of it: by its route, method or media type here, and by the same form for its
+/// head, its body, or too many connections.
+#[derive(Clone, Copy, Debug, PartialEq, Eq)]
+pub struct Denied {
+    pub reason: Reason,
+    pub message: &'static str,
+    /// The value of the field `Allow`, where the method is not served (RFC 9110, section 10.2.1).
+    pub allow: Option<&'static str>,
+}
+
+/// Why a request was not admitted.
+#[derive(Clone, Copy, Debug, PartialEq, Eq, Error)]
+pub enum AdmitFault {
+    #[error("the request is refused: {}", .0.message)]
+    Denied(Denied),
+    #[error("out of memory")]
+    Memory,
+}
+
+impl From<AllocError> for AdmitFault {
+    ghost use Rattle.std.specs.Prelude.{◌≡◌};
+    ghost use Rattle.api_request.specs.declared.admitting.AdmitFault.TheVariants.{Memory};
+
+    ghost from_gives = { λ _ e. e ≡ Memory };
+
+    fn from(_: AllocError) -> AdmitFault {
+        AdmitFault::Memory
+    }
+}
+
+fn refused(reason: Reason, message: &'static str, allow: Option<&'static str>) -> AdmitFault
+    ensures { Admits (Err result) (not_admitted reason message.now (option_map (λ s. s.now) allow.entry)) }
+{
+    AdmitFault::Denied(Denied {
+        reason,
+        message,
+        allow,
+    })
+}
+
+fn target_at(alloc: Global, place: Place<'_>, method: Method) -> Result<Target, AllocError>
+    ensures { IfOk result (λ t. target_of t ≡ target_at (place_seen place.entry) method) }
+{
+    Ok(Target {
+        kind: place.kind,
+        namespace: copied(alloc, place.namespace)?,
+        name: copied(alloc, place.name)?,
+        status: place.resource.is_status(),
+        method,
+    })
+}
+
+fn method_served(resource: Resource, method: Option<Method>) -> Option<Method>
+    ensures { result ≡ method_served resource method }
+{
+    match method {
+        Some(method) if resource.serves(method) => Some(method),
+        _ => None,
+    }
+}
+
+/// What a request asks, by the place that its path leads to, its method and its media type.
+pub fn admitted(
+    alloc: Global,
+    place: Option<Place<'_>>,
+    method: &str,
+    media: Option<&[u8]>,
+) -> Result<Target, AdmitFault>
+    ensures { Admits result (place_admitted (option_map place_seen place.entry) method.now (option_map (λ b. b.now) media.entry)) }
+{
+    let Some(place) = place else {
+        return Err(refused(Reason::NotFound, NO_PATH, None));
+    };
+    let Some(method) = method_served(place.resource, Method::named(method)) else {
+        let allowed = place.resource.allowed();
+        return Err(refused(Reason::MethodNotAllowed, NOT_SERVED, Some(allowed)));
+    };
+    if !accepts_media(method, media) {
+        return Err(refused(Reason::UnsupportedMediaType, "media type not served", None));
+    }
+    Ok(target_at(alloc, place, method)?)
+}

@@ -1,0 +1,38 @@
+//! Calls on objects, their answers, plans and refusals, as data: what a request asks by its path, its method and its media type.
+//! What is checked of a body stands in the crate `api_validation`, what a call comes to in `verbs`.
+//!
+//! Promises: a path leads where its parts say; a request is refused for its route first, then for its method, then for its
+//! media type; a refusal is told by the Status of its reason.
+//! Stands on `schema` for the types that paths name, `objects` for subresources, `history` for keys, `watchline` for where a
+//! watch begins and for Status objects, `json_values` for values, and on `matchit` for routes.
+#![tactic(auto)]
+
+mod admitting;
+mod body;
+mod call_error;
+mod call_refusal;
+mod calls;
+mod change;
+mod media;
+mod method;
+mod place;
+mod reason;
+mod resource;
+mod route;
+mod route_laws;
+mod status;
+
+pub use admitting::{AdmitFault, Denied, NO_PATH, NOT_SERVED};
+pub use body::{Body, NOT_JSON};
+pub use call_error::CallError;
+pub use call_refusal::CallRefusal;
+pub use calls::{Answer, CREATED, Call, OK, Plan, Scope, Target};
+pub use change::Change;
+pub use media::{APPLY_TYPE, JSON_TYPE};
+pub use method::Method;
+pub use place::Place;
+pub use reason::Reason;
+pub use resource::Resource;
+pub use route::Routes;
+pub use route_laws::paths_lead_by_parts;
+pub use status::status_value;

@@ -1,0 +1,86 @@
+//! The place in the routes that a path leads to. The routes stand in `route`.
+
+ghost use Rattle.std.specs.Prelude.{◌≡◌, is_some, option_map};
+ghost use Rattle.matchit.specs.Params.{AllText, named};
+ghost use Rattle.schema.specs.ObjectShape.{field_of};
+ghost use Rattle.api_types.specs.Served.{types_view};
+ghost use Rattle.schema.specs.Shape.{shape};
+ghost use Rattle.api_request.specs.Admit.{has_status, kind_in, kind_with, place_in};
+ghost use Rattle.api_request.specs.Seen.{parts_of, place_seen};
+
+use crate::resource::Resource;
+use api_types::Types;
+use matchit::Params;
+use schema::{Schema, field_at};
+
+/// The place that a path leads to.
+#[derive(Clone, Copy, Debug)]
+pub struct Place<'p> {
+    pub resource: Resource,
+    /// The number of the type.
+    pub kind: u32,
+    pub namespace: Option<&'p str>,
+    pub name: Option<&'p str>,
+}
+
+/// The part of a path that a name in its route took.
+fn part<'p>(params: &Params<'_, 'p>, name: &str) -> Option<&'p str>
+    requires { AllText (parts_of params.now) }
+    ensures { option_map (λ s. s.now) result ≡ named name.now (parts_of params.now) }
+{
+    params.get(name)
+}
+
+/// The number of the type that the parts of a path name.
+fn kind_in(types: &Types, params: &Params<'_, '_>) -> Option<u32>
+    requires { AllText (parts_of params.now) }
+    ensures { result ≡ kind_in (types_view types.now) (parts_of params.now) }
+{
+    let group = part(params, "group")?;
+    let version = part(params, "version")?;
+    let plural = part(params, "plural")?;
+    types.find(group, version, plural)
+}
+
+fn has_field(schema: &Schema, name: &str) -> bool
+    ensures { result ≡ is_some (field_of name.now (shape schema.now)) }
+{
+    match schema {
+        Schema::Struct(fields, _) => field_at(fields.as_slice(), name).is_some(),
+        _ => false,
+    }
+}
+
+/// Whether objects of the type with this number have a status.
+fn has_status(types: &Types, kind: u32) -> bool
+    ensures { result ≡ has_status (types_view types.now) kind }
+{
+    match types.get(kind) {
+        Some(served) => has_field(&served.schema, "status"),
+        None => false,
+    }
+}
+
+/// A type, where it has the resource.
+fn kind_with(types: &Types, resource: Resource, kind: Option<u32>) -> Option<u32>
+    ensures { result ≡ kind_with (types_view types.now) resource kind }
+{
+    match kind {
+        Some(kind) if resource.is_status() && !has_status(types, kind) => None,
+        _ => kind,
+    }
+}
+
+/// The type, namespace and name that a route's parameters name, if the type is served and has the
+/// resource.
+pub fn place_in<'p>(types: &Types, resource: Resource, params: &Params<'_, 'p>) -> Option<Place<'p>>
+    requires { AllText (parts_of params.now) }
+    ensures { option_map place_seen result ≡ place_in (types_view types.now) resource (parts_of params.now) }
+{
+    Some(Place {
+        resource,
+        kind: kind_with(types, resource, kind_in(types, params))?,
+        namespace: part(params, "namespace"),
+        name: part(params, "name"),
+    })
+}

@@ -1,0 +1,14 @@
+pub mod Items
+pub mod Depths
+pub mod FaultPlaces
+pub mod ObjectShapes
+pub mod ObjectTypes
+pub mod Naming
+pub mod Numbering
+pub mod Placing
+pub mod Pairs
+pub mod Keeping
+pub mod Reading
+pub mod Sorting
+pub mod Texts
+pub mod TypeByType

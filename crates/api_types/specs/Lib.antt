@@ -1,0 +1,13 @@
+pub mod Depths
+pub mod Named
+pub mod Names
+pub mod Refusals
+pub mod Keywords
+pub mod Forms
+pub mod TypesFile
+pub mod ServedView
+pub mod Served
+pub mod Seen
+pub mod FaultPlaces
+pub mod Retyping
+pub mod ChangeLaws

@@ -1,4 +1,0 @@
-pub mod Texts
-pub mod Printed
-pub mod Read
-pub mod Agreed

@@ -1,8 +1,0 @@
-use Rattle.std.proofs.Common.{◌≡◌, drop}
-use Rattle.schema.specs.Shape.{fields_in}
-use Rattle.schema.specs.Lawful.{are_well_formed}
-use Rattle.schema.proofs.+well_formed.Given as goal
-
-abbrev pub invariant-lawful::are_well_formed-loop-inner :
-    goal.invariant-lawful::are_well_formed-loop-inner
-invariant-lawful::are_well_formed-loop-inner l = are_well_formed (fields_in (drop l.inner-index l.fields)) ≡ are_well_formed (fields_in l.fields)

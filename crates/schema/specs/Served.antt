@@ -1,9 +1,0 @@
--- What contracts see of the types that are served.
-use Rattle.std.specs.Prelude.{List, map}
-pub use Rattle.schema.specs.ServedView.{served}
-use Rattle.schema.specs.TypesFile.{ServedShape}
-use Rattle.schema.specs.declared.types.Types.{Types}
-
--- a type's number is its place in the list
-abbrev pub types_view : Types → List ServedShape
-types_view t = map served t.all.items

@@ -1,7 +1,0 @@
-use Rattle.std.proofs.Common.{◌∙◌, ap}
-use Rattle.pathmap.specs.Contents.{dom}
-use Rattle.pathmap.proofs.Order.{dom-marked}
-use Rattle.typed.proofs.tree.Tree.paths.Goals as goal
-
-pub returns : goal.returns
-returns c = c.of.ensures ∙ ap dom c.in_ok-marks.ensures ∙ dom-marked (dom c.map.result.now) ∙ ap dom c.map.ensures

@@ -1,8 +1,0 @@
-use Rattle.std.proofs.Common.{◌∙◌, sym, subst}
-use Rattle.verbs.specs.Seen.{Fails}
-use Rattle.verbs.proofs.Entries.{some_entries}
-use Rattle.verbs.proofs.Refusals.{refuses_fails}
-use Rattle.verbs.proofs.envelope.validate_entries.Goals as goal
-
-pub returns : goal.returns
-returns c = subst (Fails c.refused_for.result) (some_entries c.args.entries.now (sym c.is_empty.ensures ∙ c.if-is_empty.false)) (refuses_fails (Unit {0}) c.refused_for.result _ _ c.refused_for.ensures)

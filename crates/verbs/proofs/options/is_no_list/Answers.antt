@@ -1,6 +1,0 @@
-use Rattle.std.proofs.Common.{◌∙◌}
-use Rattle.verbs.proofs.Entries.{no_list}
-use Rattle.verbs.proofs.options.is_no_list.Goals as goal
-
-pub returns : goal.returns
-returns c = c.is_empty.ensures ∙ no_list c.args.items.now

@@ -1,0 +1,197 @@
+#!/usr/bin/env python3
+"""Runs the commands of the examples' pages, compares what they print, and runs the examples' own tests.
+
+    tools/examples_test.py [--write] [PROGRAM]
+
+PROGRAM is crates/ssa_server/out/ssa_server where none is named. The commands are the lines "$ COMMAND" of the code blocks that
+begin with such a line; the lines behind one are what it prints, on either output. All commands of a page are run by one bash, in
+order, with a TMPDIR of its own; `./ssa-server` starts in the background, on a free port in place of the page's 8001. What needs a
+package that isn't installed is skipped, and said so. --write writes into the pages what the commands print.
+The status is 1 where something differs.
+"""
+
+import contextlib
+import dataclasses
+import difflib
+import importlib.util
+import itertools
+import os
+import re
+import shlex
+import shutil
+import signal
+import subprocess
+import sys
+import tempfile
+import threading
+
+from running import BUILT, TOP, Server
+
+PORT = "8001"
+MARK = "---- the end of a command ----"
+COMMAND = re.compile(r"^\$ (.*)$", re.M)
+# After so long a command is over.
+SECONDS = 600
+
+
+@dataclasses.dataclass(frozen=True)
+class Page:
+    """A page with what its commands need beside the server."""
+
+    path: str
+    needs: tuple[str, ...] = ()
+
+
+PAGES = (
+    Page("examples/README.md"),
+    Page("examples/crd.md", ("python3-yaml",)),
+    Page("examples/types/README.md"),
+    Page("examples/kubectl.md", ("kubectl",)),
+    Page("examples/python.md", ("python3-kubernetes",)),
+    Page("examples/go.md", ("golang-go", "client-go")),
+)
+
+
+def has(package: str) -> bool:
+    """Whether what a page needs is installed."""
+    match package:
+        case "python3-yaml":
+            return importlib.util.find_spec("yaml") is not None
+        case "python3-kubernetes":
+            words = ["/usr/bin/python3", "-c", "import kubernetes"]
+            return subprocess.run(words, stderr=subprocess.DEVNULL).returncode == 0
+        case "client-go":
+            folders = os.environ.get("GOPATH", "").split(":")
+            return any(os.path.isdir(f"{it}/src/k8s.io/client-go") for it in folders)
+        case "golang-go":
+            return shutil.which("go") is not None
+    return shutil.which(package) is not None
+
+
+class Session:
+    """The commands of a page, run one by one by one bash. It ends with the block."""
+
+    def __init__(self, program: str, folder: str) -> None:
+        self.program = program
+        self.folder = folder
+        self.server: Server | None = None
+        cache = os.environ.get("XDG_CACHE_HOME", os.path.expanduser("~/.cache"))
+        own = {"TMPDIR": folder, "HOME": folder, "SSA_SERVER": program}
+        self.bash = subprocess.Popen(
+            ["bash"],
+            cwd=TOP,
+            env={"XDG_CACHE_HOME": cache, **os.environ, **own},
+            stdin=subprocess.PIPE,
+            stdout=subprocess.PIPE,
+            stderr=subprocess.STDOUT,
+            text=True,
+            errors="replace",
+            start_new_session=True,
+        )
+
+    def __enter__(self) -> "Session":
+        return self
+
+    def __exit__(self, *_: object) -> None:
+        if self.server:
+            self.server.end()
+        with contextlib.suppress(ProcessLookupError):
+            os.killpg(self.bash.pid, signal.SIGKILL)
+        self.bash.communicate()
+
+    @property
+    def port(self) -> str:
+        """The port of the server."""
+        return self.server.address.rpartition(":")[2] if self.server else PORT
+
+    def run(self, command: str) -> str:
+        """What a command prints."""
+        if command.startswith("./ssa-server "):
+            return self.start(command)
+        assert self.bash.stdin and self.bash.stdout
+        timer = threading.Timer(SECONDS, self.bash.kill)
+        timer.start()
+        asked = command.replace(PORT, self.port)
+        self.bash.stdin.write(f"{{ {asked}\n}} < /dev/null\necho; echo '{MARK}'\n")
+        self.bash.stdin.flush()
+        lines = list(
+            itertools.takewhile(lambda it: it != f"{MARK}\n", self.bash.stdout)
+        )
+        timer.cancel()
+        return "".join(lines).rstrip("\n").replace(f":{self.port}", f":{PORT}")
+
+    def start(self, command: str) -> str:
+        """Starts the server of a command."""
+        words = shlex.split(command)
+        types = words[words.index("--types") + 1].replace("$TMPDIR", self.folder)
+        self.server = Server(self.program, os.path.join(TOP, types))
+        return f"listening on 127.0.0.1:{PORT}"
+
+
+def played(page: Page, program: str) -> tuple[str, list[str], int]:
+    """The page with what its commands print, where that differs, and how many commands it has."""
+    with open(f"{TOP}/{page.path}", encoding="utf-8") as it:
+        parts = it.read().split("```\n")
+    count, differences = 0, []
+    with tempfile.TemporaryDirectory() as folder, Session(program, folder) as session:
+        for at in range(1, len(parts), 2):
+            if not parts[at].startswith("$ "):
+                continue
+            lines = []
+            for command in COMMAND.findall(parts[at]):
+                printed = session.run(command)
+                lines += [f"$ {command}", *([printed] if printed else [])]
+                count += 1
+            text = "".join(f"{it}\n" for it in lines)
+            if text != parts[at]:
+                rows = difflib.unified_diff(
+                    parts[at].splitlines(),
+                    text.splitlines(),
+                    "page",
+                    "printed",
+                    lineterm="",
+                )
+                differences.append("\n".join(rows))
+            parts[at] = text
+    return "```\n".join(parts), differences, count
+
+
+def main(words: list[str]) -> int:
+    """Runs the pages. Returns the exit status."""
+    is_write = "--write" in words
+    words = [it for it in words if it != "--write"]
+    program = os.path.realpath(words[0]) if words else BUILT
+    if not os.access(program, os.X_OK):
+        sys.exit(
+            f"examples_test: {program} isn't built: run `rt run` in crates/ssa_server"
+        )
+    os.environ["no_proxy"] = "127.0.0.1"
+    failed = commands = 0
+    skipped = []
+    for page in PAGES:
+        lacking = [it for it in page.needs if not has(it)]
+        if lacking:
+            skipped.append(page.path)
+            print(f"{page.path}: skipped, without {', '.join(lacking)}")
+            continue
+        text, differences, count = played(page, program)
+        print(
+            *differences,
+            f"{page.path}: {count} commands, {len(differences)} differences",
+            sep="\n",
+        )
+        failed += len(differences) + (count == 0)
+        commands += count
+        if is_write:
+            with open(f"{TOP}/{page.path}", "w", encoding="utf-8") as it:
+                it.write(text)
+    print(
+        f"{commands} commands of {len(PAGES) - len(skipped)} pages, {failed} failed, {len(skipped)} pages skipped"
+    )
+    return int(failed > 0)
+
+
+if __name__ == "__main__":
+    if set(sys.argv[1:]) & {"-h", "--help"}:
+        sys.exit(__doc__)
+    sys.exit(main(sys.argv[1:]))

@@ -1,0 +1,249 @@
+#!/usr/bin/env python3
+"""The gate, and what can be asked of it. `./test` runs it.
+
+    ./test              proves everything from scratch, tries wrong bodies, runs all tests and programs
+    ./test quick        runs the tests, the programs and the commands of the pages without a proof
+    ./test CRATE..      proves and tests these crates alone, and tries their listed wrong bodies
+
+The last line is `N passed, M failed`, of all that is said above it; the status is 0 where M is 0. A crate counts by its
+proof, a program by its stored run, and apart from these count each test, each wrong body that was tried, each test in
+which each allocation is refused, each command of the pages, each generated page and each stored file.
+
+The proofs are those of `rt ci`, over a copy of the working folder without `must-fail/`, so that no crate waits for wrong
+bodies. These are tried beside it where a processor is idle, and after it, over the libraries that it has built, by checks
+of the functions that they turn (tools/edits.py); then, for five minutes, others of `more-edits/` (tools/trials.py). What
+was built stays in crates/NAME/out/.
+"""
+
+from __future__ import annotations
+
+import contextlib
+import hashlib
+import os
+import re
+import shutil
+import signal
+import subprocess
+import sys
+import tempfile
+import time
+import traceback
+from collections.abc import Iterator
+
+import edits
+import gate_cost
+import quick
+import repository
+import trials
+from repository import TOP
+from results import Results
+
+SECONDS_OF_OTHER_EDITS = 300
+EDIT = re.compile(r"[A-Za-z0-9_-][A-Za-z0-9_.-]*\.edit")
+LISTED, OTHERS = "must-fail", "more-edits"
+
+
+@contextlib.contextmanager
+def room() -> Iterator[str]:
+    """A folder for the run, which is removed at its end, and in it a copy of the repository's files as a repository of its own."""
+    signal.signal(signal.SIGTERM, lambda *_: sys.exit(128 + signal.SIGTERM))
+    with tempfile.TemporaryDirectory(
+        prefix="gate-", ignore_cleanup_errors=True
+    ) as folder:
+        paths = repository.files()
+        repository.copy(
+            f"{folder}/tree", (it for it in paths if f"/{LISTED}/" not in it)
+        )
+        repository.copy(
+            f"{folder}/edits",
+            (it for it in paths if re.match(rf"crates/\w+/({LISTED}|{OTHERS})/", it)),
+        )
+        subprocess.run(["git", "init", "-q", f"{folder}/tree"], check=True)
+        yield folder
+
+
+def edits_in(folder: str, kind: str, results: Results) -> dict[str, list[str]]:
+    """The edits of each crate; what is no edit in their folders is a failure."""
+    found: dict[str, list[str]] = {}
+    for crate in repository.crates():
+        for above, _, names in os.walk(f"{folder}/edits/crates/{crate}/{kind}"):
+            for name in sorted(names):
+                path = f"{above}/{name}"
+                is_plain = above.endswith(f"/{kind}") and not os.path.islink(path)
+                if is_plain and EDIT.fullmatch(name):
+                    found.setdefault(crate, []).append(path)
+                elif not name.endswith(".md"):
+                    why = "BAD EDIT: an edit is a file NAME.edit right in this folder"
+                    results.failed(f"{crate}/{kind}/{name}", why)
+    return found
+
+
+def prove(
+    folder: str, listed: dict[str, list[str]], tries: trials.Trials, results: Results
+) -> set[str]:
+    """Runs `rt ci` over the copy, and has a crate's listed edits tried once it is proved; returns the crates that passed."""
+    proved: set[str] = set()
+    said, lost = "", ""
+    command = [*tries.rt.rtlib.guarded(), f"{TOP}/tools/proofs.py"]
+    with repository.started(command, f"{folder}/tree") as started:
+        for line in started.stdout or ():
+            print(line, end="", flush=True)
+            said = line.strip() or said
+            done = re.fullmatch(r"rt: (\w+) proved\n", line)
+            if done and done[1] not in proved:
+                proved.add(done[1])
+                tries.add(done[1], listed.get(done[1], []), is_listed=True)
+            if line.startswith("rt: FAILED: "):
+                lost = re.sub(r" \((tests|run)\)", r":\1", line[12:])
+    results.counted("rt ci", said, started.returncode, lost.split())
+    if started.returncode == 0:
+        for crate in sorted({*repository.crates()} - proved):
+            proved.add(crate)
+            tries.add(crate, listed.get(crate, []), is_listed=True)
+    return proved - {it.partition(":")[0] for it in lost.split()}
+
+
+def take_built(folder: str, passed: set[str], results: Results) -> None:
+    """Brings the programs and the programs of tests to the repository, and counts them; one that isn't there is a failure."""
+    for crate in repository.crates():
+        out = f"{TOP}/crates/{crate}/out"
+        for name, is_wanted in (
+            (crate, repository.is_program(crate)),
+            (f"{crate}_tests", repository.has_tests(crate)),
+        ):
+            made = f"{folder}/tree/crates/{crate}/out/{name}"
+            if os.path.isfile(f"{out}/{name}"):
+                os.remove(f"{out}/{name}")
+            if is_wanted and not os.path.isfile(made):
+                results.failed(name, "it wasn't built")
+            elif is_wanted:
+                os.makedirs(out, exist_ok=True)
+                shutil.copy2(made, f"{out}/{name}")
+                print(f"gate: {name} has the sum {sum_of(made)}", flush=True)
+                if crate in passed:
+                    count_run(name, made, name != crate, results)
+
+
+def sum_of(path: str) -> str:
+    """The SHA-256 sum of a file."""
+    with open(path, "rb") as it:
+        return hashlib.file_digest(it, "sha256").hexdigest()
+
+
+def count_run(name: str, made: str, is_tests: bool, results: Results) -> None:
+    """Counts what `rt ci` has run: the program's stored run, or each test."""
+    if not is_tests:
+        results.passed()
+        return
+    ran = subprocess.run([made, "--list"], capture_output=True, text=True, check=False)
+    tests = re.findall(r"^.+: test$", ran.stdout, re.M)
+    results.passed(len(tests))
+    if not tests:
+        results.failed(name, "it lists no test")
+
+
+def try_others(
+    folder: str, proved: set[str], tries: trials.Trials, results: Results
+) -> None:
+    """Tries edits of `more-edits/` for some minutes."""
+    by_crate = {
+        crate: paths
+        for crate, paths in edits_in(folder, OTHERS, results).items()
+        if crate in proved
+    }
+    for crate, together in trials.sample(f"{folder}/tree", by_crate):
+        tries.add(crate, together, is_listed=False)
+    before, began = results.counted_in_all(), time.monotonic()
+    tries.finish(SECONDS_OF_OTHER_EDITS)
+    count = sum(len(paths) for paths in by_crate.values())
+    tried = results.counted_in_all() - before
+    seconds = time.monotonic() - began
+    print(
+        f"gate: tried {tried} of {count} edits of {OTHERS}/ in {seconds:.0f} seconds",
+        flush=True,
+    )
+
+
+def whole(results: Results) -> None:
+    """The gate."""
+    rt = repository.kit()
+    watch = gate_cost.Watch(os.getpid())
+    watch.start()
+    results.run("the generated pages", ["tools/pages.py", "--check"])
+    results.run("the lines of crates.txt", ["tools/edges.py"])
+
+    def tell(tried: edits.Tried, _: bool) -> None:
+        is_well = tried.kind in (edits.REFUSED, edits.WEAKLY)
+        results.told(edits.label(tried.edit), is_well, tried.text)
+
+    with room() as folder:
+        listed = edits_in(folder, LISTED, results)
+        tries = trials.Trials(rt, folder, watch, tell)
+        try:
+            proved = prove(folder, listed, tries, results)
+            take_built(folder, proved, results)
+            tries.finish()
+            for crate in sorted({*listed} - proved):
+                results.failed(
+                    f"{crate}/{LISTED}", "not tried, since the crate isn't proved"
+                )
+            try_others(folder, proved, tries, results)
+        finally:
+            tries.end()
+        stored_runs(folder, results)
+        results.run(
+            "refused memory", [f"{folder}/tree/tools/failing_memory.py", "--gate"]
+        )
+        quick.over_the_server(f"{folder}/tree", results)
+    watch.ended.set()
+    watch.join()
+    print(gate_cost.table(watch), flush=True)
+
+
+def stored_runs(folder: str, results: Results) -> None:
+    """Makes the stored runs anew and compares them with what is stored."""
+    quick.stored_runs(f"{folder}/tree", results)
+
+
+def alone(names: list[str], results: Results) -> None:
+    """Proves and tests crates alone, and tries their listed edits."""
+    version = subprocess.run(
+        ["rt", "version"], stdout=subprocess.PIPE, text=True, check=True
+    ).stdout
+    unknown = [name for name in names if name not in repository.crates()]
+    if unknown:
+        repository.stop(f"crates.txt names no crate {unknown[0]}")
+    if not version.startswith("rattle-kit-13b"):
+        results.run(f"rt ci {' '.join(names)}", ["rt", "ci", *names])
+        return
+    # (the `rt ci` of 13b takes no name)
+    for name in names:
+        results.run(f"{name}: proof", ["rt", "verdict"], f"{TOP}/crates/{name}")
+        results.run(f"{name}: tests", ["rt", "test"], f"{TOP}/crates/{name}")
+        if os.path.isdir(f"{TOP}/crates/{name}/{LISTED}"):
+            results.run(f"{name}: {LISTED}", ["rt", "must-fail", name])
+
+
+def main(words: list[str]) -> int:
+    """Runs what the words ask, and ends with the line that counts it."""
+    results = Results()
+    try:
+        if words == ["quick"]:
+            with room() as folder:
+                quick.run(f"{folder}/tree", results)
+        elif words:
+            alone(words, results)
+        else:
+            whole(results)
+    except (SystemExit, KeyboardInterrupt) as ended:
+        results.failed("the gate", f"it ended early: {ended or 'interrupted'}")
+    except Exception as error:
+        traceback.print_exc()
+        results.failed("the gate", f"it ended early: {error!r}")
+    return results.close()
+
+
+if __name__ == "__main__":
+    if set(sys.argv[1:]) & {"-h", "--help"}:
+        sys.exit(__doc__)
+    sys.exit(main(sys.argv[1:]))
