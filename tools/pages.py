@@ -273,7 +273,14 @@ def words_page():
     return page
 
 
-PAGES = {"CONTRACTS": contracts, "EDITS": edits_page, "REFUSALS": refusals, "LIMITS": limits, "WORDS": words_page}
+def headline():
+    # (it reads the sources by this module's functions)
+    import rests_on
+
+    return rests_on.page()
+
+
+PAGES = {"CONTRACTS": contracts, "HEADLINE": headline, "EDITS": edits_page, "REFUSALS": refusals, "LIMITS": limits, "WORDS": words_page}
 
 
 def main(arguments):

@@ -28,6 +28,8 @@ from gate_cost import Watch
 SPARE_MEMORY = 2_000_000_000
 # How long a check over built libraries is thought to take, until one of its crate has ended.
 SECONDS_OF_A_CHECK = 60.0
+# How long after the time given an edit that a first check left open may still be tried by a check of its own.
+SECONDS_MORE = 60.0
 LAST = 'echo 1000 >/proc/self/oom_score_adj; exec nice -n 19 "$@"'
 
 
@@ -76,15 +78,14 @@ class Trials:
                 self._waiting.append(Job(crate, paths, is_listed))
 
     def finish(self, seconds: float | None = None) -> None:
-        """Waits until all is tried, or for some time: what then isn't is left out, but for what a first check left open."""
+        """Waits until all is tried, or for some time: what then isn't is left out; what a first check left open has a minute more."""
         with self._lock:
             self.is_proving = False
             self.deadline = time.monotonic() + seconds if seconds is not None else None
         while True:
             with self._lock:
-                is_late = self.deadline is not None and time.monotonic() > self.deadline
-                for job in self._running if is_late else ():
-                    if not job.open and job.process:
+                for job in self._running:
+                    if self._is_late(job) and job.process:
                         job.process.send_signal(signal.SIGTERM)
                 self._waiting = [it for it in self._waiting if self._has_time(it)]
                 if not self._waiting and not self._running:
@@ -126,6 +127,11 @@ class Trials:
         need = self.rt.need(self.rt.Crate(folder, f"{self.room}/tree", {}))
         spare = SPARE_MEMORY if self.is_proving else 0
         return self.rt.free() > need + spare or not (self._running or self.is_proving)
+
+    def _is_late(self, job: Job) -> bool:
+        """Whether a trial that runs has no time left."""
+        more = SECONDS_MORE if job.open else 0
+        return self.deadline is not None and time.monotonic() > self.deadline + more
 
     def _has_time(self, job: Job) -> bool:
         """Whether a trial is likely to end in time."""
@@ -175,8 +181,7 @@ class Trials:
         """Has a killed trial made again, or tells of what it left."""
         with self._lock:
             self._running.remove(job)
-            is_late = self.deadline is not None and time.monotonic() > self.deadline
-            if not left or is_late and not job.open or self._ended.is_set():
+            if not left or self._is_late(job) or self._ended.is_set():
                 return
             was_killed = job.process and job.process.returncode == edits.KILLED
             if was_killed and not job.was_killed:
