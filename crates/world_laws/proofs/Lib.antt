@@ -3,6 +3,7 @@ pub mod Asking
 pub mod Edges
 pub mod Happening
 pub mod Holds
+pub mod HubRuns
 pub mod Laws
 pub mod Leading
 pub mod ListTexts
@@ -11,6 +12,7 @@ pub mod Mirror
 pub mod Mirrored
 pub mod Moving
 pub mod Names
+pub mod OneHistory
 pub mod OneWorld
 pub mod Pages
 pub mod Parts

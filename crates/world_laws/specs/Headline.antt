@@ -1,9 +1,10 @@
 -- Whatever happens, what the client keeps and reports is what the machine had.
-use Rattle.std.specs.Prelude.{List}
+use Rattle.std.specs.Prelude.{ℕ, List, [], ◌∷◌, ⊤}
 use Rattle.api_types.specs.TypesFile.{ServedShape}
+use Rattle.history.specs.History.{History}
 use Rattle.verbs.specs.Machine.{AreObjectTypes, AreUnicode}
 use Rattle.world_laws.specs.Tasks.{IsTask, Task}
-use Rattle.world_laws.specs.Reports.{AreRight, IsKeptRight, Report, Runs, last_reported}
+use Rattle.world_laws.specs.Reports.{AreRight, IsKeptRight, IsRight, Report, Runs, last_reported}
 use Rattle.world_laws.specs.World.{World, WorldEvent, start}
 
 -- For every list of events, from the start: each report of a revision has exactly the machine's objects of that revision, and no report
@@ -15,3 +16,14 @@ Headline =
     (types : List ServedShape) (task : Task) (es : List WorldEvent) (v : World) (reports : List Report)
     → AreObjectTypes types → IsTask types task → Runs task 1 (start types) es v reports → AreUnicode v.hub.machine.changes
     → AreRight task 1 reports × IsKeptRight task (last_reported 1 reports) v.hub.machine v.client.cache
+
+-- each report has exactly this one history's objects of its revision, and no report is of a lower revision than one before it
+abbrev pub AreOfHistory : Task → ℕ → History → List Report → Type 0
+AreOfHistory task lo machine [] = ⊤
+AreOfHistory task lo machine (r ∷ rs) = IsRight task lo machine r.now × AreOfHistory task r.now.revision machine rs
+
+-- For every list of events, from the start: all reports are of the history as it is at the end.
+abbrev pub OneHistory : Type 0
+OneHistory =
+    (types : List ServedShape) (task : Task) (es : List WorldEvent) (v : World) (reports : List Report)
+    → AreObjectTypes types → IsTask types task → Runs task 1 (start types) es v reports → AreUnicode v.hub.machine.changes → AreOfHistory task 1 v.hub.machine reports

@@ -15,7 +15,7 @@ ghost use Rattle.api_types.specs.Named.{has_names};
 ghost use Rattle.api_types.specs.TypesFile.{ServedShape, names_differ};
 ghost use Rattle.httpedge.specs.Runs as runs;
 ghost use Rattle.httpedge.specs.Steps.{State};
-ghost use Rattle.world_laws.specs.Headline.{Headline};
+ghost use Rattle.world_laws.specs.Headline.{Headline, OneHistory};
 ghost use Rattle.world_laws.specs.Tasks.{IsStillTask, IsTask, RunSettings, Task, settings_fault};
 ghost use Rattle.world_laws.specs.Reports.{Report, Runs};
 ghost use Rattle.world_laws.specs.World.{World, WorldEvent};
@@ -39,6 +39,14 @@ pub fn headline()
     wire_laws::refusals_are_read();
     httpedge::machines_grow();
     httpedge::machines_last();
+}
+
+/// Of every run of events from the start all reports are states of one history, which is the machine's at the end.
+pub fn one_history()
+    ensures { OneHistory }
+{
+    headline();
+    httpedge::machines_grow();
 }
 
 /// Settings without a fault make one task, over types with lawful names of which no two are the same; and a task has
