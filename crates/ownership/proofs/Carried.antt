@@ -117,7 +117,7 @@ module _ (s t : Shape) (old : State) (c : Content) (formed : is_well_formed s â‰
     leaves = leaves_pass;
     others = others_stay;
     sides = own_sides;
-    owned = leaves_owned s t old (with_content old c) formed placed parts leaves_pass others_stay;
+    owned = leaves_owned s t old (with_content old c) parts leaves_pass others_stay;
   }
 
 -- what a carry gave, from its steps

@@ -3,31 +3,24 @@ use Rattle.std.proofs.Common.{◌≡◌, Bool, true, false, [], ◌∷◌, ◌++
 use Rattle.std.specs.FinMap as fin
 use Rattle.std.specs.FinSet as set
 use Rattle.std.specs.Cmp.Derive.{both_true}
-use Rattle.std.specs.Option.{unwrap_or}
 use Rattle.std.specs.Str.{bytes_eq}
 use Rattle.std.proofs.lemmas.Bool.{and_parts}
 use Rattle.std.proofs.lemmas.Slice.Eq.{bytes_eq-Decides}
-use Rattle.fieldpath.specs.Paths.{PathTexts, path_cmp}
+use Rattle.fieldpath.specs.Paths.{PathTexts}
 use Rattle.pathmap.specs.Beside.{has_at_or_below, is_front}
-use Rattle.pathmap.specs.Contents.{PathSet}
-use Rattle.schema.specs.Lawful.{is_well_formed}
 use Rattle.schema.specs.Place.{place_of}
 use Rattle.schema.specs.Shape.{Shape}
 use Rattle.schema.specs.declared.place.Place.{Place}
 use Rattle.schema.specs.declared.place.Place.TheVariants.{Leaf, SetItem, MapItem}
 use Rattle.typed.specs.Carried.{IsCarried, IsNewLeaf}
 use Rattle.typed.specs.Fitting.{Stands}
-use Rattle.typed.proofs.Fitting.{contents_placed}
-use Rattle.typed.proofs.Places.{places}
 use Rattle.objects.specs.Owners.{Manager, owned_by}
-use Rattle.objects.specs.Placed.{IsPlacedState, Owns}
+use Rattle.objects.specs.Placed.{Owns}
 use Rattle.objects.specs.State.{State}
-use Rattle.ownership.specs.Apply.{all_paths}
 use Rattle.ownership.specs.Carry.{LeavesOwnedStill, LeavesPass, NobodyOwned, OthersStay}
-use Rattle.ownership.specs.Keeping.{LeavesOwned, is_end}
-use Rattle.ownership.proofs.Keeping.{all_found, one_below, some_below}
-use Rattle.ownership.proofs.Leaves.{Found, all_back}
-use Rattle.ownership.proofs.OneEnd.{one_end}
+use Rattle.ownership.specs.Keeping.{StoodUnowned, is_end}
+use Rattle.ownership.proofs.Keeping.{one_below, some_below}
+use Rattle.ownership.proofs.Leaves.{is_owned, owned_or_not, owned_paths, owner_of}
 
 pub front_of : (p q : PathTexts) → is_front p (p ++ q) ≡ true
 front_of [] q = refl
@@ -41,27 +34,7 @@ rest_of (e ∷ p) (f ∷ r) front =
     let rest = rest_of p r parts.1 in
     (rest.0, ap₂ (λ x xs. x ∷ xs) (sym ((bytes_eq-Decides e f).0 parts.0)) rest.1)
 
--- all that anybody owns
-abbrev owned_paths : State → PathSet
-owned_paths state = all_paths set.empty (fin.entries state.owners)
-
-is_owned : (state : State) (k : Manager) (p : PathTexts) → Owns state k p → set.contains (owned_paths state) p ≡ true
-unfolding owned_by
-is_owned state k p owns = all_found set.empty (fin.entries state.owners) k p (ap (λ o. set.contains (unwrap_or o set.empty) p) (sym (fin.get-entries state.owners k)) ∙ owns)
-
-owner_of : (state : State) (p : PathTexts) → set.contains (owned_paths state) p ≡ true → (k : Manager) × Owns state k p
-unfolding owned_by
-owner_of state p is = by_start (all_back set.empty (fin.entries state.owners) (fin.entries_sorted state.owners) p is)
-  where
-    by_start : (set.contains (set.empty {R = path_cmp}) p ≡ true) ⊎ Found (fin.entries state.owners) p → (k : Manager) × Owns state k p
-    by_start (inl bare) = absurd (true≢false (sym bare ∙ set.contains-empty path_cmp p))
-    by_start (inr found) = (found.0, ap (λ o. set.contains (unwrap_or o set.empty) p) (fin.get-entries state.owners found.0) ∙ found.1)
-
-end_is_some : (o : Option Place) → is_end o ≡ true → is_some o ≡ true
-end_is_some None h = absurd (true≢false (sym h))
-end_is_some (Some place) h = refl
-
-module _ (s t : Shape) (old new : State) (formed : is_well_formed s ≡ true) (placed : IsPlacedState s old) (carried : IsCarried s t old.content new.content) (pass : LeavesPass s t old new) (stay : OthersStay s t old new) where
+module _ (s t : Shape) (old new : State) (carried : IsCarried s t old.content new.content) (pass : LeavesPass s t old new) (stay : OthersStay s t old new) where
   module _ (p : PathTexts) where
     at_new_leaf : IsNewLeaf s t p → ((k : Manager) × Owns new k p) ⊎ IsNewLeaf s t p × NobodyOwned old p
     at_new_leaf is = by_test (has_at_or_below (owned_paths old) p) refl
@@ -79,13 +52,12 @@ module _ (s t : Shape) (old new : State) (formed : is_well_formed s ≡ true) (p
     is_apart other there above [] is same = other (subst (IsNewLeaf s t) (sym (same ∙ append-nil above)) is)
     is_apart other there above (e ∷ q) is same = true≢false (sym there ∙ ap (λ r. is_some (fin.get new.content r)) same ∙ ap is_some (carried.below above e q is))
 
-    elsewhere : (IsNewLeaf s t p → ⊥) → LeavesOwned s old → Stands new.content p → is_end (place_of t p) ≡ true → (k : Manager) × Owns new k p
-    elsewhere other owned there end =
-        let apart = is_apart other there in
-        let stood : Stands old.content p = ap is_some (sym (carried.kept p apart)) ∙ there in
-        let had : is_some (place_of s p) ≡ true = places s old.content ((contents_placed s old.content formed).0 placed.0) p stood in
-        let owner = owned p stood (one_end s t p had (end_is_some (place_of t p) end) ∙ end) in
-        (owner.0, stay owner.0 p owner.1 apart)
+    elsewhere : (IsNewLeaf s t p → ⊥) → Stands new.content p → ((k : Manager) × Owns new k p) ⊎ StoodUnowned old new p
+    elsewhere other there = by_owned (owned_or_not old p)
+      where
+        by_owned : ((k : Manager) × Owns old k p) ⊎ ((k : Manager) → ¬ (Owns old k p)) → ((k : Manager) × Owns new k p) ⊎ StoodUnowned old new p
+        by_owned (inl owner) = inl (owner.0, stay owner.0 p owner.1 (is_apart other there))
+        by_owned (inr nobody) = inr (carried.kept p (is_apart other there), nobody)
 
     by_places : (o n : Option Place) → place_of s p ≡ o → place_of t p ≡ n → IsNewLeaf s t p ⊎ (IsNewLeaf s t p → ⊥)
     by_places (Some place) n was is = inr (λ new. true≢false (sym (ap is_some was) ∙ ap is_some new.0))
@@ -99,8 +71,16 @@ module _ (s t : Shape) (old new : State) (formed : is_well_formed s ≡ true) (p
     by_places None None was is = inr (λ new. true≢false (sym (ap is_some new.1) ∙ ap is_some is))
 
   pub leaves_owned : LeavesOwnedStill s t old new
-  leaves_owned owned p there end = by_test (by_places p (place_of s p) (place_of t p) refl refl)
+  leaves_owned p there end = by_test (by_places p (place_of s p) (place_of t p) refl refl)
     where
-      by_test : IsNewLeaf s t p ⊎ (IsNewLeaf s t p → ⊥) → ((k : Manager) × Owns new k p) ⊎ IsNewLeaf s t p × NobodyOwned old p
-      by_test (inl is) = at_new_leaf p is
-      by_test (inr other) = inl (elsewhere p other owned there end)
+      by_leaf : ((k : Manager) × Owns new k p) ⊎ IsNewLeaf s t p × NobodyOwned old p → ((k : Manager) × Owns new k p) ⊎ StoodUnowned old new p ⊎ IsNewLeaf s t p × NobodyOwned old p
+      by_leaf (inl owner) = inl owner
+      by_leaf (inr nobody) = inr (inr nobody)
+
+      by_rest : ((k : Manager) × Owns new k p) ⊎ StoodUnowned old new p → ((k : Manager) × Owns new k p) ⊎ StoodUnowned old new p ⊎ IsNewLeaf s t p × NobodyOwned old p
+      by_rest (inl owner) = inl owner
+      by_rest (inr stood) = inr (inl stood)
+
+      by_test : IsNewLeaf s t p ⊎ (IsNewLeaf s t p → ⊥) → ((k : Manager) × Owns new k p) ⊎ StoodUnowned old new p ⊎ IsNewLeaf s t p × NobodyOwned old p
+      by_test (inl is) = by_leaf (at_new_leaf p is)
+      by_test (inr other) = by_rest (elsewhere p other there)

@@ -1,5 +1,5 @@
 -- What an update makes of the owners.
-use Rattle.std.proofs.Common.{◌≡◌, Bool, true, false, not, ◌&&◌, ◌||◌, Some, None, is_some, refl, sym, ap, ap₂, ◌∙◌, subst, true≢false}
+use Rattle.std.proofs.Common.{◌≡◌, Bool, true, false, not, ◌&&◌, ◌||◌, Some, None, is_some, inl, inr, ◌⊎◌, refl, sym, ap, ap₂, ◌∙◌, subst, true≢false}
 use Rattle.std.specs.FinMap as fin
 use Rattle.std.specs.FinSet as set
 use Rattle.std.specs.Option.{unwrap_or}
@@ -12,9 +12,10 @@ use Rattle.schema.specs.Shape.{Shape}
 use Rattle.objects.specs.Owners.{Manager, Owners, is_same, owned_by, taken_over}
 use Rattle.objects.specs.State.{State}
 use Rattle.objects.specs.Placed.{Stands, Owns, OwnedStand}
-use Rattle.ownership.specs.Keeping.{LeavesOwned}
+use Rattle.ownership.specs.Keeping.{LeavesOwned, StoodUnowned}
 use Rattle.ownership.specs.Update.{removed, updated}
 use Rattle.objects.proofs.Within.{left_true, right_true, both_true, same_manager-is}
+use Rattle.ownership.proofs.Leaves.{owned_or_not}
 use Rattle.ownership.proofs.Sameness.{same_value-is}
 use Rattle.objects.proofs.Taking.{empty-difference, owned_mine, owned_other}
 
@@ -133,24 +134,28 @@ module _ (live : State) (new : Content) (m : Manager) where
       (m, owns_mine p (contains-mine p ∙ or_left (set.contains (owned_by live.owners m) p && not (set.contains gone p)) (set.contains changes p) mine_is))
   owner_then p same stays k false is owned = (k, owns_other k p is owned (set.contains-union path_cmp_total changes gone p ∙ ap₂ (λ a b. a || b) same stays))
 
-  updated_leaves : (s : Shape) → LeavesOwned s live → LeavesOwned s (updated live new m)
+  updated_leaves : (s : Shape) → LeavesOwned s live (updated live new m)
   unfolding updated
-  updated_leaves s owned p there end = by_change (set.contains changes p) refl
+  updated_leaves s p there end = by_change (set.contains changes p) refl
     where
       now : is_some (fin.get new p) ≡ true
       now = there
 
-      by_change : (b : Bool) → set.contains changes p ≡ b → (k : Manager) × Owns (updated live new m) k p
-      by_change true is = (m, owns_mine p (contains-mine p ∙ or_right (set.contains (owned_by live.owners m) p && not (set.contains gone p)) (set.contains changes p) is))
+      by_change : (b : Bool) → set.contains changes p ≡ b → ((k : Manager) × Owns (updated live new m) k p) ⊎ StoodUnowned live (updated live new m) p
+      by_change true is = inl (m, owns_mine p (contains-mine p ∙ or_right (set.contains (owned_by live.owners m) p && not (set.contains gone p)) (set.contains changes p) is))
       by_change false is =
           let alike = same_value-is (fin.get new p) (fin.get live.content p) (and_not (is_some (fin.get new p)) (same_value (fin.get new p) (fin.get live.content p)) (sym (contains-changed new live.content p) ∙ is) now) in
-          let owner = owned p (ap is_some (sym alike) ∙ now) end in
-          owner_then p is (contains-gone p ∙ and_none (is_some (fin.get live.content p)) (is_some (fin.get new p)) now) owner.0 (is_same m owner.0) refl owner.1
+          by_owned (contains-gone p ∙ and_none (is_some (fin.get live.content p)) (is_some (fin.get new p)) now) alike (owned_or_not live p)
+        where
+          by_owned : set.contains gone p ≡ false → fin.get new p ≡ fin.get live.content p → ((k : Manager) × Owns live k p) ⊎ ((k : Manager) → ¬ (Owns live k p))
+              → ((k : Manager) × Owns (updated live new m) k p) ⊎ StoodUnowned live (updated live new m) p
+          by_owned stays alike (inl owner) = inl (owner_then p is stays owner.0 (is_same m owner.0) refl owner.1)
+          by_owned stays alike (inr nobody) = inr (alike, nobody)
 
 -- ---- of the state that an update answers
 module _ (live : State) (new : Content) (m : Manager) (after : State) (is : after ≡ updated live new m) where
   pub update_stands : OwnedStand live → OwnedStand after
   update_stands before = subst OwnedStand (sym is) (updated_stand live new m before)
 
-  pub update_leaves : (s : Shape) → LeavesOwned s live → LeavesOwned s after
-  update_leaves s owned = subst (LeavesOwned s) (sym is) (updated_leaves live new m s owned)
+  pub update_leaves : (s : Shape) → LeavesOwned s live after
+  update_leaves s = subst (LeavesOwned s live) (sym is) (updated_leaves live new m s)

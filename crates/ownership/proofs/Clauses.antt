@@ -19,8 +19,8 @@ module _ (live : State) (body : Content) (m : Manager) (force : Bool) (new : Sta
   pub keeps_standing : OwnedStand live → OwnedStand new
   keeps_standing before = subst OwnedStand (sym is) (owned_stand live body m before)
 
-  pub keeps_leaves : (s : Shape) → HasPlaces s live.content → HasPlaces s body → OwnedStand live → LeavesOwned s live → LeavesOwned s new
-  keeps_leaves s places body_places before owned = subst (LeavesOwned s) (sym is) (leaves_owned live body m s places body_places before owned)
+  pub keeps_leaves : (s : Shape) → HasPlaces s live.content → HasPlaces s body → OwnedStand live → LeavesOwned s live new
+  keeps_leaves s places body_places before = subst (LeavesOwned s live) (sym is) (leaves_owned live body m s places body_places before)
 
   pub keeps_places : (s : Shape) → HasPlaces s live.content → HasPlaces s body → HasPlaces s new.content
   keeps_places s places body_places = subst (λ x. HasPlaces s x.content) (sym is) (places_kept live body m s places body_places)

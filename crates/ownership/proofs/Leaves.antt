@@ -1,4 +1,4 @@
--- An apply leaves no leaf and no set item without an owner.
+-- An apply leaves no leaf and no set item without an owner that had one or is written.
 use Rattle.std.proofs.Common.{◌≡◌, Bool, true, false, cond, not, ◌&&◌, ◌||◌, [], ◌∷◌, Option, Some, None, is_some, inl, inr, ◌⊎◌, refl, sym, ap, ap₂, ◌∙◌, subst, T, true≢false}
 use Rattle.std.specs.FinMap as fin
 use Rattle.std.specs.FinMap.{find, is_sorted}
@@ -18,10 +18,10 @@ use Rattle.objects.specs.Owners.{Manager, is_same, owned_by, others, manager_cmp
 use Rattle.objects.specs.State.{State}
 use Rattle.ownership.specs.Apply.{all_paths, applied, dropped}
 use Rattle.objects.specs.Placed.{Owns, OwnedStand}
-use Rattle.ownership.specs.Keeping.{HasPlaces, LeavesOwned, is_end}
+use Rattle.ownership.specs.Keeping.{HasPlaces, LeavesOwned, StoodUnowned, is_end}
 use Rattle.ownership.proofs.Ends.{ends}
 use Rattle.objects.proofs.Entries.{Pairs, fst, snd}
-use Rattle.ownership.proofs.Keeping.{front_itself, some_below, one_above, still_owned}
+use Rattle.ownership.proofs.Keeping.{all_found, front_itself, some_below, one_above, still_owned}
 use Rattle.objects.proofs.Within.{same_manager-is}
 use Rattle.objects.proofs.Taking.{none_above, find-others, sorted-others, owned_mine}
 use Rattle.objects.proofs.Orders.{manager_total, manager_antisymmetric}
@@ -56,6 +56,30 @@ all_back s (e ∷ es) h q is = by_rest (all_back (set.union e.1 s) es (snd _ _ h
     by_rest : (set.contains (set.union e.1 s) q ≡ true) ⊎ Found es q → (set.contains s q ≡ true) ⊎ Found (e ∷ es) q
     by_rest (inl is) = by_first (set.contains e.1 q) (set.contains s q) refl (sym (set.contains-union path_cmp_total e.1 s q) ∙ is) refl
     by_rest (inr (k, is)) = inr (later k (eq_by_cmp manager_cmp k e.0) refl is)
+
+-- all that anybody owns
+abbrev pub owned_paths : State → PathSet
+owned_paths state = all_paths set.empty (fin.entries state.owners)
+
+pub is_owned : (state : State) (k : Manager) (p : PathTexts) → Owns state k p → set.contains (owned_paths state) p ≡ true
+unfolding owned_by
+is_owned state k p owns = all_found set.empty (fin.entries state.owners) k p (ap (λ o. set.contains (unwrap_or o set.empty) p) (sym (fin.get-entries state.owners k)) ∙ owns)
+
+pub owner_of : (state : State) (p : PathTexts) → set.contains (owned_paths state) p ≡ true → (k : Manager) × Owns state k p
+unfolding owned_by
+owner_of state p is = by_start (all_back set.empty (fin.entries state.owners) (fin.entries_sorted state.owners) p is)
+  where
+    by_start : (set.contains (set.empty {R = path_cmp}) p ≡ true) ⊎ Found (fin.entries state.owners) p → (k : Manager) × Owns state k p
+    by_start (inl bare) = absurd (true≢false (sym bare ∙ set.contains-empty path_cmp p))
+    by_start (inr found) = (found.0, ap (λ o. set.contains (unwrap_or o set.empty) p) (fin.get-entries state.owners found.0) ∙ found.1)
+
+-- somebody owns a path, or nobody does
+pub owned_or_not : (state : State) (p : PathTexts) → ((k : Manager) × Owns state k p) ⊎ ((k : Manager) → ¬ (Owns state k p))
+owned_or_not state p = by_test (set.contains (owned_paths state) p) refl
+  where
+    by_test : (b : Bool) → set.contains (owned_paths state) p ≡ b → ((k : Manager) × Owns state k p) ⊎ ((k : Manager) → ¬ (Owns state k p))
+    by_test true is = inl (owner_of state p is)
+    by_test false is = inr (λ k owns. true≢false (sym (is_owned state k p owns) ∙ is))
 
 module _ (live : State) (body : Content) (m : Manager) (s : Shape) (places : HasPlaces s live.content) (body_places : HasPlaces s body) (standing : OwnedStand live) (p : PathTexts)
     (end : is_end (place_of s p) ≡ true) (absent : fin.get body p ≡ None) where
@@ -120,7 +144,7 @@ module _ (live : State) (body : Content) (m : Manager) where
           places p (some_of (has_at_or_above (dropped live body m) p) (fin.get live.content p)
           (sym (ap is_some (after-is p ∙ ap (λ o. cond (has_at_or_above (dropped live body m) p) None (either o (fin.get live.content p))) is)) ∙ there))
 
-module _ (live : State) (body : Content) (m : Manager) (s : Shape) (places : HasPlaces s live.content) (body_places : HasPlaces s body) (standing : OwnedStand live) (owned : LeavesOwned s live) where
+module _ (live : State) (body : Content) (m : Manager) (s : Shape) (places : HasPlaces s live.content) (body_places : HasPlaces s body) (standing : OwnedStand live) where
   mine : (p : PathTexts) → is_some (fin.get body p) ≡ true → Owns (applied live body m) m p
   unfolding applied
   mine p is = ap (λ t. set.contains t p) (owned_mine live.owners m (changed body live.content) (dom body)) ∙ contains-dom body p ∙ is
@@ -129,14 +153,19 @@ module _ (live : State) (body : Content) (m : Manager) (s : Shape) (places : Has
   free_of true o h = absurd (true≢false (sym h))
   free_of false o h = refl
 
-  pub leaves_owned : LeavesOwned s (applied live body m)
+  pub leaves_owned : LeavesOwned s live (applied live body m)
   leaves_owned p there end = by_body (fin.get body p) refl
     where
-      by_body : (o : Option Standing) → fin.get body p ≡ o → (k : Manager) × Owns (applied live body m) k p
-      by_body (Some v) is = (m, mine p (ap is_some is))
-      by_body None is =
-          let stood = sym (ap is_some (after-is live body m p ∙ ap (λ o. cond (has_at_or_above (dropped live body m) p) None (either o (fin.get live.content p))) is)) ∙ there in
-          let free = free_of (has_at_or_above (dropped live body m) p) (fin.get live.content p) stood in
-          let was = sym (ap (λ b. is_some (cond b None (fin.get live.content p))) free) ∙ stood in
-          let owner = owned p was end in
-          by_owner live body m s places body_places standing p end is free owner.0 (is_same m owner.0) refl owner.1
+      by_body : (o : Option Standing) → fin.get body p ≡ o → ((k : Manager) × Owns (applied live body m) k p) ⊎ StoodUnowned live (applied live body m) p
+      by_body (Some v) is = inl (m, mine p (ap is_some is))
+      by_body None is = by_owned (owned_or_not live p)
+        where
+          after : fin.get (applied live body m).content p ≡ cond (has_at_or_above (dropped live body m) p) None (fin.get live.content p)
+          after = after-is live body m p ∙ ap (λ o. cond (has_at_or_above (dropped live body m) p) None (either o (fin.get live.content p))) is
+
+          free : has_at_or_above (dropped live body m) p ≡ false
+          free = free_of (has_at_or_above (dropped live body m) p) (fin.get live.content p) (sym (ap is_some after) ∙ there)
+
+          by_owned : ((k : Manager) × Owns live k p) ⊎ ((k : Manager) → ¬ (Owns live k p)) → ((k : Manager) × Owns (applied live body m) k p) ⊎ StoodUnowned live (applied live body m) p
+          by_owned (inl owner) = inl (by_owner live body m s places body_places standing p end is free owner.0 (is_same m owner.0) refl owner.1)
+          by_owned (inr nobody) = inr (after ∙ ap (λ b. cond b None (fin.get live.content p)) free, nobody)

@@ -9,7 +9,6 @@ pub mod Placed
 pub mod Clauses
 pub mod Changing
 pub mod Sides
-pub mod OneEnd
 pub mod CarriedLeaves
 pub mod Carried
 pub mod CarriedStates

@@ -11,7 +11,7 @@ use Rattle.objects.specs.Carried.{carried_owners}
 use Rattle.objects.specs.Owners.{Manager}
 use Rattle.objects.specs.Placed.{IsPlacedState, Owns, Stands}
 use Rattle.objects.specs.State.{State}
-use Rattle.ownership.specs.Keeping.{LeavesOwned, is_end}
+use Rattle.ownership.specs.Keeping.{StoodUnowned, is_end}
 use Rattle.ownership.specs.Sides.{OwnSides}
 
 -- the leaves that were made of what stood at or below them
@@ -38,11 +38,11 @@ OthersStay s t old new = (k : Manager) (p : PathTexts) → Owns old k p → ((ab
 abbrev pub NobodyOwned : State → PathTexts → Type 0
 NobodyOwned old p = (k : Manager) (q : PathTexts) → ¬ (Owns old k (p ++ q))
 
--- each leaf and each set item has an owner, if it was so before, but a new leaf that was made of items inside which nobody owned anything
+-- each leaf and each set item has an owner, unless it stood before, with this value, without one, or is a new leaf that was made of items inside
+-- which nobody owned anything
 abbrev pub LeavesOwnedStill : Shape → Shape → State → State → Type 0
 LeavesOwnedStill s t old new =
-    LeavesOwned s old → (p : PathTexts) → Stands new.content p → is_end (place_of t p) ≡ true
-    → ((k : Manager) × Owns new k p) ⊎ IsNewLeaf s t p × NobodyOwned old p
+    (p : PathTexts) → Stands new.content p → is_end (place_of t p) ≡ true → ((k : Manager) × Owns new k p) ⊎ StoodUnowned old new p ⊎ IsNewLeaf s t p × NobodyOwned old p
 
 -- what a carry promises
 pub record Carries (s t : Shape) (old new : State) : Type 0 where

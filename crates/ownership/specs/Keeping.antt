@@ -1,5 +1,5 @@
 -- What an apply keeps (Server-Side Apply, "Field management", "Conflicts", "Transferring ownership").
-use Rattle.std.specs.Prelude.{◌≡◌, Bool, true, false, [], Option, Some, None, is_some}
+use Rattle.std.specs.Prelude.{◌≡◌, ◌⊎◌, Bool, true, false, [], Option, Some, None, is_some}
 use Rattle.std.specs.FinMap as fin
 use Rattle.fieldpath.specs.Paths.{PathTexts}
 use Rattle.pathmap.specs.Contents.{Content}
@@ -27,9 +27,13 @@ is_end (Some Leaf) = true
 is_end (Some SetItem) = true
 is_end (Some MapItem) = false
 
--- each leaf and each set item of the content has an owner
-abbrev pub LeavesOwned : Shape → State → Type 0
-LeavesOwned s state = (p : PathTexts) → Stands state.content p → is_end (place_of s p) ≡ true → (k : Manager) × Owns state k p
+-- it stood before, with this value, and nobody owned it
+abbrev pub StoodUnowned : State → State → PathTexts → Type 0
+StoodUnowned old new p = (fin.get new.content p ≡ fin.get old.content p) × ((k : Manager) → ¬ (Owns old k p))
+
+-- each leaf and each set item of the new content has an owner, unless it stood before, with this value, without one
+abbrev pub LeavesOwned : Shape → State → State → Type 0
+LeavesOwned s old new = (p : PathTexts) → Stands new.content p → is_end (place_of s p) ≡ true → ((k : Manager) × Owns new k p) ⊎ StoodUnowned old new p
 
 -- the same apply, with or without force, finds no conflict and changes nothing
 abbrev pub IsSettled : State → Content → Manager → Type 0

@@ -140,7 +140,7 @@ pub fn apply(
     ensures apart { OwnSides (state_of live.now) → IfOk result (λ o. OtherSideStays subresource (state_of live.now) (state_of o)) }
     ensures places { (s : Shape) → HasPlaces s live.now.tree → HasPlaces s config → IfOk result (λ o. HasPlaces s o.tree) }
     ensures stand { OwnedStand (state_of live.now) → IfOk result (λ o. OwnedStand (state_of o)) }
-    ensures leaves { (s : Shape) → HasPlaces s live.now.tree → HasPlaces s config → OwnedStand (state_of live.now) → LeavesOwned s (state_of live.now) → IfOk result (λ o. LeavesOwned s (state_of o)) }
+    ensures leaves { (s : Shape) → HasPlaces s live.now.tree → HasPlaces s config → OwnedStand (state_of live.now) → IfOk result (λ o. LeavesOwned s (state_of live.now) (state_of o)) }
     ensures placed { (s : Shape) → IsContent s config → IsPlacedState s (state_of live.now) → IfOk result (λ o. IsPlacedState s (state_of o)) }
     ensures again { IfOk result (λ o. IsSettled (state_of o) (own_part subresource config) (manager_by manager.now apply_operation subresource)) }
 {

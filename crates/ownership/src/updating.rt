@@ -72,7 +72,7 @@ pub fn update(
     ensures apart { OwnSides (state_of live.now) → IfOk result (λ o. OtherSideStays subresource (state_of live.now) (state_of o)) }
     ensures stand { OwnedStand (state_of live.now) → IfOk result (λ o. OwnedStand (state_of o)) }
     ensures placed { (s : Shape) → IsContent s new → IsPlacedState s (state_of live.now) → IfOk result (λ o. IsPlacedState s (state_of o)) }
-    ensures leaves { (s : Shape) → LeavesOwned s (state_of live.now) → IfOk result (λ o. LeavesOwned s (state_of o)) }
+    ensures leaves { (s : Shape) → IfOk result (λ o. LeavesOwned s (state_of live.now) (state_of o)) }
 {
     let manager = Manager::by(alloc, manager, Operation::Update, subresource)?;
     let new = beside_others(alloc, subresource, new, &live.tree)?;

@@ -26,7 +26,7 @@ returns-then-is_refused c =
       apart = λ before. tt;
       places = λ s places body_places. tt;
       stand = λ before. tt;
-      leaves = λ s places body_places before owned. tt;
+      leaves = λ s places body_places before. tt;
       placed = λ s content placed. tt;
       again = tt;
     }
