@@ -1,5 +1,5 @@
 -- The row of the two numbers: what the query finds.
-use Rattle.std.proofs.Common.{◌≡◌, ℕ, pos, List, [], ◌∷◌, map, Some, sym, ap, subst, ◌∙◌, IsPermutation, slice_get, unwrap_or}
+use Rattle.std.proofs.Common.{◌≡◌, ℕ, pos, List, [], ◌∷◌, map, Some, None, is_some, sym, ap, subst, ◌∙◌, IsPermutation, slice_get, true≢false, unwrap_or}
 use Rattle.std.specs.List.{flat_map}
 use Rattle.sqlite.specs.declared.types.Value.TheVariants.{Null, Int}
 use Rattle.sqlite.specs.Order.{Row}
@@ -28,6 +28,13 @@ finds_marks db c p rows is h =
 pub marks_are : (rows : List Row) (row : Row) (c p : ℕ) → rows ≡ (Int (pos c) ∷ Int (pos p) ∷ []) ∷ [] → Some row ≡ slice_get rows 0 → marks_shown row ≡ (c, p)
 marks_are rows row c p is first = ap (λ o. marks_shown (unwrap_or o [])) (first ∙ ap (λ l. slice_get l 0) is)
 
+asked_rows : (st : Stored) (rows : List Row) → IsAnswer marks_text [] st rows → rows ≡ (Int (pos st.current) ∷ Int (pos st.compacted) ∷ []) ∷ []
+asked_rows st rows h = finds_marks h.0 st.current st.compacted rows h.1.marks (subst (λ k. Reads k h.0 [] rows) (sym (same_command (understood the_schema marks_text)) ∙ marks_is.0) h.2)
+
 pub asked_marks : (st : Stored) (rows : List Row) (row : Row) → IsAnswer marks_text [] st rows → Some row ≡ slice_get rows 0 → marks_shown row ≡ (st.current, st.compacted)
 asked_marks st rows row h first =
-    marks_are rows row st.current st.compacted (finds_marks h.0 st.current st.compacted rows h.1.marks (subst (λ k. Reads k h.0 [] rows) (sym (same_command (understood the_schema marks_text)) ∙ marks_is.0) h.2)) first
+    marks_are rows row st.current st.compacted (asked_rows st rows h) first
+
+-- there is one
+pub asked_one : (st : Stored) (rows : List Row) → IsAnswer marks_text [] st rows → None ≡ slice_get rows 0 → ⊥
+asked_one st rows h none = true≢false (sym (ap is_some (none ∙ ap (λ l. slice_get l 0) (asked_rows st rows h))))

@@ -152,7 +152,7 @@ impl<S: Alter> ChangeLog<S> {
     {
         let rows = self.ask("SELECT current, compacted FROM marks", &[])?;
         match rows.first() {
-            None => Err(Fault::Store),
+            None => unreachable!(),
             Some(row) => Ok(read_marks(row)?),
         }
     }

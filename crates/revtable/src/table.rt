@@ -243,7 +243,7 @@ impl Table {
     {
         let rows = self.counted()?;
         match rows.first() {
-            None => Err(Fault::Store),
+            None => unreachable!(),
             Some(row) => Ok(row.get(0)?),
         }
     }
