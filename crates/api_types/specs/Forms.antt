@@ -32,10 +32,13 @@ form_of object_type ms = if object_fits ms then option_map object_form (map_type
 form_of array_type ms = if list_fits ms then option_map list_form (list_type ms) else None
 form_of (scalar_type s) ms = if scalar_fits ms then Some (scalar_form s) else None
 
--- its own refusals by number
-abbrev pub own_form : ℕ → Members → Result Form Refusal
-own_form depth ms =
-    if not (has_only keywords ms) then Err unknown_keyword
-    else and_then (some_or unknown_type (type_in ms)) (λ t.
+-- what it says without its unknown keywords, or its other own refusals by number
+abbrev pub known_form : ℕ → Members → Result Form Refusal
+known_form depth ms =
+    and_then (some_or unknown_type (type_in ms)) (λ t.
     and_then (some_or misfit (form_of t ms)) (λ form.
     if nat_le depth max_depth then Ok form else Err too_deep))
+
+-- its own refusals by number
+abbrev pub own_form : ℕ → Members → Result Form Refusal
+own_form depth ms = if not (has_only keywords ms) then Err unknown_keyword else known_form depth ms

@@ -39,6 +39,16 @@ Fails fault.SameNames answer = answer ≡ Err same_names
 Fails fault.NotTheForm answer = answer ≡ Err not_the_form
 Fails fault.Memory answer = Unit {0}
 
+-- a fault tells the refusal, and is not out of memory
+abbrev pub Tells : TypesFault → Refusal → Type 0
+Tells fault.UnknownKeyword e = e ≡ unknown_keyword
+Tells fault.UnknownType e = e ≡ unknown_type
+Tells fault.Misfit e = e ≡ misfit
+Tells fault.TooDeep e = e ≡ too_deep
+Tells fault.SameNames e = e ≡ same_names
+Tells fault.NotTheForm e = e ≡ not_the_form
+Tells fault.Memory e = ⊥
+
 -- what a call returned, by its view, is what the definition answers, or memory ran out
 abbrev pub Gives : {X Y : Type 0} → (X → Y) → Result X TypesFault → Result Y Refusal → Type 0
 Gives view (Ok x) answer = answer ≡ Ok (view x)

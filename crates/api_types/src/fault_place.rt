@@ -1,5 +1,10 @@
 //! Where a types file breaks a rule: the type, and the part of its schema. What finds it stands in `locate`.
+ghost use Rattle.std.specs.Prelude.{◌≡◌, IfOk};
+ghost use Rattle.serde_json.specs.Data.{Members};
+ghost use Rattle.api_types.specs.FaultPlaces.{behind};
 
+use crate::fault::TypesFault;
+use std::alloc::AllocError;
 use std::fmt;
 
 /// A step from a schema to one behind it.
@@ -11,6 +16,19 @@ pub enum Step {
     Values,
     /// To `items`, the items of a list.
     Items,
+}
+
+impl Step {
+    /// The same step once more.
+    pub(crate) fn try_copy(&self) -> Result<Step, AllocError>
+        ensures { IfOk result (λ s. (ms : Members) → behind s ms ≡ behind self.now ms) }
+    {
+        match self {
+            Step::Property(name) => Ok(Step::Property(name.clone()?)),
+            Step::Values => Ok(Step::Values),
+            Step::Items => Ok(Step::Items),
+        }
+    }
 }
 
 impl fmt::Display for Step {
@@ -30,6 +48,8 @@ pub struct Part {
     pub steps: Vec<Step>,
     /// The keyword that is unknown, or the name of the unknown type.
     pub word: Option<String>,
+    /// It is a type's schema, and an object without `properties`.
+    pub is_without_properties: bool,
 }
 
 /// Where a types file breaks a rule.
@@ -70,4 +90,13 @@ impl fmt::Display for FaultPlace {
         }
         Ok(())
     }
+}
+
+/// A fault of a types file with its place.
+#[derive(Debug, Drop)]
+pub struct PlacedFault {
+    /// The rule that is broken.
+    pub fault: TypesFault,
+    /// Where.
+    pub place: FaultPlace,
 }

@@ -1,5 +1,5 @@
 //! Reads a types file: its form, its types and their names. The schema of a type is read in `read`.
-ghost use Rattle.std.specs.Prelude.{◌≡◌, ℕ, List, true, false, IfOk, OnOk, string_bytes, codes, map, length, vec_len, ◌≤◌};
+ghost use Rattle.std.specs.Prelude.{◌≡◌, ℕ, List, true, false, IfErr, IfOk, OnOk, string_bytes, codes, map, length, vec_len, ◌≤◌};
 ghost use Rattle.serde_json.specs.Find.{as_object};
 ghost use Rattle.serde_json.specs.View.{view, items_view, members_view};
 ghost use Rattle.schema.specs.Shape.{shape, map_of, text, fields_in};
@@ -9,6 +9,7 @@ ghost use Rattle.json_values.specs.Members.{text_at};
 ghost use Rattle.api_types.specs.TypesFile.{text_where, fields_of, is_envelope, own_properties, put_field, type_shape, type_of, types_of, listed};
 ghost use Rattle.api_types.specs.Served.{served};
 ghost use Rattle.api_types.specs.Seen.{Gives};
+ghost use Rattle.api_types.specs.declared.fault.TypesFault.TheVariants.{NotTheForm};
 ghost use Rattle.api_types.specs.Depths.{AreFieldsAt};
 ghost use Rattle.schema.specs.Lawful.{names_of};
 ghost use Rattle.schema.specs.ObjectShape.{IsObjectShape, metadata};
@@ -194,6 +195,7 @@ pub(crate) fn read_types(alloc: Global, values: &[Value]) -> Result<Vec<Served>,
 pub(crate) fn listed(file: &Value) -> Result<&Vec<Value>, TypesFault>
     ensures listed { Gives (λ v. items_view v.now.items) result (listed (view file.now)) }
     ensures few { IfOk result (λ v. vec_len v.now ≤ 4294967295) }
+    ensures form { IfErr result (λ fault. fault ≡ NotTheForm) }
 {
     let Some(members) = file.as_object() else {
         return Err(TypesFault::NotTheForm);

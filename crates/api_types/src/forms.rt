@@ -4,7 +4,7 @@ ghost use Rattle.serde_json.specs.View.{items_view, members_view};
 ghost use Rattle.fieldpath.specs.Scalars.{ascend};
 ghost use Rattle.schema.specs.Shape.{Shape, kind_of};
 ghost use Rattle.api_types.specs.Keywords.{texts_in, key_names, is_scalar_schema, have_scalars, is_keyed_struct, atomic_kind, set_kind, keyed_kind, list_type, object_type, array_type, scalar_type};
-ghost use Rattle.api_types.specs.Forms.{scalar_form, object_fits, list_fits, scalar_fits, form_of, own_form};
+ghost use Rattle.api_types.specs.Forms.{scalar_form, object_fits, list_fits, scalar_fits, form_of, known_form, own_form};
 ghost use Rattle.api_types.specs.Refusals.{misfit, some_or};
 ghost use Rattle.api_types.specs.Seen.{type_name, form_view, Gives};
 
@@ -220,6 +220,25 @@ fn form_of(alloc: Global, name: TypeName, schema: &Map<String, Value>) -> Result
     }
 }
 
+/// What a schema says at this depth, its parts and its unknown keywords apart, or its own first fault.
+pub(crate) fn known_form(
+    alloc: Global,
+    depth: usize,
+    schema: &Map<String, Value>,
+) -> Result<Form, TypesFault>
+    ensures form { Gives form_view result (known_form depth (members_view schema.now.entries)) }
+    ensures within { OnOk result (depth ≤ 16) }
+{
+    let Some(name) = type_in(schema) else {
+        return Err(TypesFault::UnknownType);
+    };
+    let form = form_of(alloc, name, schema)?;
+    if depth > MAX_DEPTH {
+        return Err(TypesFault::TooDeep);
+    }
+    Ok(form)
+}
+
 /// What a schema says at this depth, its parts apart, or its own first fault.
 pub(crate) fn own_form(
     alloc: Global,
@@ -232,12 +251,5 @@ pub(crate) fn own_form(
     if !has_only(schema, &KEYWORDS) {
         return Err(TypesFault::UnknownKeyword);
     }
-    let Some(name) = type_in(schema) else {
-        return Err(TypesFault::UnknownType);
-    };
-    let form = form_of(alloc, name, schema)?;
-    if depth > MAX_DEPTH {
-        return Err(TypesFault::TooDeep);
-    }
-    Ok(form)
+    known_form(alloc, depth, schema)
 }

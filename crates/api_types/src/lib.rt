@@ -24,9 +24,9 @@ mod types;
 
 pub use change_laws::lawful_changes;
 pub use fault::TypesFault;
-pub use fault_place::{FaultPlace, Part, Step};
+pub use fault_place::{FaultPlace, Part, PlacedFault, Step};
 pub use lawful::is_lawful;
-pub use locate::first_place;
+pub use locate::all_places;
 pub use retyping::{ChangeFault, Retyping};
 pub use served::Served;
 pub use types::Types;

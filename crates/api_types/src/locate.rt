@@ -1,188 +1,265 @@
-//! Finds where a types file breaks a rule, in the order in which the file is read. The reading itself stands in `file` and
+//! Finds where a types file breaks rules, in the order in which the file is read. The reading itself stands in `file` and
 //! `read`.
-ghost use Rattle.std.specs.Prelude.{◌≡◌, ◌≤◌, ◌∷◌, [], IfOk, IfSome, OnOk, None, Some, codes, option_map, true};
-ghost use Rattle.serde_json.specs.Data.{Members, object};
-ghost use Rattle.serde_json.specs.View.{items_view, members_view, view};
+ghost use Rattle.std.specs.Prelude.{◌≡◌, ◌≤◌, ◌+◌, ℕ, List, ◌∷◌, [], IfOk, IfSome, None, Some, codes, is_some, option_map, true, ◌++◌};
+ghost use Rattle.std.specs.List.{All};
+ghost use Rattle.serde_json.specs.Data.{Data, Members, object};
+ghost use Rattle.serde_json.specs.Find.{as_object, get_member};
 ghost use Rattle.json_values.specs.Members.{members_at};
-ghost use Rattle.api_types.specs.FaultPlaces.{BreaksAt, IsPlaceAmong, IsPlaceOf, TypeBreaks, behind, says};
-ghost use Rattle.api_types.specs.Seen.{form_view, Gives};
+ghost use Rattle.serde_json.specs.View.{items_view, members_view, view};
+ghost use Rattle.api_types.specs.FaultPlaces.{AreBroken, AreBrokenIn, BreaksAt, IsPlaceAmong, IsPlaceOf, IsRefusedBy, IsToldOf, TellsFile, TellsType, TellsTypes, TypeBreaks, behind};
+ghost use Rattle.api_types.specs.TypesFile.{listed, type_of, type_properties};
+ghost use Rattle.api_types.specs.Seen.{form_view};
+ghost use Rattle.api_types.specs.declared.fault_place.PlacedFault.{PlacedFault};
 
 use crate::fault::TypesFault;
-use crate::fault_place::{FaultPlace, Part, Step};
+use crate::fault_place::{FaultPlace, Part, PlacedFault, Step};
 use crate::file::{group_of, is_envelope, listed, plural_of, read_type, version_of};
-use crate::forms::{Form, own_form};
-use crate::keywords::KEYWORDS;
-use json_values::{member, members_at, text_at};
+use crate::forms::{Form, known_form};
+use crate::keywords::{KEYWORDS, has_only};
+use crate::lawful::MAX_DEPTH;
+use json_values::{copied, member, members_at, text_at};
 use schema::is_in;
 use serde_json::{Map, Value};
 use std::alloc::{AllocError, Global};
 
-/// What a schema says at a depth, its parts apart; a type's own, at depth 1, is a granular object with properties.
-fn says(alloc: Global, depth: usize, schema: &Map<String, Value>) -> Result<Form, TypesFault>
-    ensures form { Gives form_view result (says depth (members_view schema.now.entries)) }
-    ensures within { OnOk result (depth ≤ 16) }
-{
-    let form = own_form(alloc, depth, schema)?;
-    let is_granular = matches!(form, Form::Object(false));
-    if depth == 1 && !(is_granular && members_at(schema, "properties").is_some()) {
-        return Err(TypesFault::Misfit);
-    }
-    Ok(form)
+/// A part of a schema, and the rule that it breaks.
+#[derive(Debug, Drop)]
+struct Broken {
+    fault: TypesFault,
+    part: Part,
 }
 
-/// The first keyword that is unknown, or the name of the unknown type, by the fault.
-fn word_of<'a>(fault: TypesFault, schema: &'a Map<String, Value>) -> Option<&'a str> {
-    if fault == TypesFault::UnknownType {
-        return text_at(schema, "type");
-    }
-    if fault == TypesFault::UnknownKeyword {
-        for name in schema.keys() {
-            if !is_in(&KEYWORDS, name.as_str()) {
-                return Some(name.as_str());
-            }
-        }
-    }
-    None
-}
-
-fn copied(alloc: Global, word: Option<&str>) -> Result<Option<String>, AllocError> {
-    match word {
-        Some(word) => Ok(Some(String::from_str(alloc, word)?)),
-        None => Ok(None),
-    }
-}
-
-/// The schema itself, where its own fault is the one that is looked for.
+/// The schema itself, with the word that is unknown.
 fn here(
     alloc: Global,
     fault: TypesFault,
-    own: TypesFault,
     word: Option<&str>,
-) -> Result<Option<Part>, AllocError>
-    ensures { IfOk result (λ o. IfSome o (λ part. (part.steps.items ≡ []) × (own ≡ fault))) }
+    is_without_properties: bool,
+) -> Result<Broken, AllocError>
+    ensures { IfOk result (λ broken. (broken.fault ≡ fault) × (broken.part.steps.items ≡ [])) }
 {
-    if own == TypesFault::Memory {
-        return Err(AllocError);
+    let word = copied(alloc, word)?;
+    Ok(Broken {
+        fault,
+        part: Part {
+            steps: Vec::new(alloc),
+            word,
+            is_without_properties,
+        },
+    })
+}
+
+/// Each keyword of a schema that is unknown.
+fn unknown_keywords(
+    alloc: Global,
+    depth: usize,
+    schema: &Map<String, Value>,
+) -> Result<Vec<Broken>, AllocError>
+    ensures { IfOk result (λ v. AreBroken depth (object (members_view schema.now.entries)) v.items) }
+{
+    let mut found = Vec::new(alloc);
+    if has_only(schema, &KEYWORDS) {
+        return Ok(found);
     }
-    if own != fault {
+    for name in schema.keys() {
+        if !is_in(&KEYWORDS, name.as_str()) {
+            let word = Some(name.as_str());
+            found.push(here(alloc, TypesFault::UnknownKeyword, word, false)?)?;
+        }
+    }
+    Ok(found)
+}
+
+/// The name of the type where it is unknown.
+fn word_of<'a>(fault: TypesFault, schema: &'a Map<String, Value>) -> Option<&'a str> {
+    match fault {
+        TypesFault::UnknownType => text_at(schema, "type"),
+        _ => None,
+    }
+}
+
+fn is_granular(form: &Form) -> bool {
+    matches!(form, Form::Object(false))
+}
+
+/// Whether the schema of a type may have this form: it is a granular object with properties.
+fn is_of_type(form: &Form, schema: &Map<String, Value>) -> bool
+    ensures { result ≡ is_some (type_properties (form_view form.now) (members_view schema.now.entries)) }
+{
+    match form {
+        Form::Object(false) => members_at(schema, "properties").is_some(),
+        _ => false,
+    }
+}
+
+/// What the other keywords of a schema break.
+fn form_fault(
+    alloc: Global,
+    depth: usize,
+    schema: &Map<String, Value>,
+) -> Result<Option<Broken>, AllocError>
+    ensures { IfOk result (λ o. IfSome o (λ broken. BreaksAt broken.fault depth broken.part.steps.items (object (members_view schema.now.entries)))) }
+{
+    let form = match known_form(alloc, depth, schema) {
+        Ok(form) => form,
+        Err(TypesFault::Memory) => return Err(AllocError),
+        Err(own) => return Ok(Some(here(alloc, own, word_of(own, schema), false)?)),
+    };
+    if depth != 1 || is_of_type(&form, schema) {
         return Ok(None);
     }
-    let word = copied(alloc, word)?;
-    Ok(Some(Part {
-        steps: Vec::new(alloc),
-        word,
-    }))
+    Ok(Some(here(alloc, TypesFault::Misfit, None, is_granular(&form))?))
 }
 
-/// A part behind one step more.
-fn step_more(step: Step, part: Part) -> Result<Part, AllocError>
-    ensures { IfOk result (λ more. more.steps.items ≡ step ∷ part.steps.items) }
+/// What the schema's own keywords break.
+fn own_faults(
+    alloc: Global,
+    depth: usize,
+    schema: &Map<String, Value>,
+) -> Result<Vec<Broken>, AllocError>
+    ensures { IfOk result (λ v. AreBroken depth (object (members_view schema.now.entries)) v.items) }
 {
-    let Part { mut steps, word } = part;
-    steps.insert(0, step)?;
-    Ok(Part { steps, word })
+    let mut found = unknown_keywords(alloc, depth, schema)?;
+    if let Some(broken) = form_fault(alloc, depth, schema)? {
+        found.push(broken)?;
+    }
+    Ok(found)
 }
 
-/// Of each schema that has this value behind the step.
+fn joined(front: Vec<Broken>, rest: Vec<Broken>) -> Result<Vec<Broken>, AllocError>
+    ensures { IfOk result (λ v. v.items ≡ front.items ++ rest.items) }
+{
+    let mut all = front;
+    let mut rest = rest;
+    all.append(&mut rest)?;
+    Ok(all)
+}
+
+/// A schema that is no object.
+fn no_object(alloc: Global) -> Result<Vec<Broken>, AllocError>
+    ensures { (depth : ℕ) (d : Data) → as_object d ≡ None → IfOk result (λ v. AreBroken depth d v.items) }
+{
+    let mut found = Vec::new(alloc);
+    found.push(here(alloc, TypesFault::Misfit, None, false)?)?;
+    Ok(found)
+}
+
+/// The same behind one step more.
+fn one_behind(step: &Step, broken: Broken) -> Result<Broken, AllocError>
+    ensures { (depth : ℕ) (ms : Members) (d : Data) → behind step.now ms ≡ Some d → BreaksAt broken.fault (depth + 1) broken.part.steps.items d
+        → IfOk result (λ more. BreaksAt more.fault depth more.part.steps.items (object ms)) }
+{
+    let mut broken = broken;
+    let step = step.try_copy()?;
+    broken.part.steps.insert(0, step)?;
+    Ok(broken)
+}
+
+fn all_behind(alloc: Global, step: &Step, inner: Vec<Broken>) -> Result<Vec<Broken>, AllocError>
+    ensures { (depth : ℕ) (ms : Members) (d : Data) → behind step.now ms ≡ Some d → AreBroken (depth + 1) d inner.items
+        → IfOk result (λ v. AreBroken depth (object ms) v.items) }
+{
+    let mut all = Vec::new(alloc);
+    for broken in inner {
+        all.push(one_behind(step, broken)?)?;
+    }
+    Ok(all)
+}
+
+/// Of a schema that has this one behind the step.
 #[cycle(find)]
 fn find_behind(
     alloc: Global,
-    fault: TypesFault,
     value: Option<&Value>,
     step: Step,
     depth: usize,
-) -> Result<Option<Part>, AllocError>
+) -> Result<Vec<Broken>, AllocError>
     requires { depth ≤ 16 }
-    ensures { (ms : Members) → behind step ms ≡ option_map (λ v. view v.now) value.entry
-        → IfOk result (λ o. IfSome o (λ part. BreaksAt fault depth part.steps.items (object ms))) }
+    ensures { (ms : Members) → IfSome value.entry (λ v. behind step ms ≡ Some (view v.now))
+        → IfOk result (λ v. AreBroken depth (object ms) v.items) }
 {
     let Some(value) = value else {
-        return Ok(None);
+        return Ok(Vec::new(alloc));
     };
-    match find(alloc, fault, value, depth + 1)? {
-        Some(part) => Ok(Some(step_more(step, part)?)),
-        None => Ok(None),
-    }
+    let inner = find(alloc, value, depth + 1)?;
+    all_behind(alloc, &step, inner)
 }
 
-/// Of each schema that has these properties. At a type's own schema those that every object has are ignored.
+/// Of a schema that has these properties. At a type's own schema those that every object has are ignored.
 #[cycle(find)]
 fn find_in_properties(
     alloc: Global,
-    fault: TypesFault,
     properties: &Map<String, Value>,
     depth: usize,
-) -> Result<Option<Part>, AllocError>
+) -> Result<Vec<Broken>, AllocError>
     requires { depth ≤ 16 }
     ensures { (ms : Members) → members_at (codes "properties") ms ≡ Some (members_view properties.now.entries)
-        → IfOk result (λ o. IfSome o (λ part. BreaksAt fault depth part.steps.items (object ms))) }
+        → IfOk result (λ v. AreBroken depth (object ms) v.items) }
 {
+    let mut found = Vec::new(alloc);
     for name in properties.keys() {
         if depth > 1 || !is_envelope(name.as_str()) {
             let value = member(properties, name.as_str());
             let step = Step::Property(name.clone()?);
-            let found = find_behind(alloc, fault, value, step, depth)?;
-            if found.is_some() {
-                return Ok(found);
-            }
+            found = joined(found, find_behind(alloc, value, step, depth)?)?;
         }
     }
-    Ok(None)
+    Ok(found)
+}
+
+/// The schema at a keyword. What is no object is a fault of the keyword.
+fn schema_at<'a>(schema: &'a Map<String, Value>, name: &str) -> Option<&'a Value>
+    ensures { IfSome result (λ v. get_member name.now (members_view schema.now.entries) ≡ Some (view v.now)) }
+{
+    let value = member(schema, name)?;
+    if value.is_object() { Some(value) } else { None }
 }
 
 #[cycle(find)]
 fn find_in_object(
     alloc: Global,
-    fault: TypesFault,
     schema: &Map<String, Value>,
     depth: usize,
-) -> Result<Option<Part>, AllocError>
+) -> Result<Vec<Broken>, AllocError>
     requires { depth ≤ 16 }
-    ensures { IfOk result (λ o. IfSome o (λ part. BreaksAt fault depth part.steps.items (object (members_view schema.now.entries)))) }
+    ensures { IfOk result (λ v. AreBroken depth (object (members_view schema.now.entries)) v.items) }
 {
-    if let Some(properties) = members_at(schema, "properties") {
-        return find_in_properties(alloc, fault, properties, depth);
+    match members_at(schema, "properties") {
+        Some(properties) => find_in_properties(alloc, properties, depth),
+        None => Ok(Vec::new(alloc)),
     }
-    let values = member(schema, "additionalProperties");
-    find_behind(alloc, fault, values, Step::Values, depth)
 }
 
 #[cycle(find)]
 fn find_in_parts(
     alloc: Global,
-    fault: TypesFault,
     schema: &Map<String, Value>,
-    form: &Form,
     depth: usize,
-) -> Result<Option<Part>, AllocError>
+) -> Result<Vec<Broken>, AllocError>
     requires { depth ≤ 16 }
-    ensures { IfOk result (λ o. IfSome o (λ part. BreaksAt fault depth part.steps.items (object (members_view schema.now.entries)))) }
+    ensures { IfOk result (λ v. AreBroken depth (object (members_view schema.now.entries)) v.items) }
 {
-    match form {
-        Form::Object(_) => find_in_object(alloc, fault, schema, depth),
-        Form::List(_) => find_behind(alloc, fault, member(schema, "items"), Step::Items, depth),
-        _ => Ok(None),
-    }
+    let fields = find_in_object(alloc, schema, depth)?;
+    let values = schema_at(schema, "additionalProperties");
+    let values = find_behind(alloc, values, Step::Values, depth)?;
+    let items = find_behind(alloc, schema_at(schema, "items"), Step::Items, depth)?;
+    joined(joined(fields, values)?, items)
 }
 
-/// The first part of a schema at a depth that breaks the rule of the fault; the schema itself comes before its parts.
+/// The parts of a schema at a depth that break rules; the schema itself comes before its parts.
 #[cycle(find)]
-fn find(
-    alloc: Global,
-    fault: TypesFault,
-    value: &Value,
-    depth: usize,
-) -> Result<Option<Part>, AllocError>
+fn find(alloc: Global, value: &Value, depth: usize) -> Result<Vec<Broken>, AllocError>
     requires { depth ≤ 17 }
-    ensures { IfOk result (λ o. IfSome o (λ part. BreaksAt fault depth part.steps.items (view value.now))) }
+    ensures { IfOk result (λ v. AreBroken depth (view value.now) v.items) }
 {
     let Value::Object(schema) = value else {
-        return here(alloc, fault, TypesFault::Misfit, None);
+        return no_object(alloc);
     };
-    match says(alloc, depth, schema) {
-        Ok(form) => find_in_parts(alloc, fault, schema, &form, depth),
-        Err(own) => here(alloc, fault, own, word_of(fault, schema)),
+    let own = own_faults(alloc, depth, schema)?;
+    if depth > MAX_DEPTH {
+        return Ok(own);
     }
+    joined(own, find_in_parts(alloc, schema, depth)?)
 }
 
 fn names_of(alloc: Global, value: &Value) -> Result<Option<String>, AllocError> {
@@ -199,81 +276,141 @@ fn names_of(alloc: Global, value: &Value) -> Result<Option<String>, AllocError> 
     Ok(Some(format!(in alloc; "{group}/{version}/{plural}")?))
 }
 
-fn find_in_schema(
-    alloc: Global,
-    fault: TypesFault,
-    value: &Value,
-) -> Result<Option<Part>, AllocError>
-    ensures { IfOk result (λ o. IfSome o (λ part. TypeBreaks fault (Some part.steps.items) (view value.now))) }
+fn find_in_schema(alloc: Global, value: &Value) -> Result<Vec<Broken>, AllocError>
+    ensures { IfOk result (λ v. AreBrokenIn (view value.now) v.items) }
 {
     let Some(members) = value.as_object() else {
-        return Ok(None);
+        return Ok(Vec::new(alloc));
     };
     match member(members, "schema") {
-        Some(schema) => find(alloc, fault, schema, 1),
-        None => Ok(None),
+        Some(schema) => find(alloc, schema, 1),
+        None => Ok(Vec::new(alloc)),
     }
 }
 
-/// Whether a type breaks the rule, its names and its schema taken as one.
-fn is_refused(alloc: Global, fault: TypesFault, value: &Value) -> Result<bool, AllocError>
-    ensures { IfOk result (λ b. b ≡ true → TypeBreaks fault None (view value.now)) }
-{
-    match read_type(alloc, value) {
-        Err(TypesFault::Memory) => Err(AllocError),
-        Err(own) => Ok(own == fault),
-        Ok(_) => Ok(false),
-    }
-}
-
-fn place_in(
+/// A fault of a type, at a part of its schema or as a whole.
+fn placed(
     alloc: Global,
-    fault: TypesFault,
     number: usize,
     value: &Value,
-) -> Result<Option<FaultPlace>, AllocError>
-    ensures { IfOk result (λ o. IfSome o (λ place. (place.number ≡ number) × TypeBreaks fault (option_map (λ part. part.steps.items) place.part) (view value.now))) }
+    fault: TypesFault,
+    part: Option<Part>,
+) -> Result<PlacedFault, AllocError>
+    ensures fault { IfOk result (λ told. told.fault ≡ fault) }
+    ensures told { TypeBreaks fault (option_map (λ p. p.steps.items) part) (view value.now) → IfOk result (IsToldOf number (view value.now)) }
 {
-    let part = find_in_schema(alloc, fault, value)?;
-    if part.is_none() && !is_refused(alloc, fault, value)? {
-        return Ok(None);
-    }
     let names = names_of(alloc, value)?;
-    Ok(Some(FaultPlace {
+    let place = FaultPlace {
         number,
         names,
         part,
-    }))
+    };
+    Ok(PlacedFault { fault, place })
 }
 
-/// The first place in these types.
-fn place_among(
+fn placed_part(
     alloc: Global,
-    fault: TypesFault,
-    types: &[Value],
-) -> Result<Option<FaultPlace>, AllocError>
-    ensures { IfOk result (λ o. IfSome o (λ place. IsPlaceAmong fault place (items_view types.now))) }
+    number: usize,
+    value: &Value,
+    broken: Broken,
+) -> Result<PlacedFault, AllocError>
+    ensures { TypeBreaks broken.fault (Some broken.part.steps.items) (view value.now) → IfOk result (IsToldOf number (view value.now)) }
 {
-    for (number, value) in types.iter().enumerate() {
-        let found = place_in(alloc, fault, number, value)?;
-        if found.is_some() {
-            return Ok(found);
-        }
-    }
-    Ok(None)
+    let Broken { fault, part } = broken;
+    placed(alloc, number, value, fault, Some(part))
 }
 
-/// The first place in a file where one of its types breaks the rule of this fault, the one that `Types::read` refused the
-/// file for; none where the file's own form does, or two types have one name.
-pub fn first_place(
+fn all_placed(
     alloc: Global,
-    file: &Value,
-    fault: TypesFault,
-) -> Result<Option<FaultPlace>, AllocError>
-    ensures { IfOk result (λ o. IfSome o (λ place. IsPlaceOf fault place (view file.now))) }
+    number: usize,
+    value: &Value,
+    inner: Vec<Broken>,
+) -> Result<Vec<PlacedFault>, AllocError>
+    ensures { AreBrokenIn (view value.now) inner.items → IfOk result (λ v. All (IsToldOf number (view value.now)) v.items) }
+{
+    let mut all = Vec::new(alloc);
+    for broken in inner {
+        all.push(placed_part(alloc, number, value, broken)?)?;
+    }
+    Ok(all)
+}
+
+/// The fault that a type is refused for.
+fn own_fault(alloc: Global, value: &Value) -> Result<Option<TypesFault>, AllocError>
+    ensures { IfOk result (IsRefusedBy (type_of (view value.now))) }
+{
+    let Err(own) = read_type(alloc, value) else {
+        return Ok(None);
+    };
+    if own == TypesFault::Memory {
+        return Err(AllocError);
+    }
+    Ok(Some(own))
+}
+
+/// Whether they begin by this fault.
+fn begins_by(all: &[PlacedFault], fault: TypesFault) -> bool
+    ensures { result ≡ true → (told : PlacedFault) × (others : List PlacedFault) × (all.now ≡ told ∷ others) × (told.fault ≡ fault) }
+{
+    match all.first() {
+        Some(told) => told.fault == fault,
+        None => false,
+    }
+}
+
+/// The places of a type that is refused. A fault of the type as a whole stands before those of its schema.
+fn places_of_refused(
+    alloc: Global,
+    number: usize,
+    value: &Value,
+    own: TypesFault,
+) -> Result<Vec<PlacedFault>, AllocError>
+    ensures { IsRefusedBy (type_of (view value.now)) (Some own) → IfOk result (λ v. TellsType number (view value.now) v.items) }
+{
+    let broken = find_in_schema(alloc, value)?;
+    let mut all = all_placed(alloc, number, value, broken)?;
+    if begins_by(&all, own) {
+        return Ok(all);
+    }
+    all.insert(0, placed(alloc, number, value, own, None)?)?;
+    Ok(all)
+}
+
+fn places_of(alloc: Global, number: usize, value: &Value) -> Result<Vec<PlacedFault>, AllocError>
+    ensures { IfOk result (λ v. TellsType number (view value.now) v.items) }
+{
+    match own_fault(alloc, value)? {
+        Some(own) => places_of_refused(alloc, number, value, own),
+        None => Ok(Vec::new(alloc)),
+    }
+}
+
+/// The places in these types.
+fn places_among(alloc: Global, types: &[Value]) -> Result<Vec<PlacedFault>, AllocError>
+    ensures told { IfOk result (λ v. TellsTypes 0 (items_view types.now) v.items) }
+    ensures places { IfOk result (λ v. All (λ told. IsPlaceAmong told.fault told.place (items_view types.now)) v.items) }
+{
+    let mut all = Vec::new(alloc);
+    for (number, value) in types.iter().enumerate() {
+        let mut more = places_of(alloc, number, value)?;
+        all.append(&mut more)?;
+    }
+    Ok(all)
+}
+
+/// The faults of a types file with their places, type by type. A type that is read has none; any other begins by the one
+/// that it is refused for, a fault of its form with no part, and has behind it what else its schema breaks: the keywords of
+/// a schema that are unknown, then what its others break, before its parts, these in byte order.
+///
+/// Exact is which types have entries, and which the first of each is; the first of all is what `Types::read` refuses the
+/// file for. Of each entry it is promised that the rule is broken there. None where the file's own form is at fault, or its
+/// types are read and two have one name.
+pub fn all_places(alloc: Global, file: &Value) -> Result<Vec<PlacedFault>, AllocError>
+    ensures told { IfOk result (λ v. TellsFile (listed (view file.now)) v.items) }
+    ensures places { IfOk result (λ v. All (λ told. IsPlaceOf told.fault told.place (view file.now)) v.items) }
 {
     match listed(file) {
-        Ok(types) => place_among(alloc, fault, types),
-        Err(_) => Ok(None),
+        Ok(types) => places_among(alloc, types),
+        Err(_) => Ok(Vec::new(alloc)),
     }
 }

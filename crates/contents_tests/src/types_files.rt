@@ -5,13 +5,14 @@
 //! | `file TEXT` | `read`, or why the types file is refused |
 //! | `schema TEXT`, `property TEXT` | the same of a file of one type with this schema, or with this property in it |
 //! | `depth N` | the same where the schema is so deep: a struct with lists of lists of texts |
+//! | `places TEXT` | each fault of the file with its place, in turn |
 //! | `find GROUP VERSION PLURAL` | where the widgets' file has the type |
 //! | `kind N`, `shown N` | the kind of its type and whether the schema is lawful; how the schema is shown |
 //! | `made TEXT` | how the schema of a file of one type is shown, and whether it is lawful |
 
 use crate::contents::play_under;
 use crate::given::{WIDGET_TYPES, first_schema, types_of};
-use api_types::{Types, TypesFault, is_lawful};
+use api_types::{Types, TypesFault, all_places, is_lawful};
 use serde_json::Value;
 use std::alloc::Global;
 use std::test::Fail;
@@ -30,6 +31,7 @@ impl Answers for TypesFile {
             "schema" => verdict_on_schema(alloc, words),
             "property" => verdict_on_property(alloc, words),
             "depth" => verdict_on_property(alloc, nested(alloc, words)?.as_str()),
+            "places" => fault_places(alloc, words),
             "find" => found(alloc, &self.types, words),
             "kind" => kind_of(alloc, &self.types, words),
             "shown" => shown(alloc, &self.types, words),
@@ -49,6 +51,17 @@ fn verdict(alloc: Global, text: &str) -> Result<String, Fail> {
         Ok(_) => Ok(String::from_str(alloc, "read")?),
         Err(fault) => told(alloc, fault),
     }
+}
+
+/// The faults of a types file with their places.
+fn fault_places(alloc: Global, text: &str) -> Result<String, Fail> {
+    let value = Value::from_str(alloc, text)?;
+    let all = all_places(alloc, &value)?;
+    let mut shown = String::new(alloc);
+    for placed in &all {
+        shown = format!(in alloc; "{shown}{}{};", placed.fault, placed.place)?;
+    }
+    Ok(shown)
 }
 
 const FRONT: &str =
@@ -142,6 +155,14 @@ file {"types":[{"group":"demo.example","kind":"Widget","plural":"namespaces","ve
 file {"types":[{"group":"demo.Example","kind":"Widget","plural":"widgets","version":"v1","schema":5}]} => NotTheForm
 file {"types":[{"group":"demo.example","kind":"Widget","plural":"widgets","version":"v1","schema":5,"scope":1}]} => NotTheForm
 file {"types":[]} => read
+
+all_faults_of_files
+places {"types":[]} => 
+places [] => 
+places {"types":[{"group":"g","version":"v","kind":"K","plural":"p","schema":{"type":"object"}}]} => list or map kind that does not fit at g/v/p;
+places {"types":[{"group":"g","version":"v","kind":"K","plural":"p","schema":{"type":"object","properties":{}}},{"group":"g","version":"v","kind":"L","plural":"p","schema":{"type":"object","properties":{}}}]} => 
+places {"types":[5,{"group":"g","version":"v","kind":"L","plural":"p","schema":5}]} => not the form of a types file at types[0];list or map kind that does not fit at g/v/p;
+places {"types":[{"group":"g","version":"v","kind":"K","plural":"p","schema":{"type":"object","properties":{"kind":{"enum":[]},"b":{"type":"number","nullable":true,"minimum":0},"a":{"type":"array","items":{"type":"object","properties":{"c":{"type":"string","enum":[]}}},"x-kubernetes-list-type":"set"}}}},{"group":"g","version":"v","kind":"L","plural":"namespaces","schema":{"type":"object","additionalProperties":{"type":"object","additionalProperties":true}}}]} => list or map kind that does not fit at g/v/p .a;unknown keyword "enum" at g/v/p .a[].c;unknown keyword "minimum" at g/v/p .b;unknown keyword "nullable" at g/v/p .b;unknown type "number" at g/v/p .b;not the form of a types file at types[1];list or map kind that does not fit at types[1];list or map kind that does not fit at types[1] .*;
 
 widget_types
 find demo.example v1 widgets => Some(0)

@@ -1,4 +1,5 @@
 pub mod OptionValues
 mod CommandParts
 mod Cuts
+mod Refusals
 mod TypesText

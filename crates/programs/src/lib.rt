@@ -1,7 +1,7 @@
 //! What all programs share: arguments, command lines, types files, faults and exit statuses. What only one program does
 //! stands in its own crate; scripts and their play stand in `scripts`.
 //!
-//! Promises: the text of a types file gives the types that it declares, or a fault that names the file and the refusal;
+//! Promises: the text of a types file gives the types that it declares, or a fault that names the file and its refusals;
 //! each fault has its exit status. The number of an option is read exactly where its text tells one in the option's
 //! range.
 //! Stands on `api_types` for the types file, on `clap` for the arguments.
@@ -23,4 +23,4 @@ pub use numbers::{NumberOption, count_of, number, number_option, port_of};
 pub use resource::{Resource, resource_in};
 pub use run_fault::{RunFault, WRONG_USAGE, end_with, unread_path};
 pub use types_file::{read_types, types_in, types_text};
-pub use types_refusal::TypesRefusal;
+pub use types_refusal::{RefusedTypes, TypesRefusal};

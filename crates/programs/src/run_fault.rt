@@ -5,7 +5,7 @@ ghost use Rattle.programs.specs.ReplayProgram.{status_of};
 ghost use Rattle.programs.specs.declared.run_fault.RunFault.TheVariants.{Memory, Port};
 
 use crate::numbers::NumberOption;
-use crate::types_refusal::TypesRefusal;
+use crate::types_refusal::RefusedTypes;
 use clap::error::ErrorKind;
 use std::alloc::{AllocError, Global};
 use std::io;
@@ -34,8 +34,8 @@ pub enum RunFault {
     #[error("types file {0}: not JSON: {1}")]
     TypesText(String, serde_json::Error),
     /// The types file declares no types.
-    #[error("types file {0}: {1}")]
-    Types(String, TypesRefusal),
+    #[error("{0}")]
+    Types(RefusedTypes),
     /// The replies cannot be written.
     #[error("standard output: {0}")]
     Output(io::Error),

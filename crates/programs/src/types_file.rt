@@ -1,15 +1,14 @@
 //! Types files: the types that a file declares, or the fault that names the file. Its text is read in the crate `api_types`.
-ghost use Rattle.std.specs.Prelude.{◌≡◌, ℕ, List, Result, IfOk, IfSome, None, Err};
-ghost use Rattle.api_types.specs.Refusals.{Refusal};
+ghost use Rattle.std.specs.Prelude.{◌≡◌, ℕ, List, IfOk, IfSome, None, Err};
 ghost use Rattle.api_types.specs.Seen.{Fails};
-ghost use Rattle.api_types.specs.TypesFile.{ServedShape, declared_types};
+ghost use Rattle.api_types.specs.TypesFile.{declared_types};
 ghost use Rattle.serde_json.specs.Read.{read as read_json};
 ghost use Rattle.serde_json.specs.View.{view};
-ghost use Rattle.programs.specs.ReplayProgram.{IsNumberOf, IsRefusal, IsRefused, Tells};
+ghost use Rattle.programs.specs.ReplayProgram.{AreNumbered, AreRefusals, IsNumberOf, IsNumbered, IsRefused, IsWhole, Tells};
 
 use crate::run_fault::{RunFault, unread_path};
-use crate::types_refusal::TypesRefusal;
-use api_types::{Types, TypesFault, first_place};
+use crate::types_refusal::{RefusedTypes, TypesRefusal};
+use api_types::{FaultPlace, PlacedFault, Types, TypesFault, all_places};
 use serde_json::Value;
 use std::alloc::{AllocError, Global};
 use std::fs;
@@ -17,7 +16,7 @@ use std::rt::Files;
 
 /// The number of a refusal; none where memory was refused.
 fn refusal_number(fault: &TypesFault) -> Option<u8>
-    ensures { (answer : Result (List ServedShape) Refusal) → Fails fault.now answer → IsNumberOf answer result }
+    ensures { IfSome result (IsNumberOf fault.now) }
 {
     match fault {
         TypesFault::UnknownKeyword => Some(1),
@@ -30,33 +29,76 @@ fn refusal_number(fault: &TypesFault) -> Option<u8>
     }
 }
 
-/// The refusal of a file by its first fault, and where it breaks that rule.
-fn refusal_of(
-    alloc: Global,
-    file: &Value,
-    fault: TypesFault,
-) -> Result<Option<TypesRefusal>, AllocError>
-    ensures { Fails fault (declared_types (view file.now)) → IfOk result (λ o. IfSome o (IsRefusal (view file.now))) }
+/// A refusal by its number.
+fn numbered(fault: TypesFault, place: Option<FaultPlace>) -> Option<TypesRefusal>
+    ensures { IfSome result (λ refusal. (refusal.fault ≡ fault) × (refusal.place ≡ place) × IsNumberOf refusal.fault refusal.number) }
 {
-    let Some(number) = refusal_number(&fault) else {
-        return Ok(None);
-    };
-    let place = first_place(alloc, file, fault)?;
-    Ok(Some(TypesRefusal {
+    let number = refusal_number(&fault)?;
+    Some(TypesRefusal {
         number,
         fault,
         place,
-    }))
+    })
+}
+
+fn placed(told: PlacedFault) -> Option<TypesRefusal>
+    ensures { IfSome result (IsNumbered told) }
+{
+    let PlacedFault { fault, place } = told;
+    numbered(fault, Some(place))
+}
+
+fn all_numbered(
+    alloc: Global,
+    all: Vec<PlacedFault>,
+) -> Result<Option<Vec<TypesRefusal>>, AllocError>
+    ensures { IfOk result (λ o. IfSome o (λ v. AreNumbered all.items v.items)) }
+{
+    let mut refusals = Vec::new(alloc);
+    for told in all {
+        let Some(refusal) = placed(told) else {
+            return Ok(None);
+        };
+        refusals.push(refusal)?;
+    }
+    Ok(Some(refusals))
+}
+
+/// The refusal of the file as a whole.
+fn whole(alloc: Global, fault: TypesFault) -> Result<Option<Vec<TypesRefusal>>, AllocError>
+    ensures { IfOk result (λ o. IfSome o (λ v. IsWhole fault v.items)) }
+{
+    let Some(refusal) = numbered(fault, None) else {
+        return Ok(None);
+    };
+    let mut refusals = Vec::new(alloc);
+    refusals.push(refusal)?;
+    Ok(Some(refusals))
+}
+
+/// The refusals of a file: those of its types with their places, or else its first fault; none where memory was refused.
+fn refusals_of(
+    alloc: Global,
+    file: &Value,
+    fault: TypesFault,
+) -> Result<Option<Vec<TypesRefusal>>, AllocError>
+    ensures { Fails fault (declared_types (view file.now)) → IfOk result (λ o. IfSome o (λ v. AreRefusals (view file.now) v.items)) }
+{
+    let all = all_places(alloc, file)?;
+    if all.is_empty() {
+        return whole(alloc, fault);
+    }
+    all_numbered(alloc, all)
 }
 
 fn refused(alloc: Global, path: &str, file: &Value, fault: TypesFault) -> RunFault
     ensures { Fails fault (declared_types (view file.now)) → IsRefused path.now (view file.now) result }
 {
-    let Ok(Some(refusal)) = refusal_of(alloc, file, fault) else {
+    let Ok(Some(refusals)) = refusals_of(alloc, file, fault) else {
         return RunFault::Memory;
     };
     match String::from_str(alloc, path) {
-        Ok(path) => RunFault::Types(path, refusal),
+        Ok(path) => RunFault::Types(RefusedTypes { path, refusals }),
         Err(_) => RunFault::Memory,
     }
 }

@@ -168,13 +168,15 @@ play => 3 !types file replayed-types.json: No such file or directory (os error 2
 types [
 play => 3 !types file replayed-types.json: not JSON: EOF while parsing at line 1 column 1$
 types {"types":[{"group":"g","version":"v","kind":"K","plural":"p","schema":{"type":"object","nope":1}}]}
-play => 3 !types file replayed-types.json: refusal 1: unknown keyword "nope" at g/v/p$
+play => 3 !types file replayed-types.json: refusal 1: unknown keyword "nope" at g/v/p$types file replayed-types.json: refusal 3: object without properties at g/v/p$
 types {"types":[{"group":"g","version":"v","kind":"K","plural":"p","schema":{"type":"object","properties":{"spec":{"type":"object","properties":{"ports":{"type":"array","items":{"type":"string","nullable":true}}}}}}}]}
 play => 3 !types file replayed-types.json: refusal 1: unknown keyword "nullable" at g/v/p .spec.ports[]$
 types {"types":[{"group":"g","version":"v","kind":"K","plural":"p","schema":{"type":"number"}}]}
 play => 3 !types file replayed-types.json: refusal 2: unknown type "number" at g/v/p$
 types {"types":[{"group":"g","version":"v","kind":"K","plural":"p","schema":[]}]}
 play => 3 !types file replayed-types.json: refusal 3: list or map kind that does not fit at g/v/p$
+types {"types":[{"group":"g","version":"v","kind":"K","plural":"p","schema":{"type":"object"}}]}
+play => 3 !types file replayed-types.json: refusal 3: object without properties at g/v/p$
 types {"types":[{"group":"g","version":"v","kind":"K","plural":"p","schema":{"type":"object","properties":{}}},{"group":"g","version":"v","kind":"L","plural":"p","schema":{"type":"object","properties":{}}}]}
 play => 3 !types file replayed-types.json: refusal 5: two types with one name$
 types {}

@@ -1,6 +1,7 @@
-//! What `ssa-server` tells of a call that has no answer: the exit status, and what the call's fault says. What it tells
-//! of its arguments is tested in `arguments`.
+//! What `ssa-server` tells of a call that has no answer, and of a types file: the exit status, and what the fault says. What it
+//! tells of its arguments is tested in `arguments`.
 
+use programs::types_in;
 use server_program::ServerFault;
 use std::alloc::Global;
 use std::test::Fail;
@@ -19,6 +20,37 @@ fn expect(alloc: Global, fault: Fault, wanted: &str) -> Result<(), Fail> {
         return Ok(());
     }
     Err(Fail::new(told))
+}
+
+/// The exit status and the text of the fault of a types file.
+fn ended_by(alloc: Global, text: &str) -> Result<String, Fail> {
+    let fault = ServerFault::from(types_in(alloc, "f", text).err().ok_or("it is read")?);
+    let told = format!(in alloc; "{}: {fault}", fault.status())?;
+    Ok(told.as_str().replace(alloc, '\n', "$")?)
+}
+
+fn expect_of_types(alloc: Global, text: &str, wanted: &str) -> Result<(), Fail> {
+    let told = ended_by(alloc, text)?;
+    if told.as_str() == wanted {
+        return Ok(());
+    }
+    Err(Fail::new(told))
+}
+
+const TWO_TYPES: &str =
+    r#"{"types":[{"group":"g","version":"v","kind":"K","plural":"p","schema":{"type":"object"}},{"group":"g","version":"v","kind":"L","plural":"q","schema":{"type":"object","properties":{"a":{"type":"number","minimum":0,"maximum":9}}}}]}"#;
+
+const ALL_OF_THEM: &str =
+    r#"3: types file f: refusal 3: object without properties at g/v/p$types file f: refusal 1: unknown keyword "maximum" at g/v/q .a$types file f: refusal 1: unknown keyword "minimum" at g/v/q .a$types file f: refusal 2: unknown type "number" at g/v/q .a"#;
+
+#[test]
+fn all_faults_of_a_types_file_are_told(rt: HostRuntime) -> Result<(), Fail> {
+    expect_of_types(rt.alloc(), TWO_TYPES, ALL_OF_THEM)?;
+    expect_of_types(
+        rt.alloc(),
+        "{}",
+        "3: types file f: refusal 6: not the form of a types file",
+    )
 }
 
 #[test]

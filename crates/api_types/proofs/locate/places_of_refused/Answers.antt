@@ -1,0 +1,21 @@
+use Rattle.std.proofs.Common.{sym, subst, ◌∙◌}
+use Rattle.std.proofs.lemmas.List.Elements.{All-cons}
+use Rattle.std.specs.List.{All}
+use Rattle.serde_json.specs.View.{view}
+use Rattle.api_types.specs.FaultPlaces.{IsToldOf}
+use Rattle.api_types.specs.TypesFile.{type_of}
+use Rattle.api_types.proofs.FaultPlaces.{begun, fails_by}
+use Rattle.api_types.proofs.locate.places_of_refused.Goals as goal
+
+pub returns : goal.returns
+returns c refused =
+    let t = view c.args.value.now in
+    let told = c.in_ok-placed.ensures.told (fails_by c.args.own (type_of t) refused) in (
+      begun c.args.own (type_of t) c.in_ok-placed.field-0 c.in_ok-all.all.items c.insert.new.self.items refused c.in_ok-insert.ensures.items c.in_ok-placed.ensures.fault,
+      subst (All (IsToldOf c.args.number t)) (sym c.in_ok-insert.ensures.items) (All-cons (IsToldOf c.args.number t) c.in_ok-placed.field-0 c.in_ok-all.all.items told (c.in_ok-all.ensures c.in_ok-broken.ensures)),
+    )
+
+pub returns-then-begins_by : goal.returns-then-begins_by
+returns-then-begins_by c refused =
+    let begins = c.begins_by.ensures c.if-begins_by.true in
+    (begun c.args.own (type_of (view c.args.value.now)) begins.0 begins.1 c.in_ok-all.all.items refused (sym c.deref.ensures.value ∙ begins.2) begins.3, c.in_ok-all.ensures c.in_ok-broken.ensures)
