@@ -1,19 +1,22 @@
 -- Copies of indexes.
-use Rattle.std.proofs.Common.{◌≡◌, ◌∙◌, ◌↔◌, ◌<◌, ◌+◌, ◌&&◌, ℕ, Bool, true, false, List, [], ◌∷◌, ◌++◌, length, map, take, refl, sym, ap, ap₂, subst, string_bytes, String, Global, Bor}
+use Rattle.std.proofs.Common.{arith, ◌≡◌, ◌∙◌, ◌↔◌, ◌<◌, ◌+◌, ◌&&◌, ℕ, Bool, true, false, List, [], ◌∷◌, ◌++◌, length, map, take, refl, sym, ap, ap₂, subst, string_bytes, String, Global, Bor}
 use Rattle.std.specs.Prelude.{◌||◌, Vec}
 use Rattle.std.specs.BTreeSet.{BTreeSet, contains}
-use Rattle.std.specs.List.{All, list_any, slice_index_or}
+use Rattle.std.specs.List.{All, AllByRecursion, list_any, slice_index_or}
+use Rattle.std.specs.List.Sorted.{IsStrictlySortedBy}
 use Rattle.std.specs.Ordering.{eq_by_cmp}
 use Rattle.std.specs.Str.{bytes_eq}
+use Rattle.std.specs.declared.cmp.Ordering.TheVariants.{Less}
 use Rattle.std.proofs.lemmas.List.{map-append, map_more}
 use Rattle.std.proofs.lemmas.List.Elements.{All-append, All-cons, All-nil}
 use Rattle.std.proofs.lemmas.List.Folds.{list_any-append}
 use Rattle.std.proofs.lemmas.Slice.Eq.{bytes_eq-Decides}
 use Rattle.indexer.specs.Keys.{key_cmp}
+use Rattle.indexer.specs.Indexer.{is_under}
 use Rattle.indexer.specs.Kept.{Held}
 use Rattle.indexer.specs.Objects.{Place, is_among, place_cmp, place_of}
 use Rattle.indexer.specs.declared.object.ObjectKey.{ObjectKey}
-use Rattle.world.specs.Shots.{ShowsIndex, is_listed, key_seen}
+use Rattle.world.specs.Shots.{IsCopied, IsPosting, ShowsIndex, is_listed, key_seen}
 use Rattle.world.specs.declared.trace.IndexShot.{IndexShot}
 
 -- ---- keys of objects
@@ -38,6 +41,20 @@ among q keys s is = go keys ∙ ap (list_any (λ k. eq_by_cmp key_cmp q k)) is
     go : (ks : List ObjectKey) → list_any (eq_by_cmp place_cmp (place_of q)) (map place_of ks) ≡ list_any (λ k. eq_by_cmp key_cmp q k) ks
     go [] = refl
     go (k ∷ ks) = ap (λ b. eq_by_cmp key_cmp q k || b) (go ks)
+
+-- places ascend as their keys
+below_place : (k : ObjectKey) (ks : List ObjectKey) → AllByRecursion (λ y. key_cmp k y ≡ Less) ks → AllByRecursion (λ p. place_cmp (place_of k) p ≡ Less) (map place_of ks)
+below_place k [] h = tt
+below_place k (x ∷ xs) h = (h.0, below_place k xs h.1)
+
+pub places_ascend : (ks : List ObjectKey) → IsStrictlySortedBy key_cmp ks → IsStrictlySortedBy place_cmp (map place_of ks)
+unfolding IsStrictlySortedBy
+places_ascend [] h = tt
+places_ascend (k ∷ ks) h = (below_place k ks h.0, places_ascend ks h.1)
+
+pub none_ascend : (ks : List ObjectKey) → ks ≡ [] → IsStrictlySortedBy place_cmp (map place_of ks)
+unfolding IsStrictlySortedBy
+none_ascend ks is = subst (λ xs. IsStrictlySortedBy place_cmp (map place_of xs)) (sym is) tt
 
 -- ---- keys of an index
 
@@ -83,6 +100,48 @@ whole false false is = refl
 -- all the keys under which a place stands
 pub listed_all : (U : ObjectKey → Bool) (texts : List (List ℕ)) (key : List ℕ) (q : ObjectKey) → ((is_among texts key ≡ true) ↔ ((k : ObjectKey) × (U k ≡ true))) → (is_among texts key && U q) ≡ U q
 listed_all U texts key q members = whole (is_among texts key) (U q) (λ is. members.1 (q, is))
+
+-- ---- the entries of a copy
+
+all_append : {X : Type 0} (P : X → Type 0) (xs ys : List X) → AllByRecursion P xs → AllByRecursion P ys → AllByRecursion P (xs ++ ys)
+all_append P [] ys all more = more
+all_append P (x ∷ xs) ys all more = (all.0, all_append P xs ys all.1 more)
+
+abbrev Entries : Type 0
+Entries = List (String Global × Vec ObjectKey Global)
+
+pub keys_next : (texts : List (Bor (List ℕ))) (i : ℕ) (d : Bor (List ℕ)) (done now : Entries) (more : String Global) (objects : Vec ObjectKey Global) → i < length texts → now ≡ done ++ (more, objects) ∷ [] → string_bytes more ≡ (slice_index_or texts i d).now
+    → map (λ e. string_bytes e.0) done ≡ map (λ t. t.now) (take i texts) → map (λ e. string_bytes e.0) now ≡ map (λ t. t.now) (take (i + 1) texts)
+keys_next texts i d done now more objects lt pushed same before =
+    ap (map (λ e. string_bytes e.0)) pushed ∙ map-append (λ e. string_bytes e.0) done ((more, objects) ∷ []) ∙ ap₂ (λ (xs ys : List (List ℕ)). xs ++ ys) before (ap (λ k. k ∷ []) same) ∙ sym (map_more (λ t. t.now) texts i d lt)
+
+pub copied_next : (held : Held) (names : List (List ℕ)) (name : List ℕ) (text : List ℕ) (done now : Entries) (more : String Global) (objects : Vec ObjectKey Global) → now ≡ done ++ (more, objects) ∷ [] → string_bytes more ≡ text
+    → ((q : ObjectKey) → list_any (eq_by_cmp place_cmp (place_of q)) (map place_of objects.items) ≡ is_under held names name text (place_of q)) → IsStrictlySortedBy place_cmp (map place_of objects.items)
+    → AllByRecursion (IsCopied held names name) done → AllByRecursion (IsCopied held names name) now
+copied_next held names name text done now more objects pushed same members ascending before =
+    subst (AllByRecursion (IsCopied held names name)) (sym pushed)
+    (all_append (IsCopied held names name) done ((more, objects) ∷ []) before ((ascending, λ q. members q ∙ ap (λ k. is_under held names name k (place_of q)) (sym same)), tt))
+
+some_if_any : (p : Place) (ps : List Place) → list_any (eq_by_cmp place_cmp p) ps ≡ true → 0 < length ps
+some_if_any p [] is = absurd cc
+some_if_any p (x ∷ xs) is = omega arith
+
+or_true : (a b : Bool) → b ≡ true → (a || b) ≡ true
+or_true true b is = refl
+or_true false b is = is
+
+or_first : (a b : Bool) → a ≡ true → (a || b) ≡ true
+or_first true b is = refl
+or_first false b is = absurd cc
+
+-- where each key is some object's, each has a place
+pub all_filled : (held : Held) (names : List (List ℕ)) (name : List ℕ) (es : Entries) → ((k : List ℕ) → is_among (map (λ e. string_bytes e.0) es) k ≡ true → (q : ObjectKey) × (is_under held names name k (place_of q) ≡ true))
+    → AllByRecursion (IsCopied held names name) es → AllByRecursion (λ e. IsPosting (key_seen e)) es
+all_filled held names name [] had all = tt
+all_filled held names name (e ∷ es) had all =
+    let k = string_bytes e.0 in
+    let one = had k (or_first (bytes_eq k k) (is_among (map (λ x. string_bytes x.0) es) k) ((bytes_eq-Decides k k).1 refl)) in
+    ((all.0.0, some_if_any (place_of one.0) (map place_of e.1.items) (all.0.1 one.0 ∙ one.1)), all_filled held names name es (λ t is. had t (or_true (bytes_eq k t) (is_among (map (λ x. string_bytes x.0) es) t) is)) all.1)
 
 -- ---- all indexes
 

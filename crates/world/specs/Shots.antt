@@ -1,8 +1,10 @@
 -- Copies of indexes.
-use Rattle.std.specs.Prelude.{◌≡◌, ℕ, Bool, ◌&&◌, List, map, String, Vec, string_bytes}
+use Rattle.std.specs.Prelude.{◌≡◌, ◌<◌, ℕ, Bool, ◌&&◌, List, length, map, String, Vec, string_bytes}
 use Rattle.std.specs.declared.alloc.Global.{Global}
-use Rattle.std.specs.List.{list_any}
-use Rattle.std.specs.Ordering.{eq_by_cmp}
+use Rattle.std.specs.Cmp.Lexicographic.{slice_cmp}
+use Rattle.std.specs.List.{AllByRecursion, list_any}
+use Rattle.std.specs.List.Sorted.{IsStrictlySortedBy}
+use Rattle.std.specs.Ordering.{eq_by_cmp, nat_cmp}
 use Rattle.std.specs.Str.{bytes_eq}
 use Rattle.indexer.specs.Indexer.{is_under}
 use Rattle.indexer.specs.Kept.{Held}
@@ -18,6 +20,21 @@ key_seen e = (string_bytes e.0, map place_of e.1.items)
 abbrev pub is_listed : List ℕ → Place → List (List ℕ × List Place) → Bool
 is_listed key p es = list_any (λ e. bytes_eq e.0 key && list_any (eq_by_cmp place_cmp p) e.1) es
 
--- under each key stand just the objects that have it in the index of this name
-abbrev pub ShowsIndex : Held → List (List ℕ) → IndexShot → Type 0
-ShowsIndex held names s = (key : List ℕ) (q : ObjectKey) → is_listed key (place_of q) (map key_seen s.keys.items) ≡ is_under held names (string_bytes s.name) key (place_of q)
+-- the places under a key strictly ascend, and there are some
+abbrev pub IsPosting : List ℕ × List Place → Type 0
+IsPosting e = IsStrictlySortedBy place_cmp e.1 × (0 < length e.1)
+
+-- the copy is the index of this name: under each key stand just the objects that have it, keys and places strictly ascend, and no key is
+-- without a place
+pub record ShowsIndex (held : Held) (names : List (List ℕ)) (s : IndexShot) : Type 0 where
+  pub members : (key : List ℕ) (q : ObjectKey) → is_listed key (place_of q) (map key_seen s.keys.items) ≡ is_under held names (string_bytes s.name) key (place_of q)
+  pub ascending : IsStrictlySortedBy (slice_cmp nat_cmp) (map (λ e. string_bytes e.0) s.keys.items)
+  pub filled : AllByRecursion (λ e. IsPosting (key_seen e)) s.keys.items
+
+-- ---- for private clauses
+
+-- the places beside a key strictly ascend, and are those under it in the index of this name
+abbrev pub IsCopied : Held → List (List ℕ) → List ℕ → String Global × Vec ObjectKey Global → Type 0
+IsCopied held names name e =
+    IsStrictlySortedBy place_cmp (map place_of e.1.items)
+    × ((q : ObjectKey) → list_any (eq_by_cmp place_cmp (place_of q)) (map place_of e.1.items) ≡ is_under held names name (string_bytes e.0) (place_of q))

@@ -1,12 +1,13 @@
 //! Copies of indexes, for reports: their keys of objects share the texts. The objects are shared in `reporting`.
 
 ghost use Rattle.std.specs.Prelude.{◌≡◌, ◌&&◌, ℕ, List, IfOk, map, string_bytes};
-ghost use Rattle.std.specs.List.{All, list_any};
+ghost use Rattle.std.specs.List.{All, AllByRecursion, list_any};
+ghost use Rattle.std.specs.List.Sorted.{IsStrictlySortedBy};
 ghost use Rattle.std.specs.Ordering.{eq_by_cmp};
 ghost use Rattle.indexer.specs.Indexer.{held_of, is_under, names_of};
 ghost use Rattle.indexer.specs.Objects.{is_among, place_cmp, place_of};
 ghost use Rattle.indexer.specs.declared.object.ObjectKey.{ObjectKey};
-ghost use Rattle.world.specs.Shots.{ShowsIndex, is_listed, key_seen};
+ghost use Rattle.world.specs.Shots.{IsCopied, ShowsIndex, is_listed, key_seen};
 
 use crate::trace::IndexShot;
 use indexer::{IndexBy, Indexer, ObjectKey};
@@ -23,7 +24,8 @@ fn copied(key: &ObjectKey) -> Result<ObjectKey, AllocError>
 }
 
 fn copies(alloc: Global, keys: &BTreeSet<ObjectKey>) -> Result<Vec<ObjectKey>, AllocError>
-    ensures { IfOk result (λ v. map place_of v.items ≡ map place_of keys.now.keys) }
+    ensures places { IfOk result (λ v. map place_of v.items ≡ map place_of keys.now.keys) }
+    ensures ascending { IfOk result (λ v. IsStrictlySortedBy place_cmp (map place_of v.items)) }
 {
     let mut all = Vec::with_capacity(alloc, keys.len())?;
     for key in keys {
@@ -39,7 +41,8 @@ fn listed_under<I: IndexBy>(
     name: &str,
     text: &str,
 ) -> Result<Vec<ObjectKey>, AllocError>
-    ensures { IfOk result (λ v. (q : ObjectKey) → list_any (eq_by_cmp place_cmp (place_of q)) (map place_of v.items) ≡ is_under (held_of indexer.now) (names_of indexer.now) name.now text.now (place_of q)) }
+    ensures members { IfOk result (λ v. (q : ObjectKey) → list_any (eq_by_cmp place_cmp (place_of q)) (map place_of v.items) ≡ is_under (held_of indexer.now) (names_of indexer.now) name.now text.now (place_of q)) }
+    ensures ascending { IfOk result (λ v. IsStrictlySortedBy place_cmp (map place_of v.items)) }
 {
     match indexer.by_index(name, text) {
         Some(keys) => copies(alloc, keys),
@@ -54,7 +57,9 @@ fn listed<I: IndexBy>(
     name: &str,
     texts: &[&str],
 ) -> Result<Vec<(String, Vec<ObjectKey>)>, AllocError>
-    ensures { IfOk result (λ v. (key : List ℕ) (q : ObjectKey) → is_listed key (place_of q) (map key_seen v.items) ≡ (is_among (map (λ t. t.now) texts.now) key && is_under (held_of indexer.now) (names_of indexer.now) name.now key (place_of q))) }
+    ensures members { IfOk result (λ v. (key : List ℕ) (q : ObjectKey) → is_listed key (place_of q) (map key_seen v.items) ≡ (is_among (map (λ t. t.now) texts.now) key && is_under (held_of indexer.now) (names_of indexer.now) name.now key (place_of q))) }
+    ensures keys { IfOk result (λ v. map (λ e. string_bytes e.0) v.items ≡ map (λ t. t.now) texts.now) }
+    ensures copied { IfOk result (λ v. AllByRecursion (IsCopied (held_of indexer.now) (names_of indexer.now) name.now) v.items) }
 {
     let mut keys = Vec::with_capacity(alloc, texts.len())?;
     for text in texts {

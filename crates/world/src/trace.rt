@@ -4,7 +4,7 @@ use indexer::{Object, ObjectKey};
 use std::collections::BTreeMap;
 use std::rc::Rc;
 
-/// A copy of an index: its keys, and under each the keys of the objects that have it.
+/// A copy of an index: its keys, and under each the keys of the objects that have it, one at least. Both strictly ascend.
 #[derive(Debug, Drop)]
 pub struct IndexShot {
     pub name: String,

@@ -1,6 +1,7 @@
-use Rattle.std.proofs.Common.{◌∙◌, ◌++◌, ap, map, append-nil, sym}
-use Rattle.indexer.specs.Objects.{place_of}
-use Rattle.world.proofs.Shots.{moved_on}
+use Rattle.std.proofs.Common.{◌∙◌, ◌++◌, ap, map, append-nil, subst, sym}
+use Rattle.std.specs.List.Sorted.{IsStrictlySortedBy}
+use Rattle.indexer.specs.Objects.{place_cmp, place_of}
+use Rattle.world.proofs.Shots.{moved_on, places_ascend}
 use Rattle.world.proofs.indexes.copies.Goals as goal
 
 pub loop-key-init : goal.loop-key-init
@@ -14,4 +15,6 @@ loop-key-preserved c =
 
 pub returns : goal.returns
 returns c =
-    sym (append-nil (map place_of c.loop-key.all.items)) ∙ ap (λ xs. map place_of c.loop-key.all.items ++ map place_of xs) (sym c.in-None.ensures.steps.0) ∙ c.loop-key.invariant
+    let placed =
+    sym (append-nil (map place_of c.loop-key.all.items)) ∙ ap (λ xs. map place_of c.loop-key.all.items ++ map place_of xs) (sym c.in-None.ensures.steps.0) ∙ c.loop-key.invariant in
+    record { places = placed; ascending = subst (IsStrictlySortedBy place_cmp) (sym placed) (places_ascend c.args.keys.now.keys c.into_iter-key-iterator.ensures.into_iter_gives.4) }
