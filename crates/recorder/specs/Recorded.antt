@@ -1,11 +1,13 @@
 -- What a recorder holds: a hub of which nothing was taken, and what was written on each connection whose peer has gone.
-use Rattle.std.specs.Prelude.{◌≡◌, ℕ, Bool, true, false, List, Option, Some, None, option_map}
+use Rattle.std.specs.Prelude.{◌≡◌, ℕ, Bool, true, false, List, Option, Some, None, ⊤, is_none, option_map}
+use Rattle.std.specs.declared.result.Result.TheVariants.{Err}
 use Rattle.std.specs.BTreeMap.{get}
 use Rattle.std.specs.FinMap as fin
 use Rattle.std.specs.Ordering.{nat_cmp}
 use Rattle.httpedge.specs.Connections.{Connection, IsUntaken, has_gone}
-use Rattle.httpedge.specs.HubSeen.{IsIn}
-use Rattle.httpedge.specs.Steps.{State}
+use Rattle.httpedge.specs.HubSeen.{IsIn, outcome_of, refusal_in}
+use Rattle.httpedge.specs.Steps.{Event, Refusal, State, refusal}
+use Rattle.httpedge.specs.declared.fault.HubFault.{HubFault}
 use Rattle.recorder.specs.declared.recorder.Recorder.{Recorder}
 
 -- the peer has gone, and these bytes were written
@@ -29,3 +31,14 @@ abbrev pub kept_after : Option (List ℕ) → Bool → List ℕ → Option (List
 kept_after (Some bytes) goes written = Some bytes
 kept_after None true written = Some written
 kept_after None false written = None
+
+-- ---- events
+
+-- why an event was refused, as the hub's fault tells it
+abbrev pub refusal_of : Option HubFault → Option Refusal
+refusal_of None = None
+refusal_of (Some f) = refusal_in (outcome_of {A = ⊤} (Err f))
+
+-- it tells whether the event is refused, and why
+abbrev pub TellsRefusal : State → Event → Option HubFault → Type 0
+TellsRefusal s e r = (is_none r ≡ is_none (refusal s e)) × (refusal_of r ≡ refusal s e)

@@ -1,5 +1,5 @@
 //! A hub whose written bytes stay: what was written on a connection is kept when its peer goes.
-ghost use Rattle.std.specs.Prelude.{◌≡◌, ℕ, List, false, IfOk, OnOk, is_none, option_map};
+ghost use Rattle.std.specs.Prelude.{◌≡◌, ℕ, List, false, IfOk, OnOk, option_map};
 ghost use Rattle.std.specs.BTreeMap.{get};
 ghost use Rattle.std.specs.Ordering.{nat_cmp, eq_by_cmp};
 ghost use Rattle.api_types.specs.TypesFile.{ServedShape};
@@ -8,8 +8,8 @@ ghost use Rattle.verbs.specs.Seen.{Stands};
 ghost use Rattle.httpedge.specs.Connections.{ended_on, next_id, written_on};
 ghost use Rattle.httpedge.specs.HubSeen.{IsIn, event_of};
 ghost use Rattle.httpedge.specs.Runs.{Steps, peer_goes};
-ghost use Rattle.httpedge.specs.Steps.{State, goes, refusal, start};
-ghost use Rattle.recorder.specs.Recorded.{Records, kept_after};
+ghost use Rattle.httpedge.specs.Steps.{State, goes, start};
+ghost use Rattle.recorder.specs.Recorded.{Records, TellsRefusal, kept_after};
 
 use crate::fault::RecorderFault;
 use httpedge::{Event, Hub, HubFault};
@@ -17,20 +17,20 @@ use std::alloc::{AllocError, Global};
 use std::collections::BTreeMap;
 use verbs::Api;
 
-/// Hands an event to the hub: whether it was taken.
-fn is_taken(hub: &mut Hub, event: &Event) -> Result<bool, RecorderFault>
-    ensures { (s : State) → IsIn hub.old s → IfOk result (λ taken. (taken ≡ is_none (refusal s (event_of event.now))) × ((t : State) × Steps s (event_of event.now) t × IsIn hub.new t)) }
+/// Hands an event to the hub: why it was refused, if it was.
+fn refused_by(hub: &mut Hub, event: &Event) -> Result<Option<HubFault>, RecorderFault>
+    ensures { (s : State) → IsIn hub.old s → IfOk result (λ r. TellsRefusal s (event_of event.now) r × ((t : State) × Steps s (event_of event.now) t × IsIn hub.new t)) }
 {
     match hub.on(event) {
-        Ok(()) => Ok(true),
-        Err(HubFault::IdNotAbove) => Ok(false),
-        Err(HubFault::UnknownId) => Ok(false),
-        Err(HubFault::NoLines) => Ok(false),
-        Err(HubFault::TickBack) => Ok(false),
-        Err(HubFault::CompactionRefused) => Ok(false),
-        Err(HubFault::NotTypes(_)) => Ok(false),
-        Err(HubFault::NotLawful) => Ok(false),
-        Err(HubFault::TooFewRevisions) => Ok(false),
+        Ok(()) => Ok(None),
+        Err(HubFault::IdNotAbove) => Ok(Some(HubFault::IdNotAbove)),
+        Err(HubFault::UnknownId) => Ok(Some(HubFault::UnknownId)),
+        Err(HubFault::NoLines) => Ok(Some(HubFault::NoLines)),
+        Err(HubFault::TickBack) => Ok(Some(HubFault::TickBack)),
+        Err(HubFault::CompactionRefused) => Ok(Some(HubFault::CompactionRefused)),
+        Err(HubFault::NotTypes(fault)) => Ok(Some(HubFault::NotTypes(fault))),
+        Err(HubFault::NotLawful) => Ok(Some(HubFault::NotLawful)),
+        Err(HubFault::TooFewRevisions) => Ok(Some(HubFault::TooFewRevisions)),
         Err(HubFault::Memory) => Err(RecorderFault::Memory),
         Err(HubFault::Store) => Err(RecorderFault::Store),
     }
@@ -67,9 +67,9 @@ impl Recorder {
         }
     }
 
-    /// Hands the hub an event: whether it was taken. A refused one changes nothing.
-    pub fn on(&mut self, event: &Event) -> Result<bool, RecorderFault>
-        ensures { (s : State) → Records self.old s → IfOk result (λ taken. (taken ≡ is_none (refusal s (event_of event.now))) × ((t : State) × Steps s (event_of event.now) t × Records self.new t)) }
+    /// Hands the hub an event: why it was refused, if it was. A refused one changes nothing.
+    pub fn on(&mut self, event: &Event) -> Result<Option<HubFault>, RecorderFault>
+        ensures { (s : State) → Records self.old s → IfOk result (λ r. TellsRefusal s (event_of event.now) r × ((t : State) × Steps s (event_of event.now) t × Records self.new t)) }
     {
         match event {
             Event::Gone(id) => self.go(*id),
@@ -83,26 +83,28 @@ impl Recorder {
     }
 
     /// Hands the hub an event, other than that a peer goes.
-    fn hand(&mut self, event: &Event) -> Result<bool, RecorderFault>
-        ensures { (s : State) → Records self.old s → peer_goes (event_of event.now) ≡ false → IfOk result (λ taken. (taken ≡ is_none (refusal s (event_of event.now))) × ((t : State) × Steps s (event_of event.now) t × Records self.new t)) }
+    fn hand(&mut self, event: &Event) -> Result<Option<HubFault>, RecorderFault>
+        ensures { (s : State) → Records self.old s → peer_goes (event_of event.now) ≡ false → IfOk result (λ r. TellsRefusal s (event_of event.now) r × ((t : State) × Steps s (event_of event.now) t × Records self.new t)) }
     {
         httpedge::all_is_out();
         httpedge::gone_stays();
-        is_taken(&mut self.hub, event)
+        refused_by(&mut self.hub, event)
     }
 
     /// The peer of a connection goes.
-    fn go(&mut self, id: u64) -> Result<bool, RecorderFault>
-        ensures { (s : State) → Records self.old s → IfOk result (λ taken. (taken ≡ is_none (refusal s (goes id))) × ((t : State) × Steps s (goes id) t × Records self.new t)) }
+    fn go(&mut self, id: u64) -> Result<Option<HubFault>, RecorderFault>
+        ensures { (s : State) → Records self.old s → IfOk result (λ r. TellsRefusal s (goes id) r × ((t : State) × Steps s (goes id) t × Records self.new t)) }
     {
         httpedge::all_is_out();
         httpedge::gone_stays();
         let written = Vec::from_slice(self.alloc, self.hub.out(id))?;
-        if !is_taken(&mut self.hub, &Event::Gone(id))? {
-            return Ok(false);
+        match refused_by(&mut self.hub, &Event::Gone(id))? {
+            Some(fault) => Ok(Some(fault)),
+            None => {
+                keep(&mut self.gone, id, written)?;
+                Ok(None)
+            }
         }
-        keep(&mut self.gone, id, written)?;
-        Ok(true)
     }
 
     /// All that was written on a connection; nothing for an unknown id.

@@ -1,21 +1,22 @@
-use Rattle.std.proofs.Common.{◌≡◌, Bool, true, false, sym, ap, subst}
+use Rattle.std.proofs.Common.{◌≡◌, ◌∙◌, Option, Some, sym, ap, subst}
 use Rattle.std.specs.Prelude.{is_none, ⊤}
 use Rattle.std.specs.declared.result.Result.TheVariants.{Err}
 use Rattle.verbs.specs.Retyping.{not_lawful, not_types, too_few_revisions}
 use Rattle.httpedge.specs.declared.fault.HubFault.{HubFault}
 use Rattle.httpedge.specs.declared.hub.Hub.{Hub}
-use Rattle.httpedge.specs.HubSeen.{Happened, IsIn, Outcome, Tells, outcome_of, refused}
+use Rattle.httpedge.specs.HubSeen.{Happened, IsIn, Outcome, Tells, outcome_of, refusal_in, refused}
 use Rattle.httpedge.specs.Runs.{Follows, Happening, Steps, happens}
 use Rattle.httpedge.specs.Steps as edge
-use Rattle.recorder.proofs.recorder.is_taken.Goals as goal
+use Rattle.recorder.specs.Recorded.{TellsRefusal}
+use Rattle.recorder.proofs.recorder.refused_by.Goals as goal
 
 -- what the hub's clause says of an event, by how the call of it ended
 abbrev Led : Hub → edge.State → edge.Event → Outcome → Type 0
 Led hub s e o = (h : Happening) × (t : edge.State) × Happened e o h × Follows s h t × IsIn hub t
 
--- whether an event was taken, and that it led on
-abbrev IsTold : Hub → edge.State → edge.Event → Bool → Type 0
-IsTold hub s e taken = (taken ≡ is_none (edge.refusal s e)) × ((t : edge.State) × Steps s e t × IsIn hub t)
+-- why an event was refused, if it was, and that it led on
+abbrev IsTold : Hub → edge.State → edge.Event → Option HubFault → Type 0
+IsTold hub s e r = TellsRefusal s e r × ((t : edge.State) × Steps s e t × IsIn hub t)
 
 -- an event that happened led on
 leads_on : (hub : Hub) (s : edge.State) (e : edge.Event) → (h : Happening) × (t : edge.State) × (h ≡ happens e) × Follows s h t × IsIn hub t
@@ -25,16 +26,17 @@ leads_on hub s e (h, t, is, follows, now) = (t, subst (λ (x : Happening). Follo
 abbrev ended : HubFault → Outcome
 ended f = outcome_of {A = ⊤} (Err f)
 
--- one that was refused wasn't taken
-not_taken : (hub : Hub) (s : edge.State) (e : edge.Event) (f : HubFault) (why : edge.Refusal) → ended f ≡ refused why → Tells s e (ended f) → Led hub s e (ended f) → IsTold hub s e false
-not_taken hub s e f why is told led = (
-  sym (ap is_none (subst (Tells s e) is told)),
-  leads_on hub s e (subst (Led hub s e) is led),
-)
+-- one that was refused, with this fault
+not_taken : (hub : Hub) (s : edge.State) (e : edge.Event) (f : HubFault) (why : edge.Refusal) → ended f ≡ refused why → Tells s e (ended f) → Led hub s e (ended f) → IsTold hub s e (Some f)
+not_taken hub s e f why is told led =
+    let refuses : edge.refusal s e ≡ Some why = subst (Tells s e) is told in (
+      (sym (ap is_none refuses), ap refusal_in is ∙ sym refuses),
+      leads_on hub s e (subst (Led hub s e) is led),
+    )
 
 pub returns-in-Ok : goal.returns-in-Ok
 returns-in-Ok c = λ s stands. (
-  sym (ap is_none (c.in-Ok.ensures.refused s stands)),
+  (sym (ap is_none (c.in-Ok.ensures.refused s stands)), sym (c.in-Ok.ensures.refused s stands)),
   leads_on c.on.new.self s _ (c.in-Ok.ensures.follows s stands),
 )
 
