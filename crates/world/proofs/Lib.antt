@@ -2,6 +2,8 @@ pub mod Asking
 pub mod AtMost
 pub mod Failing
 pub mod Ids
+pub mod Marking
+pub mod Refusals
 pub mod Reports
 pub mod Shots
 pub mod Texts

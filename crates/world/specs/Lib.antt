@@ -1,7 +1,9 @@
 pub mod Faults
+pub mod Marks
 pub mod Reporting
 pub mod Seen
 pub mod Serving
 pub mod Shots
 pub mod Standing
+pub mod Stepping
 pub mod Traces

@@ -1,23 +1,27 @@
 //! The server's side of a run: a hub that keeps what it wrote, and the ids of its connections. The client's side stands in
 //! `world`.
 
-ghost use Rattle.std.specs.Prelude.{◌≡◌, ◌≢◌, ◌++◌, Err, IfOk, OnOk, map, option_map};
+ghost use Rattle.std.specs.Prelude.{◌≡◌, ◌≢◌, ◌++◌, ◌∷◌, ◌&&◌, [], not, Err, IfOk, OnOk, drop, map, option_map};
+ghost use Rattle.std.specs.List.{filter};
 ghost use Rattle.api_types.specs.Served.{types_view};
 ghost use Rattle.history.specs.History.{fresh};
 ghost use Rattle.httpedge.specs.Connections.{ended_on, next_id, written_on};
 ghost use Rattle.httpedge.specs.HubSeen.{event_of};
 ghost use Rattle.httpedge.specs.Runs.{Steps};
 ghost use Rattle.httpedge.specs.Steps as edge;
-ghost use Rattle.recorder.specs.Recorded.{Records};
+ghost use Rattle.recorder.specs.Recorded.{Records, TellsRefusal};
 ghost use Rattle.world.specs.Seen.{connection_seen, reply_seen};
 ghost use Rattle.world.specs.Serving.{Left, Serves, all_written, is_over_in, opened_by, written_at};
+ghost use Rattle.world.specs.Marks.{AreMarks, AreMarksOf, added_to, ended_of, mark_in, mark_seen};
+ghost use Rattle.world.specs.Stepping.{added, ended_since, is_some_bytes};
 
 use crate::connection::ClientConnection;
 use crate::fault::RunFault;
 use api_types::Types;
-use httpedge::Event;
+use httpedge::{Event, HubFault};
 use recorder::{Recorder, RecorderFault};
 use std::alloc::{AllocError, Global};
+use std::collections::BTreeMap;
 use verbs::Api;
 
 /// A hub that keeps what it wrote, and the ids of all its connections, which rise.
@@ -54,6 +58,127 @@ fn replies_of(
     Ok(all)
 }
 
+/// How far a connection is.
+#[derive(Clone, Copy, Debug)]
+pub(crate) struct Mark {
+    /// How many bytes were written on it.
+    pub(crate) written: usize,
+    /// Whether it has ended.
+    pub(crate) ended: bool,
+}
+
+/// How far each of these connections is.
+fn marks_of(
+    alloc: Global,
+    recorder: &Recorder,
+    ids: &[u64],
+) -> Result<BTreeMap<u64, Mark>, AllocError>
+    ensures { (s : edge.State) → Records recorder.now s → IfOk result (AreMarksOf s ids.now) }
+{
+    let mut marks = BTreeMap::new(alloc);
+    for id in ids {
+        let mark = Mark {
+            written: recorder.written(*id).len(),
+            ended: recorder.ended(*id),
+        };
+        marks.insert(*id, mark)?;
+    }
+    Ok(marks)
+}
+
+/// How far a connection was; one that there was none of had nothing written on it.
+fn mark_in(since: &BTreeMap<u64, Mark>, id: u64) -> Mark
+    ensures { mark_seen result ≡ mark_in since.now id }
+{
+    match since.get(&id) {
+        Some(mark) => *mark,
+        None => Mark {
+            written: 0,
+            ended: false,
+        },
+    }
+}
+
+/// The bytes from a place on.
+fn rest_of(bytes: &[u8], from: usize) -> &[u8]
+    ensures { result.now ≡ drop from bytes.entry.now }
+{
+    bytes.get(from..).unwrap_or(&[])
+}
+
+/// Keeps what was written on a connection, if something was.
+fn push_added(
+    alloc: Global,
+    all: &mut Vec<(u64, Vec<u8>)>,
+    id: u64,
+    bytes: &[u8],
+) -> Result<(), AllocError>
+    ensures { OnOk result (map reply_seen all.new.items ≡ map reply_seen all.old.items ++ filter is_some_bytes ((id, bytes.now) ∷ [])) }
+{
+    if bytes.is_empty() {
+        return Ok(());
+    }
+    let copy = Vec::from_slice(alloc, bytes)?;
+    all.push((id, copy))?;
+    Ok(())
+}
+
+/// What was written on each of these connections since they were so far, where something was.
+fn added_since(
+    alloc: Global,
+    recorder: &Recorder,
+    ids: &[u64],
+    since: &BTreeMap<u64, Mark>,
+) -> Result<Vec<(u64, Vec<u8>)>, AllocError>
+    ensures { (t : edge.State) → Records recorder.now t → IfOk result (λ v. map reply_seen v.items ≡ added_to t (mark_in since.now) ids.now) }
+{
+    let mut all = Vec::new(alloc);
+    for id in ids {
+        let from = mark_in(since, *id).written;
+        push_added(alloc, &mut all, *id, rest_of(recorder.written(*id), from))?;
+    }
+    Ok(all)
+}
+
+/// Whether a connection has just ended, by whether it had ended and has.
+fn has_just_ended(had_ended: bool, has_ended: bool) -> bool
+    ensures { result ≡ (has_ended && not had_ended) }
+{
+    has_ended && !had_ended
+}
+
+/// Keeps a connection that has just ended.
+fn push_ended(
+    all: &mut Vec<u64>,
+    id: u64,
+    had_ended: bool,
+    has_ended: bool,
+) -> Result<(), AllocError>
+    ensures { OnOk result (all.new.items ≡ all.old.items ++ filter (λ _. has_ended && not had_ended) (id ∷ [])) }
+{
+    if !has_just_ended(had_ended, has_ended) {
+        return Ok(());
+    }
+    Ok(all.push(id)?)
+}
+
+/// Those of these connections that ended since they were so far.
+fn ended_since(
+    alloc: Global,
+    recorder: &Recorder,
+    ids: &[u64],
+    since: &BTreeMap<u64, Mark>,
+) -> Result<Vec<u64>, AllocError>
+    ensures { (t : edge.State) → Records recorder.now t → IfOk result (λ v. v.items ≡ ended_of t (mark_in since.now) ids.now) }
+{
+    let mut all = Vec::new(alloc);
+    for id in ids {
+        let had_ended = mark_in(since, *id).ended;
+        push_ended(&mut all, *id, had_ended, recorder.ended(*id))?;
+    }
+    Ok(all)
+}
+
 impl Server {
     /// A hub without connections, over an API without objects.
     pub(crate) fn new(alloc: Global, types: Types) -> Result<Server, RunFault>
@@ -67,15 +192,19 @@ impl Server {
         })
     }
 
-    /// Hands the hub an event. One that it refuses changes nothing.
-    pub(crate) fn on(&mut self, event: &Event) -> Result<(), RecorderFault>
-        ensures { (s : edge.State) → Serves self.old s → OnOk result ((t : edge.State) × Steps s (event_of event.now) t × Serves self.new t) }
+    /// Hands the hub an event: why it was refused, if it was. A refused one changes nothing.
+    pub(crate) fn on(&mut self, event: &Event) -> Result<Option<HubFault>, RecorderFault>
+        ensures steps { (s : edge.State) → Serves self.old s → OnOk result ((t : edge.State) × Steps s (event_of event.now) t × Serves self.new t) }
+        ensures refused { (s : edge.State) → Serves self.old s → IfOk result (TellsRefusal s (event_of event.now)) }
     {
         httpedge::each_changes();
-        if self.recorder.on(event)? {
-            note(&mut self.ids, event)?;
+        match self.recorder.on(event)? {
+            Some(fault) => Ok(Some(fault)),
+            None => {
+                note(&mut self.ids, event)?;
+                Ok(None)
+            }
         }
-        Ok(())
     }
 
     /// These bytes come in one piece on a new connection.
@@ -83,7 +212,8 @@ impl Server {
         ensures { (s : edge.State) → Serves self.old s → OnOk result ((mid : edge.State) × (t : edge.State) × Steps s (edge.opens id) mid × Steps mid (edge.comes id bytes.items) t × Serves self.new t) }
     {
         self.on(&Event::Open(id))?;
-        self.on(&Event::In(id, bytes))
+        self.on(&Event::In(id, bytes))?;
+        Ok(())
     }
 
     /// The client leaves its connection, if it has one.
@@ -91,7 +221,10 @@ impl Server {
         ensures { (s : edge.State) → Serves self.old s → OnOk result ((t : edge.State) × Left (option_map connection_seen own.now) s t × Serves self.new t) }
     {
         match own {
-            Some(own) => self.on(&Event::Gone(own.id)),
+            Some(own) => {
+                self.on(&Event::Gone(own.id))?;
+                Ok(())
+            }
             None => Ok(()),
         }
     }
@@ -122,5 +255,29 @@ impl Server {
         ensures { (s : edge.State) → Serves self.now s → IfOk result (λ v. map reply_seen v.items ≡ all_written s) }
     {
         replies_of(self.alloc, &self.recorder, &self.ids)
+    }
+
+    /// How far each connection is, by its id.
+    pub(crate) fn marks(&self) -> Result<BTreeMap<u64, Mark>, AllocError>
+        ensures { (s : edge.State) → Serves self.now s → IfOk result (AreMarks s) }
+    {
+        marks_of(self.alloc, &self.recorder, &self.ids)
+    }
+
+    /// What was written on each connection since they were so far, where something was, by their ids.
+    pub(crate) fn added(
+        &self,
+        since: &BTreeMap<u64, Mark>,
+    ) -> Result<Vec<(u64, Vec<u8>)>, AllocError>
+        ensures { (s t : edge.State) → Serves self.now t → AreMarks s since.now → IfOk result (λ v. map reply_seen v.items ≡ added s t) }
+    {
+        added_since(self.alloc, &self.recorder, &self.ids, since)
+    }
+
+    /// The connections that ended since they were so far, by their ids.
+    pub(crate) fn ended(&self, since: &BTreeMap<u64, Mark>) -> Result<Vec<u64>, AllocError>
+        ensures { (s t : edge.State) → Serves self.now t → AreMarks s since.now → IfOk result (λ v. v.items ≡ ended_since s t) }
+    {
+        ended_since(self.alloc, &self.recorder, &self.ids, since)
     }
 }

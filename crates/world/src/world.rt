@@ -1,6 +1,6 @@
 //! A server, a client and the connection between them, and what each event makes of them.
 
-ghost use Rattle.std.specs.Prelude.{◌≡◌, ◌≢◌, ℕ, List, if◌then◌else◌};
+ghost use Rattle.std.specs.Prelude.{◌≡◌, ◌≢◌, ℕ, List, if◌then◌else◌, option_map};
 ghost use Rattle.httpedge.specs.Steps as edge;
 ghost use Rattle.wireclient.specs.Reply.{Told};
 ghost use Rattle.reflector.specs.Client.{Client};
@@ -8,23 +8,26 @@ ghost use Rattle.reflector.specs.Informer as informers;
 ghost use Rattle.reflector.specs.Run.{closed};
 ghost use Rattle.world.specs.Serving.{Serves, is_over_in};
 ghost use Rattle.world.specs.Standing.{setup_in};
+ghost use Rattle.recorder.specs.Recorded.{TellsRefusal};
+ghost use Rattle.world.specs.Stepping.{Refuses, by_hub};
 
 use crate::connection::{ClientConnection, is_by_peer_on, next_of_request, next_piece};
 use crate::event::WorldEvent;
 use crate::fault::{RunFault, WorldFault};
 use crate::link::Link;
+use crate::refusal::Refusal;
 use crate::server::Server;
 use crate::settings::{Settings, client_of};
 use api_types::Types;
-use httpedge::Event;
+use httpedge::{Event, HubFault};
 use indexer::IndexBy;
 use reflector::Informer;
 use std::alloc::Global;
 use summary::Summary;
 
-/// A server and a client, the client's connection, and what is counted of its objects.
+/// A server and a client, the client's connection, and what is counted of its objects: a run that is taken event by event.
 #[derive(Drop)]
-pub(crate) struct World<I: Drop> {
+pub struct World<I: Drop> {
     pub(crate) alloc: Global,
     pub(crate) server: Server,
     /// The connections that were opened for a request of another peer, oldest first.
@@ -35,6 +38,16 @@ pub(crate) struct World<I: Drop> {
     pub(crate) label: String,
     /// The namespace and the name of the object to which the counts are applied.
     pub(crate) place: (String, String),
+}
+
+/// A refusal of the hub.
+fn by_hub(fault: Option<HubFault>) -> Option<Refusal>
+    ensures { (s : edge.State) (e : edge.Event) → TellsRefusal s e fault → Refuses result (option_map by_hub (edge.refusal s e)) }
+{
+    match fault {
+        Some(fault) => Some(Refusal::Hub(fault)),
+        None => None,
+    }
 }
 
 /// Tells the client that its connection is closed, where the reply is over.
@@ -49,7 +62,7 @@ fn close_if_over<I: IndexBy>(server: &Server, client: &mut Informer<I>, id: u64,
 }
 
 impl<I: IndexBy> World<I> {
-    ghost use Rattle.std.specs.Prelude.{◌≡◌, ◌≢◌, false, map, Err, IfOk, OnOk};
+    ghost use Rattle.std.specs.Prelude.{◌≡◌, ◌≢◌, false, map, Err, IfOk, None, OnOk};
     ghost use Rattle.api_types.specs.Served.{types_view};
     ghost use Rattle.std.specs.FinMap as fin;
     ghost use Rattle.httpedge.specs.HubSeen.{event_of};
@@ -61,9 +74,11 @@ impl<I: IndexBy> World<I> {
     ghost use Rattle.world.specs.Faults.{Answers};
     ghost use Rattle.world.specs.Seen.{event_seen, settings_seen};
     ghost use Rattle.world.specs.Standing.{WorldStands, settled, setup_in};
+    ghost use Rattle.httpedge.specs.Connections.{next_id};
+    ghost use Rattle.world.specs.Stepping.{opens_own, refusal_of};
 
     /// A server without connections and objects, and the client that does what is asked.
-    pub(crate) fn new(
+    pub fn new(
         alloc: Global,
         types: Types,
         settings: Settings,
@@ -102,47 +117,49 @@ impl<I: IndexBy> World<I> {
         })
     }
 
-    fn other(&mut self, event: &Event) -> Result<(), RunFault>
+    fn other(&mut self, event: &Event) -> Result<Option<Refusal>, RunFault>
         ensures happens { (task : Task) (o : Objects) (w : worlds.World) → WorldStands (λ b s. I.keys b s) task o self.old w
             → OnOk result ((v : worlds.World) × worlds.Happens task w (worlds.other (event_of event.now)) v × WorldStands (λ b s. I.keys b s) task o self.new v) }
+        ensures refused { (task : Task) (o : Objects) (w : worlds.World) → WorldStands (λ b s. I.keys b s) task o self.old w → IfOk result (λ r. Refuses r (refusal_of task w (worlds.other (event_of event.now)))) }
         ensures setup { setup_in self.new.client ≡ setup_in self.old.client }
         ensures link { result ≢ Err RunFault.Link }
     {
         if is_by_peer_on(&self.connection, event) {
-            return Ok(());
+            return Ok(Some(Refusal::ClientConnection));
         }
         httpedge::written_stays();
-        self.server.on(event)?;
-        Ok(())
+        Ok(by_hub(self.server.on(event)?))
     }
 
-    fn request(&mut self, bytes: &[u8]) -> Result<(), RunFault>
+    fn request(&mut self, bytes: &[u8]) -> Result<Option<Refusal>, RunFault>
         ensures happens { (task : Task) (o : Objects) (w : worlds.World) → WorldStands (λ b s. I.keys b s) task o self.old w
             → OnOk result ((v : worlds.World) × worlds.Happens task w (worlds.request bytes.now) v × WorldStands (λ b s. I.keys b s) task o self.new v) }
+        ensures refused { (task : Task) (o : Objects) (w : worlds.World) → WorldStands (λ b s. I.keys b s) task o self.old w → IfOk result (λ r. Refuses r (refusal_of task w (worlds.request bytes.now))) }
         ensures setup { setup_in self.new.client ≡ setup_in self.old.client }
         ensures link { result ≢ Err RunFault.Link }
     {
         let Some(id) = self.server.next_id() else {
-            return Ok(());
+            return Ok(Some(Refusal::NoId));
         };
         let copy = Vec::from_slice(self.alloc, bytes)?;
         self.requested.push(id)?;
         httpedge::written_stays();
         self.server.on_new(id, copy)?;
-        Ok(())
+        Ok(None)
     }
 
-    fn send(&mut self) -> Result<(), RunFault>
+    fn send(&mut self) -> Result<Option<Refusal>, RunFault>
         ensures happens { (task : Task) (o : Objects) (w : worlds.World) → WorldStands (λ b s. I.keys b s) task o self.old w
             → OnOk result ((v : worlds.World) × worlds.Happens task w worlds.send v × WorldStands (λ b s. I.keys b s) task o self.new v) }
+        ensures refused { (task : Task) (o : Objects) (w : worlds.World) → WorldStands (λ b s. I.keys b s) task o self.old w → IfOk result (λ r. Refuses r (refusal_of task w worlds.send)) }
         ensures setup { setup_in self.new.client ≡ setup_in self.old.client }
         ensures link { result ≢ Err RunFault.Link }
     {
         let Some(id) = self.server.next_id() else {
-            return Ok(());
+            return Ok(Some(Refusal::NoId));
         };
         let Some(request) = self.client.next_request()? else {
-            return Ok(());
+            return Ok(Some(Refusal::NothingDue));
         };
         self.server.leave(&self.connection)?;
         self.server.on(&Event::Open(id))?;
@@ -152,67 +169,71 @@ impl<I: IndexBy> World<I> {
             sent: 0,
             handed: 0,
         });
-        Ok(())
+        Ok(None)
     }
 
-    fn to_server<L: Link>(&mut self, n: usize, link: &mut L) -> Result<(), RunFault>
+    fn to_server<L: Link>(&mut self, n: usize, link: &mut L) -> Result<Option<Refusal>, RunFault>
         ensures happens { (task : Task) (o : Objects) (w : worlds.World) → WorldStands (λ b s. I.keys b s) task o self.old w
             → OnOk result ((v : worlds.World) × worlds.Happens task w (worlds.to_server n) v × WorldStands (λ b s. I.keys b s) task o self.new v) }
+        ensures refused { (task : Task) (o : Objects) (w : worlds.World) → WorldStands (λ b s. I.keys b s) task o self.old w → IfOk result (λ r. Refuses r (refusal_of task w (worlds.to_server n))) }
         ensures setup { setup_in self.new.client ≡ setup_in self.old.client }
         ensures link { L.may_fail ≡ false → result ≢ Err RunFault.Link }
     {
         let Some(own) = &mut self.connection else {
-            return Ok(());
+            return Ok(Some(Refusal::NothingWaits));
         };
         let piece = next_of_request(self.alloc, link, own, n)?;
         if piece.is_empty() {
-            return Ok(());
+            return Ok(Some(Refusal::NothingWaits));
         }
         own.sent = own.sent.saturating_add(piece.len());
         httpedge::written_stays();
         self.server.on(&Event::In(own.id, piece))?;
         close_if_over(&self.server, &mut self.client, own.id, own.handed);
-        Ok(())
+        Ok(None)
     }
 
-    fn to_client<L: Link>(&mut self, n: usize, link: &mut L) -> Result<(), RunFault>
+    fn to_client<L: Link>(&mut self, n: usize, link: &mut L) -> Result<Option<Refusal>, RunFault>
         ensures happens { (task : Task) (o : Objects) (w : worlds.World) → WorldStands (λ b s. I.keys b s) task o self.old w
             → OnOk result ((v : worlds.World) × worlds.Happens task w (worlds.to_client n) v × WorldStands (λ b s. I.keys b s) task o self.new v) }
+        ensures refused { (task : Task) (o : Objects) (w : worlds.World) → WorldStands (λ b s. I.keys b s) task o self.old w → IfOk result (λ r. Refuses r (refusal_of task w (worlds.to_client n))) }
         ensures setup { setup_in self.new.client ≡ setup_in self.old.client }
         ensures link { L.may_fail ≡ false → result ≢ Err RunFault.Link }
     {
         let Some(own) = &mut self.connection else {
-            return Ok(());
+            return Ok(Some(Refusal::NothingWaits));
         };
         let written = self.server.written(own.id);
         let piece = next_piece(self.alloc, link, written, own.handed, n)?;
         if piece.is_empty() {
-            return Ok(());
+            return Ok(Some(Refusal::NothingWaits));
         }
         own.handed = own.handed.saturating_add(piece.len());
         self.client.feed(&piece)?;
         close_if_over(&self.server, &mut self.client, own.id, own.handed);
-        Ok(())
+        Ok(None)
     }
 
-    fn cut(&mut self) -> Result<(), RunFault>
+    fn cut(&mut self) -> Result<Option<Refusal>, RunFault>
         ensures happens { (task : Task) (o : Objects) (w : worlds.World) → WorldStands (λ b s. I.keys b s) task o self.old w
             → OnOk result ((v : worlds.World) × worlds.Happens task w worlds.cut v × WorldStands (λ b s. I.keys b s) task o self.new v) }
+        ensures refused { (task : Task) (o : Objects) (w : worlds.World) → WorldStands (λ b s. I.keys b s) task o self.old w → IfOk result (λ r. Refuses r (refusal_of task w worlds.cut)) }
         ensures setup { setup_in self.new.client ≡ setup_in self.old.client }
         ensures link { result ≢ Err RunFault.Link }
     {
         if self.connection.is_none() {
-            return Ok(());
+            return Ok(Some(Refusal::NoConnection));
         }
         self.client.closed();
         self.server.leave(&self.connection)?;
         self.connection = None;
-        Ok(())
+        Ok(None)
     }
 
-    fn restart(&mut self) -> Result<(), RunFault>
+    fn restart(&mut self) -> Result<Option<Refusal>, RunFault>
         ensures happens { (task : Task) (o : Objects) (w : worlds.World) → WorldStands (λ b s. I.keys b s) task o self.old w
             → OnOk result ((v : worlds.World) × worlds.Happens task w worlds.restart v × WorldStands (λ b s. I.keys b s) task fin.empty self.new v) }
+        ensures refused { (task : Task) (o : Objects) (w : worlds.World) → WorldStands (λ b s. I.keys b s) task o self.old w → IfOk result (λ r. Refuses r (refusal_of task w worlds.restart)) }
         ensures setup { setup_in self.new.client ≡ setup_in self.old.client }
         ensures link { result ≢ Err RunFault.Link }
     {
@@ -221,32 +242,38 @@ impl<I: IndexBy> World<I> {
         self.summary = Summary::new(self.alloc, label);
         self.server.leave(&self.connection)?;
         self.connection = None;
-        Ok(())
+        Ok(None)
     }
 
-    fn reconcile(&mut self) -> Result<(), RunFault>
+    fn reconcile(&mut self) -> Result<Option<Refusal>, RunFault>
         ensures happens { (task : Task) (w : worlds.World) → WorldStands (λ b s. I.keys b s) task (kept w.client.cache) self.old w
             → OnOk result ((v : worlds.World) × worlds.Happens task w worlds.reconcile v × WorldStands (λ b s. I.keys b s) task (kept w.client.cache) self.new v) }
+        ensures refused { (task : Task) (w : worlds.World) → WorldStands (λ b s. I.keys b s) task (kept w.client.cache) self.old w → IfOk result (λ r. Refuses r (refusal_of task w worlds.reconcile)) }
         ensures setup { setup_in self.new.client ≡ setup_in self.old.client }
         ensures link { result ≢ Err RunFault.Link }
     {
         if self.client.revision().is_none() {
-            return Ok(());
+            return Ok(Some(Refusal::NoRevision));
         }
         let Some(id) = self.server.next_id() else {
-            return Ok(());
+            return Ok(Some(Refusal::NoId));
         };
         let request = self
             .summary
             .apply_call(self.place.0.as_str(), self.place.1.as_str())?;
         httpedge::written_stays();
         self.server.on_new(id, request)?;
-        Ok(())
+        Ok(None)
     }
 
-    fn happen<L: Link>(&mut self, event: &WorldEvent, link: &mut L) -> Result<(), RunFault>
+    fn happen<L: Link>(
+        &mut self,
+        event: &WorldEvent,
+        link: &mut L,
+    ) -> Result<Option<Refusal>, RunFault>
         ensures happens { (task : Task) (w : worlds.World) → WorldStands (λ b s. I.keys b s) task (kept w.client.cache) self.old w
             → OnOk result ((v : worlds.World) × (o : Objects) × worlds.Happens task w (event_seen event.now) v × WorldStands (λ b s. I.keys b s) task o self.new v) }
+        ensures refused { (task : Task) (w : worlds.World) → WorldStands (λ b s. I.keys b s) task (kept w.client.cache) self.old w → IfOk result (λ r. Refuses r (refusal_of task w (event_seen event.now))) }
         ensures setup { setup_in self.new.client ≡ setup_in self.old.client }
         ensures link { L.may_fail ≡ false → result ≢ Err RunFault.Link }
     {
@@ -274,12 +301,18 @@ impl<I: IndexBy> World<I> {
     }
 
     /// Takes the next event.
-    pub(crate) fn take<L: Link>(&mut self, event: &WorldEvent, link: &mut L) -> Result<(), RunFault>
+    pub(crate) fn take<L: Link>(
+        &mut self,
+        event: &WorldEvent,
+        link: &mut L,
+    ) -> Result<Option<Refusal>, RunFault>
         ensures steps { (task : Task) (w : worlds.World) → WorldStands (λ b s. I.keys b s) task (kept w.client.cache) self.old w → OnOk result ((v : worlds.World) × Steps task w (event_seen event.now) v × WorldStands (λ b s. I.keys b s) task (kept v.client.cache) self.new v) }
+        ensures refused { (task : Task) (w : worlds.World) → WorldStands (λ b s. I.keys b s) task (kept w.client.cache) self.old w → IfOk result (λ r. Refuses r (refusal_of task w (event_seen event.now))) }
         ensures setup { setup_in self.new.client ≡ setup_in self.old.client }
         ensures link { L.may_fail ≡ false → result ≢ Err RunFault.Link }
     {
-        self.happen(event, link)?;
-        self.settle()
+        let refused = self.happen(event, link)?;
+        self.settle()?;
+        Ok(refused)
     }
 }

@@ -4,6 +4,7 @@ use Rattle.world_laws.specs.Tasks.{wanted_by}
 use Rattle.world_laws.specs.World as worlds
 use Rattle.world.specs.Seen.{connection_seen}
 use Rattle.world.proofs.Worlds.{closed_asks, cuts, handed_none, leads_closed, no_cut}
+use Rattle.world.proofs.Refusals.{connected_some, unconnected_none}
 use Rattle.world.proofs.world.World.cut.Goals as goal
 
 pub returns-then-is_none-clause-happens : goal.returns-then-is_none-clause-happens
@@ -30,3 +31,9 @@ returns-clause-happens g c = λ task o w stands.
         place = stands.place;
       },
     )
+
+pub returns-then-is_none-clause-refused : goal.returns-then-is_none-clause-refused
+returns-then-is_none-clause-refused g c = λ task o w stands. unconnected_none connection_seen c.args.self.now.connection w.connection stands.connection (c.is_none.ensures ∙ ap not c.if-is_none.true)
+
+pub returns-clause-refused : goal.returns-clause-refused
+returns-clause-refused g c = λ task o w stands. connected_some connection_seen c.args.self.now.connection w.connection stands.connection (c.is_none.ensures ∙ ap not c.if-is_none.false)

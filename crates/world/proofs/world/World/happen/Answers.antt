@@ -3,6 +3,8 @@ use Rattle.std.specs.FinMap as fin
 use Rattle.std.proofs.lemmas.Result.{IfOk-weaker}
 use Rattle.reflector.specs.Client.{kept}
 use Rattle.world_laws.specs.World as worlds
+use Rattle.world.specs.Stepping.{Refuses, refusal_of}
+use Rattle.std.specs.Prelude.{IfOk}
 use Rattle.world.proofs.world.World.happen.Goals as goal
 
 pub returns-in-Other-clause-happens : goal.returns-in-Other-clause-happens
@@ -28,3 +30,27 @@ returns-in-Restart-clause-happens g c = λ task w stands. rw c.in-Restart.is (If
 
 pub returns-in-Reconcile-clause-happens : goal.returns-in-Reconcile-clause-happens
 returns-in-Reconcile-clause-happens g c = λ task w stands. rw c.in-Reconcile.is (IfOk-weaker c.reconcile.result _ _ (λ _ did. (did.0, kept w.client.cache, did.1, did.2)) (c.reconcile.ensures.happens task w stands))
+
+pub returns-in-Other-clause-refused : goal.returns-in-Other-clause-refused
+returns-in-Other-clause-refused g c = λ task w stands. rw c.in-Other.is (c.other.ensures.refused task (kept w.client.cache) w stands)
+
+pub returns-in-Request-clause-refused : goal.returns-in-Request-clause-refused
+returns-in-Request-clause-refused g c = λ task w stands. rw c.in-Request.is (subst (λ bytes. IfOk c.request.result (λ r. Refuses r (refusal_of task w (worlds.request bytes)))) c.deref.ensures.value (c.request.ensures.refused task (kept w.client.cache) w stands))
+
+pub returns-in-ClientSend-clause-refused : goal.returns-in-ClientSend-clause-refused
+returns-in-ClientSend-clause-refused g c = λ task w stands. rw c.in-ClientSend.is (c.send.ensures.refused task (kept w.client.cache) w stands)
+
+pub returns-in-ToServer-clause-refused : goal.returns-in-ToServer-clause-refused
+returns-in-ToServer-clause-refused g c = λ task w stands. rw c.in-ToServer.is (c.to_server.ensures.refused task (kept w.client.cache) w stands)
+
+pub returns-in-ToClient-clause-refused : goal.returns-in-ToClient-clause-refused
+returns-in-ToClient-clause-refused g c = λ task w stands. rw c.in-ToClient.is (c.to_client.ensures.refused task (kept w.client.cache) w stands)
+
+pub returns-in-Cut-clause-refused : goal.returns-in-Cut-clause-refused
+returns-in-Cut-clause-refused g c = λ task w stands. rw c.in-Cut.is (c.cut.ensures.refused task (kept w.client.cache) w stands)
+
+pub returns-in-Restart-clause-refused : goal.returns-in-Restart-clause-refused
+returns-in-Restart-clause-refused g c = λ task w stands. rw c.in-Restart.is (c.restart.ensures.refused task (kept w.client.cache) w stands)
+
+pub returns-in-Reconcile-clause-refused : goal.returns-in-Reconcile-clause-refused
+returns-in-Reconcile-clause-refused g c = λ task w stands. rw c.in-Reconcile.is (c.reconcile.ensures.refused task w stands)

@@ -1,10 +1,11 @@
-use Rattle.std.proofs.Common.{◌∙◌, ℕ, List, ap, not, subst, sym}
+use Rattle.std.proofs.Common.{◌∙◌, ℕ, List, ap, not, subst, sym, refl}
 use Rattle.reflector.specs.Client.{kept}
 use Rattle.summary.specs.Apply.{apply_request}
 use Rattle.summary.specs.Counts.{summed_of}
 use Rattle.httpedge.specs.Steps as edge
 use Rattle.world_laws.specs.World as worlds
 use Rattle.world.proofs.Worlds.{grown, grown_twice, handed_stays, in_one_piece, no_counts, no_id, reconciles}
+use Rattle.world.proofs.Refusals.{id_left, no_id_left, synced, unsynced}
 use Rattle.world.proofs.world.World.reconcile.Goals as goal
 
 pub returns-then-is_none-clause-happens : goal.returns-then-is_none-clause-happens
@@ -38,3 +39,20 @@ returns-clause-happens g c = λ task w stands.
           ∙ ap (apply_request counts task.settings.summary.0) (c.as_str-2.ensures.value ∙ ap (λ (p : List ℕ × List ℕ). p.1) stands.place)) comes),
       record { hub = came.4; requested = stands.requested; connection = stands.connection; client = (k.0, k.1, k.2, handed_stays w.client.is_asking k.0 w.connection w.hub t more k.3); wanted = stands.wanted; leads = stands.leads; few = stands.few; counted = stands.counted; label = stands.label; place = stands.place },
     )
+
+pub returns-then-is_none-clause-refused : goal.returns-then-is_none-clause-refused
+returns-then-is_none-clause-refused g c = λ task w stands.
+    let k = stands.client in
+    unsynced w.client.cache (λ now. now.revision) c.revision.result _ (c.revision.ensures w.client k.0 k.1 k.2) (c.is_none.ensures ∙ ap not c.if-is_none.true)
+
+pub returns-in_default-clause-refused : goal.returns-in_default-clause-refused
+returns-in_default-clause-refused g c = λ task w stands.
+    let k = stands.client in
+    synced w.client.cache (λ now. now.revision) c.revision.result _ _ (c.revision.ensures w.client k.0 k.1 k.2) (c.is_none.ensures ∙ ap not c.if-is_none.false)
+    (no_id_left _ _ (sym (sym c.in_default.is ∙ c.next_id.ensures w.hub stands.hub)))
+
+pub returns-clause-refused : goal.returns-clause-refused
+returns-clause-refused g c = λ task w stands.
+    let k = stands.client in
+    synced w.client.cache (λ now. now.revision) c.revision.result _ _ (c.revision.ensures w.client k.0 k.1 k.2) (c.is_none.ensures ∙ ap not c.if-is_none.false)
+    (id_left _ c.in-Some.id _ _ (sym (sym c.in-Some.is ∙ c.next_id.ensures w.hub stands.hub)) refl)

@@ -2,6 +2,7 @@ use Rattle.std.proofs.Common.{◌∙◌, ◌++◌, ◌∷◌, [], ap, refl, subs
 use Rattle.httpedge.specs.Steps as edge
 use Rattle.world_laws.specs.World as worlds
 use Rattle.world.proofs.Worlds.{grown, grown_twice, handed_stays, in_one_piece}
+use Rattle.world.proofs.Refusals.{id_left, no_id_left}
 use Rattle.world.proofs.world.World.request.Goals as goal
 
 pub returns-in_default-clause-happens : goal.returns-in_default-clause-happens
@@ -25,3 +26,9 @@ returns-clause-happens g c = λ task o w stands.
       subst (λ o. worlds.Requests w o c.args.bytes.now (record noted { hub = t })) next comes,
       record { hub = came.4; requested = c.in_ok-push.ensures.items ∙ ap (λ ids. ids ++ id ∷ []) stands.requested; connection = stands.connection; client = (k.0, k.1, k.2, handed_stays w.client.is_asking k.0 w.connection w.hub t more k.3); wanted = stands.wanted; leads = stands.leads; few = stands.few; counted = stands.counted; label = stands.label; place = stands.place },
     )
+
+pub returns-in_default-clause-refused : goal.returns-in_default-clause-refused
+returns-in_default-clause-refused g c = λ task o w stands. no_id_left _ _ (sym (sym c.in_default.is ∙ c.next_id.ensures w.hub stands.hub))
+
+pub returns-clause-refused : goal.returns-clause-refused
+returns-clause-refused g c = λ task o w stands. id_left _ c.in-Some.id _ _ (sym (sym c.in-Some.is ∙ c.next_id.ensures w.hub stands.hub)) refl

@@ -5,6 +5,7 @@ use Rattle.reflector.specs.Run.{asked}
 use Rattle.world_laws.specs.Tasks.{client_settings, wanted_by}
 use Rattle.world_laws.specs.World as worlds
 use Rattle.world.proofs.Worlds.{due_asks, due_waits, handed_if, leads_asked, leaves}
+use Rattle.world.proofs.Refusals.{id_left, no_id_left, none_due, some_due}
 use Rattle.world.proofs.world.World.send.Goals as goal
 
 pub returns-in_default-clause-happens : goal.returns-in_default-clause-happens
@@ -36,7 +37,7 @@ returns-clause-happens g c = λ task o w stands.
     let left = c.in_ok-leave.ensures w.hub stands.hub in
     let alone : worlds.World = record w { hub = left.0; connection = None } in
     let went = subst (λ own. worlds.Leaves w own alone) stands.connection (leaves w _ left.0 stands.connection left.1) in
-    let came = c.in_ok-on.ensures left.0 left.2 in
+    let came = c.in_ok-on.ensures.steps left.0 left.2 in
     let opened : worlds.World = record alone { hub = came.0 } in
     let own : worlds.ClientConnection = record { id = c.in-Some.id; unsent = bytes; handed = 0 } in
     let v : worlds.World = record opened { client = asked w.client; connection = Some own } in (
@@ -44,3 +45,18 @@ returns-clause-happens g c = λ task o w stands.
       subst (λ d. worlds.Sends w d (informers.due settings w.client) v) next (subst (λ d. worlds.Sends w (Some c.in-Some.id) d v) due (alone, opened, went, (came.0, came.1, refl), refl)),
       record { hub = came.2; requested = stands.requested; connection = refl; client = ([], [], c.in_ok-request.ensures.asked w.client k.0 k.1 k.2 waits, handed_if true [] own came.0 (omega arith) refl); wanted = c.next_request.ensures.settings ∙ stands.wanted; leads = leads_asked (wanted_by task) o w.client stands.leads; few = stands.few; counted = stands.counted; label = stands.label; place = stands.place },
     )
+
+pub returns-in_default-clause-refused : goal.returns-in_default-clause-refused
+returns-in_default-clause-refused g c = λ task o w stands. no_id_left _ _ (sym (sym c.in_default.is ∙ c.next_id.ensures w.hub stands.hub))
+
+pub returns-in_default-2-clause-refused : goal.returns-in_default-2-clause-refused
+returns-in_default-2-clause-refused g c = λ task o w stands.
+    let k = stands.client in
+    let due = sym (ap (option_map (λ v. v.items)) c.in_default-2.is) ∙ c.in_ok-request.ensures.due w.client k.0 k.1 k.2 ∙ ap (λ s. informers.due s w.client) stands.wanted in
+    id_left _ c.in-Some.id _ _ (sym (sym c.in-Some.is ∙ c.next_id.ensures w.hub stands.hub)) (none_due _ (sym due))
+
+pub returns-clause-refused : goal.returns-clause-refused
+returns-clause-refused g c = λ task o w stands.
+    let k = stands.client in
+    let due = sym (ap (option_map (λ v. v.items)) c.in-Some-2.is) ∙ c.in_ok-request.ensures.due w.client k.0 k.1 k.2 ∙ ap (λ s. informers.due s w.client) stands.wanted in
+    id_left _ c.in-Some.id _ _ (sym (sym c.in-Some.is ∙ c.next_id.ensures w.hub stands.hub)) (some_due _ c.in-Some-2.request.items (sym due))

@@ -1,9 +1,8 @@
 use Rattle.std.proofs.Common.{refl}
-use Rattle.std.proofs.lemmas.Result.{IfOk-weaker}
 use Rattle.world.specs.Standing.{settled}
 use Rattle.world.proofs.world.World.take.Goals as goal
 
 pub returns-clause-steps : goal.returns-clause-steps
 returns-clause-steps g c = λ task w stands.
     let mid = c.in_ok-happen.ensures.happens task w stands in
-    IfOk-weaker c.settle.result _ _ (λ _ now. (settled mid.0, (mid.0, mid.2, refl), now)) (c.settle.ensures.settles task mid.1 mid.0 mid.3)
+    (settled mid.0, (mid.0, mid.2, refl), c.in_ok-settle.ensures.settles task mid.1 mid.0 mid.3)

@@ -10,6 +10,7 @@ use Rattle.world.specs.Seen.{connection_seen}
 use Rattle.world.specs.Serving.{is_over_in}
 use Rattle.world.specs.Standing.{IsHanded, Leads}
 use Rattle.world.proofs.Worlds.{handed_over, hands, items_read, leads_heard, leads_over, nil, not_nil, received, sent_more}
+use Rattle.world.proofs.Refusals.{no_carrier, none_wait, some_wait}
 use Rattle.world.proofs.world.World.to_client.Goals as goal
 
 pub returns-in_default-clause-happens : goal.returns-in_default-clause-happens
@@ -76,3 +77,24 @@ returns-clause-happens g c = λ task o w stands.
         place = stands.place;
       },
     )
+
+pub returns-in_default-clause-refused : goal.returns-in_default-clause-refused
+returns-in_default-clause-refused g c = λ task o w stands. no_carrier _ _ (sym (sym (ap (option_map connection_seen) c.in_default.is) ∙ stands.connection))
+
+pub returns-then-is_empty-clause-refused : goal.returns-then-is_empty-clause-refused
+returns-then-is_empty-clause-refused g c = λ task o w stands.
+    let l = connection_seen c.in-Some.own in
+    let n = c.args.n in
+    let is = sym (ap (option_map connection_seen) c.in-Some.is) ∙ stands.connection in
+    let at = c.in_ok-piece.ensures.piece ∙ ap (λ xs. take n (drop l.handed xs)) (c.written-written.ensures w.hub stands.hub) in
+    let none = nil _ c.in_ok-piece.piece.items (sym c.is_empty.ensures ∙ c.if-is_empty.true) c.in_ok-piece.piece.ok.0 in
+    none_wait (λ own. take n (drop own.handed (worlds.reply_on w own))) w.connection l (sym is) (sym at ∙ none)
+
+pub returns-clause-refused : goal.returns-clause-refused
+returns-clause-refused g c = λ task o w stands.
+    let l = connection_seen c.in-Some.own in
+    let n = c.args.n in
+    let is = sym (ap (option_map connection_seen) c.in-Some.is) ∙ stands.connection in
+    let piece = c.in_ok-piece.piece.items in
+    let at = c.in_ok-piece.ensures.piece ∙ ap (λ xs. take n (drop l.handed xs)) (c.written-written.ensures w.hub stands.hub) in
+    some_wait (λ own. take n (drop own.handed (worlds.reply_on w own))) w.connection l piece (sym is) at (not_nil _ piece (sym c.is_empty.ensures ∙ c.if-is_empty.false) c.in_ok-piece.piece.ok.0)

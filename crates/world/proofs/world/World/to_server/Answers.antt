@@ -1,4 +1,4 @@
-use Rattle.std.proofs.Common.{◌≡◌, ◌∙◌, Some, ap, arith, drop, option_map, refl, subst, sym}
+use Rattle.std.proofs.Common.{◌≡◌, ◌∙◌, Some, ap, arith, drop, option_map, refl, subst, sym, take}
 use Rattle.httpedge.specs.Steps as edge
 use Rattle.world_laws.specs.Tasks.{wanted_by}
 use Rattle.world_laws.specs.World as worlds
@@ -6,6 +6,7 @@ use Rattle.world.specs.Seen.{connection_seen}
 use Rattle.world.specs.Serving.{is_over_in}
 use Rattle.world.specs.Standing.{IsHanded}
 use Rattle.world.proofs.Worlds.{delivers, grown, handed_over, handed_stays, handed_still, leads_over, left_after, nil, not_nil, sent_more}
+use Rattle.world.proofs.Refusals.{no_carrier, none_wait, some_wait}
 use Rattle.world.proofs.world.World.to_server.Goals as goal
 
 pub returns-in_default-clause-happens : goal.returns-in_default-clause-happens
@@ -32,7 +33,7 @@ returns-clause-happens g c = λ task o w stands.
     let is = sym (ap (option_map connection_seen) c.in-Some.is) ∙ stands.connection in
     let at = c.in_ok-piece.ensures.piece in
     let some = not_nil _ piece (sym c.is_empty.ensures ∙ c.if-is_empty.false) c.in_ok-piece.piece.ok.0 in
-    let came = c.in_ok-on.ensures w.hub stands.hub in
+    let came = c.in_ok-on.ensures.steps w.hub stands.hub in
     let t = came.0 in
     let more = grown c.written_stays.ensures.grows w.hub t (edge.comes l.id piece) came.1 in
     let left : drop c.saturating_add-own.result own.request.items ≡ drop n l.unsent = left_after n own.sent own.request.items piece c.saturating_add-own.result at (sent_more n own.sent own.request.items piece _ _ at some c.saturating_add-own.ensures (c.len.ensures ∙ c.in_ok-piece.piece.ok.0) (omega (arith, own.request.ok, own.request.small))) in
@@ -61,3 +62,22 @@ returns-clause-happens g c = λ task o w stands.
         place = stands.place;
       },
     )
+
+pub returns-in_default-clause-refused : goal.returns-in_default-clause-refused
+returns-in_default-clause-refused g c = λ task o w stands. no_carrier _ _ (sym (sym (ap (option_map connection_seen) c.in_default.is) ∙ stands.connection))
+
+pub returns-then-is_empty-clause-refused : goal.returns-then-is_empty-clause-refused
+returns-then-is_empty-clause-refused g c = λ task o w stands.
+    let l = connection_seen c.in-Some.own in
+    let n = c.args.n in
+    let is = sym (ap (option_map connection_seen) c.in-Some.is) ∙ stands.connection in
+    let none = nil _ c.in_ok-piece.piece.items (sym c.is_empty.ensures ∙ c.if-is_empty.true) c.in_ok-piece.piece.ok.0 in
+    none_wait (λ own. take n own.unsent) w.connection l (sym is) (sym c.in_ok-piece.ensures.piece ∙ none)
+
+pub returns-clause-refused : goal.returns-clause-refused
+returns-clause-refused g c = λ task o w stands.
+    let l = connection_seen c.in-Some.own in
+    let n = c.args.n in
+    let is = sym (ap (option_map connection_seen) c.in-Some.is) ∙ stands.connection in
+    let piece = c.in_ok-piece.piece.items in
+    some_wait (λ own. take n own.unsent) w.connection l piece (sym is) c.in_ok-piece.ensures.piece (not_nil _ piece (sym c.is_empty.ensures ∙ c.if-is_empty.false) c.in_ok-piece.piece.ok.0)
