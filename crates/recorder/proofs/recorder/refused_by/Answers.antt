@@ -1,8 +1,9 @@
-use Rattle.std.proofs.Common.{◌≡◌, ◌∙◌, Option, Some, sym, ap, subst}
+use Rattle.std.proofs.Common.{◌≡◌, ◌∙◌, Option, Some, refl, sym, ap, subst}
 use Rattle.std.specs.Prelude.{is_none, ⊤}
 use Rattle.std.specs.declared.result.Result.TheVariants.{Err}
 use Rattle.verbs.specs.Retyping.{not_lawful, not_types, too_few_revisions}
 use Rattle.httpedge.specs.declared.fault.HubFault.{HubFault}
+use Rattle.httpedge.specs.declared.fault.HubFault.TheVariants as fault
 use Rattle.httpedge.specs.declared.hub.Hub.{Hub}
 use Rattle.httpedge.specs.HubSeen.{Happened, IsIn, Outcome, Tells, outcome_of, refusal_in, refused}
 use Rattle.httpedge.specs.Runs.{Follows, Happening, Steps, happens}
@@ -26,11 +27,11 @@ leads_on hub s e (h, t, is, follows, now) = (t, subst (λ (x : Happening). Follo
 abbrev ended : HubFault → Outcome
 ended f = outcome_of {A = ⊤} (Err f)
 
--- one that was refused, with this fault
-not_taken : (hub : Hub) (s : edge.State) (e : edge.Event) (f : HubFault) (why : edge.Refusal) → ended f ≡ refused why → Tells s e (ended f) → Led hub s e (ended f) → IsTold hub s e (Some f)
-not_taken hub s e f why is told led =
+-- one that was refused, by a fault that tells the same as this one
+not_taken : (hub : Hub) (s : edge.State) (e : edge.Event) (f g : HubFault) (why : edge.Refusal) → ended f ≡ refused why → ended g ≡ refused why → Tells s e (ended g) → Led hub s e (ended g) → IsTold hub s e (Some f)
+not_taken hub s e f g why same is told led =
     let refuses : edge.refusal s e ≡ Some why = subst (Tells s e) is told in (
-      (sym (ap is_none refuses), ap refusal_in is ∙ sym refuses),
+      (sym (ap is_none refuses), ap refusal_in same ∙ sym refuses),
       leads_on hub s e (subst (Led hub s e) is led),
     )
 
@@ -43,39 +44,39 @@ returns-in-Ok c = λ s stands. (
 pub returns-in-Err-IdNotAbove : goal.returns-in-Err-IdNotAbove
 returns-in-Err-IdNotAbove c = λ s stands.
     let step = c.in-Err-IdNotAbove in
-    not_taken c.on.new.self s _ _ edge.id_not_above (ap ended step.field-0-is) (step.ensures.refused s stands) (step.ensures.follows s stands)
+    not_taken c.on.new.self s _ fault.IdNotAbove _ edge.id_not_above refl (ap ended step.field-0-is) (step.ensures.refused s stands) (step.ensures.follows s stands)
 
 pub returns-in-Err-UnknownId : goal.returns-in-Err-UnknownId
 returns-in-Err-UnknownId c = λ s stands.
     let step = c.in-Err-UnknownId in
-    not_taken c.on.new.self s _ _ edge.unknown_id (ap ended step.field-0-is) (step.ensures.refused s stands) (step.ensures.follows s stands)
+    not_taken c.on.new.self s _ fault.UnknownId _ edge.unknown_id refl (ap ended step.field-0-is) (step.ensures.refused s stands) (step.ensures.follows s stands)
 
 pub returns-in-Err-NoLines : goal.returns-in-Err-NoLines
 returns-in-Err-NoLines c = λ s stands.
     let step = c.in-Err-NoLines in
-    not_taken c.on.new.self s _ _ edge.no_lines (ap ended step.field-0-is) (step.ensures.refused s stands) (step.ensures.follows s stands)
+    not_taken c.on.new.self s _ fault.NoLines _ edge.no_lines refl (ap ended step.field-0-is) (step.ensures.refused s stands) (step.ensures.follows s stands)
 
 pub returns-in-Err-TickBack : goal.returns-in-Err-TickBack
 returns-in-Err-TickBack c = λ s stands.
     let step = c.in-Err-TickBack in
-    not_taken c.on.new.self s _ _ edge.tick_back (ap ended step.field-0-is) (step.ensures.refused s stands) (step.ensures.follows s stands)
+    not_taken c.on.new.self s _ fault.TickBack _ edge.tick_back refl (ap ended step.field-0-is) (step.ensures.refused s stands) (step.ensures.follows s stands)
 
 pub returns-in-Err-CompactionRefused : goal.returns-in-Err-CompactionRefused
 returns-in-Err-CompactionRefused c = λ s stands.
     let step = c.in-Err-CompactionRefused in
-    not_taken c.on.new.self s _ _ edge.compaction_refused (ap ended step.field-0-is) (step.ensures.refused s stands) (step.ensures.follows s stands)
+    not_taken c.on.new.self s _ fault.CompactionRefused _ edge.compaction_refused refl (ap ended step.field-0-is) (step.ensures.refused s stands) (step.ensures.follows s stands)
 
 pub returns-in-Err-NotTypes : goal.returns-in-Err-NotTypes
 returns-in-Err-NotTypes c = λ s stands.
     let step = c.in-Err-NotTypes in
-    not_taken c.on.new.self s _ _ (edge.types_refused not_types) (ap ended step.field-0-is) (step.ensures.refused s stands) (step.ensures.follows s stands)
+    not_taken c.on.new.self s _ (fault.NotTypes step.fault) _ (edge.types_refused not_types) refl (ap ended step.field-0-is) (step.ensures.refused s stands) (step.ensures.follows s stands)
 
 pub returns-in-Err-NotLawful : goal.returns-in-Err-NotLawful
 returns-in-Err-NotLawful c = λ s stands.
     let step = c.in-Err-NotLawful in
-    not_taken c.on.new.self s _ _ (edge.types_refused not_lawful) (ap ended step.field-0-is) (step.ensures.refused s stands) (step.ensures.follows s stands)
+    not_taken c.on.new.self s _ fault.NotLawful _ (edge.types_refused not_lawful) refl (ap ended step.field-0-is) (step.ensures.refused s stands) (step.ensures.follows s stands)
 
 pub returns-in-Err-TooFewRevisions : goal.returns-in-Err-TooFewRevisions
 returns-in-Err-TooFewRevisions c = λ s stands.
     let step = c.in-Err-TooFewRevisions in
-    not_taken c.on.new.self s _ _ (edge.types_refused too_few_revisions) (ap ended step.field-0-is) (step.ensures.refused s stands) (step.ensures.follows s stands)
+    not_taken c.on.new.self s _ fault.TooFewRevisions _ (edge.types_refused too_few_revisions) refl (ap ended step.field-0-is) (step.ensures.refused s stands) (step.ensures.follows s stands)
