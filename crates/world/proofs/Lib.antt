@@ -2,6 +2,7 @@ pub mod Asking
 pub mod AtMost
 pub mod Failing
 pub mod Ids
+pub mod Joining
 pub mod Marking
 pub mod Refusals
 pub mod Reports

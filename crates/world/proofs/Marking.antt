@@ -5,23 +5,28 @@ use Rattle.std.specs.BTreeMap.{BTreeMap, get}
 use Rattle.std.specs.FinMap as fin
 use Rattle.std.specs.FinMap.Entries.{find}
 use Rattle.std.specs.List.{filter, list_any, slice_index_or}
-use Rattle.std.specs.Ordering.{eq_by_cmp, nat_cmp}
+use Rattle.std.specs.Cmp.{nat_cmp_is}
+use Rattle.std.specs.Ordering.{eq_by_cmp, is_eq, nat_cmp}
+use Rattle.std.specs.declared.cmp.Ordering.TheVariants.{Equal}
 use Rattle.std.proofs.lemmas.List.{map-append, take_more}
 use Rattle.std.proofs.lemmas.List.Elements.{filter-append}
 use Rattle.httpedge.specs.Connections.{Connection, Connections, ended_on, has_ended, written_on}
 use Rattle.httpedge.specs.Steps as edge
-use Rattle.recorder.proofs.Kept.{same, tied}
+use Rattle.httpedge.proofs.Connected.{tied_same}
 use Rattle.world.specs.Marks.{AreMarks, AreMarksOf, added_to, ended_of, mark_in, mark_seen}
 use Rattle.world.specs.Stepping.{added, added_on, ended_since, is_some_bytes, mark_of}
 use Rattle.world.specs.declared.server.Mark.{Mark}
 
 -- ---- ids
 
+tied : (id : ℕ) → eq_by_cmp nat_cmp id id ≡ true
+tied id = ap is_eq (sym (nat_cmp_is id id Equal refl))
+
 either : (q id : ℕ) (a b : Bool) → eq_by_cmp nat_cmp q id ≡ a → eq_by_cmp nat_cmp id q ≡ b → a ≡ b
 either q id true true e f = refl
 either q id false false e f = refl
-either q id true false e f = sym (tied id) ∙ ap (eq_by_cmp nat_cmp id) (sym (same q id e)) ∙ f
-either q id false true e f = sym (sym (tied q) ∙ ap (eq_by_cmp nat_cmp q) (sym (same id q f)) ∙ e)
+either q id true false e f = sym (tied id) ∙ ap (eq_by_cmp nat_cmp id) (sym (tied_same q id e)) ∙ f
+either q id false true e f = sym (sym (tied q) ∙ ap (eq_by_cmp nat_cmp q) (sym (tied_same id q f)) ∙ e)
 
 either_way : (q id : ℕ) → eq_by_cmp nat_cmp q id ≡ eq_by_cmp nat_cmp id q
 either_way q id = either q id (eq_by_cmp nat_cmp q id) (eq_by_cmp nat_cmp id q) refl refl
@@ -48,7 +53,7 @@ one_more ids i id lt here = take_more ids i 0 lt ∙ ap (λ (k : ℕ). take i id
 marked : (s : edge.State) (m : Mark) (id q : ℕ) (o : Option Mark) (among : Bool) (b : Bool) → eq_by_cmp nat_cmp id q ≡ b → mark_seen m ≡ mark_of s id
     → unwrap_or (option_map mark_seen o) (0, false) ≡ cond among (mark_of s q) (0, false)
     → unwrap_or (option_map mark_seen (cond b (Some m) o)) (0, false) ≡ cond (cond b true among) (mark_of s q) (0, false)
-marked s m id q o among true e seen before = seen ∙ ap (mark_of s) (same id q e)
+marked s m id q o among true e seen before = seen ∙ ap (mark_of s) (tied_same id q e)
 marked s m id q o among false e seen before = before
 
 pub marks_more : (s : edge.State) (ids : List ℕ) (i id : ℕ) (old new : BTreeMap ℕ Mark) (m : Mark) → i < length ids → id ≡ slice_index_or ids i 0
@@ -123,7 +128,7 @@ ended_more t since ids i id old new had has lt here pushed before_is now_is befo
 pub added_alike : (t : edge.State) (f g : ℕ → ℕ × Bool) → ((id : ℕ) → f id ≡ g id) → (ids : List ℕ) → added_to t f ids ≡ added_to t g ids
 added_alike t f g alike ids = ap (filter is_some_bytes) (rows ids)
   where
-    rows : (ks : List ℕ) → map (λ id. (id, drop (f id).0 (written_on t.connections id))) ks ≡ map (λ id. (id, drop (g id).0 (written_on t.connections id))) ks
+    rows : (ks : List ℕ) → map {B = ℕ × List ℕ} (λ id. (id, drop (f id).0 (written_on t.connections id))) ks ≡ map {B = ℕ × List ℕ} (λ id. (id, drop (g id).0 (written_on t.connections id))) ks
     rows [] = refl
     rows (k ∷ ks) = ap₂ (λ (m : ℕ × Bool) (xs : List (ℕ × List ℕ)). (k, drop m.0 (written_on t.connections k)) ∷ xs) (alike k) (rows ks)
 

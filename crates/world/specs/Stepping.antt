@@ -1,8 +1,9 @@
 -- What one event adds to what a run shows.
 use Rattle.std.specs.Prelude.{◌≡◌, ℕ, Bool, true, false, not, ◌&&◌, ◌==◌, List, [], ◌∷◌, length, map, take, drop, Option, Some, None, if◌then◌else◌, is_none, option_map}
 use Rattle.std.specs.FinMap as fin
-use Rattle.std.specs.List.{filter}
+use Rattle.std.specs.List.{filter, flat_map}
 use Rattle.std.specs.Option.{option_to_list}
+use Rattle.std.specs.Ordering.{eq_by_cmp, nat_cmp}
 use Rattle.httpedge.specs.Connections.{ended_on, next_id, written_on}
 use Rattle.httpedge.specs.Steps as edge
 use Rattle.recorder.specs.Recorded as recorded
@@ -118,6 +119,10 @@ is_some_bytes e = not (length e.1 == 0)
 -- by its id, what was written on each connection on which something was
 abbrev pub added : edge.State → edge.State → List (ℕ × List ℕ)
 added s t = filter is_some_bytes (map (λ id. (id, added_on s t id)) (fin.keys t.connections))
+
+-- what these say of one connection, joined
+abbrev pub joined_on : ℕ → List (ℕ × List ℕ) → List ℕ
+joined_on id es = flat_map (λ e. if eq_by_cmp nat_cmp id e.0 then e.1 else []) es
 
 abbrev pub has_just_ended : edge.State → edge.State → ℕ → Bool
 has_just_ended s t id = ended_on t.connections id && not (ended_on s.connections id)

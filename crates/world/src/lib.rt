@@ -32,5 +32,6 @@ pub use refusal::Refusal;
 pub use running::{run, run_over};
 pub use settings::Settings;
 pub use step::Step;
+pub use stepping::steps_join;
 pub use trace::{IndexShot, Report, Trace};
 pub use world::World;

@@ -1,6 +1,7 @@
 //! A run that is taken event by event: what each event adds to what the run shows. Whole runs stand in `running`.
 
-ghost use Rattle.std.specs.Prelude.{◌≡◌, ◌≢◌, ◌&&◌, ℕ, false, Err, IfOk, None, Option, if◌then◌else◌, is_none};
+ghost use Rattle.std.specs.Prelude.{◌≡◌, ◌≢◌, ◌&&◌, ◌++◌, ℕ, false, Err, IfOk, None, Option, if◌then◌else◌, is_none};
+ghost use Rattle.httpedge.specs.Connections.{written_on};
 ghost use Rattle.reflector.specs.Client.{kept};
 ghost use Rattle.reflector.specs.Informer.{indexes_in, names_in};
 ghost use Rattle.world_laws.specs.Tasks.{Task};
@@ -8,7 +9,7 @@ ghost use Rattle.world_laws.specs.World as worlds;
 ghost use Rattle.world.specs.Faults.{Answers};
 ghost use Rattle.world.specs.Seen.{event_seen};
 ghost use Rattle.world.specs.Standing.{WorldStands, setup_in};
-ghost use Rattle.world.specs.Stepping.{Refuses, ShowsStep, opens_own};
+ghost use Rattle.world.specs.Stepping.{Refuses, ShowsStep, added, joined_on, opens_own};
 ghost use Rattle.world.specs.Stepping as stepping;
 
 use crate::event::WorldEvent;
@@ -51,6 +52,14 @@ fn opened_by(event: &WorldEvent, refused: Option<Refusal>, next: Option<u64>) ->
         Some(_) => None,
         None => if_meant(opens_own(event), next),
     }
+}
+
+/// What an event wrote on a connection, joined to what was written on it before, is all that is written on it.
+pub fn steps_join()
+    ensures { (task : Task) (w : worlds.World) (e : worlds.WorldEvent) (v : worlds.World) → worlds.Steps task w e v → (id : ℕ)
+        → written_on v.hub.connections id ≡ written_on w.hub.connections id ++ joined_on id (added w.hub v.hub) }
+{
+    httpedge::written_stays();
 }
 
 fn step_of<I: IndexBy, L: Link>(

@@ -13,4 +13,4 @@ loop-id-init c = λ s records q. ap (λ es. unwrap_or (option_map mark_seen (loo
 pub loop-id-preserved : goal.loop-id-preserved
 loop-id-preserved c = λ s records.
     marks_more s c.args.ids.now c.loop-id.id-index _ _ _ _ c.loop-id-test.true refl c.in_ok-insert.ensures.updates.0
-    (ap₂ (λ n b. (n, b)) (c.len.ensures ∙ ap length (c.written.ensures s records)) (c.ended.ensures s records)) (c.loop-id.invariant s records)
+    (ap₂ (λ n b. (n, b)) (ap length (c.written.ensures s records)) (c.ended.ensures s records)) (c.loop-id.invariant s records)

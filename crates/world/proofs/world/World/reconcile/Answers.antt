@@ -1,9 +1,12 @@
-use Rattle.std.proofs.Common.{◌∙◌, ℕ, List, ap, not, subst, sym, refl}
+use Rattle.std.proofs.Common.{◌∙◌, ℕ, List, None, Some, ap, not, subst, sym, refl}
 use Rattle.reflector.specs.Client.{kept}
 use Rattle.summary.specs.Apply.{apply_request}
 use Rattle.summary.specs.Counts.{summed_of}
+use Rattle.httpedge.specs.Connections.{next_id}
 use Rattle.httpedge.specs.Steps as edge
 use Rattle.world_laws.specs.World as worlds
+use Rattle.world.specs.Stepping.{unless_no_id}
+use Rattle.world.specs.declared.refusal.Refusal.TheVariants as refusal
 use Rattle.world.proofs.Worlds.{grown, grown_twice, handed_stays, in_one_piece, no_counts, no_id, reconciles}
 use Rattle.world.proofs.Refusals.{id_left, no_id_left, synced, unsynced}
 use Rattle.world.proofs.world.World.reconcile.Goals as goal
@@ -48,11 +51,11 @@ returns-then-is_none-clause-refused g c = λ task w stands.
 pub returns-in_default-clause-refused : goal.returns-in_default-clause-refused
 returns-in_default-clause-refused g c = λ task w stands.
     let k = stands.client in
-    synced w.client.cache (λ now. now.revision) c.revision.result _ _ (c.revision.ensures w.client k.0 k.1 k.2) (c.is_none.ensures ∙ ap not c.if-is_none.false)
-    (no_id_left _ _ (sym (sym c.in_default.is ∙ c.next_id.ensures w.hub stands.hub)))
+    synced w.client.cache (λ now. now.revision) c.revision.result (Some refusal.NoId) (unless_no_id (next_id w.hub.connections) None) (c.revision.ensures w.client k.0 k.1 k.2) (c.is_none.ensures ∙ ap not c.if-is_none.false)
+    (no_id_left (next_id w.hub.connections) None (sym (sym c.in_default.is ∙ c.next_id.ensures w.hub stands.hub)))
 
 pub returns-clause-refused : goal.returns-clause-refused
 returns-clause-refused g c = λ task w stands.
     let k = stands.client in
-    synced w.client.cache (λ now. now.revision) c.revision.result _ _ (c.revision.ensures w.client k.0 k.1 k.2) (c.is_none.ensures ∙ ap not c.if-is_none.false)
-    (id_left _ c.in-Some.id _ _ (sym (sym c.in-Some.is ∙ c.next_id.ensures w.hub stands.hub)) refl)
+    synced w.client.cache (λ now. now.revision) c.revision.result None (unless_no_id (next_id w.hub.connections) None) (c.revision.ensures w.client k.0 k.1 k.2) (c.is_none.ensures ∙ ap not c.if-is_none.false)
+    (id_left (next_id w.hub.connections) c.in-Some.id None None (sym (sym c.in-Some.is ∙ c.next_id.ensures w.hub stands.hub)) refl)

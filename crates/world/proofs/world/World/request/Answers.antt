@@ -1,4 +1,5 @@
-use Rattle.std.proofs.Common.{◌∙◌, ◌++◌, ◌∷◌, [], ap, refl, subst, sym}
+use Rattle.std.proofs.Common.{◌∙◌, ◌++◌, ◌∷◌, [], None, ap, refl, subst, sym}
+use Rattle.httpedge.specs.Connections.{next_id}
 use Rattle.httpedge.specs.Steps as edge
 use Rattle.world_laws.specs.World as worlds
 use Rattle.world.proofs.Worlds.{grown, grown_twice, handed_stays, in_one_piece}
@@ -31,4 +32,4 @@ pub returns-in_default-clause-refused : goal.returns-in_default-clause-refused
 returns-in_default-clause-refused g c = λ task o w stands. no_id_left _ _ (sym (sym c.in_default.is ∙ c.next_id.ensures w.hub stands.hub))
 
 pub returns-clause-refused : goal.returns-clause-refused
-returns-clause-refused g c = λ task o w stands. id_left _ c.in-Some.id _ _ (sym (sym c.in-Some.is ∙ c.next_id.ensures w.hub stands.hub)) refl
+returns-clause-refused g c = λ task o w stands. id_left (next_id w.hub.connections) c.in-Some.id None None (sym (sym c.in-Some.is ∙ c.next_id.ensures w.hub stands.hub)) refl

@@ -1,9 +1,12 @@
 use Rattle.std.proofs.Common.{[], true, None, ◌∙◌, Some, ap, refl, subst, sym, option_map, arith}
+use Rattle.httpedge.specs.Connections.{next_id}
 use Rattle.reflector.specs.Informer as informers
 use Rattle.reflector.specs.Requests.{request_of}
 use Rattle.reflector.specs.Run.{asked}
 use Rattle.world_laws.specs.Tasks.{client_settings, wanted_by}
 use Rattle.world_laws.specs.World as worlds
+use Rattle.world.specs.Stepping.{if_due}
+use Rattle.world.specs.declared.refusal.Refusal.TheVariants as refusal
 use Rattle.world.proofs.Worlds.{due_asks, due_waits, handed_if, leads_asked, leaves}
 use Rattle.world.proofs.Refusals.{id_left, no_id_left, none_due, some_due}
 use Rattle.world.proofs.world.World.send.Goals as goal
@@ -53,10 +56,12 @@ pub returns-in_default-2-clause-refused : goal.returns-in_default-2-clause-refus
 returns-in_default-2-clause-refused g c = λ task o w stands.
     let k = stands.client in
     let due = sym (ap (option_map (λ v. v.items)) c.in_default-2.is) ∙ c.in_ok-request.ensures.due w.client k.0 k.1 k.2 ∙ ap (λ s. informers.due s w.client) stands.wanted in
-    id_left _ c.in-Some.id _ _ (sym (sym c.in-Some.is ∙ c.next_id.ensures w.hub stands.hub)) (none_due _ (sym due))
+    id_left (next_id w.hub.connections) c.in-Some.id (Some refusal.NothingDue) (if_due (informers.due (client_settings task) w.client)) (sym (sym c.in-Some.is ∙ c.next_id.ensures w.hub stands.hub))
+    (none_due (informers.due (client_settings task) w.client) (sym due))
 
 pub returns-clause-refused : goal.returns-clause-refused
 returns-clause-refused g c = λ task o w stands.
     let k = stands.client in
     let due = sym (ap (option_map (λ v. v.items)) c.in-Some-2.is) ∙ c.in_ok-request.ensures.due w.client k.0 k.1 k.2 ∙ ap (λ s. informers.due s w.client) stands.wanted in
-    id_left _ c.in-Some.id _ _ (sym (sym c.in-Some.is ∙ c.next_id.ensures w.hub stands.hub)) (some_due _ c.in-Some-2.request.items (sym due))
+    id_left (next_id w.hub.connections) c.in-Some.id None (if_due (informers.due (client_settings task) w.client)) (sym (sym c.in-Some.is ∙ c.next_id.ensures w.hub stands.hub))
+    (some_due (informers.due (client_settings task) w.client) c.in-Some-2.request.items (sym due))
