@@ -1,26 +1,24 @@
 //! Puts, changes and removals under two indexes, and each refusal. Objects are read from replies in `decoded`.
 //!
-//! Each example begins without objects.
+//! Each example is played on an indexer without objects; its first line begins with `indexer`. An object is told by
+//! `NAME REVISION TEXT`.
 //!
 //! | question | answer |
 //! |---|---|
-//! | `put NAME REVISION TEXT` | the revision of the object that it replaced, or 0 |
-//! | `anew NAME REVISION TEXT` | a put between marks; out of memory it must leave all as it was, and is made again |
-//! | `remove NAME` | the revision of the object that it removed, or 0 |
-//! | `revision NAME` | the revision of the object, or 0 |
-//! | `replace` | now just two objects are kept, of texts `y` and `z` |
-//! | `replaced NAME` | a replace between marks, by two objects of text `x`; out of memory it must leave all as it was, and is made again |
-//! | `under INDEX KEY` | how many objects stand under the key |
-//! | `keys INDEX` | how many keys the index has |
-//! | `twice` | whether two indexes with one name are refused |
+//! | `put OBJECT` | the object that it replaced |
+//! | `replace OBJECT,OBJECT` | just these objects are kept; those before |
+//! | `anew put OBJECT`, `anew replace OBJECT,OBJECT` | whether it is done between marks; out of memory it must leave all as it was, and is made again |
+//! | `remove NAME`, `get NAME` | the object that it removed; the object |
+//! | `under INDEX KEY`, `keys INDEX` | the objects' keys under the index's key; the index's keys |
+//! | `twice` | why two indexes with one name are refused |
 
-use crate::rows::{Answers, done, play};
-use indexer::{IndexBy, Indexer, IndexerFault, Object, ObjectKey};
+use crate::tables::play_each;
+use indexer::{IndexBy, Indexer, Object, ObjectKey};
 use std::alloc::{AllocError, Global};
 use std::collections::BTreeMap;
 use std::rc::{Rc, RcStr};
 use std::test::Fail;
-use test_rows::{first_word, mark, number, told};
+use test_rows::{Answers, expect_text, first_word, mark, number, play, told};
 
 /// By the object's text, told twice, or by its namespace.
 #[derive(Drop)]
@@ -47,109 +45,73 @@ impl IndexBy for By {
     }
 }
 
-fn object(alloc: Global, name: &str, revision: u64, text: &str) -> Result<Rc<Object>, AllocError> {
+/// The object of `NAME REVISION TEXT`.
+fn object(alloc: Global, words: &str) -> Result<Rc<Object>, Fail> {
+    let (name, words) = first_word(words);
+    let (revision, text) = first_word(words);
     let object = Object {
         namespace: RcStr::from_str(alloc, "default")?,
         name: RcStr::from_str(alloc, name)?,
-        revision,
+        revision: number(revision)?,
         labels: BTreeMap::new(alloc),
         text: String::from_str(alloc, text)?,
     };
-    object.shared(alloc)
+    Ok(object.shared(alloc)?)
 }
 
-fn key(alloc: Global, name: &str) -> Result<ObjectKey, AllocError> {
-    Ok(ObjectKey {
-        namespace: RcStr::from_str(alloc, "default")?,
-        name: RcStr::from_str(alloc, name)?,
-    })
-}
-
-/// An indexer without objects, by namespace and by text.
-fn empty(alloc: Global) -> Result<Indexer<By>, Fail> {
-    let mut indexes = Vec::new(alloc);
-    indexes.push(By { is_text: false })?;
-    indexes.push(By { is_text: true })?;
-    Ok(Indexer::new(alloc, indexes)?)
-}
-
-/// Puts an object; the revision of the one that it replaced, or 0.
-fn put(indexer: &mut Indexer<By>, object: Rc<Object>) -> Result<u64, AllocError> {
-    Ok(indexer.put(object)?.map_or(0, |was| was.revision))
-}
-
-/// Removes an object; its revision, or 0.
-fn remove(indexer: &mut Indexer<By>, key: &ObjectKey) -> u64 {
-    indexer.remove(key).map_or(0, |was| was.revision)
-}
-
-/// The revision of the object under a key, or 0.
-fn revision(indexer: &Indexer<By>, key: &ObjectKey) -> u64 {
-    indexer.get(key).map_or(0, |now| now.revision)
-}
-
-/// How many objects stand under a key of an index, if it has the key.
-fn count(indexer: &Indexer<By>, name: &str, key: &str) -> Option<usize> {
-    Some(indexer.by_index(name, key)?.len())
-}
-
-fn two_objects(alloc: Global, text: &str, other: &str) -> Result<Vec<Rc<Object>>, AllocError> {
+fn objects(alloc: Global, words: &str) -> Result<Vec<Rc<Object>>, Fail> {
     let mut objects = Vec::new(alloc);
-    objects.push(object(alloc, "c", 5, text)?)?;
-    objects.push(object(alloc, "d", 5, other)?)?;
+    for each in words.split(',') {
+        objects.push(object(alloc, each)?)?;
+    }
     Ok(objects)
 }
 
-/// Keeps just two objects, of texts `y` and `z`.
-fn replace(alloc: Global, indexer: &mut Indexer<By>) -> Result<String, Fail> {
-    indexer.replace(two_objects(alloc, "y", "z")?)?;
-    done(alloc)
+/// Plays an example on an indexer without objects, by namespace and by text.
+pub fn play_on_indexer(alloc: Global, example: &str) -> Result<(), Fail> {
+    let indexes = vec![in alloc; By { is_text: false }, By { is_text: true }]?;
+    let mut cached = Cached {
+        indexer: Indexer::new(alloc, indexes)?,
+    };
+    play(alloc, &mut cached, example)
 }
 
-impl Answers for Indexer<By> {
+/// What answers by an indexer.
+#[derive(Drop)]
+struct Cached {
+    indexer: Indexer<By>,
+}
+
+impl Answers for Cached {
     fn answer(&mut self, alloc: Global, question: &str) -> Result<String, Fail> {
         let (call, words) = first_word(question);
         let (one, other) = first_word(words);
+        let indexer = &mut self.indexer;
         match call {
-            "put" | "anew" => answer_of_put(alloc, self, call, one, other),
-            "under" => told(alloc, count(self, one, other)),
-            "keys" => told(alloc, self.keys(one)?.len()),
-            "replace" => replace(alloc, self),
-            "twice" => has_one_name_twice(alloc, two_of_one_name(alloc)?),
-            _ => answer_of_object(alloc, self, call, &key(alloc, one)?),
+            "put" => told(alloc, indexer.put(object(alloc, words)?)),
+            "replace" => told(alloc, indexer.replace(objects(alloc, words)?)),
+            "anew" => anew(alloc, indexer, one, other),
+            "under" => told(alloc, indexer.by_index(one, other)),
+            "keys" => told(alloc, indexer.keys(one)),
+            "twice" => told(alloc, Indexer::new(alloc, two_of_one_name(alloc)?).err()),
+            _ => answer_of_key(alloc, indexer, call, one),
         }
     }
 }
 
-/// Puts an object at a revision with a text.
-fn answer_of_put(
+fn answer_of_key(
     alloc: Global,
     indexer: &mut Indexer<By>,
     call: &str,
     name: &str,
-    words: &str,
 ) -> Result<String, Fail> {
-    let (revision, text) = first_word(words);
-    let object = object(alloc, name, number(revision)?, text)?;
+    let key = ObjectKey {
+        namespace: RcStr::from_str(alloc, "default")?,
+        name: RcStr::from_str(alloc, name)?,
+    };
     match call {
-        "put" => told(alloc, put(indexer, object)?),
-        _ => told(alloc, put_anew(alloc, indexer, object)?),
-    }
-}
-
-fn answer_of_object(
-    alloc: Global,
-    indexer: &mut Indexer<By>,
-    call: &str,
-    key: &ObjectKey,
-) -> Result<String, Fail> {
-    match call {
-        "remove" => told(alloc, remove(indexer, key)),
-        "revision" => told(alloc, revision(indexer, key)),
-        "replaced" => {
-            replace_anew(alloc, indexer, key)?;
-            done(alloc)
-        }
+        "remove" => told(alloc, indexer.remove(&key)),
+        "get" => told(alloc, indexer.get(&key)),
         _ => Err("no such call".into()),
     }
 }
@@ -162,150 +124,94 @@ fn two_of_one_name(alloc: Global) -> Result<Vec<Box<dyn IndexBy>>, AllocError> {
     Ok(indexes)
 }
 
-/// Whether an indexer of these indexes is refused since two have one name.
-fn has_one_name_twice(alloc: Global, indexes: Vec<Box<dyn IndexBy>>) -> Result<String, Fail> {
-    match Indexer::new(alloc, indexes) {
-        Ok(_) => told(alloc, false),
-        Err(IndexerFault::SameName) => told(alloc, true),
-        Err(IndexerFault::Memory) => Err("no memory".into()),
+/// The objects, and what stands under each key that examples use.
+fn seen(alloc: Global, indexer: &Indexer<By>) -> Result<String, Fail> {
+    let namespace = indexer.by_index("namespace", "default");
+    let (x, y) = (indexer.by_index("text", "x"), indexer.by_index("text", "y"));
+    told(alloc, (indexer.objects(), namespace, x, y))
+}
+
+/// Puts the last of the objects, or keeps just these. Whether memory sufficed.
+fn change(indexer: &mut Indexer<By>, call: &str, mut objects: Vec<Rc<Object>>) -> bool {
+    if call == "replace" {
+        return indexer.replace(objects).is_ok();
+    }
+    match objects.pop() {
+        Some(object) => indexer.put(object).is_ok(),
+        None => false,
     }
 }
 
-/// The revision under a key, and how many objects have the namespace and stand under each key of the other index.
-fn seen(
-    indexer: &Indexer<By>,
-    key: &ObjectKey,
-) -> (u64, Option<usize>, Option<usize>, Option<usize>) {
-    (
-        revision(indexer, key),
-        count(indexer, "namespace", "default"),
-        count(indexer, "text", "x"),
-        count(indexer, "text", "y"),
-    )
-}
-
-fn marked_put(
-    alloc: Global,
-    indexer: &mut Indexer<By>,
-    object: Rc<Object>,
-) -> Result<Result<u64, AllocError>, AllocError> {
+/// A change between marks; out of memory, all is seen as before, and the change is made again.
+fn anew(alloc: Global, indexer: &mut Indexer<By>, call: &str, words: &str) -> Result<String, Fail> {
+    let before = seen(alloc, indexer)?;
+    let made = objects(alloc, words)?;
     mark(alloc)?;
-    let was = put(indexer, object);
+    let is_done = change(indexer, call, made);
     mark(alloc)?;
-    Ok(was)
-}
-
-/// The test fails where something else is seen than before.
-fn expect_unchanged(
-    alloc: Global,
-    indexer: &Indexer<By>,
-    key: &ObjectKey,
-    before: (u64, Option<usize>, Option<usize>, Option<usize>),
-) -> Result<(), Fail> {
-    let after = seen(indexer, key);
-    if after == before {
-        return Ok(());
+    if is_done {
+        return told(alloc, true);
     }
-    Err(Fail::new(format!(in alloc; "{before:?} became {after:?}")?))
+    expect_text(seen(alloc, indexer)?, before.as_str())?;
+    told(alloc, change(indexer, call, objects(alloc, words)?))
 }
 
-/// A put between marks; out of memory, all is seen as before, and the put is made again.
-fn put_anew(alloc: Global, indexer: &mut Indexer<By>, object: Rc<Object>) -> Result<u64, Fail> {
-    let place = ObjectKey::of(&object)?;
-    let again = object.clone()?;
-    let before = seen(indexer, &place);
-    match marked_put(alloc, indexer, object)? {
-        Ok(was) => Ok(was),
-        Err(_) => {
-            expect_unchanged(alloc, indexer, &place, before)?;
-            Ok(put(indexer, again)?)
-        }
-    }
-}
-
-/// Whether memory was refused.
-fn is_marked_replace_refused(alloc: Global, indexer: &mut Indexer<By>) -> Result<bool, AllocError> {
-    let objects = two_objects(alloc, "x", "x")?;
-    mark(alloc)?;
-    let is_refused = indexer.replace(objects).is_err();
-    mark(alloc)?;
-    Ok(is_refused)
-}
-
-/// A replace between marks; out of memory, all is seen as before, and the replace is made again.
-fn replace_anew(alloc: Global, indexer: &mut Indexer<By>, key: &ObjectKey) -> Result<(), Fail> {
-    let before = seen(indexer, key);
-    if is_marked_replace_refused(alloc, indexer)? {
-        expect_unchanged(alloc, indexer, key, before)?;
-        drop(indexer.replace(two_objects(alloc, "x", "x")?)?);
-    }
-    Ok(())
-}
-
-/// Plays examples with blank lines between them, each on an indexer without objects.
-fn play_each(alloc: Global, examples: &str) -> Result<(), Fail> {
-    for example in examples.split("\n\n") {
-        play(alloc, &mut empty(alloc)?, example)?;
-    }
-    Ok(())
-}
-
-const EXAMPLES: &str = r#"an_index_follows_a_change
-put a 2 x => 0
-revision a => 2
-under namespace default => Some(1)
-under text x => Some(1)
+const EXAMPLES: &str = r#"indexer an_index_follows_a_change
+put a 2 x => Ok(None)
+get a => Some(Object { namespace: "default", name: "a", revision: 2, labels: {}, text: "x" })
+under namespace default => Some({ObjectKey { namespace: "default", name: "a" }})
+under text x => Some({ObjectKey { namespace: "default", name: "a" }})
 under text y => None
-put b 3 x => 0
-revision b => 3
-under namespace default => Some(2)
-under text x => Some(2)
+put b 3 x => Ok(None)
+get b => Some(Object { namespace: "default", name: "b", revision: 3, labels: {}, text: "x" })
+under namespace default => Some({ObjectKey { namespace: "default", name: "a" }, ObjectKey { namespace: "default", name: "b" }})
+under text x => Some({ObjectKey { namespace: "default", name: "a" }, ObjectKey { namespace: "default", name: "b" }})
 under text y => None
-put a 4 y => 2
-revision a => 4
-under namespace default => Some(2)
-under text x => Some(1)
-under text y => Some(1)
+put a 4 y => Ok(Some(Object { namespace: "default", name: "a", revision: 2, labels: {}, text: "x" }))
+get a => Some(Object { namespace: "default", name: "a", revision: 4, labels: {}, text: "y" })
+under namespace default => Some({ObjectKey { namespace: "default", name: "a" }, ObjectKey { namespace: "default", name: "b" }})
+under text x => Some({ObjectKey { namespace: "default", name: "b" }})
+under text y => Some({ObjectKey { namespace: "default", name: "a" }})
 under none y => None
 
-an_index_follows_removals
-put a 4 y => 0
-put b 3 x => 0
-remove b => 3
-remove b => 0
+indexer an_index_follows_removals
+put a 4 y => Ok(None)
+put b 3 x => Ok(None)
+remove b => Some(Object { namespace: "default", name: "b", revision: 3, labels: {}, text: "x" })
+remove b => None
 under text x => None
-replace => done
-revision a => 0
-under namespace default => Some(2)
+replace c 5 y,d 5 z => Ok([(ObjectKey { namespace: "default", name: "a" }, Object { namespace: "default", name: "a", revision: 4, labels: {}, text: "y" })])
+get a => None
+under namespace default => Some({ObjectKey { namespace: "default", name: "c" }, ObjectKey { namespace: "default", name: "d" }})
 under text x => None
-under text y => Some(1)
-keys text => 2
-keys none => 0
+under text y => Some({ObjectKey { namespace: "default", name: "c" }})
+keys text => Ok(["y", "z"])
+keys none => Ok([])
 
-two_indexes_with_one_name
-twice => true"#;
+indexer two_indexes_with_one_name
+twice => Some(SameName)"#;
 
 #[test]
 fn examples(rt: HostRuntime) -> Result<(), Fail> {
     play_each(rt.alloc(), EXAMPLES)
 }
 
-const PUT_ANEW: &str = r#"a_put_that_is_refused_memory
-anew a 2 x => 0
-revision a => 2
-under namespace default => Some(1)
-under text x => Some(1)
+const PUT_ANEW: &str = r#"indexer a_put_that_is_refused_memory
+anew put a 2 x => true
+get a => Some(Object { namespace: "default", name: "a", revision: 2, labels: {}, text: "x" })
+under namespace default => Some({ObjectKey { namespace: "default", name: "a" }})
+under text x => Some({ObjectKey { namespace: "default", name: "a" }})
 under text y => None
-anew a 4 y => 2
-revision a => 4
-under namespace default => Some(1)
+anew put a 4 y => true
+get a => Some(Object { namespace: "default", name: "a", revision: 4, labels: {}, text: "y" })
+under namespace default => Some({ObjectKey { namespace: "default", name: "a" }})
 under text x => None
-under text y => Some(1)
-anew b 5 x => 0
-revision b => 5
-under namespace default => Some(2)
-under text x => Some(1)
-under text y => Some(1)"#;
+under text y => Some({ObjectKey { namespace: "default", name: "a" }})
+anew put b 5 x => true
+get b => Some(Object { namespace: "default", name: "b", revision: 5, labels: {}, text: "x" })
+under namespace default => Some({ObjectKey { namespace: "default", name: "a" }, ObjectKey { namespace: "default", name: "b" }})
+under text x => Some({ObjectKey { namespace: "default", name: "b" }})
+under text y => Some({ObjectKey { namespace: "default", name: "a" }})"#;
 
 /// Whichever allocation of a put is refused, the objects and both indexes are as they were, and the put is done when
 /// it is called again.
@@ -314,13 +220,13 @@ fn a_put_that_is_refused_memory(rt: HostRuntime) -> Result<(), Fail> {
     play_each(rt.alloc(), PUT_ANEW)
 }
 
-const REPLACED: &str = r#"a_replace_that_is_refused_memory
-put a 4 y => 0
-replaced a => done
-revision a => 0
-revision c => 5
-under namespace default => Some(2)
-under text x => Some(2)
+const REPLACED: &str = r#"indexer a_replace_that_is_refused_memory
+put a 4 y => Ok(None)
+anew replace c 5 x,d 5 x => true
+get a => None
+get c => Some(Object { namespace: "default", name: "c", revision: 5, labels: {}, text: "x" })
+under namespace default => Some({ObjectKey { namespace: "default", name: "c" }, ObjectKey { namespace: "default", name: "d" }})
+under text x => Some({ObjectKey { namespace: "default", name: "c" }, ObjectKey { namespace: "default", name: "d" }})
 under text y => None"#;
 
 /// Whichever allocation of a replace is refused, the objects and both indexes are as they were.

@@ -1,8 +1,8 @@
 //! Tests of names and queries, of the store, and of the client's cache and its side of the wire, by public calls alone.
 //! Informers are tested in `client_tests`.
 //!
-//! Each call stands in a helper with no clause, so that a test carries few facts. An example is a name and its rows of text
-//! (`rows`), and one test plays the examples of a file: rows cost the prover nothing, and each function some seconds. One
+//! An example is a name and its rows of text (`test_rows`), and one test plays the examples of a file: rows cost the prover
+//! nothing, and each call that may fail a fraction of a second. So values are told by `Debug`, as they are answered. One
 //! function holds a table and one a store; neither drops it, which would take a minute to prove.
 #![tactic(auto)]
 
@@ -16,8 +16,6 @@ mod names_and_versions;
 mod parameters;
 #[cfg(test)]
 mod replies;
-#[cfg(test)]
-mod rows;
 #[cfg(test)]
 mod selectors;
 #[cfg(test)]

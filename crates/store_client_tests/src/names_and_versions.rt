@@ -5,18 +5,15 @@
 //! |---|---|
 //! | `object TEXT` | whether it is a namespace's name, and whether it is an object's |
 //! | `label TEXT` | whether it is a label's key, and whether it is a label's value |
-//! | `letters N` | whether so many letters are a namespace's name, a label's value and an object's name |
-//! | `key MORE` | whether a name of 63 bytes behind a prefix of 252 bytes and these is a label's key |
 //! | `version TEXT` | the version that it says |
 //! | `decimal MAX TEXT` | the decimal that it says, at most this one |
 
-use crate::rows::{Answers, play_all, repeated};
 use names::{
     decimal_up_to, is_dns_label, is_dns_subdomain, is_label_key, is_label_value, version_of,
 };
 use std::alloc::Global;
 use std::test::Fail;
-use test_rows::{first_word, number, told};
+use test_rows::{Answers, first_word, number, play_all, told};
 
 #[derive(Drop)]
 struct Names;
@@ -24,41 +21,15 @@ struct Names;
 impl Answers for Names {
     fn answer(&mut self, alloc: Global, question: &str) -> Result<String, Fail> {
         let (call, text) = first_word(question);
+        let (max, decimal) = first_word(text);
         match call {
             "object" => told(alloc, (is_dns_label(text), is_dns_subdomain(text))),
             "label" => told(alloc, (is_label_key(text), is_label_value(text))),
-            "letters" => kinds_of_letters(alloc, text),
-            "key" => is_key_behind(alloc, text),
             "version" => told(alloc, version_of(text)),
-            "decimal" => decimal_in(alloc, text),
+            "decimal" => told(alloc, decimal_up_to(number(max)?, decimal)),
             _ => Err("no such call".into()),
         }
     }
-}
-
-fn kinds_of_letters(alloc: Global, letters: &str) -> Result<String, Fail> {
-    let text = repeated(alloc, "a", number(letters)?)?;
-    let text = text.as_str();
-    told(
-        alloc,
-        (
-            is_dns_label(text),
-            is_label_value(text),
-            is_dns_subdomain(text),
-        ),
-    )
-}
-
-fn is_key_behind(alloc: Global, more: &str) -> Result<String, Fail> {
-    let prefix = repeated(alloc, "b.", 126)?;
-    let name = repeated(alloc, "a", 63)?;
-    let key = format!(in alloc; "{prefix}{more}/{name}")?;
-    told(alloc, is_label_key(key.as_str()))
-}
-
-fn decimal_in(alloc: Global, words: &str) -> Result<String, Fail> {
-    let (max, text) = first_word(words);
-    told(alloc, decimal_up_to(number(max)?, text))
 }
 
 const EXAMPLES: &str = r#"names_of_namespaces_and_objects
@@ -95,10 +66,12 @@ label a/b/c => (false, false)
 label a b => (false, false)
 
 at_most_63_and_253_bytes
-letters 63 => (true, true, true)
-letters 64 => (false, false, true)
-key b => true
-key bb => false
+object aaaaaaaaaaaaaaaaaaaaaaaaaaaaaaaaaaaaaaaaaaaaaaaaaaaaaaaaaaaaaaa => (true, true)
+object aaaaaaaaaaaaaaaaaaaaaaaaaaaaaaaaaaaaaaaaaaaaaaaaaaaaaaaaaaaaaaaa => (false, true)
+label aaaaaaaaaaaaaaaaaaaaaaaaaaaaaaaaaaaaaaaaaaaaaaaaaaaaaaaaaaaaaaa => (true, true)
+label aaaaaaaaaaaaaaaaaaaaaaaaaaaaaaaaaaaaaaaaaaaaaaaaaaaaaaaaaaaaaaaa => (false, false)
+label b.b.b.b.b.b.b.b.b.b.b.b.b.b.b.b.b.b.b.b.b.b.b.b.b.b.b.b.b.b.b.b.b.b.b.b.b.b.b.b.b.b.b.b.b.b.b.b.b.b.b.b.b.b.b.b.b.b.b.b.b.b.b.b.b.b.b.b.b.b.b.b.b.b.b.b.b.b.b.b.b.b.b.b.b.b.b.b.b.b.b.b.b.b.b.b.b.b.b.b.b.b.b.b.b.b.b.b.b.b.b.b.b.b.b.b.b.b.b.b.b.b.b.b.b.b.b/aaaaaaaaaaaaaaaaaaaaaaaaaaaaaaaaaaaaaaaaaaaaaaaaaaaaaaaaaaaaaaa => (true, false)
+label b.b.b.b.b.b.b.b.b.b.b.b.b.b.b.b.b.b.b.b.b.b.b.b.b.b.b.b.b.b.b.b.b.b.b.b.b.b.b.b.b.b.b.b.b.b.b.b.b.b.b.b.b.b.b.b.b.b.b.b.b.b.b.b.b.b.b.b.b.b.b.b.b.b.b.b.b.b.b.b.b.b.b.b.b.b.b.b.b.b.b.b.b.b.b.b.b.b.b.b.b.b.b.b.b.b.b.b.b.b.b.b.b.b.b.b.b.b.b.b.b.b.b.b.b.b.bb/aaaaaaaaaaaaaaaaaaaaaaaaaaaaaaaaaaaaaaaaaaaaaaaaaaaaaaaaaaaaaaa => (false, false)
 
 versions_and_other_decimals
 version 0 => Some(0)

@@ -2,18 +2,17 @@
 //!
 //! | question | answer |
 //! |---|---|
-//! | `CALL ?QUERY` | the watch, the version and the manager that are read of it, as far as there are such, or the parameter at fault |
+//! | `CALL ?QUERY` | the watch, the version, the force and the manager that are read of it, or the parameter at fault |
 //! | `tiers ?QUERY` | whether a list's selector takes objects of the tiers `web` and `db` |
-//! | `token ?QUERY` | the text of a list's token, and its revision, namespace and name |
+//! | `token ?QUERY` | a list's token, and the text of one of these parts |
 //! | `values ?QUERY` | the limit of a list, its version and how that is matched |
 //! | `fault ?QUERY` | how a list's fault is printed |
 
-use crate::rows::{Answers, play_all};
-use params::{Asked, Params, ParamsFault, Token, Watch};
-use std::alloc::{AllocError, Global};
-use std::collections::BTreeMap;
+use crate::selectors::takes;
+use params::{Asked, Params, ParamsFault, Token};
+use std::alloc::Global;
 use std::test::Fail;
-use test_rows::told;
+use test_rows::{Answers, play_all, told};
 
 #[derive(Drop)]
 struct Readings;
@@ -22,215 +21,137 @@ impl Answers for Readings {
     fn answer(&mut self, alloc: Global, question: &str) -> Result<String, Fail> {
         let (call, query) = question.split_once(" ?").ok_or("no query")?;
         match call {
-            "tiers" => selected(alloc, query),
-            "token" => token_of(alloc, query),
-            "values" => values(alloc, query),
-            "fault" => fault_of(alloc, query),
-            _ => answer_to(alloc, call, query),
+            "Apply" => shown(alloc, read(alloc, Asked::Apply, query)),
+            "Delete" => shown(alloc, read(alloc, Asked::Delete, query)),
+            "Get" => shown(alloc, read(alloc, Asked::Get, query)),
+            "List" => shown(alloc, read(alloc, Asked::List, query)),
+            "Post" => shown(alloc, read(alloc, Asked::Post, query)),
+            "Put" => shown(alloc, read(alloc, Asked::Put, query)),
+            _ => answer_of_list(alloc, call, &read(alloc, Asked::List, query)),
         }
     }
 }
 
-/// What kind of call a word names.
-fn asked(word: &str) -> Result<Asked, Fail> {
-    match word {
-        "Apply" => Ok(Asked::Apply),
-        "Delete" => Ok(Asked::Delete),
-        "Get" => Ok(Asked::Get),
-        "List" => Ok(Asked::List),
-        "Post" => Ok(Asked::Post),
-        "Put" => Ok(Asked::Put),
-        _ => Err("no such call".into()),
-    }
-}
-
-fn try_read(alloc: Global, asked: Asked, query: &str) -> Result<Params, ParamsFault> {
+fn read(alloc: Global, asked: Asked, query: &str) -> Result<Params, ParamsFault> {
     Params::read(alloc, asked, query.as_bytes())
 }
 
-fn answer_to(alloc: Global, call: &str, query: &str) -> Result<String, Fail> {
-    match try_read(alloc, asked(call)?, query) {
-        Ok(params) => shown(alloc, &params),
-        Err(ParamsFault::Bad(parameter)) => Ok(format!(in alloc; "bad {parameter:?}")?),
-        Err(ParamsFault::Memory) => Err("no memory".into()),
+fn shown(alloc: Global, read: Result<Params, ParamsFault>) -> Result<String, Fail> {
+    match read {
+        Ok(it) => told(
+            alloc,
+            (it.watch, it.version, it.is_forced, it.manager.as_str()),
+        ),
+        Err(fault) => told(alloc, fault),
     }
 }
 
-/// The watch, the version and the manager, as far as there are such.
-fn shown(alloc: Global, params: &Params) -> Result<String, Fail> {
-    let mut text = String::from_str(alloc, "read")?;
-    if let Some(watch) = params.watch {
-        push_watch(alloc, &mut text, watch)?;
-    }
-    if let Some(version) = params.version {
-        push_version(alloc, &mut text, version)?;
-    }
-    push_manager(&mut text, params.is_forced, params.manager.as_str())?;
-    Ok(text)
-}
-
-fn push_watch(alloc: Global, text: &mut String, watch: Watch) -> Result<(), AllocError> {
-    let Watch {
-        has_bookmarks,
-        timeout,
-    } = watch;
-    text.push_str(format!(in alloc; " a watch {has_bookmarks} {timeout}")?.as_str())
-}
-
-fn push_version(alloc: Global, text: &mut String, version: u64) -> Result<(), AllocError> {
-    text.push_str(format!(in alloc; " at {version}")?.as_str())
-}
-
-fn push_manager(text: &mut String, is_forced: bool, manager: &str) -> Result<(), AllocError> {
-    if is_forced {
-        text.push_str(" forced")?;
-    }
-    if !manager.is_empty() {
-        text.push_str(" by ")?;
-        text.push_str(manager)?;
-    }
-    Ok(())
-}
-
-fn read(alloc: Global, query: &str) -> Result<Params, ParamsFault> {
-    try_read(alloc, Asked::List, query)
-}
-
-fn fault_of(alloc: Global, query: &str) -> Result<String, Fail> {
-    match read(alloc, query) {
-        Ok(_) => Err("no fault".into()),
+fn answer_of_list(
+    alloc: Global,
+    call: &str,
+    read: &Result<Params, ParamsFault>,
+) -> Result<String, Fail> {
+    match read {
+        Ok(it) if call == "tiers" => selected(alloc, it),
+        Ok(it) if call == "token" => token(alloc, &it.token),
+        Ok(it) => told(alloc, (it.limit, it.version, it.version_match)),
         Err(fault) => Ok(format!(in alloc; "{fault}")?),
     }
 }
 
-fn tier(alloc: Global, value: &str) -> Result<BTreeMap<String, String>, AllocError> {
-    let mut labels = BTreeMap::new(alloc);
-    labels.insert(
-        String::from_str(alloc, "tier")?,
-        String::from_str(alloc, value)?,
-    )?;
-    Ok(labels)
+fn selected(alloc: Global, params: &Params) -> Result<String, Fail> {
+    let web = takes(alloc, &params.selector, "tier=web")?;
+    told(alloc, (web, takes(alloc, &params.selector, "tier=db")?))
 }
 
-/// Whether the list's selector takes an object with this `tier`.
-fn selects(alloc: Global, params: &Params, value: &str) -> Result<bool, AllocError> {
-    Ok(params.selector.matches(&tier(alloc, value)?))
-}
-
-fn selected(alloc: Global, query: &str) -> Result<String, Fail> {
-    let params = read(alloc, query)?;
-    let web = selects(alloc, &params, "web")?;
-    let db = selects(alloc, &params, "db")?;
-    told(alloc, (web, db))
-}
-
-fn token_of(alloc: Global, query: &str) -> Result<String, Fail> {
-    match &read(alloc, query)?.token {
-        Some(token) => token_told(alloc, token),
-        None => Ok(String::from_str(alloc, "none")?),
+fn token(alloc: Global, token: &Option<Token>) -> Result<String, Fail> {
+    match token {
+        Some(it) => told(alloc, (it, it.text(alloc)?)),
+        None => told(alloc, token),
     }
 }
 
-/// The text of a token, and its parts.
-fn token_told(alloc: Global, token: &Token) -> Result<String, Fail> {
-    let mut told = token.text(alloc)?;
-    push_parts(alloc, &mut told, token)?;
-    Ok(told)
-}
-
-fn push_parts(alloc: Global, text: &mut String, token: &Token) -> Result<(), AllocError> {
-    let revision = token.revision;
-    let namespace = &token.namespace;
-    let name = &token.name;
-    text.push_str(format!(in alloc; " {revision} {namespace} {name}")?.as_str())
-}
-
-fn values(alloc: Global, query: &str) -> Result<String, Fail> {
-    let params = read(alloc, query)?;
-    told(alloc, (params.limit, params.version, params.version_match))
-}
-
 const EXAMPLES: &str = r#"managers_of_writes
-Apply ?fieldManager=alice => read by alice
-Apply ?fieldManager=label-summary&force=true => read forced by label-summary
-Apply ?force=0&fieldManager=a+b%2Fc&fieldValidation=Strict&dryRun= => read by a b/c
-Apply ?fieldManager=alice&fieldManager=bob&force=1&limit=x => read forced by alice
-Post ? => read by unknown
-Put ?fieldManager=&fieldManager=bob&force=x => read by unknown
-Put ?fieldManager=bob => read by bob
+Apply ?fieldManager=alice => (None, None, false, "alice")
+Apply ?fieldManager=label-summary&force=true => (None, None, true, "label-summary")
+Apply ?force=0&fieldManager=a+b%2Fc&fieldValidation=Strict&dryRun= => (None, None, false, "a b/c")
+Apply ?fieldManager=alice&fieldManager=bob&force=1&limit=x => (None, None, true, "alice")
+Post ? => (None, None, false, "unknown")
+Put ?fieldManager=&fieldManager=bob&force=x => (None, None, false, "unknown")
+Put ?fieldManager=bob => (None, None, false, "bob")
 
 managers_have_128_bytes
-Apply ?fieldManager=mmmmmmmmmmmmmmmmmmmmmmmmmmmmmmmmmmmmmmmmmmmmmmmmmmmmmmmmmmmmmmmmmmmmmmmmmmmmmmmmmmmmmmmmmmmmmmmmmmmmmmmmmmmmmmmmmmmmmmmmmmmmmmmm => read by mmmmmmmmmmmmmmmmmmmmmmmmmmmmmmmmmmmmmmmmmmmmmmmmmmmmmmmmmmmmmmmmmmmmmmmmmmmmmmmmmmmmmmmmmmmmmmmmmmmmmmmmmmmmmmmmmmmmmmmmmmmmmmmm
-Apply ?fieldManager=mmmmmmmmmmmmmmmmmmmmmmmmmmmmmmmmmmmmmmmmmmmmmmmmmmmmmmmmmmmmmmmmmmmmmmmmmmmmmmmmmmmmmmmmmmmmmmmmmmmmmmmmmmmmmmmmmmmmmmmmmmmmmmmmm => bad FieldManager
-Post ?fieldManager=mmmmmmmmmmmmmmmmmmmmmmmmmmmmmmmmmmmmmmmmmmmmmmmmmmmmmmmmmmmmmmmmmmmmmmmmmmmmmmmmmmmmmmmmmmmmmmmmmmmmmmmmmmmmmmmmmmmmmmmmmmmmmmmm => read by mmmmmmmmmmmmmmmmmmmmmmmmmmmmmmmmmmmmmmmmmmmmmmmmmmmmmmmmmmmmmmmmmmmmmmmmmmmmmmmmmmmmmmmmmmmmmmmmmmmmmmmmmmmmmmmmmmmmmmmmmmmmmmmm
-Post ?fieldManager=mmmmmmmmmmmmmmmmmmmmmmmmmmmmmmmmmmmmmmmmmmmmmmmmmmmmmmmmmmmmmmmmmmmmmmmmmmmmmmmmmmmmmmmmmmmmmmmmmmmmmmmmmmmmmmmmmmmmmmmmmmmmmmmmm => bad FieldManager
-Put ?fieldManager=mmmmmmmmmmmmmmmmmmmmmmmmmmmmmmmmmmmmmmmmmmmmmmmmmmmmmmmmmmmmmmmmmmmmmmmmmmmmmmmmmmmmmmmmmmmmmmmmmmmmmmmmmmmmmmmmmmmmmmmmmmmmmmmm => read by mmmmmmmmmmmmmmmmmmmmmmmmmmmmmmmmmmmmmmmmmmmmmmmmmmmmmmmmmmmmmmmmmmmmmmmmmmmmmmmmmmmmmmmmmmmmmmmmmmmmmmmmmmmmmmmmmmmmmmmmmmmmmmmm
-Put ?fieldManager=mmmmmmmmmmmmmmmmmmmmmmmmmmmmmmmmmmmmmmmmmmmmmmmmmmmmmmmmmmmmmmmmmmmmmmmmmmmmmmmmmmmmmmmmmmmmmmmmmmmmmmmmmmmmmmmmmmmmmmmmmmmmmmmmm => bad FieldManager
+Apply ?fieldManager=mmmmmmmmmmmmmmmmmmmmmmmmmmmmmmmmmmmmmmmmmmmmmmmmmmmmmmmmmmmmmmmmmmmmmmmmmmmmmmmmmmmmmmmmmmmmmmmmmmmmmmmmmmmmmmmmmmmmmmmmmmmmmmmm => (None, None, false, "mmmmmmmmmmmmmmmmmmmmmmmmmmmmmmmmmmmmmmmmmmmmmmmmmmmmmmmmmmmmmmmmmmmmmmmmmmmmmmmmmmmmmmmmmmmmmmmmmmmmmmmmmmmmmmmmmmmmmmmmmmmmmmmm")
+Apply ?fieldManager=mmmmmmmmmmmmmmmmmmmmmmmmmmmmmmmmmmmmmmmmmmmmmmmmmmmmmmmmmmmmmmmmmmmmmmmmmmmmmmmmmmmmmmmmmmmmmmmmmmmmmmmmmmmmmmmmmmmmmmmmmmmmmmmmm => Bad(FieldManager)
+Post ?fieldManager=mmmmmmmmmmmmmmmmmmmmmmmmmmmmmmmmmmmmmmmmmmmmmmmmmmmmmmmmmmmmmmmmmmmmmmmmmmmmmmmmmmmmmmmmmmmmmmmmmmmmmmmmmmmmmmmmmmmmmmmmmmmmmmmm => (None, None, false, "mmmmmmmmmmmmmmmmmmmmmmmmmmmmmmmmmmmmmmmmmmmmmmmmmmmmmmmmmmmmmmmmmmmmmmmmmmmmmmmmmmmmmmmmmmmmmmmmmmmmmmmmmmmmmmmmmmmmmmmmmmmmmmmm")
+Post ?fieldManager=mmmmmmmmmmmmmmmmmmmmmmmmmmmmmmmmmmmmmmmmmmmmmmmmmmmmmmmmmmmmmmmmmmmmmmmmmmmmmmmmmmmmmmmmmmmmmmmmmmmmmmmmmmmmmmmmmmmmmmmmmmmmmmmmm => Bad(FieldManager)
+Put ?fieldManager=mmmmmmmmmmmmmmmmmmmmmmmmmmmmmmmmmmmmmmmmmmmmmmmmmmmmmmmmmmmmmmmmmmmmmmmmmmmmmmmmmmmmmmmmmmmmmmmmmmmmmmmmmmmmmmmmmmmmmmmmmmmmmmmm => (None, None, false, "mmmmmmmmmmmmmmmmmmmmmmmmmmmmmmmmmmmmmmmmmmmmmmmmmmmmmmmmmmmmmmmmmmmmmmmmmmmmmmmmmmmmmmmmmmmmmmmmmmmmmmmmmmmmmmmmmmmmmmmmmmmmmmmm")
+Put ?fieldManager=mmmmmmmmmmmmmmmmmmmmmmmmmmmmmmmmmmmmmmmmmmmmmmmmmmmmmmmmmmmmmmmmmmmmmmmmmmmmmmmmmmmmmmmmmmmmmmmmmmmmmmmmmmmmmmmmmmmmmmmmmmmmmmmmm => Bad(FieldManager)
 
 faults_of_writes
-Apply ? => bad FieldManager
-Apply ?fieldManager= => bad FieldManager
-Apply ?fieldManager=%7F => bad FieldManager
-Apply ?fieldManager=a%09b => bad FieldManager
-Apply ?fieldManager=%C3%A9 => bad FieldManager
-Apply ?fieldManager=%FF => bad FieldManager
-Apply ?fieldManager=%20~ => read by  ~
-Apply ?fieldManager=a&force=yes => bad Force
-Apply ?fieldManager=a&force=True => bad Force
-Apply ?fieldManager=a&force=false => read by a
-Apply ?fieldManager=a&fieldValidation=Warn&force=x => bad FieldValidation
-Apply ?force=x&fieldValidation=x => bad FieldManager
-Apply ?dryRun=All => bad DryRun
-Post ?dryRun=All&fieldManager=%00 => bad DryRun
-Put ?fieldValidation=Ignore => bad FieldValidation
-Post ?fieldValidation=Ignore&fieldManager=%00 => bad FieldManager
-Delete ?dryRun=All => bad DryRun
-Delete ?fieldManager=%00&fieldValidation=x&force=x => read
-Get ?resourceVersion=x => bad ResourceVersion
-Get ?resourceVersion=01 => bad ResourceVersion
-Get ?watch=x&resourceVersionMatch=x&labelSelector=(&dryRun=All&resourceVersion=7 => read at 7
-Get ?resourceVersion=7&resourceVersion=8 => read at 7
+Apply ? => Bad(FieldManager)
+Apply ?fieldManager= => Bad(FieldManager)
+Apply ?fieldManager=%7F => Bad(FieldManager)
+Apply ?fieldManager=a%09b => Bad(FieldManager)
+Apply ?fieldManager=%C3%A9 => Bad(FieldManager)
+Apply ?fieldManager=%FF => Bad(FieldManager)
+Apply ?fieldManager=%20~ => (None, None, false, " ~")
+Apply ?fieldManager=a&force=yes => Bad(Force)
+Apply ?fieldManager=a&force=True => Bad(Force)
+Apply ?fieldManager=a&force=false => (None, None, false, "a")
+Apply ?fieldManager=a&fieldValidation=Warn&force=x => Bad(FieldValidation)
+Apply ?force=x&fieldValidation=x => Bad(FieldManager)
+Apply ?dryRun=All => Bad(DryRun)
+Post ?dryRun=All&fieldManager=%00 => Bad(DryRun)
+Put ?fieldValidation=Ignore => Bad(FieldValidation)
+Post ?fieldValidation=Ignore&fieldManager=%00 => Bad(FieldManager)
+Delete ?dryRun=All => Bad(DryRun)
+Delete ?fieldManager=%00&fieldValidation=x&force=x => (None, None, false, "")
+Get ?resourceVersion=x => Bad(ResourceVersion)
+Get ?resourceVersion=01 => Bad(ResourceVersion)
+Get ?watch=x&resourceVersionMatch=x&labelSelector=(&dryRun=All&resourceVersion=7 => (None, Some(7), false, "")
+Get ?resourceVersion=7&resourceVersion=8 => (None, Some(7), false, "")
 
 faults_of_lists
-List ? => read
-List ?limit=9223372036854775807 => read
-List ?limit=9223372036854775808 => bad Limit
-List ?limit=02 => bad Limit
-List ?limit=-1 => bad Limit
-List ?limit=&limit=x => read
-List ?limit=2&limit=x => read
-List ?resourceVersion=9223372036854775808 => bad ResourceVersion
-List ?resourceVersionMatch=Newest&resourceVersion=1 => bad ResourceVersionMatch
-List ?resourceVersionMatch=Exact&resourceVersion=1 => read at 1
-List ?resourceVersionMatch=NotOlderThan&resourceVersion=0 => read at 0
-List ?labelSelector=a,,b => bad LabelSelector
-List ?fieldSelector=metadata.name%3Da => bad FieldSelector
-List ?sendInitialEvents=true => bad SendInitialEvents
-List ?continue=4.default => bad Continue
-List ?continue=4..w1 => bad Continue
-List ?continue=4.default. => bad Continue
-List ?continue=04.default.w1 => bad Continue
-List ?continue=9.default.w1 => read
-List ?allowWatchBookmarks=x&timeoutSeconds=x&fieldManager=%00&force=x => read
+List ? => (None, None, false, "")
+List ?limit=9223372036854775807 => (None, None, false, "")
+List ?limit=9223372036854775808 => Bad(Limit)
+List ?limit=02 => Bad(Limit)
+List ?limit=-1 => Bad(Limit)
+List ?limit=&limit=x => (None, None, false, "")
+List ?limit=2&limit=x => (None, None, false, "")
+List ?resourceVersion=9223372036854775808 => Bad(ResourceVersion)
+List ?resourceVersionMatch=Newest&resourceVersion=1 => Bad(ResourceVersionMatch)
+List ?resourceVersionMatch=Exact&resourceVersion=1 => (None, Some(1), false, "")
+List ?resourceVersionMatch=NotOlderThan&resourceVersion=0 => (None, Some(0), false, "")
+List ?labelSelector=a,,b => Bad(LabelSelector)
+List ?fieldSelector=metadata.name%3Da => Bad(FieldSelector)
+List ?sendInitialEvents=true => Bad(SendInitialEvents)
+List ?continue=4.default => Bad(Continue)
+List ?continue=4..w1 => Bad(Continue)
+List ?continue=4.default. => Bad(Continue)
+List ?continue=04.default.w1 => Bad(Continue)
+List ?continue=9.default.w1 => (None, None, false, "")
+List ?allowWatchBookmarks=x&timeoutSeconds=x&fieldManager=%00&force=x => (None, None, false, "")
 
 faults_of_lists_in_order: single parameters, and what goes together after them
-List ?sendInitialEvents=x&limit=x&continue=x => bad Continue
-List ?limit=x&labelSelector=(&fieldSelector=x => bad FieldSelector
-List ?limit=x&labelSelector=( => bad LabelSelector
-List ?resourceVersion=x&limit=x => bad Limit
-List ?resourceVersionMatch=x&resourceVersion=x => bad ResourceVersion
-List ?resourceVersionMatch=Exact&sendInitialEvents=x => bad SendInitialEvents
-List ?resourceVersionMatch=Exact => bad ResourceVersionMatch
-List ?resourceVersionMatch=Exact&resourceVersion= => bad ResourceVersionMatch
-List ?resourceVersionMatch=Exact&resourceVersion=0 => bad ResourceVersionMatch
-List ?resourceVersionMatch=NotOlderThan => bad ResourceVersionMatch
-List ?continue=4.default.w1&resourceVersion=4 => bad Continue
-List ?continue=4.default.w1&resourceVersion=0 => read at 0
-List ?continue=4.default.w1&resourceVersion=0&resourceVersionMatch=NotOlderThan => bad Continue
-List ?continue=4.default.w1&resourceVersionMatch=Exact => bad ResourceVersionMatch
-List ?watch=yes&continue=x => bad Watch
-List ?watch=&watch=x => read
-List ?watch=false&continue=x => bad Continue
+List ?sendInitialEvents=x&limit=x&continue=x => Bad(Continue)
+List ?limit=x&labelSelector=(&fieldSelector=x => Bad(FieldSelector)
+List ?limit=x&labelSelector=( => Bad(LabelSelector)
+List ?resourceVersion=x&limit=x => Bad(Limit)
+List ?resourceVersionMatch=x&resourceVersion=x => Bad(ResourceVersion)
+List ?resourceVersionMatch=Exact&sendInitialEvents=x => Bad(SendInitialEvents)
+List ?resourceVersionMatch=Exact => Bad(ResourceVersionMatch)
+List ?resourceVersionMatch=Exact&resourceVersion= => Bad(ResourceVersionMatch)
+List ?resourceVersionMatch=Exact&resourceVersion=0 => Bad(ResourceVersionMatch)
+List ?resourceVersionMatch=NotOlderThan => Bad(ResourceVersionMatch)
+List ?continue=4.default.w1&resourceVersion=4 => Bad(Continue)
+List ?continue=4.default.w1&resourceVersion=0 => (None, Some(0), false, "")
+List ?continue=4.default.w1&resourceVersion=0&resourceVersionMatch=NotOlderThan => Bad(Continue)
+List ?continue=4.default.w1&resourceVersionMatch=Exact => Bad(ResourceVersionMatch)
+List ?watch=yes&continue=x => Bad(Watch)
+List ?watch=&watch=x => (None, None, false, "")
+List ?watch=false&continue=x => Bad(Continue)
 
 selectors_of_lists
 tiers ?labelSelector=tier%3Dweb&limit=1 => (true, false)
@@ -238,21 +159,21 @@ tiers ?labelSelector=tier!%3Dweb => (false, true)
 
 values_of_lists
 values ?labelSelector=tier%3Dweb&limit=1&resourceVersion=3&resourceVersionMatch=NotOlderThan&watch=0 => (1, Some(3), Some(NotOlderThan))
-token ?labelSelector=tier%3Dweb&limit=1&resourceVersion=3&resourceVersionMatch=NotOlderThan&watch=0 => none
-token ?limit=2&continue=4.default.w1.old => 4.default.w1.old 4 default w1.old
+token ?labelSelector=tier%3Dweb&limit=1&resourceVersion=3&resourceVersionMatch=NotOlderThan&watch=0 => None
+token ?limit=2&continue=4.default.w1.old => (Token { revision: 4, namespace: "default", name: "w1.old" }, "4.default.w1.old")
 
 watches
-List ?watch=true => read a watch false 0
-List ?watch=1&limit=x&continue=x&resourceVersion=4 => read a watch false 0 at 4
-List ?watch=true&resourceVersion=4&allowWatchBookmarks=true&timeoutSeconds=2147483647 => read a watch true 2147483647 at 4
-List ?watch=true&resourceVersionMatch=Exact&resourceVersion=4 => bad ResourceVersionMatch
-List ?watch=true&timeoutSeconds=2147483648 => bad TimeoutSeconds
-List ?watch=true&allowWatchBookmarks=x&fieldSelector=x => bad AllowWatchBookmarks
-List ?watch=true&fieldSelector=x&labelSelector=( => bad FieldSelector
-List ?watch=true&labelSelector=(&resourceVersion=x => bad LabelSelector
-List ?watch=true&resourceVersionMatch=x&resourceVersion=x => bad ResourceVersion
-List ?watch=true&sendInitialEvents=x&resourceVersionMatch=x => bad ResourceVersionMatch
-List ?watch=true&sendInitialEvents=x&timeoutSeconds=x => bad SendInitialEvents
+List ?watch=true => (Some(Watch { has_bookmarks: false, timeout: 0 }), None, false, "")
+List ?watch=1&limit=x&continue=x&resourceVersion=4 => (Some(Watch { has_bookmarks: false, timeout: 0 }), Some(4), false, "")
+List ?watch=true&resourceVersion=4&allowWatchBookmarks=true&timeoutSeconds=2147483647 => (Some(Watch { has_bookmarks: true, timeout: 2147483647 }), Some(4), false, "")
+List ?watch=true&resourceVersionMatch=Exact&resourceVersion=4 => Bad(ResourceVersionMatch)
+List ?watch=true&timeoutSeconds=2147483648 => Bad(TimeoutSeconds)
+List ?watch=true&allowWatchBookmarks=x&fieldSelector=x => Bad(AllowWatchBookmarks)
+List ?watch=true&fieldSelector=x&labelSelector=( => Bad(FieldSelector)
+List ?watch=true&labelSelector=(&resourceVersion=x => Bad(LabelSelector)
+List ?watch=true&resourceVersionMatch=x&resourceVersion=x => Bad(ResourceVersion)
+List ?watch=true&sendInitialEvents=x&resourceVersionMatch=x => Bad(ResourceVersionMatch)
+List ?watch=true&sendInitialEvents=x&timeoutSeconds=x => Bad(SendInitialEvents)
 fault ?resourceVersionMatch=Exact => bad parameter: resourceVersionMatch"#;
 
 #[test]

@@ -9,4 +9,4 @@ mod words;
 
 pub use marking::mark;
 pub use rows::{Answers, play, play_all};
-pub use words::{first_word, number, told};
+pub use words::{expect_text, first_word, number, told};

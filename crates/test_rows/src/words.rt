@@ -17,3 +17,12 @@ pub fn number(text: &str) -> Result<u64, Fail> {
 pub fn told<T: Debug + Drop>(alloc: Global, answer: T) -> Result<String, Fail> {
     Ok(format!(in alloc; "{answer:?}")?)
 }
+
+/// The test fails where the text is another, and shows it.
+pub fn expect_text(text: String, wanted: &str) -> Result<(), Fail> {
+    if text.as_str() == wanted {
+        Ok(())
+    } else {
+        Err(Fail::new(text))
+    }
+}
