@@ -28,6 +28,22 @@ pub enum Next {
     Over,
 }
 
+/// How many bytes the lines of a turn may have until later turns tell fewer: 256 KiB.
+const TURN_BYTES: u64 = 262144;
+
+/// How many lines the first turn of a watch tells at most, and one after a turn that told none.
+const FIRST_LINES: u64 = 8;
+
+/// How many lines a watch may tell in its next turn, after one that might tell so many and made so many bytes: as many as
+/// make a turn's bytes where lines are as large as these; twice as many at most, and one at least.
+fn next_lines(lines: u64, made: u64) -> u64 {
+    if made == 0 {
+        return FIRST_LINES;
+    }
+    let fitting = lines.saturating_mul(TURN_BYTES) / made;
+    fitting.min(lines.saturating_mul(2)).max(1)
+}
+
 /// A connection whose peer may have sent more has a turn again.
 fn again_if_more(readout: Readout, next: Next) -> Next {
     if readout == Readout::More && next != Next::Over {
@@ -49,6 +65,10 @@ pub struct Peer<S: Drop> {
     is_blocked: bool,
     /// It watches, and may have more lines to write.
     is_behind: bool,
+    /// How many lines its next turn tells at most, beside what the server is asked for.
+    lines: u64,
+    /// How many bytes the lines of its last turn had.
+    made: u64,
     /// Since when the peer keeps the server waiting.
     since: Instant,
 }
@@ -65,6 +85,8 @@ impl<S: Read + Write + Stream + Drop> Peer<S> {
             is_read_out: false,
             is_blocked: false,
             is_behind: true,
+            lines: FIRST_LINES,
+            made: 0,
             since: now,
         }
     }
@@ -72,6 +94,18 @@ impl<S: Read + Write + Stream + Drop> Peer<S> {
     /// Whether its watch has more lines to write, and its peer takes them.
     pub(crate) fn may_go_on(&self) -> bool {
         self.is_behind && !self.is_blocked
+    }
+
+    /// How many bytes the lines of its last turn had.
+    pub(crate) fn made(&self) -> u64 {
+        self.made
+    }
+
+    /// Notes how many bytes its turn made, which might tell so many lines.
+    fn note_made(&mut self, lines: u64, made: usize) {
+        self.made = made as u64;
+        self.is_behind = made > 0;
+        self.lines = next_lines(lines, self.made);
     }
 
     /// Whether the server waits for the peer: for the rest of its request, to take what waits for it, or to close.
@@ -111,19 +145,21 @@ impl<S: Read + Write + Stream + Drop> Peer<S> {
         again_if_more(readout, self.flush(hub, id, now))
     }
 
-    /// The turn of a watch: where nothing waits it may write so many lines.
+    /// The turn of a watch: where nothing waits it may write so many lines at most, and fewer where those before were large.
     pub fn pump(&mut self, hub: &mut Hub, id: u64, lines: u64, now: Instant) -> Next
         ensures { LeadsOn id hub.old hub.new }
     {
         self.is_behind = true;
+        self.made = 0;
         if self.is_blocked {
             return Next::Writes;
         }
         if !hub.out(id).is_empty() {
             return self.flush(hub, id, now);
         }
+        let lines = lines.min(self.lines);
         hand(hub, Event::Pump(id, lines));
-        self.is_behind = !hub.out(id).is_empty();
+        self.note_made(lines, hub.out(id).len());
         self.flush(hub, id, now)
     }
 

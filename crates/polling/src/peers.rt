@@ -26,6 +26,9 @@ const ACCEPTS: u32 = 256;
 /// The milliseconds between two ticks.
 const TICK: u64 = 1000;
 
+/// How many bytes the turns of watches that have more lines make in one round, until the others have theirs later: 1 MiB.
+const ROUND_BYTES: u64 = 1048576;
+
 /// What the system reports of a connection. It is told only of those that outlive their first look.
 #[derive(Debug, Drop, Clone, Copy, PartialEq, Eq)]
 enum Reported {
@@ -78,6 +81,10 @@ pub(crate) struct Peers {
     again: Vec<u64>,
     /// A watch has more lines to write, and its peer takes them.
     has_lines: bool,
+    /// How many bytes the turns of watches that had more lines have made in this round.
+    made: u64,
+    /// The place of the first of them that had no turn in the last round.
+    put_off: Option<usize>,
     /// Connections may wait to be accepted.
     accepts: bool,
     /// One couldn't be accepted: the listener isn't reported again for it, so a close or a tick tries again.
@@ -113,6 +120,8 @@ impl Peers {
             watches: Vec::new(alloc),
             again: Vec::new(alloc),
             has_lines: false,
+            made: 0,
+            put_off: None,
             accepts: true,
             is_starved: false,
             highest: 0,
@@ -314,7 +323,8 @@ impl Peers {
         !begins || self.watches.push(id).is_ok()
     }
 
-    /// Each watch has its turn; unless all do, those alone that have more lines.
+    /// Each watch has its turn; unless all do, those alone that have more lines. These have none once such turns have made so
+    /// many bytes; the next round begins with the first of them that had none.
     fn pump_watches(&mut self, all: bool, now: Instant)
         ensures { Leads self.old.hub self.new.hub }
     {
@@ -322,11 +332,23 @@ impl Peers {
             return;
         }
         self.has_lines = false;
-        for at in 0..self.watches.len() {
-            self.pump_at(at, all, now);
-        }
+        self.made = 0;
+        let first = std::mem::replace(&mut self.put_off, None).unwrap_or(0);
+        let count = self.watches.len();
+        self.pump_from(first, count, all, now);
+        self.pump_from(0, first, all, now);
         let entries = &self.entries;
         self.watches.retain(|id| entries.contains_key(id));
+    }
+
+    /// The turns of the watches from one place to another, as far as there are any.
+    fn pump_from(&mut self, first: usize, end: usize, all: bool, now: Instant)
+        ensures { Leads self.old.hub self.new.hub }
+    {
+        let end = end.min(self.watches.len());
+        for at in first..end {
+            self.pump_at(at, all, now);
+        }
     }
 
     fn pump_at(&mut self, at: usize, all: bool, now: Instant)
@@ -336,15 +358,43 @@ impl Peers {
             return;
         };
         let id = *id;
+        let Some(entry) = self.entries.get(&id) else {
+            return;
+        };
+        let goes_on = entry.peer.may_go_on();
+        if self.has_turn(at, all, goes_on) {
+            self.pump_watch(id, goes_on, now);
+        }
+    }
+
+    /// Whether a watch has a turn: one that has more lines has, unless such turns have made enough.
+    fn has_turn(&mut self, at: usize, all: bool, goes_on: bool) -> bool
+        ensures { self.new.hub ≡ self.old.hub }
+    {
+        if !goes_on {
+            return all;
+        }
+        if self.made < ROUND_BYTES {
+            return true;
+        }
+        self.has_lines = true;
+        self.put_off = Some(self.put_off.unwrap_or(at));
+        false
+    }
+
+    /// The turn of a watch, whose bytes count where it had more lines.
+    fn pump_watch(&mut self, id: u64, goes_on: bool, now: Instant)
+        ensures { Leads self.old.hub self.new.hub }
+    {
         let Some(entry) = self.entries.get_mut(&id) else {
             return;
         };
-        if !all && !entry.peer.may_go_on() {
-            return;
-        }
         let lines = self.options.lines;
         let next = entry.peer.pump(&mut self.hub, id, lines, now);
         self.has_lines |= entry.peer.may_go_on();
+        if goes_on {
+            self.made = self.made.saturating_add(entry.peer.made());
+        }
         self.follow(id, next);
     }
 

@@ -1,5 +1,5 @@
 use Rattle.polling.specs.Happens.{Leads}
-use Rattle.polling.proofs.peers.Peers.pump_watches.Given as goal
+use Rattle.polling.proofs.peers.Peers.pump_from.Given as goal
 
 abbrev pub invariant-loop-at : goal.invariant-loop-at
 invariant-loop-at l = Leads l.fn.self.hub l.self.hub
