@@ -10,7 +10,8 @@ ghost use Rattle.polling.specs.ServerSeen.{lingers};
 use crate::reading::{Readout, hand_over};
 use crate::stream::Stream;
 use crate::writing::{Written, write_out};
-use httpedge::{Event, Hub, LINGER, hand};
+use httpedge::{Event, Hub, LINGER};
+use observing::{Observer, hand};
 use std::alloc::Global;
 use std::io::{Read, Write};
 use std::time::{Duration, Instant};
@@ -34,14 +35,34 @@ const TURN_BYTES: u64 = 262144;
 /// How many lines the first turn of a watch tells at most, and one after a turn that told none.
 const FIRST_LINES: u64 = 8;
 
-/// How many lines a watch may tell in its next turn, after one that might tell so many and made so many bytes: as many as
-/// make a turn's bytes where lines are as large as these; twice as many at most, and one at least.
-fn next_lines(lines: u64, made: u64) -> u64 {
+/// How many line feeds a line of a watch has: behind its chunk's size, its own, and behind its chunk.
+const FEEDS: u64 = 3;
+
+/// How many lines of a watch these bytes have.
+fn lines_in(out: &[u8]) -> u64 {
+    let mut feeds = 0u64;
+    for byte in out {
+        if *byte == b'\n' {
+            feeds = feeds.saturating_add(1);
+        }
+    }
+    feeds / FEEDS
+}
+
+/// How many lines a watch may tell in its next turn, after one that might tell so many and made these bytes: as many as make
+/// a turn's bytes where lines are as large as these; twice as many at most, and one at least.
+fn next_lines(lines: u64, out: &[u8]) -> u64 {
+    let made = out.len() as u64;
     if made == 0 {
         return FIRST_LINES;
     }
-    let fitting = lines.saturating_mul(TURN_BYTES) / made;
-    fitting.min(lines.saturating_mul(2)).max(1)
+    let told = if lines > FIRST_LINES {
+        lines_in(out)
+    } else {
+        lines
+    };
+    let fitting = told.saturating_mul(TURN_BYTES) / made;
+    fitting.min(told.saturating_mul(2)).max(1)
 }
 
 /// A connection whose peer may have sent more has a turn again.
@@ -101,11 +122,11 @@ impl<S: Read + Write + Stream + Drop> Peer<S> {
         self.made
     }
 
-    /// Notes how many bytes its turn made, which might tell so many lines.
-    fn note_made(&mut self, lines: u64, made: usize) {
-        self.made = made as u64;
-        self.is_behind = made > 0;
-        self.lines = next_lines(lines, self.made);
+    /// Notes what its turn made, which might tell so many lines.
+    fn note_made(&mut self, lines: u64, out: &[u8]) {
+        self.made = out.len() as u64;
+        self.is_behind = !out.is_empty();
+        self.lines = next_lines(lines, out);
     }
 
     /// Whether the server waits for the peer: for the rest of its request, to take what waits for it, or to close.
@@ -132,13 +153,20 @@ impl<S: Read + Write + Stream + Drop> Peer<S> {
 
     /// The turn of a connection whose stream may be ready: what its peer sent is handed to the hub, and what is out on it
     /// is written.
-    pub fn look(&mut self, alloc: Global, hub: &mut Hub, id: u64, now: Instant) -> Next
+    pub fn look<O: Observer>(
+        &mut self,
+        alloc: Global,
+        hub: &mut Hub,
+        observer: &mut O,
+        id: u64,
+        now: Instant,
+    ) -> Next
         ensures { LeadsOn id hub.old hub.new }
     {
         if hub.wants(id) {
             self.since = now;
         }
-        let Ok(readout) = hand_over(alloc, hub, id, &mut self.stream) else {
+        let Ok(readout) = hand_over(alloc, hub, observer, id, &mut self.stream) else {
             return Next::Over;
         };
         self.is_read_out = readout == Readout::Closed;
@@ -146,7 +174,14 @@ impl<S: Read + Write + Stream + Drop> Peer<S> {
     }
 
     /// The turn of a watch: where nothing waits it may write so many lines at most, and fewer where those before were large.
-    pub fn pump(&mut self, hub: &mut Hub, id: u64, lines: u64, now: Instant) -> Next
+    pub fn pump<O: Observer>(
+        &mut self,
+        hub: &mut Hub,
+        observer: &mut O,
+        id: u64,
+        lines: u64,
+        now: Instant,
+    ) -> Next
         ensures { LeadsOn id hub.old hub.new }
     {
         self.is_behind = true;
@@ -158,8 +193,8 @@ impl<S: Read + Write + Stream + Drop> Peer<S> {
             return self.flush(hub, id, now);
         }
         let lines = lines.min(self.lines);
-        hand(hub, Event::Pump(id, lines));
-        self.note_made(lines, hub.out(id).len());
+        hand(hub, observer, Event::Pump(id, lines));
+        self.note_made(lines, hub.out(id));
         self.flush(hub, id, now)
     }
 

@@ -6,9 +6,10 @@ ghost use Rattle.polling.specs.Happens.{Leads, LeadsOn};
 
 use crate::options::Options;
 use crate::peer::{Next, Peer};
-use httpedge::{Event, Hub, HubFault, compact, hand};
+use httpedge::{Event, Hub, HubFault};
 use mio::net::{TcpListener, TcpStream};
 use mio::{Events, Interest, Poll, Token};
+use observing::{Observer, compact, hand, on};
 use serde_json::Value;
 use std::alloc::Global;
 use std::collections::BTreeMap;
@@ -57,13 +58,18 @@ impl Entry {
 }
 
 /// A connection is over: unless all of its reply was written, its peer has gone.
-fn part(hub: &mut Hub, id: u64)
+fn part<O: Observer>(hub: &mut Hub, observer: &mut O, id: u64)
     ensures { LeadsOn id hub.old hub.new }
 {
     if hub.ended(id) && hub.out(id).is_empty() {
         return;
     }
-    hand(hub, Event::Gone(id));
+    hand(hub, observer, Event::Gone(id));
+}
+
+/// How many bytes of a turn count in its round: those of a watch that had more lines.
+fn counted(goes_on: bool, made: u64) -> u64 {
+    if goes_on { made } else { 0 }
 }
 
 /// The connections, and what is to be done with them.
@@ -153,45 +159,45 @@ impl Peers {
     }
 
     /// The system reports a connection, or the listener.
-    pub(crate) fn take_report(&mut self, token: Token, now: Instant)
+    pub(crate) fn take_report<O: Observer>(&mut self, observer: &mut O, token: Token, now: Instant)
         ensures { Leads self.old.hub self.new.hub }
     {
         if token == LISTENER {
             self.accepts = true;
         } else {
-            self.look(token.0 as u64, now);
+            self.look(observer, token.0 as u64, now);
         }
     }
 
     /// The turns of those that have one again.
-    pub(crate) fn look_again(&mut self, now: Instant)
+    pub(crate) fn look_again<O: Observer>(&mut self, observer: &mut O, now: Instant)
         ensures { Leads self.old.hub self.new.hub }
     {
         let again = std::mem::replace(&mut self.again, Vec::new(self.alloc));
         for id in &again {
-            self.look(*id, now);
+            self.look(observer, *id, now);
         }
     }
 
     /// Accepts the connections that wait.
-    pub(crate) fn accept_all(&mut self, now: Instant)
+    pub(crate) fn accept_all<O: Observer>(&mut self, observer: &mut O, now: Instant)
         ensures { Leads self.old.hub self.new.hub }
     {
         'accepts: for _ in 0..ACCEPTS {
             if !self.accepts {
                 break;
             }
-            self.accept(now);
+            self.accept(observer, now);
         }
     }
 
-    fn accept(&mut self, now: Instant)
+    fn accept<O: Observer>(&mut self, observer: &mut O, now: Instant)
         ensures { Leads self.old.hub self.new.hub }
     {
         let Some(stream) = self.next_stream() else {
             return;
         };
-        self.open(stream, now);
+        self.open(observer, stream, now);
     }
 
     fn next_stream(&mut self) -> Option<TcpStream>
@@ -214,29 +220,34 @@ impl Peers {
     /// and the turns of the watches. So a watch gets what came in one turn, or is told that it is forgotten,
     /// unless more is left for it than one pump tells, or its bytes still wait for its peer. Each second ends the
     /// connections whose peers are silent.
-    pub(crate) fn settle(&mut self, now: Instant)
+    pub(crate) fn settle<O: Observer>(&mut self, observer: &mut O, now: Instant)
         ensures { Leads self.old.hub self.new.hub }
     {
-        let is_second = self.tick(now);
-        let is_risen = self.compact(is_second);
-        self.pump_watches(is_second || is_risen, now);
+        let is_second = self.tick(observer, now);
+        let is_risen = self.compact(observer, is_second);
+        self.pump_watches(observer, is_second || is_risen, now);
         if is_second {
-            self.drop_silent(now);
+            self.drop_silent(observer, now);
             self.accept_anew();
         }
     }
 
     /// Other types are served from here on, or it is told why not. The watches get what that changed.
-    pub(crate) fn retype(&mut self, file: Value, now: Instant) -> Result<(), HubFault>
+    pub(crate) fn retype<O: Observer>(
+        &mut self,
+        observer: &mut O,
+        file: Value,
+        now: Instant,
+    ) -> Result<(), HubFault>
         ensures { Leads self.old.hub self.new.hub }
     {
-        let done = self.hub.on(&Event::Retype(file));
-        self.settle(now);
+        let done = on(&mut self.hub, observer, &Event::Retype(file));
+        self.settle(observer, now);
         done
     }
 
     /// The hub's tick, each second; whether it is due.
-    fn tick(&mut self, now: Instant) -> bool
+    fn tick<O: Observer>(&mut self, observer: &mut O, now: Instant) -> bool
         ensures { Leads self.old.hub self.new.hub }
     {
         let is_early = now.duration_since(self.ticked) < Duration::from_millis(TICK);
@@ -246,13 +257,13 @@ impl Peers {
         self.ticked = now;
         let ms = now.duration_since(self.started).as_millis();
         let ms = u64::try_from(ms).unwrap_or(u64::MAX);
-        hand(&mut self.hub, Event::Tick(ms));
+        hand(&mut self.hub, observer, Event::Tick(ms));
         true
     }
 
     /// Forgets what isn't kept, where that is worth a statement: each second, or once as much again is kept. Whether
     /// something was written since it was last asked.
-    fn compact(&mut self, is_second: bool) -> bool
+    fn compact<O: Observer>(&mut self, observer: &mut O, is_second: bool) -> bool
         ensures { Leads self.old.hub self.new.hub }
     {
         let keep = self.options.keep;
@@ -261,7 +272,7 @@ impl Peers {
         self.revision = revision;
         let is_due = is_second || revision.saturating_sub(compacted) > keep.saturating_mul(2);
         if is_due {
-            compact(&mut self.hub, keep);
+            compact(&mut self.hub, observer, keep);
         }
         is_risen
     }
@@ -276,14 +287,14 @@ impl Peers {
     }
 
     /// A connection has its first turn. Out of memory, it has none and is over: the peer sees it closed.
-    fn open(&mut self, stream: TcpStream, now: Instant)
+    fn open<O: Observer>(&mut self, observer: &mut O, stream: TcpStream, now: Instant)
         ensures { Leads self.old.hub self.new.hub }
     {
         let Some(id) = self.highest.checked_add(1) else {
             return;
         };
         self.highest = id;
-        if !hand(&mut self.hub, Event::Open(id)) {
+        if !hand(&mut self.hub, observer, Event::Open(id)) {
             self.count_closed();
             return;
         }
@@ -293,27 +304,29 @@ impl Peers {
             is_watch: false,
         };
         if self.entries.insert(id, entry).is_err() {
-            part(&mut self.hub, id);
+            part(&mut self.hub, observer, id);
             self.count_closed();
             return;
         }
-        self.look(id, now);
+        self.look(observer, id, now);
     }
 
-    fn look(&mut self, id: u64, now: Instant)
+    fn look<O: Observer>(&mut self, observer: &mut O, id: u64, now: Instant)
         ensures { Leads self.old.hub self.new.hub }
     {
         let Some(entry) = self.entries.get_mut(&id) else {
             return;
         };
-        let next = entry.peer.look(self.alloc, &mut self.hub, id, now);
+        let next = entry
+            .peer
+            .look(self.alloc, &mut self.hub, observer, id, now);
         let begins = !entry.is_watch && !self.hub.wants(id) && !self.hub.ended(id);
         self.has_lines |= entry.note(begins);
         if !self.list_watch(id, begins) {
-            self.close(id);
+            self.close(observer, id);
             return;
         }
-        self.follow(id, next);
+        self.follow(observer, id, next);
     }
 
     /// Whether a watch that begins is among the watches.
@@ -325,7 +338,7 @@ impl Peers {
 
     /// Each watch has its turn; unless all do, those alone that have more lines. These have none once such turns have made so
     /// many bytes; the next round begins with the first of them that had none.
-    fn pump_watches(&mut self, all: bool, now: Instant)
+    fn pump_watches<O: Observer>(&mut self, observer: &mut O, all: bool, now: Instant)
         ensures { Leads self.old.hub self.new.hub }
     {
         if !all && !self.has_lines {
@@ -335,23 +348,30 @@ impl Peers {
         self.made = 0;
         let first = std::mem::replace(&mut self.put_off, None).unwrap_or(0);
         let count = self.watches.len();
-        self.pump_from(first, count, all, now);
-        self.pump_from(0, first, all, now);
+        self.pump_from(observer, first, count, all, now);
+        self.pump_from(observer, 0, first, all, now);
         let entries = &self.entries;
         self.watches.retain(|id| entries.contains_key(id));
     }
 
     /// The turns of the watches from one place to another, as far as there are any.
-    fn pump_from(&mut self, first: usize, end: usize, all: bool, now: Instant)
+    fn pump_from<O: Observer>(
+        &mut self,
+        observer: &mut O,
+        first: usize,
+        end: usize,
+        all: bool,
+        now: Instant,
+    )
         ensures { Leads self.old.hub self.new.hub }
     {
         let end = end.min(self.watches.len());
         for at in first..end {
-            self.pump_at(at, all, now);
+            self.pump_at(observer, at, all, now);
         }
     }
 
-    fn pump_at(&mut self, at: usize, all: bool, now: Instant)
+    fn pump_at<O: Observer>(&mut self, observer: &mut O, at: usize, all: bool, now: Instant)
         ensures { Leads self.old.hub self.new.hub }
     {
         let Some(id) = self.watches.get(at) else {
@@ -363,7 +383,7 @@ impl Peers {
         };
         let goes_on = entry.peer.may_go_on();
         if self.has_turn(at, all, goes_on) {
-            self.pump_watch(id, goes_on, now);
+            self.pump_watch(observer, id, goes_on, now);
         }
     }
 
@@ -383,28 +403,27 @@ impl Peers {
     }
 
     /// The turn of a watch, whose bytes count where it had more lines.
-    fn pump_watch(&mut self, id: u64, goes_on: bool, now: Instant)
+    fn pump_watch<O: Observer>(&mut self, observer: &mut O, id: u64, goes_on: bool, now: Instant)
         ensures { Leads self.old.hub self.new.hub }
     {
         let Some(entry) = self.entries.get_mut(&id) else {
             return;
         };
         let lines = self.options.lines;
-        let next = entry.peer.pump(&mut self.hub, id, lines, now);
+        let next = entry.peer.pump(&mut self.hub, observer, id, lines, now);
         self.has_lines |= entry.peer.may_go_on();
-        if goes_on {
-            self.made = self.made.saturating_add(entry.peer.made());
-        }
-        self.follow(id, next);
+        let made = counted(goes_on, entry.peer.made());
+        self.made = self.made.saturating_add(made);
+        self.follow(observer, id, next);
     }
 
     /// Does what a connection waits for after its turn.
-    fn follow(&mut self, id: u64, next: Next)
+    fn follow<O: Observer>(&mut self, observer: &mut O, id: u64, next: Next)
         ensures { Leads self.old.hub self.new.hub }
     {
         let goes_on = self.await_next(id, next);
         if !goes_on {
-            self.close(id);
+            self.close(observer, id);
         }
     }
 
@@ -462,23 +481,23 @@ impl Peers {
         silent
     }
 
-    fn drop_silent(&mut self, now: Instant)
+    fn drop_silent<O: Observer>(&mut self, observer: &mut O, now: Instant)
         ensures { Leads self.old.hub self.new.hub }
     {
         let silent = self.silent(now);
         for id in &silent {
-            self.close(*id);
+            self.close(observer, *id);
         }
     }
 
     /// A connection is over: its stream is closed, by which the system reports it no more.
-    fn close(&mut self, id: u64)
+    fn close<O: Observer>(&mut self, observer: &mut O, id: u64)
         ensures { Leads self.old.hub self.new.hub }
     {
         if self.entries.remove(&id).is_none() {
             return;
         }
-        part(&mut self.hub, id);
+        part(&mut self.hub, observer, id);
         self.count_closed();
         self.accept_anew();
     }

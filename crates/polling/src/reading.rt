@@ -4,7 +4,8 @@ ghost use Rattle.std.specs.Prelude.{List, ℕ};
 ghost use Rattle.std.specs.Io.KnownBytes.{Consumes};
 ghost use Rattle.polling.specs.Happens.{Hears};
 
-use httpedge::{Event, Hub, hand};
+use httpedge::{Event, Hub};
+use observing::{Observer, hand};
 use std::alloc::Global;
 use std::io;
 use std::io::{ErrorKind, Read};
@@ -25,29 +26,36 @@ pub enum Readout {
 }
 
 /// One read, whose bytes come on the connection.
-fn hand_piece<R: Read>(alloc: Global, hub: &mut Hub, id: u64, reader: &mut R) -> io::Result<Readout>
+fn hand_piece<O: Observer, R: Read>(
+    alloc: Global,
+    hub: &mut Hub,
+    observer: &mut O,
+    id: u64,
+    reader: &mut R,
+) -> io::Result<Readout>
     ensures { (heard : List ℕ) × Consumes (R.remaining reader.old) (R.remaining reader.new) heard × Hears id heard hub.old hub.new }
 {
     let piece = read_piece(alloc, reader)?;
     if piece.is_empty() {
         return Ok(Readout::Closed);
     }
-    hand(hub, Event::In(id, piece));
+    hand(hub, observer, Event::In(id, piece));
     Ok(Readout::More)
 }
 
 /// Reads what is there, as far as the turn goes, and hands it to the hub: the bytes that left the reader came on the
 /// connection, in order, whatever failed.
-pub fn hand_over<R: Read>(
+pub fn hand_over<O: Observer, R: Read>(
     alloc: Global,
     hub: &mut Hub,
+    observer: &mut O,
     id: u64,
     reader: &mut R,
 ) -> io::Result<Readout>
     ensures { (heard : List ℕ) × Consumes (R.remaining reader.old) (R.remaining reader.new) heard × Hears id heard hub.old hub.new }
 {
     'reads: for _ in 0..READS {
-        match hand_piece(alloc, hub, id, reader) {
+        match hand_piece(alloc, hub, observer, id, reader) {
             Ok(Readout::More) => {}
             Err(e) if e.kind() == ErrorKind::WouldBlock => return Ok(Readout::Blocked),
             Err(e) if e.kind() == ErrorKind::Interrupted => {}

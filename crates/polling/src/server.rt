@@ -14,6 +14,7 @@ use crate::peers::{LISTENER, Peers};
 use httpedge::{Hub, HubFault};
 use mio::net::TcpListener;
 use mio::{Events, Interest, Poll};
+use observing::Observer;
 use serde_json::Value;
 use std::alloc::AllocGlobal;
 use std::io::{self, ErrorKind};
@@ -25,11 +26,11 @@ use verbs::{Api, Fault};
 /// The most reports of the system that are taken in one turn.
 const EVENTS: usize = 1024;
 
-fn take_reports(peers: &mut Peers, events: &Events, now: Instant)
+fn take_reports<O: Observer>(peers: &mut Peers, observer: &mut O, events: &Events, now: Instant)
     ensures { Leads peers.old.hub peers.new.hub }
 {
     for event in events {
-        peers.take_report(event.token(), now);
+        peers.take_report(observer, event.token(), now);
     }
 }
 
@@ -70,24 +71,29 @@ impl Server {
     /// Waits until the system reports something, a second at most, and does what is to be done: each connection that is
     /// reported has its turn, and those that wait are accepted; then comes the tick, each second; what isn't kept is
     /// forgotten; and the watches get what was written.
-    pub fn turn<R: Clock>(&mut self, rt: &R) -> io::Result<()>
+    pub fn turn<O: Observer, R: Clock>(&mut self, rt: &R, observer: &mut O) -> io::Result<()>
         ensures { Leads (hub_of self.old) (hub_of self.new) }
     {
         let before = Instant::now(rt)?;
         self.peers.wait(&mut self.events, before)?;
         let now = Instant::now(rt)?;
-        self.peers.look_again(now);
-        take_reports(&mut self.peers, &self.events, now);
-        self.peers.accept_all(now);
-        self.peers.settle(now);
+        self.peers.look_again(observer, now);
+        take_reports(&mut self.peers, observer, &self.events, now);
+        self.peers.accept_all(observer, now);
+        self.peers.settle(observer, now);
         Ok(())
     }
 
     /// Serves the types of a types file from here on, or tells why not. The watches get what that changed.
-    pub fn retype(&mut self, file: Value, now: Instant) -> Result<(), HubFault>
+    pub fn retype<O: Observer>(
+        &mut self,
+        observer: &mut O,
+        file: Value,
+        now: Instant,
+    ) -> Result<(), HubFault>
         ensures { Leads (hub_of self.old) (hub_of self.new) }
     {
-        self.peers.retype(file, now)
+        self.peers.retype(observer, file, now)
     }
 
     /// The revision that stands now.
@@ -105,7 +111,12 @@ impl Server {
     }
 
     /// Serves until so many connections are over.
-    pub fn serve<R: Clock>(&mut self, rt: &R, most: u64) -> io::Result<()>
+    pub fn serve<O: Observer, R: Clock>(
+        &mut self,
+        rt: &R,
+        observer: &mut O,
+        most: u64,
+    ) -> io::Result<()>
         ensures leads { Leads (hub_of self.old) (hub_of self.new) }
         ensures served { OnOk result (most ≤ over_of self.new) }
     {
@@ -113,7 +124,7 @@ impl Server {
             if self.over() >= most {
                 return Ok(());
             }
-            self.turn(rt)?;
+            self.turn(rt, observer)?;
         }
         // More turns than a count of connections can tell.
         Err(io::Error::from(ErrorKind::Other))

@@ -30,13 +30,19 @@ concurrent_own = ((λ e. absurd (omega arith)), (λ e. absurd (omega arith)), (�
 pub patience_own : IsOwn (codes "patience")
 patience_own = ((λ e. absurd (omega arith)), (λ e. absurd (omega arith)), (λ e. absurd (omega arith)))
 
-abbrev pub names : List Text
-names = codes "types" ∷ codes "port" ∷ codes "keep" ∷ codes "pump" ∷ codes "serve" ∷ codes "concurrent" ∷ codes "patience" ∷ []
+pub log_own : IsOwn (codes "log")
+log_own = ((λ e. absurd (omega arith)), (λ e. absurd (omega arith)), (λ e. absurd (omega arith)))
 
-pub names_are : {types port keep pump serve flag patience : Text} → types ≡ codes "types" → port ≡ codes "port" → keep ≡ codes "keep" → pump ≡ codes "pump"
+pub record_own : IsOwn (codes "record")
+record_own = ((λ e. absurd (omega arith)), (λ e. absurd (omega arith)), (λ e. absurd (omega arith)))
+
+abbrev pub names : List Text
+names = codes "types" ∷ codes "port" ∷ codes "keep" ∷ codes "pump" ∷ codes "serve" ∷ codes "concurrent" ∷ codes "patience" ∷ codes "log" ∷ codes "record" ∷ []
+
+pub names_are : {types port keep pump serve flag patience log recorded : Text} → types ≡ codes "types" → port ≡ codes "port" → keep ≡ codes "keep" → pump ≡ codes "pump"
     → serve ≡ codes "serve" → flag ≡ codes "concurrent" → patience ≡ codes "patience"
-    → types ∷ port ∷ keep ∷ pump ∷ serve ∷ flag ∷ patience ∷ [] ≡ names
-names_are t p k u s f a = rw (t, p, k, u, s, f, a) refl
+    → log ≡ codes "log" → recorded ≡ codes "record" → types ∷ port ∷ keep ∷ pump ∷ serve ∷ flag ∷ patience ∷ log ∷ recorded ∷ [] ≡ names
+names_are t p k u s f a l r = rw (t, p, k, u, s, f, a, l, r) refl
 
 pub names_differ : differ names ≡ true
 unfolding clap_on_literals

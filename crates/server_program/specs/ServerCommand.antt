@@ -1,11 +1,11 @@
--- The arguments that `ssa-server` takes (its command, as `clap` reads it): `--types FILE`, which is required, numbers, and a flag.
+-- The arguments that `ssa-server` takes (its command, as `clap` reads it): `--types FILE`, which is required, numbers, flags, and the path of a record.
 use Rattle.std.specs.Prelude.{◌≡◌, Bool, Option, Some, None, true, false, codes, is_some}
 use Rattle.clap.specs.Built.{IsParsedFrom}
 use Rattle.clap.specs.Words.{App, Rule, Text, app_of, first_value, found_of, new_rule, with_rule}
 use Rattle.clap.specs.declared.builder.action.ArgAction.TheVariants.{SetTrue}
 use Rattle.clap.specs.declared.builder.command.Command.{Command}
 use Rattle.clap.specs.declared.parser.matches.ArgMatches.{ArgMatches}
-use Rattle.programs.specs.Commands.{file_option, program}
+use Rattle.programs.specs.Commands.{file_option, program, text_option}
 use Rattle.programs.specs.Numbers.{number_option}
 
 abbrev pub flag_option : Text → Rule
@@ -16,9 +16,11 @@ with_numbers app =
     with_rule (with_rule (with_rule (with_rule app (number_option (Some (codes "0")) (codes "port"))) (number_option (Some (codes "1000")) (codes "keep"))) (number_option (Some (codes "500")) (codes "pump")))
     (number_option (Some (codes "0")) (codes "serve"))
 
+abbrev with_modes : App → App
+with_modes app = with_rule (with_rule app (flag_option (codes "concurrent"))) (number_option (Some (codes "30000")) (codes "patience"))
+
 abbrev pub ssa_server : App
-ssa_server =
-    with_rule (with_rule (with_numbers (with_rule (program (codes "ssa-server")) (file_option (codes "types")))) (flag_option (codes "concurrent"))) (number_option (Some (codes "30000")) (codes "patience"))
+ssa_server = with_rule (with_rule (with_modes (with_numbers (with_rule (program (codes "ssa-server")) (file_option (codes "types"))))) (flag_option (codes "log"))) (text_option (codes "record"))
 
 -- a command as above, of which each parse has the path of the types file
 pub record IsServerCommand (command : Command) : Type 0 where

@@ -1,7 +1,7 @@
 //! The command line of `ssa-server`: its options, their numbers and its help. What the programs share stands in the crate
 //! `programs`.
 
-ghost use Rattle.std.specs.Prelude.{◌≡◌, [], IfOk, Some, codes, map};
+ghost use Rattle.std.specs.Prelude.{◌≡◌, [], IfOk, Some, codes, map, option_map};
 ghost use Rattle.clap.specs.Built.{FitsChain, IsAuto};
 ghost use Rattle.clap.specs.Words.{first_of, matches_of, one_of, rule_of};
 ghost use Rattle.programs.specs.Numbers.{IsCount, IsNumberOr};
@@ -10,7 +10,8 @@ ghost use Rattle.server_program.specs.ServerCommand.{IsFlag, IsServerCommand, fl
 use crate::fault::ServerFault;
 use clap::{Arg, ArgAction, Command};
 use programs::{
-    NumberOption, TYPES, TYPES_HELP, count_of, file_option, number, number_option, port_of, program,
+    NumberOption, TYPES, TYPES_HELP, TextOption, count_of, file_option, number, number_option,
+    port_of, program, text_option,
 };
 use std::alloc::{AllocError, Global};
 use std::convert::AsStr;
@@ -68,6 +69,17 @@ const PATIENCE: NumberOption = NumberOption {
     help: "With --concurrent: how many milliseconds to wait for a peer that sends or takes nothing",
 };
 
+const LOG: &str = "log";
+
+const LOG_HELP: &str =
+    "Tell each request, the end of each watch and what fails on standard error, a line each";
+
+const RECORD: TextOption<'static> = TextOption {
+    name: "record",
+    value: "FILE",
+    help: "Write what happens to a file, as a script for ssa-replay",
+};
+
 const CONCURRENT: &str = "concurrent";
 
 const CONCURRENT_HELP: &str =
@@ -90,6 +102,10 @@ pub struct ServerOptions<'a> {
     pub concurrent: bool,
     /// How many milliseconds a peer may keep the server waiting, where connections are served at once.
     pub patience: u64,
+    /// Whether requests are told on the standard error.
+    pub log: bool,
+    /// The path of the file to which events are recorded.
+    pub record: Option<&'a str>,
 }
 
 /// `--<name>`
@@ -114,7 +130,9 @@ fn server_command<'a>(alloc: Global) -> Result<Command<'a>, AllocError>
         .arg(number_option(alloc, PUMP))?
         .arg(number_option(alloc, SERVE))?
         .arg(flag_option(alloc, CONCURRENT, CONCURRENT_HELP))?
-        .arg(number_option(alloc, PATIENCE))
+        .arg(number_option(alloc, PATIENCE))?
+        .arg(flag_option(alloc, LOG, LOG_HELP))?
+        .arg(text_option(alloc, RECORD))
 }
 
 /// Reads the arguments of `ssa-server`, the program's name first.
@@ -129,6 +147,8 @@ pub fn options<'a, S: AsStr>(
     ensures serve { IfOk result (λ o. IsCount (first_of (codes "serve") (matches_of ssa_server (map S.text arguments.entry.now))) o.serve) }
     ensures concurrent { IfOk result (λ o. IsFlag (one_of (codes "concurrent") (matches_of ssa_server (map S.text arguments.entry.now))) o.concurrent) }
     ensures patience { IfOk result (λ o. IsNumberOr (codes "30000") (first_of (codes "patience") (matches_of ssa_server (map S.text arguments.entry.now))) o.patience) }
+    ensures log { IfOk result (λ o. IsFlag (one_of (codes "log") (matches_of ssa_server (map S.text arguments.entry.now))) o.log) }
+    ensures record { IfOk result (λ o. option_map (λ s. s.now) o.record ≡ first_of (codes "record") (matches_of ssa_server (map S.text arguments.entry.now))) }
 {
     let matches = server_command(alloc)?.try_get_matches_from(arguments)?;
     let port = number(&matches, PORT)?;
@@ -146,5 +166,7 @@ pub fn options<'a, S: AsStr>(
         serve: count_of(serve),
         concurrent,
         patience,
+        log: matches.get_flag(LOG),
+        record: matches.get_str(RECORD.name),
     })
 }

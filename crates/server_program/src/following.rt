@@ -3,6 +3,7 @@
 
 use crate::fault::ServerFault;
 use httpedge::HubFault;
+use observing::Observer;
 use polling::Server;
 use programs::{RunFault, types_in, types_text};
 use serde_json::Value;
@@ -35,9 +36,10 @@ impl<'a> FollowedFile<'a> {
 
     /// Looks at the file, a second after the last look: where it has another text, its types are served, or it is told on
     /// the standard error why not.
-    pub fn look<R: Files + Clock + Eprint + AllocGlobal>(
+    pub fn look<O: Observer, R: Files + Clock + Eprint + AllocGlobal>(
         &mut self,
         rt: &R,
+        observer: &mut O,
         server: &mut Server,
     ) -> Result<(), ServerFault> {
         let now = Instant::now(rt).map_err(ServerFault::Clock)?;
@@ -48,7 +50,7 @@ impl<'a> FollowedFile<'a> {
         match types_text(rt, self.path) {
             Ok(text) => {
                 self.is_lost = false;
-                self.take(rt, server, text);
+                self.take(rt, observer, server, text);
             }
             Err(fault) => self.lose(rt, &fault),
         }
@@ -63,11 +65,17 @@ impl<'a> FollowedFile<'a> {
         }
     }
 
-    fn take<R: Eprint + AllocGlobal>(&mut self, rt: &R, server: &mut Server, text: String) {
+    fn take<O: Observer, R: Eprint + AllocGlobal>(
+        &mut self,
+        rt: &R,
+        observer: &mut O,
+        server: &mut Server,
+        text: String,
+    ) {
         if self.text == text {
             return;
         }
-        let is_decided = self.serve(rt, server, text.as_str());
+        let is_decided = self.serve(rt, observer, server, text.as_str());
         // Out of memory, the next look tries again.
         if is_decided {
             self.text = text;
@@ -75,7 +83,13 @@ impl<'a> FollowedFile<'a> {
     }
 
     /// Serves the types that the text declares; whether that was done or refused.
-    fn serve<R: Eprint + AllocGlobal>(&self, rt: &R, server: &mut Server, text: &str) -> bool {
+    fn serve<O: Observer, R: Eprint + AllocGlobal>(
+        &self,
+        rt: &R,
+        observer: &mut O,
+        server: &mut Server,
+        text: &str,
+    ) -> bool {
         if let Err(fault) = types_in(rt.alloc(), self.path, text) {
             let _ = rt.eprintln(&fault);
             return !matches!(fault, RunFault::Memory);
@@ -83,7 +97,7 @@ impl<'a> FollowedFile<'a> {
         let Ok(value) = Value::from_str(rt.alloc(), text) else {
             return false;
         };
-        match server.retype(value, self.looked) {
+        match server.retype(observer, value, self.looked) {
             Ok(()) => {
                 self.tell_served(rt, server);
                 true

@@ -4,6 +4,8 @@
 use crate::arguments::{ServerOptions, options};
 use crate::fault::ServerFault;
 use crate::following::FollowedFile;
+use crate::witness::Witness;
+use observing::Observer;
 use programs::{RunFault, end_with, types_in, types_text};
 use serving::{Limits, Server, serve_all};
 use std::io::{self, ErrorKind};
@@ -25,23 +27,33 @@ fn listener_on<R: Net>(rt: &R, port: u16) -> Result<R::Listener, RunFault> {
     )
 }
 
+/// Who is told what happens.
+fn witness_of<'a, R: Files + Clock + Eprint + AllocGlobal>(
+    rt: &'a R,
+    options: &ServerOptions<'a>,
+) -> Result<Witness<'a, R>, ServerFault> {
+    // It fails where the clock can't be read, and nowhere else.
+    Witness::new(rt, options.record, options.log).map_err(ServerFault::Clock)
+}
+
 /// Serves one connection after another.
-fn serve_in_turn<R: Net + Clock + Print>(
-    rt: &R,
+fn serve_in_turn<'a, R: Files + Net + Clock + Print + Eprint + AllocGlobal>(
+    rt: &'a R,
     server: &mut Server<R::Stream>,
-    options: &ServerOptions<'_>,
+    options: &ServerOptions<'a>,
 ) -> Result<(), ServerFault> {
     let listener = listener_on(rt, options.port)?;
     let port = listener.local_addr()?.port();
     tell_port(rt, port)?;
+    let mut witness = witness_of(rt, options)?;
     // It fails where the clock can't be read, and nowhere else.
-    serve_all(rt, &listener, server, options.serve).map_err(ServerFault::Clock)
+    serve_all(rt, &mut witness, &listener, server, options.serve).map_err(ServerFault::Clock)
 }
 
-fn run_in_turn<R: Net + Clock + Print + AllocGlobal>(
-    rt: &R,
+fn run_in_turn<'a, R: Files + Net + Clock + Print + Eprint + AllocGlobal>(
+    rt: &'a R,
     api: Api,
-    options: &ServerOptions<'_>,
+    options: &ServerOptions<'a>,
 ) -> Result<(), ServerFault> {
     let limits = Limits {
         keep: options.keep,
@@ -70,8 +82,9 @@ fn fault_at_once<R: Clock>(rt: &R, error: io::Error) -> ServerFault {
 }
 
 /// Serves many connections at once, until so many are over, and follows the types file.
-fn serve_at_once<R: Files + Clock + Print + Eprint + AllocGlobal>(
+fn serve_at_once<O: Observer, R: Files + Clock + Print + Eprint + AllocGlobal>(
     rt: &R,
+    observer: &mut O,
     server: &mut polling::Server,
     file: &mut FollowedFile<'_>,
     most: u64,
@@ -82,18 +95,20 @@ fn serve_at_once<R: Files + Clock + Print + Eprint + AllocGlobal>(
         if server.over() >= most {
             return Ok(());
         }
-        server.turn(rt).map_err(|error| fault_at_once(rt, error))?;
-        file.look(rt, server)?;
+        server
+            .turn(rt, observer)
+            .map_err(|error| fault_at_once(rt, error))?;
+        file.look(rt, observer, server)?;
     }
     // More turns than a count of connections can tell.
     Err(ServerFault::Socket(io::Error::from(ErrorKind::Other)))
 }
 
-fn run_at_once<R: Files + Net + Clock + Print + Eprint + AllocGlobal>(
-    rt: &R,
+fn run_at_once<'a, R: Files + Net + Clock + Print + Eprint + AllocGlobal>(
+    rt: &'a R,
     api: Api,
     text: String,
-    options: &ServerOptions<'_>,
+    options: &ServerOptions<'a>,
 ) -> Result<(), ServerFault> {
     let asked = polling::Options {
         port: options.port,
@@ -108,7 +123,8 @@ fn run_at_once<R: Files + Net + Clock + Print + Eprint + AllocGlobal>(
     ))?;
     let now = Instant::now(rt).map_err(ServerFault::Clock)?;
     let mut file = FollowedFile::new(options.types, text, now);
-    serve_at_once(rt, &mut server, &mut file, options.serve)
+    let mut witness = witness_of(rt, options)?;
+    serve_at_once(rt, &mut witness, &mut server, &mut file, options.serve)
 }
 
 fn run<R: Files + Net + Clock + Print + Eprint + AllocGlobal>(

@@ -5,26 +5,27 @@ ghost use Rattle.std.specs.Io.KnownBytes.{Appends, Consumes};
 ghost use Rattle.httpedge.specs.Streams.{MovesBy};
 ghost use Rattle.serving.specs.Serving.{Goes, HasTurn, HasTurns, IsPumped, ServesAll};
 
-use httpedge::{Event, Hub, hand};
+use httpedge::{Event, Hub};
+use observing::{Observer, hand};
 use std::alloc::Global;
 use std::io;
 use std::io::{ErrorKind, Read, Write};
 use wire::{read_piece, write_front};
 
-fn open(hub: &mut Hub, id: u64) -> io::Result<()>
+fn open<O: Observer>(hub: &mut Hub, observer: &mut O, id: u64) -> io::Result<()>
     ensures { HasTurns id hub.old [] [] hub.new }
 {
-    if !hand(hub, Event::Open(id)) {
+    if !hand(hub, observer, Event::Open(id)) {
         return Err(io::Error::from(ErrorKind::OutOfMemory));
     }
     Ok(())
 }
 
 /// The peer of a connection has gone, which isn't open any more: proved once for all that end a turn.
-pub(crate) fn leave(hub: &mut Hub, id: u64)
+pub(crate) fn leave<O: Observer>(hub: &mut Hub, observer: &mut O, id: u64)
     ensures { Goes id hub.old hub.new }
 {
-    hand(hub, Event::Gone(id));
+    hand(hub, observer, Event::Gone(id));
 }
 
 /// Some of the bytes that a reader has next; an error where it has none.
@@ -39,7 +40,13 @@ fn read_some<R: Read>(alloc: Global, reader: &mut R) -> io::Result<Vec<u8>>
 }
 
 /// Reads while the hub waits for bytes of the connection, and hands them to it in order.
-fn hand_over<R: Read>(alloc: Global, hub: &mut Hub, id: u64, reader: &mut R) -> io::Result<()>
+fn hand_over<O: Observer, R: Read>(
+    alloc: Global,
+    hub: &mut Hub,
+    observer: &mut O,
+    id: u64,
+    reader: &mut R,
+) -> io::Result<()>
     ensures { (heard : List ℕ) × Consumes (R.remaining reader.old) (R.remaining reader.new) heard × HasTurns id hub.old heard [] hub.new }
 {
     'pieces: for _ in 0..u64::MAX {
@@ -48,7 +55,7 @@ fn hand_over<R: Read>(alloc: Global, hub: &mut Hub, id: u64, reader: &mut R) -> 
         }
         match read_some(alloc, reader) {
             Ok(piece) => {
-                hand(hub, Event::In(id, piece));
+                hand(hub, observer, Event::In(id, piece));
             }
             Err(error) if error.kind() == ErrorKind::Interrupted => {}
             Err(error) => return Err(error),
@@ -67,9 +74,10 @@ fn write_out<W: Write>(hub: &mut Hub, id: u64, writer: &mut W) -> io::Result<()>
     done
 }
 
-fn converse<R: Read, W: Write>(
+fn converse<O: Observer, R: Read, W: Write>(
     alloc: Global,
     hub: &mut Hub,
+    observer: &mut O,
     id: u64,
     reader: &mut R,
     writer: &mut W,
@@ -77,17 +85,18 @@ fn converse<R: Read, W: Write>(
     ensures { (heard : List ℕ) × (told : List ℕ) × Consumes (R.remaining reader.old) (R.remaining reader.new) heard
         × Appends (W.contents writer.old) (W.contents writer.new) told × ServesAll result id hub.old heard told hub.new }
 {
-    open(hub, id)?;
-    hand_over(alloc, hub, id, reader)?;
+    open(hub, observer, id)?;
+    hand_over(alloc, hub, observer, id, reader)?;
     write_out(hub, id, writer)
 }
 
 /// The turn of a connection, whose stream is a reader and a writer: it opens, the hub gets what is read while it waits
 /// for more, and what is then out is written. Where the id is no new one, a read or write fails, or the reader ends
-/// before the request, the peer has gone.
-pub fn turn<R: Read, W: Write>(
+/// before the request, the peer has gone. The observer is told each event.
+pub fn turn<O: Observer, R: Read, W: Write>(
     alloc: Global,
     hub: &mut Hub,
+    observer: &mut O,
     id: u64,
     reader: &mut R,
     writer: &mut W,
@@ -95,22 +104,28 @@ pub fn turn<R: Read, W: Write>(
     ensures { (heard : List ℕ) × (told : List ℕ) × Consumes (R.remaining reader.old) (R.remaining reader.new) heard
         × Appends (W.contents writer.old) (W.contents writer.new) told × HasTurn result id hub.old heard told hub.new }
 {
-    let done = converse(alloc, hub, id, reader, writer);
+    let done = converse(alloc, hub, observer, id, reader, writer);
     if done.is_err() {
-        leave(hub, id);
+        leave(hub, observer, id);
     }
     done
 }
 
 /// The turn of a watch: the hub may write so many lines, and what is out is written. Where a write fails the peer has
 /// gone.
-pub fn pump<W: Write>(hub: &mut Hub, id: u64, max: u64, writer: &mut W) -> io::Result<()>
+pub fn pump<O: Observer, W: Write>(
+    hub: &mut Hub,
+    observer: &mut O,
+    id: u64,
+    max: u64,
+    writer: &mut W,
+) -> io::Result<()>
     ensures { (told : List ℕ) × Appends (W.contents writer.old) (W.contents writer.new) told × MovesBy (IsPumped result id max told) hub.old hub.new }
 {
-    hand(hub, Event::Pump(id, max));
+    hand(hub, observer, Event::Pump(id, max));
     let done = write_out(hub, id, writer);
     if done.is_err() {
-        leave(hub, id);
+        leave(hub, observer, id);
     }
     done
 }

@@ -7,6 +7,7 @@ ghost use Rattle.serving.specs.Serving.{DoesRounds, Leads, ServesOne};
 
 use crate::server::Server;
 use httpedge::LINGER;
+use observing::Observer;
 use std::io::{ErrorKind, Read, Write};
 use std::net::{OpenListener, OpenStream, Shutdown};
 use std::rt::Clock;
@@ -56,9 +57,15 @@ fn accept<C: Clock, L: OpenListener>(clock: &C, listener: &L) -> io::Result<L::S
 
 /// Serves the next connection of the listener, whose stream is read and written by two handles; an error where none got an
 /// id.
-fn serve_next<C, S, L>(clock: &C, listener: &L, server: &mut Server<S>) -> io::Result<()>
+fn serve_next<C, O, S, L>(
+    clock: &C,
+    observer: &mut O,
+    listener: &L,
+    server: &mut Server<S>,
+) -> io::Result<()>
 where
     C: Clock,
+    O: Observer,
     S: Read + Write + OpenStream + Drop,
     L: OpenListener<Stream = S>,
     ensures limits { limits_of server.new ≡ limits_of server.old }
@@ -73,15 +80,16 @@ where
     if !server.has_ids() {
         return Err(io::Error::from(ErrorKind::Other));
     }
-    let is_kept = server.serve(&mut reader, stream);
+    let is_kept = server.serve(observer, &mut reader, stream);
     end(clock, &mut reader, is_kept);
     Ok(())
 }
 
 /// How many connections are served: the next one, or none where none can be accepted or no id is left.
-fn serve_one<C, S, L>(clock: &C, listener: &L, server: &mut Server<S>) -> u64
+fn serve_one<C, O, S, L>(clock: &C, observer: &mut O, listener: &L, server: &mut Server<S>) -> u64
 where
     C: Clock,
+    O: Observer,
     S: Read + Write + OpenStream + Drop,
     L: OpenListener<Stream = S>,
     ensures limits { limits_of server.new ≡ limits_of server.old }
@@ -89,7 +97,7 @@ where
     ensures few { result ≤ 1 }
     ensures next { next_of server.new ≡ next_of server.old + result }
 {
-    match serve_next(clock, listener, server) {
+    match serve_next(clock, observer, listener, server) {
         Ok(()) => 1,
         Err(_) => 0,
     }
@@ -97,14 +105,16 @@ where
 
 /// Serves just so many connections of the listener, one after another, and tidies after each. One that can't be accepted
 /// doesn't count.
-pub fn serve_all<C, S, L>(
+pub fn serve_all<C, O, S, L>(
     clock: &C,
+    observer: &mut O,
     listener: &L,
     server: &mut Server<S>,
     most: u64,
 ) -> io::Result<()>
 where
     C: Clock,
+    O: Observer,
     S: Read + Write + OpenStream + Drop,
     L: OpenListener<Stream = S>,
     ensures leads { Leads (hub_of server.old) (hub_of server.new) }
@@ -117,9 +127,9 @@ where
         if left == 0 {
             return Ok(());
         }
-        left -= serve_one(clock, listener, server);
+        left -= serve_one(clock, observer, listener, server);
         let ms = start.elapsed(clock)?.as_millis();
-        server.tidy(u64::try_from(ms).unwrap_or(u64::MAX));
+        server.tidy(observer, u64::try_from(ms).unwrap_or(u64::MAX));
     }
     // More turns than there are ids.
     Err(io::Error::from(ErrorKind::Other))

@@ -13,7 +13,8 @@ ghost use Rattle.serving.specs.Serving.{HasTurns, Served};
 ghost use Rattle.serving.specs.Tidies.{PumpsAll, Tidies};
 
 use crate::conversing::{leave, pump, turn};
-use httpedge::{Event, Hub, compact, hand};
+use httpedge::{Event, Hub};
+use observing::{Observer, compact, hand};
 use std::alloc::Global;
 use std::io;
 use std::io::{Read, Write};
@@ -61,7 +62,12 @@ impl<W: Write + Drop> Server<W> {
 
     /// Serves a connection: it gets the next id and has its turn. Answers whether its stream is kept, as that of a watch
     /// is; any other is closed. Where no id is left, it is closed without a turn.
-    pub fn serve<R: Read>(&mut self, reader: &mut R, mut writer: W) -> bool
+    pub fn serve<O: Observer, R: Read>(
+        &mut self,
+        observer: &mut O,
+        reader: &mut R,
+        mut writer: W,
+    ) -> bool
         ensures limits { limits_of self.new ≡ limits_of self.old }
         ensures served { Served (next_of self.old) (R.remaining reader.old) (R.remaining reader.new) (W.contents writer) (hub_of self.old) (hub_of self.new) }
         ensures next { next_of self.old < 2 ^ 64 → next_of self.new ≡ next_of self.old + 1 }
@@ -71,8 +77,8 @@ impl<W: Write + Drop> Server<W> {
             return false;
         };
         self.highest = id;
-        let done = turn(self.alloc, &mut self.hub, id, reader, &mut writer);
-        self.settle(id, writer, done)
+        let done = turn(self.alloc, &mut self.hub, observer, id, reader, &mut writer);
+        self.settle(observer, id, writer, done)
     }
 
     /// Whether an id is left for the next connection.
@@ -84,19 +90,19 @@ impl<W: Write + Drop> Server<W> {
 
     /// What is done after each connection: the clock's tick, in milliseconds after the start; a compaction, where that
     /// raises the compacted number; and then the turn of each watch, in the order of their ids.
-    pub fn tidy(&mut self, ms: u64)
+    pub fn tidy<O: Observer>(&mut self, observer: &mut O, ms: u64)
         ensures limits { limits_of self.new ≡ limits_of self.old }
         ensures order { are_rising (watches_of self.old) ≡ true }
         ensures next { next_of self.new ≡ next_of self.old }
         ensures tidies { MovesBy (Tidies (limits_of self.old).keep (limits_of self.old).lines (watches_of self.old) ms) (hub_of self.old) (hub_of self.new) }
     {
         let keep = self.limits.keep;
-        hand(&mut self.hub, Event::Tick(ms));
-        compact(&mut self.hub, keep);
-        self.pump_watches();
+        hand(&mut self.hub, observer, Event::Tick(ms));
+        compact(&mut self.hub, observer, keep);
+        self.pump_watches(observer);
     }
 
-    fn pump_watches(&mut self)
+    fn pump_watches<O: Observer>(&mut self, observer: &mut O)
         ensures limits { limits_of self.new ≡ limits_of self.old }
         ensures order { are_rising (watches_of self.old) ≡ true }
         ensures next { next_of self.new ≡ next_of self.old }
@@ -106,13 +112,19 @@ impl<W: Write + Drop> Server<W> {
         let watches = std::mem::replace(&mut self.watches, Vec::new(self.alloc));
         for watch in watches {
             let (id, mut writer) = watch;
-            let done = pump(&mut self.hub, id, lines, &mut writer);
-            self.settle(id, writer, done);
+            let done = pump(&mut self.hub, observer, id, lines, &mut writer);
+            self.settle(observer, id, writer, done);
         }
     }
 
     /// Keeps the stream of a watch that goes on, and answers whether it does; out of memory, the connection ends.
-    fn settle(&mut self, id: u64, writer: W, done: io::Result<()>) -> bool
+    fn settle<O: Observer>(
+        &mut self,
+        observer: &mut O,
+        id: u64,
+        writer: W,
+        done: io::Result<()>,
+    ) -> bool
         requires { are_rising (watches_of self.old ++ id ∷ next_of self.old ∷ []) ≡ true }
         ensures limits { limits_of self.new ≡ limits_of self.old }
         ensures next { next_of self.new ≡ next_of self.old }
@@ -123,7 +135,7 @@ impl<W: Write + Drop> Server<W> {
             return false;
         }
         if self.watches.push((id, writer)).is_err() {
-            leave(&mut self.hub, id);
+            leave(&mut self.hub, observer, id);
             return false;
         }
         true

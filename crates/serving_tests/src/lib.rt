@@ -21,4 +21,8 @@ mod over_memory;
 #[cfg(test)]
 mod polled_loopback;
 #[cfg(test)]
+mod recorded;
+#[cfg(test)]
+mod small_turns;
+#[cfg(test)]
 mod turns;

@@ -5,6 +5,7 @@ use crate::given::{
     ADDED, APPLY, BEFORE, CREATED, EXPIRED, End, HALF, NO_ITEMS, OVERTAKEN, WATCH, expect_heard,
     fresh_api, sent,
 };
+use observing::Unobserved;
 use serving::{Limits, Server, serve_all};
 use std::mem;
 use std::net::{Ipv4Addr, SocketAddr, TcpListener, TcpStream};
@@ -15,7 +16,7 @@ fn serve_one(
     listener: &TcpListener,
     server: &mut Server<TcpStream>,
 ) -> Result<(), Fail> {
-    Ok(serve_all(rt, listener, server, 1)?)
+    Ok(serve_all(rt, &mut Unobserved, listener, server, 1)?)
 }
 
 /// A connection that has sent this, once it was served.

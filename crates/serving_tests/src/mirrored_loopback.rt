@@ -4,6 +4,7 @@
 use crate::given::{APPLY, fresh_api, widget_types};
 use mirror_program::{Loopback, MirrorOptions, ProgramFault, print_changes};
 use mirroring::Dial;
+use observing::Unobserved;
 use programs::Resource;
 use reflector::Trouble;
 use serving::{Limits, Server, serve_all};
@@ -34,7 +35,7 @@ impl<'a> Beside<'a> {
     fn write(&mut self, text: &str) -> io::Result<()> {
         let mut writer = TcpStream::connect(self.rt, self.listener.local_addr()?)?;
         writer.write_all(text.as_bytes())?;
-        serve_all(self.rt, self.listener, self.server, 1)
+        serve_all(self.rt, &mut Unobserved, self.listener, self.server, 1)
     }
 }
 
@@ -44,7 +45,7 @@ impl<'a> Dial for Beside<'a> {
     fn dial(&mut self, request: &[u8]) -> io::Result<TcpStream> {
         let stream = self.dialer.dial(request)?;
         stream.set_read_timeout(Some(Duration::from_millis(QUIET)))?;
-        serve_all(self.rt, self.listener, self.server, 1)?;
+        serve_all(self.rt, &mut Unobserved, self.listener, self.server, 1)?;
         let [due, later @ ..] = self.writes else {
             return Ok(stream);
         };

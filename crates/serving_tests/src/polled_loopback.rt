@@ -11,6 +11,7 @@
 use crate::given::{
     ADDED, APPLY, End, HALF, LIST, NO_ITEMS, OVERTAKEN, WATCH, expect_heard, fresh_api, sent,
 };
+use observing::Unobserved;
 use polling::{Options, Server};
 use std::mem;
 use std::net::{Ipv4Addr, Shutdown, SocketAddr, TcpStream};
@@ -41,8 +42,8 @@ fn step(
     let (number, name) = rest.split_once(' ').unwrap_or((rest, ""));
     let count = number.parse::<usize>().unwrap_or(0);
     match word {
-        "turn" => server.turn(rt)?,
-        "serve" => server.serve(rt, count as u64)?,
+        "turn" => server.turn(rt, &mut Unobserved)?,
+        "serve" => server.serve(rt, &mut Unobserved, count as u64)?,
         "send" => {
             let addr = SocketAddr::from((Ipv4Addr::LOCALHOST, server.port()?));
             streams.push(sent(rt, addr, text_named(rest)?)?)?;

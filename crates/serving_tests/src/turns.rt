@@ -4,6 +4,7 @@
 use crate::given::{ADDED, APPLY, CREATED, HALF, LIST, NO_ITEMS, WATCH, expect, fresh_api};
 use crate::over_memory::{MOST, Memory, PLENTY};
 use httpedge::{Event, Hub, HubFault};
+use observing::Unobserved;
 use polling::{Next, Peer};
 use serving::{pump, turn};
 use std::alloc::Global;
@@ -39,8 +40,8 @@ fn expect_turn<'a>(
     let (turn, next, text) = wanted;
     let now = Instant::now(rt)?;
     let came = match turn {
-        Turn::Look => peer.look(rt.alloc(), hub, id, now),
-        Turn::Pump(lines) => peer.pump(hub, id, lines, now),
+        Turn::Look => peer.look(rt.alloc(), hub, &mut Unobserved, id, now),
+        Turn::Pump(lines) => peer.pump(hub, &mut Unobserved, id, lines, now),
     };
     let is_taken = peer.stream.taken.as_slice() == text;
     expect(came == next && is_taken, "a turn came to something else")
@@ -163,12 +164,12 @@ fn ask<'a>(
     let mut reader = Memory::new(alloc, request, b"");
     reader.ends = true;
     reader.reads = reads;
-    let _ = turn(alloc, hub, id, &mut reader, writer);
+    let _ = turn(alloc, hub, &mut Unobserved, id, &mut reader, writer);
 }
 
 /// A watch may write a line.
 fn pump_one<'a>(hub: &mut Hub, id: u64, writer: &mut Memory<'a>) {
-    let _ = pump(hub, id, 1, writer);
+    let _ = pump(hub, &mut Unobserved, id, 1, writer);
 }
 
 /// Three connections one after another, the first of a stream that may fail; then each watch has its turn. The first takes
@@ -210,12 +211,12 @@ fn expect_all_told(
     failing.stream.writes = writes;
     open(hub, 1)?;
     open(hub, 2)?;
-    let _ = failing.look(rt.alloc(), hub, 1, now);
-    let _ = watch.look(rt.alloc(), hub, 2, now);
+    let _ = failing.look(rt.alloc(), hub, &mut Unobserved, 1, now);
+    let _ = watch.look(rt.alloc(), hub, &mut Unobserved, 2, now);
     let apply = Memory::new(rt.alloc(), APPLY.as_bytes(), b"");
     expect_turns(rt, hub, 3, apply, &[(Next::Reads, CREATED.as_bytes())])?;
-    let _ = failing.pump(hub, 1, 1, now);
-    let _ = watch.pump(hub, 2, 1, now);
+    let _ = failing.pump(hub, &mut Unobserved, 1, 1, now);
+    let _ = watch.pump(hub, &mut Unobserved, 2, 1, now);
     let taken = failing.stream.taken.as_slice();
     let is_front = ADDED.as_bytes().starts_with(taken) && taken.len() == most;
     let is_whole = watch.stream.taken.as_slice() == ADDED.as_bytes();

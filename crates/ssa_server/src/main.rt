@@ -1,5 +1,5 @@
-//! `ssa-server --types FILE [--port N] [--keep N] [--pump N] [--serve N] [--concurrent] [--patience N]` serves the
-//! types of a file on loopback, one connection after another or many at once; its body is the crate `server_program`.
+//! `ssa-server --types FILE [--port N] [--keep N] [--pump N] [--serve N] [--concurrent] [--patience N] [--log]
+//! [--record FILE]` serves the types of a file on loopback, one connection after another or many at once; its body is the crate `server_program`.
 #![tactic(auto)]
 
 use programs::{end_with, read_arguments};

@@ -32,3 +32,10 @@ returns-clause-concurrent g c =
 pub returns-clause-patience : goal.returns-clause-patience
 returns-clause-patience g c =
     (number_by _ _ (Some (codes "30000")) _ _ _ _ (value_is _ is_plain _ c.in_ok-server_command.ensures.app _ _ c.in_ok-matches.ensures.matches (codes "patience")) refl c.in_ok-patience.ensures.number).0
+
+pub returns-clause-log : goal.returns-clause-log
+returns-clause-log g c =
+    flag_by _ _ _ (flag_is _ is_plain _ c.in_ok-server_command.ensures.app _ _ c.in_ok-matches.ensures.matches (codes "log")) (c.get_flag.ensures.none, c.get_flag.ensures.value, c.get_flag.ensures.other)
+
+pub returns-clause-record : goal.returns-clause-record
+returns-clause-record g c = c.get_str-2.ensures ∙ value_is _ is_plain _ c.in_ok-server_command.ensures.app _ _ c.in_ok-matches.ensures.matches (codes "record")

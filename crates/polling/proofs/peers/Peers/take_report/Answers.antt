@@ -2,4 +2,4 @@ use Rattle.polling.proofs.Leading.{any_none}
 use Rattle.polling.proofs.peers.Peers.take_report.Goals as goal
 
 pub returns-then-eq : goal.returns-then-eq
-returns-then-eq c = any_none _
+returns-then-eq g c = any_none _
