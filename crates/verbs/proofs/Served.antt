@@ -1,5 +1,5 @@
 -- Other types in the place of those that are served: when they are refused, and what stands then.
-use Rattle.std.proofs.Common.{◌≡◌, ◌<◌, ◌≤◌, ◌+◌, ℕ, suc, Bool, true, false, cond, List, [], ◌∷◌, ◌++◌, length, map, sym, ap, subst, ◌∙◌, Option, Some, None, Ok, Err, le-leb}
+use Rattle.std.proofs.Common.{◌≡◌, ◌<◌, ◌≤◌, ◌+◌, ℕ, suc, Bool, true, false, cond, List, [], ◌∷◌, ◌++◌, length, map, refl, sym, ap, subst, ◌∙◌, Option, Some, None, Ok, Err, le-leb}
 use Rattle.std.proofs.lemmas.Bool.{lt-leb}
 use Rattle.std.proofs.lemmas.Result.{IfErr-weaker, IfOk-weaker}
 use Rattle.std.proofs.lemmas.List.Sums.{list_all-from_AllPass}
@@ -30,7 +30,7 @@ use Rattle.verbs.specs.declared.fault.RetypeFault.TheVariants as retype_fault
 use Rattle.verbs.specs.Gathered.{AreWritable, IsTooMany, file_fault, gathered}
 use Rattle.verbs.specs.Machine.{AreTexts, AreUnicode, IsMachine}
 use Rattle.verbs.specs.Retyping.{RetypeRefusal, changed_objects, if_declared, if_lawful, if_left, not_lawful, not_types, retyped, retyping, retyping_writes, too_few_revisions}
-use Rattle.verbs.specs.Seen.{Stands, objects_in, retype_refusal, types_of}
+use Rattle.verbs.specs.Seen.{IsFileFault, Stands, objects_in, retype_refusal, told_of_file, types_of}
 use Rattle.verbs.proofs.Gathering.{gathered_length}
 use Rattle.verbs.proofs.Machines.{standing_seen}
 use Rattle.verbs.proofs.Planning.{strings_utf8}
@@ -62,6 +62,23 @@ no_types types_fault.TooDeep types m file is = no_file types m file _ is
 no_types types_fault.SameNames types m file is = no_file types m file _ is
 no_types types_fault.NotTheForm types m file is = no_file types m file _ is
 no_types types_fault.Memory types m file is = tt
+
+-- which refusal of the file it is
+pub tells_file : (fault : TypesFault) (file : Data) → Fails fault (declared_types file) → IfSome (told_of_file (file_fault fault)) (IsFileFault file)
+tells_file types_fault.UnknownKeyword file is = ((λ e. absurd cc), is)
+tells_file types_fault.UnknownType file is = ((λ e. absurd cc), is)
+tells_file types_fault.Misfit file is = ((λ e. absurd cc), is)
+tells_file types_fault.TooDeep file is = ((λ e. absurd cc), is)
+tells_file types_fault.SameNames file is = ((λ e. absurd cc), is)
+tells_file types_fault.NotTheForm file is = ((λ e. absurd cc), is)
+tells_file types_fault.Memory file is = tt
+
+-- too few revisions are no fault of a file
+pub none_told : (revision : ℕ) (fault : RetypeFault) → IsTooMany revision fault → told_of_file fault ≡ None
+none_told revision (retype_fault.NotTypes why) many = let same = many.0 in absurd cc
+none_told revision retype_fault.NotLawful many = refl
+none_told revision retype_fault.TooFewRevisions many = refl
+none_told revision (retype_fault.Failed fault) many = refl
 
 pub never_unreadable : (fault : TypesFault) → file_fault fault ≡ retype_fault.Failed call_fault.Unreadable → ⊥
 never_unreadable types_fault.UnknownKeyword is = absurd cc

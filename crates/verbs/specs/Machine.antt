@@ -29,7 +29,8 @@ abbrev pub state_or_none : Option (State × ℕ) → State
 state_or_none None = no_state
 state_or_none (Some p) = p.0
 
--- what an object's text says: its content, and who owns what
+-- what an object's text says: its content, and who owns what. It is read as the code reads it; that the text of a state says just this
+-- state is the law `verbs::texts_say_states`, over `objects::objects_are_one_for_one`
 unfoldable pub state_said : Shape → List ℕ → State
 state_said s text = state_or_none (option_and_then (parts_in s) (read text))
 

@@ -19,7 +19,8 @@ use Rattle.verbs.specs.Step.{text_at}
 
 -- ---- what changes
 
--- an object's text under its new type, at a revision
+-- an object's text under its new type, at a revision: its content is printed under the old shape and read under the new one, of which
+-- `typed::carried_is_one` says in the subject's words what it is
 abbrev pub carried_text : ServedShape → ServedShape → ℕ → Key → Object → List ℕ
 carried_text t u revision k o = text_at u k revision (carried_state t.shape u.shape (state_said t.shape o.body))
 
@@ -66,7 +67,8 @@ if_left revision others = if nat_le revision last_revision then Ok others else E
 abbrev pub if_lawful : List ServedShape → History → List ServedShape → Result (List ServedShape) RetypeRefusal
 if_lawful types m others = if types_may_become types others then if_left (m.current + length (changed_objects types others (standing m))) others else Err not_lawful
 
--- a types file, whose members stand in order, declares types of objects alone
+-- a types file, whose members stand in order, declares types of objects alone: that each is one holds of every JSON value, and what is no
+-- types file counts first in any case
 abbrev pub if_declared : List ServedShape → History → Result (List ServedShape) schemas.Refusal → Result (List ServedShape) RetypeRefusal
 if_declared types m (Ok others) = if list_all (λ t. is_object_shape t.shape) others then if_lawful types m others else Err not_types
 if_declared types m (Err e) = Err not_types

@@ -1,7 +1,11 @@
 -- What the crate's values stand for.
-use Rattle.std.specs.Prelude.{◌≡◌, List, Option, Some, None, string_bytes}
+use Rattle.std.specs.Prelude.{◌≡◌, ◌≢◌, List, Option, Some, None, string_bytes}
+use Rattle.serde_json.specs.Data.{Data}
 use Rattle.serde_json.specs.View.{view}
-use Rattle.api_types.specs.TypesFile.{ServedShape}
+use Rattle.api_types.specs.Seen.{Fails}
+use Rattle.api_types.specs.TypesFile.{ServedShape, declared_types}
+use Rattle.api_types.specs.declared.fault.TypesFault.{TypesFault}
+use Rattle.api_types.specs.declared.fault.TypesFault.TheVariants as types_fault
 use Rattle.history.specs.declared.object.Object.{Object as TheObject}
 use Rattle.history.specs.History.{Change, Object, Objects, History}
 use Rattle.history.specs.Read.{key_of, object_of as stored_object}
@@ -24,6 +28,17 @@ retype_refusal (retype_fault.NotTypes fault) = Some not_types
 retype_refusal retype_fault.NotLawful = Some not_lawful
 retype_refusal retype_fault.TooFewRevisions = Some too_few_revisions
 retype_refusal (retype_fault.Failed fault) = None
+
+-- the fault of a types file is that for which it declares no types, never that memory ran out
+abbrev pub IsFileFault : Data → TypesFault → Type 0
+IsFileFault file why = (why ≢ types_fault.Memory) × Fails why (declared_types file)
+
+-- which fault of the types file is told, where it is told to be none
+abbrev pub told_of_file : RetypeFault → Option TypesFault
+told_of_file (retype_fault.NotTypes why) = Some why
+told_of_file retype_fault.NotLawful = None
+told_of_file retype_fault.TooFewRevisions = None
+told_of_file (retype_fault.Failed fault) = None
 
 abbrev pub intent_seen : TheIntent → Intent
 intent_seen i = record { version = i.version; content = i.content; manager = string_bytes i.manager; subresource = i.subresource; is_forced = i.is_forced; rest = rest_seen (view i.body.now) }

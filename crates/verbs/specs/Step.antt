@@ -350,7 +350,8 @@ validated_by (of_object namespace name subresource) how t s call =
     object_validated_by how subresource t s.current (object_at s (key_at call namespace name)) (key_at call namespace name) call.query call.body
 validated_by scope how t s call = not_served
 
--- where a type has the number, and the target names objects
+-- where a type has the number, and the target names objects. A target is `admit`'s, which gives one of `/status` for a type that has it
+-- alone; one that is made by hand of another type is served as the object
 abbrev pub validated_at : Option ServedShape → Option Scope → Source → Call → Validated Plan
 validated_at None scope s call = no_path
 validated_at (Some t) None s call = no_path

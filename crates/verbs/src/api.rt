@@ -65,7 +65,7 @@ impl Api {
     ghost use Rattle.serde_json.specs.View as value;
     ghost use Rattle.verbs.specs.Retyping.{retyped, retyping};
     ghost use Rattle.api_request.specs.Seen.{Admits, call_of, change_of, plan_of};
-    ghost use Rattle.verbs.specs.Seen.{ComesNext, Stands, retype_refusal, types_of};
+    ghost use Rattle.verbs.specs.Seen.{ComesNext, IsFileFault, Stands, retype_refusal, told_of_file, types_of};
     ghost use Rattle.verbs.specs.Step.{planned};
     ghost use Rattle.verbs.specs.Watching.{bookmarked_in};
     ghost use Rattle.watchline.specs.Views.{marking_of, turn_of};
@@ -199,6 +199,7 @@ impl Api {
         ensures refused { (types : List ServedShape) (m : History) → Stands self.old types m
             → IfErr result (λ e. IfSome (retype_refusal e) (λ why. retyping types m (value.view file.now) ≡ Err why)) }
         ensures err { (types : List ServedShape) (m : History) → Stands self.old types m → OnErr result (Stands self.new types m) }
+        ensures told { IfErr result (λ e. IfSome (told_of_file e) (IsFileFault (value.view file.now))) }
         ensures readable { (types : List ServedShape) (m : History) → Stands self.old types m → result ≢ Err (RetypeFault.Failed Fault.Unreadable) }
         ensures unchanged { OnErr result (self.new ≡ self.old) }
     {

@@ -19,7 +19,7 @@ ghost use Rattle.history.specs.View.{view};
 ghost use Rattle.verbs.specs.Gathered.{AreReadable, AreWritable, IsReadableEntry, IsTooMany, IsNewText, carried_at, file_fault, gathered, new_types, old_types};
 ghost use Rattle.verbs.specs.Machine.{AreTexts, IsMachine};
 ghost use Rattle.verbs.specs.Retyping.{if_lawful, retyping, retyping_writes};
-ghost use Rattle.verbs.specs.Seen.{objects_in, retype_refusal};
+ghost use Rattle.verbs.specs.Seen.{IsFileFault, objects_in, retype_refusal, told_of_file};
 ghost use Rattle.verbs.specs.Step.{text_at};
 
 use crate::catalog::Catalog;
@@ -187,6 +187,7 @@ pub(crate) fn writes_under(
     ensures writable { IfOk result (λ v. AreWritable store.old.current (map write_of v.items)) }
     ensures refused { (m : History) → IsMachine (types_view old.now) m → store.old ≡ view m
         → IfErr result (λ e. IfSome (retype_refusal e) (λ why. if_lawful (types_view old.now) m (types_view new.now) ≡ Err why)) }
+    ensures told { IfErr result (λ e. told_of_file e ≡ None) }
     ensures readable { AreTexts (types_view old.now) (objects_in store.old) → result ≢ Err (RetypeFault.Failed Fault.Unreadable) }
     ensures same { store.new ≡ store.old }
 {
@@ -220,6 +221,7 @@ fn file_fault(fault: TypesFault) -> RetypeFault
 fn types_in(alloc: Global, file: &Value) -> Result<Types, RetypeFault>
     ensures types { IfOk result (λ t. declared_types (value.view file.now) ≡ Ok (types_view t)) }
     ensures refused { (served : List ServedShape) (m : History) → IfErr result (λ e. IfSome (retype_refusal e) (λ why. retyping served m (value.view file.now) ≡ Err why)) }
+    ensures told { IfErr result (λ e. IfSome (told_of_file e) (IsFileFault (value.view file.now))) }
     ensures readable { result ≢ Err (RetypeFault.Failed Fault.Unreadable) }
 {
     match Types::read(alloc, file) {
@@ -233,6 +235,7 @@ pub(crate) fn catalog_in(alloc: Global, file: &Value) -> Result<Catalog, RetypeF
     ensures types { IfOk result (λ c. declared_types (value.view file.now) ≡ Ok c) }
     ensures shaped { IfOk result (λ c. All (λ t. IsObjectShape t.shape) c) }
     ensures refused { (served : List ServedShape) (m : History) → IfErr result (λ e. IfSome (retype_refusal e) (λ why. retyping served m (value.view file.now) ≡ Err why)) }
+    ensures told { IfErr result (λ e. IfSome (told_of_file e) (IsFileFault (value.view file.now))) }
     ensures readable { result ≢ Err (RetypeFault.Failed Fault.Unreadable) }
 {
     let types = types_in(alloc, file)?;

@@ -1,4 +1,4 @@
-use Rattle.std.proofs.Common.{rules, ◌≡◌, ◌∙◌, List, Ok, Err, ap, map, refl, subst, sym}
+use Rattle.std.proofs.Common.{rules, ◌≡◌, ◌∙◌, List, Ok, Err, None, ap, map, refl, subst, sym}
 use Rattle.std.specs.Prelude.{IfSome}
 use Rattle.std.proofs.lemmas.Result.{IfErr-weaker}
 use Rattle.serde_json.specs.View as value
@@ -10,7 +10,7 @@ use Rattle.history.specs.Writes.{written_all_in}
 use Rattle.verbs.specs.declared.api.Api.{Api}
 use Rattle.verbs.specs.Machine.{AreTexts, IsMachine}
 use Rattle.verbs.specs.Retyping.{if_lawful, retyping_writes}
-use Rattle.verbs.specs.Seen.{objects_in, retype_refusal}
+use Rattle.verbs.specs.Seen.{IsFileFault, objects_in, retype_refusal, told_of_file}
 use Rattle.verbs.proofs.Machines.{standing_seen}
 use Rattle.verbs.proofs.Served.{refused_file, retypes}
 use Rattle.verbs.proofs.api.Api.retype.Goals as goal
@@ -30,6 +30,15 @@ returns-in_err-writes-clause-refused c = λ types m stands.
     (subst (λ (l : List ServedShape). IfSome (retype_refusal e) (λ why. if_lawful l m others ≡ Err why)) old
     (subst (λ (l : List ServedShape). IfSome (retype_refusal e) (λ why. if_lawful (types_view c.types-old.result.now) m l ≡ Err why)) new h)))
     (search (rules, refused))
+
+pub returns-in_err-catalog-clause-told : goal.returns-in_err-catalog-clause-told
+returns-in_err-catalog-clause-told c = let told = c.catalog_in.ensures.told in search (rules, told)
+
+pub returns-in_err-writes-clause-told : goal.returns-in_err-writes-clause-told
+returns-in_err-writes-clause-told c =
+    let told = c.writes_under.ensures.told in
+    IfErr-weaker c.from_residual-in_err-writes.result (λ e. told_of_file e ≡ None) _
+    (λ e none. subst (λ o. IfSome o (IsFileFault (value.view c.args.file.now))) (sym none) tt) (search (rules, told))
 
 pub returns-in_err-writes-clause-readable : goal.returns-in_err-writes-clause-readable
 returns-in_err-writes-clause-readable c = λ types m stands is.
