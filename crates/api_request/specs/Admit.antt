@@ -1,13 +1,13 @@
 -- Which calls are served: the route of a path, its methods, the media type of its body
 -- (Kubernetes docs, "Kubernetes API Concepts", "Resource URIs", "Custom Resources", "Status subresource"; RFC 9110, sections 8.3 and 10.2.1).
-use Rattle.std.specs.Prelude.{ℕ, Bool, true, false, ◌||◌, ◌==◌, List, [], ◌∷◌, Option, Some, None, option_map, option_and_then, if◌then◌else◌, is_some, slice_get, codes}
+use Rattle.std.specs.Prelude.{◌≡◌, ℕ, Bool, true, false, ◌||◌, ◌==◌, List, [], ◌∷◌, Option, Some, None, option_map, option_and_then, if◌then◌else◌, is_some, slice_get, codes}
 use Rattle.std.specs.declared.result.Result.{Result}
 use Rattle.std.specs.declared.result.Result.TheVariants.{Ok, Err}
 use Rattle.std.specs.Char.{is_ascii}
 use Rattle.std.specs.List.{list_all, list_any, join_by, before_first}
 use Rattle.std.specs.Str.{bytes_eq, str_eq_ignore_ascii_case}
 use Rattle.matchit.specs.Rows.{RowsOf}
-use Rattle.matchit.specs.Router.{RouteOf, route_from}
+use Rattle.matchit.specs.Router.{RouteOf, nearest, route_from}
 use Rattle.matchit.specs.Order.{placed}
 use Rattle.matchit.specs.Route.{Scan, parse_route}
 use Rattle.matchit.specs.Seek.{first}
@@ -76,6 +76,11 @@ with_scan (Err e) r rows = rows
 
 abbrev pub with_route : List ℕ → Resource → Rows → Rows
 with_route path r rows = with_scan (parse_route path) r rows
+
+-- a route that can be read, and that none of these rows conflicts with
+abbrev pub FitsIn : {E : Type 0} → Rows → Result Scan E → Type 0
+FitsIn rows (Ok s) = nearest s.pattern rows ≡ None
+FitsIn rows (Err e) = ⊥
 
 -- the table
 unfoldable pub routes : Rows

@@ -1,14 +1,15 @@
 //! The paths of a type and its objects, as routes. What a path leads to stands in `place` and `resource`.
 
-ghost use Rattle.std.specs.Prelude.{◌≡◌};
-ghost use Rattle.api_request.specs.Admit.{routes};
+ghost use Rattle.std.specs.Prelude.{◌≡◌, OnOk};
+ghost use Rattle.matchit.specs.Route.{parse_route};
+ghost use Rattle.api_request.specs.Admit.{FitsIn, routes, with_route};
 
 use crate::admitting::{AdmitFault, admitted};
 use crate::calls::Target;
 use crate::place::{Place, place_in};
 use crate::resource::Resource;
 use api_types::Types;
-use matchit::Router;
+use matchit::{InsertError, Router};
 use std::alloc::{AllocError, Global};
 
 /// The path of all objects of a type, in all namespaces.
@@ -22,6 +23,21 @@ const OBJECT: &str = "/apis/{group}/{version}/namespaces/{namespace}/{plural}/{n
 
 /// The path of an object's status.
 const STATUS: &str = "/apis/{group}/{version}/namespaces/{namespace}/{plural}/{name}/status";
+
+/// Adds a route that can be read and that none conflicts with, so that the router refuses it for memory alone.
+fn add(router: &mut Router<Resource>, path: &str, resource: Resource) -> Result<(), AllocError>
+    requires { FitsIn router.now (parse_route path.now) }
+    ensures { OnOk result (router.new ≡ with_route path.now resource router.old) }
+{
+    match router.insert(path, resource) {
+        Ok(()) => Ok(()),
+        Err(InsertError::OutOfMemory) => Err(AllocError),
+        Err(InsertError::Conflict { with: _ }) => unreachable!(),
+        Err(InsertError::InvalidParamSegment) => unreachable!(),
+        Err(InsertError::InvalidParam) => unreachable!(),
+        Err(InsertError::InvalidCatchAll) => unreachable!(),
+    }
+}
 
 /// The routes of the API.
 #[derive(Drop)]
@@ -39,22 +55,11 @@ impl Routes {
     /// The four routes.
     pub fn new(alloc: Global) -> Result<Routes, AllocError> {
         let mut router = Router::new(alloc);
-        match router.insert(ALL_NAMESPACES, Resource::AllNamespaces) {
-            Ok(()) => (),
-            Err(_) => return Err(AllocError),
-        }
-        match router.insert(COLLECTION, Resource::Collection) {
-            Ok(()) => (),
-            Err(_) => return Err(AllocError),
-        }
-        match router.insert(OBJECT, Resource::Object) {
-            Ok(()) => (),
-            Err(_) => return Err(AllocError),
-        }
-        match router.insert(STATUS, Resource::Status) {
-            Ok(()) => Ok(Routes { router }),
-            Err(_) => Err(AllocError),
-        }
+        add(&mut router, ALL_NAMESPACES, Resource::AllNamespaces)?;
+        add(&mut router, COLLECTION, Resource::Collection)?;
+        add(&mut router, OBJECT, Resource::Object)?;
+        add(&mut router, STATUS, Resource::Status)?;
+        Ok(Routes { router })
     }
 
     /// What a path leads to; it is of ASCII characters alone, and nothing in it is percent-decoded.
