@@ -1,10 +1,10 @@
 -- The chunks of a watch, one after the other.
-use Rattle.std.proofs.Common.{◌≡◌, ℕ, cond, List, ◌∷◌, ◌++◌, length, Result, Ok, Err, ap, ◌∙◌, append_assoc}
-use Rattle.std.specs.Prelude.{OnOk, codes, is_ok}
+use Rattle.std.proofs.Common.{◌≡◌, ℕ, cond, List, [], ◌∷◌, ◌++◌, length, Result, Ok, Err, sym, ap, ◌∙◌, append_assoc, append-nil}
+use Rattle.std.specs.Prelude.{OnErr, OnOk, codes, is_ok}
 use Rattle.std.specs.Fmt.{decimal}
 use Rattle.wire.specs.Heads.{crlf}
 use Rattle.wire.specs.Lengths.{hexadecimal}
-use Rattle.requests.specs.ReplyBytes.{chunk, phrase_of, watch_head}
+use Rattle.requests.specs.ReplyBytes.{GoesOn, chunk, phrase_of, watch_head}
 
 -- the parts of a chunk, put one after the other
 pub chunk_put : (old head line after : List ℕ) → head ≡ hexadecimal (length line) ++ crlf → after ≡ old ++ head ++ line ++ crlf → after ≡ old ++ chunk line
@@ -30,3 +30,16 @@ same_head code phrase is = ap (pieces code) is
 pub on_items : {A E P : Type 0} (r : Result A E) (new a b : List ℕ) → new ≡ cond (is_ok r) a b → (new ≡ a → P) → OnOk r P
 on_items (Ok x) new a b is f = f is
 on_items (Err e) new a b is f = tt {0}
+
+-- ---- what a call that is refused memory leaves
+
+pub stands : (old new : List ℕ) → new ≡ old → GoesOn old new
+stands old new is = ([], is ∙ sym (append-nil old))
+
+pub went_on : {A E : Type 0} (r : Result A E) (old new put mid first second : List ℕ) → new ≡ cond (is_ok r) put mid → mid ≡ old ++ first ++ second → OnErr r (GoesOn old new)
+went_on (Ok x) old new put mid first second is before = tt {0}
+went_on (Err e) old new put mid first second is before = (first ++ second, is ∙ before ∙ append_assoc old first second)
+
+pub in_err : {A E P : Type 0} (r : Result A E) → P → OnErr r P
+in_err (Ok x) p = tt {0}
+in_err (Err e) p = p

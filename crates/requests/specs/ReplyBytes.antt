@@ -1,6 +1,6 @@
 -- The bytes of a reply: status line (RFC 9112, section 4), fields (section 5), body (section 6). Of the fields `Connection: close` is section 9.6;
 -- `Content-Type`, `Content-Length` and `Allow` are RFC 9110, sections 8.3, 8.6 and 10.2.1. A watch is sent in chunks (RFC 9112, section 7.1).
-use Rattle.std.specs.Prelude.{ℕ, List, [], ◌∷◌, ◌++◌, length, Bool, Option, None, Some, codes, unwrap_or, nat_le, nat_lt, ◌&&◌, if◌then◌else◌}
+use Rattle.std.specs.Prelude.{◌≡◌, ℕ, List, [], ◌∷◌, ◌++◌, length, Bool, Option, None, Some, codes, unwrap_or, nat_le, nat_lt, ◌&&◌, if◌then◌else◌}
 use Rattle.std.specs.Fmt.{decimal}
 use Rattle.std.specs.List.{flat_map}
 use Rattle.http.specs.StatusCode.{reason_phrase}
@@ -25,6 +25,10 @@ reply_head code allow n =
 
 abbrev pub reply : ℕ → Option (List ℕ) → List ℕ → List ℕ
 reply code allow body = reply_head code allow (length body) ++ body
+
+-- what was there stands, and something may follow it
+abbrev pub GoesOn : List ℕ → List ℕ → Type 0
+GoesOn old new = (more : List ℕ) × (new ≡ old ++ more)
 
 -- ---- a watch
 

@@ -1,10 +1,10 @@
 //! The chunks of a watch (RFC 9112, section 7.1). The bytes before them stand in `reply`.
 
-ghost use Rattle.std.specs.Prelude.{◌≡◌, ◌++◌, IfOk, OnOk, string_bytes};
+ghost use Rattle.std.specs.Prelude.{◌≡◌, ◌++◌, IfOk, OnErr, OnOk, string_bytes};
 ghost use Rattle.watchline.specs.Views.{lines_in};
 ghost use Rattle.wire.specs.Heads.{crlf};
 ghost use Rattle.wire.specs.Lengths.{hexadecimal};
-ghost use Rattle.requests.specs.ReplyBytes.{chunk, chunks, end_bytes};
+ghost use Rattle.requests.specs.ReplyBytes.{GoesOn, chunk, chunks, end_bytes};
 
 use std::alloc::{AllocError, Global};
 
@@ -17,9 +17,10 @@ fn chunk_head(alloc: Global, length: usize) -> Result<String, AllocError>
     format!(in alloc; "{length:x}\r\n")
 }
 
-/// Writes the chunk of a line, which has its line feed.
+/// Writes the chunk of a line, which has its line feed. Where memory is refused, a part of it may stand.
 pub fn push_chunk(alloc: Global, bytes: &mut Vec<u8>, line: &str) -> Result<(), AllocError>
-    ensures { OnOk result (bytes.new.items ≡ bytes.old.items ++ chunk line.now) }
+    ensures err { OnErr result (GoesOn bytes.old.items bytes.new.items) }
+    ensures ok { OnOk result (bytes.new.items ≡ bytes.old.items ++ chunk line.now) }
 {
     let head = chunk_head(alloc, line.len())?;
     bytes.extend_from_slice(head.as_bytes())?;
@@ -29,7 +30,8 @@ pub fn push_chunk(alloc: Global, bytes: &mut Vec<u8>, line: &str) -> Result<(), 
 
 /// Writes the last chunk, where the watch has ended.
 pub fn push_end(bytes: &mut Vec<u8>, has_ended: bool) -> Result<(), AllocError>
-    ensures { OnOk result (bytes.new.items ≡ bytes.old.items ++ end_bytes has_ended) }
+    ensures err { OnErr result (bytes.new.items ≡ bytes.old.items) }
+    ensures ok { OnOk result (bytes.new.items ≡ bytes.old.items ++ end_bytes has_ended) }
 {
     if has_ended {
         return bytes.extend_from_slice("0\r\n\r\n".as_bytes());
