@@ -5,7 +5,7 @@ use Rattle.serde_json.specs.Data.{Data}
 use Rattle.api_types.specs.TypesFile.{ServedShape}
 use Rattle.verbs.specs.Retyping.{RetypeRefusal, retyped, retyping}
 use Rattle.httpedge.specs.Shares.{SharedStands}
-use Rattle.verbs.specs.Seen.{retype_refusal}
+use Rattle.verbs.specs.Seen.{IsFileFault, retype_refusal, told_of_file}
 use Rattle.httpedge.specs.declared.shared.Shared.{Shared}
 use Rattle.verbs.specs.declared.fault.Fault.TheVariants as failed
 use Rattle.verbs.specs.declared.fault.RetypeFault.{RetypeFault}
@@ -15,7 +15,7 @@ use Rattle.httpedge.specs.declared.fault.HubFault.{HubFault}
 use Rattle.httpedge.specs.declared.hub.Hub.{Hub}
 use Rattle.httpedge.specs.Faults.{retyping_fault_of}
 use Rattle.httpedge.specs.Held.{Represents}
-use Rattle.httpedge.specs.HubSeen.{Handles, IsIn, outcome_of}
+use Rattle.httpedge.specs.HubSeen.{Handles, IsIn, outcome_of, told_fault}
 use Rattle.httpedge.specs.HubSeen as outcome
 use Rattle.httpedge.specs.Runs.{Steps}
 use Rattle.httpedge.specs.Steps.{State, refusal, retypes, unless_refused, unless_retyped, with_types}
@@ -52,3 +52,15 @@ retypes_not A hub new file e f told same denied = subst (λ (g : HubFault). Hand
     go (retype_fault.Failed failed.Memory) here = starves_still hub new file same
     go (retype_fault.Failed failed.Store) here = starves_still hub new file same
     go (retype_fault.Failed failed.Unreadable) here = starves_still hub new file same
+
+-- which fault of the file is told
+pub file_told : (file : Data) (e : RetypeFault) (f : HubFault) → f ≡ retyping_fault_of e → IfSome (told_of_file e) (IsFileFault file) → IfSome (told_fault f) (IsFileFault file)
+file_told file e f told is = subst (λ (g : HubFault). IfSome (told_fault g) (IsFileFault file)) (sym told) (go e is)
+  where
+    go : (d : RetypeFault) → IfSome (told_of_file d) (IsFileFault file) → IfSome (told_fault (retyping_fault_of d)) (IsFileFault file)
+    go (retype_fault.NotTypes why) here = here
+    go retype_fault.NotLawful here = tt
+    go retype_fault.TooFewRevisions here = tt
+    go (retype_fault.Failed failed.Memory) here = tt
+    go (retype_fault.Failed failed.Store) here = tt
+    go (retype_fault.Failed failed.Unreadable) here = tt

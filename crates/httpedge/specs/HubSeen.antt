@@ -1,9 +1,11 @@
 -- What a hub and its events stand for.
-use Rattle.std.specs.Prelude.{◌≡◌, ℕ, Bool, true, false, Option, Some, None}
+use Rattle.std.specs.Prelude.{◌≡◌, ℕ, Bool, true, false, Option, Some, None, IfErr, IfSome}
 use Rattle.std.specs.declared.result.Result.{Result}
 use Rattle.std.specs.declared.result.Result.TheVariants.{Ok, Err}
 use Rattle.serde_json.specs.View.{view}
+use Rattle.api_types.specs.declared.fault.TypesFault.{TypesFault}
 use Rattle.verbs.specs.Retyping.{not_types, not_lawful, too_few_revisions}
+use Rattle.verbs.specs.Seen.{IsFileFault}
 use Rattle.httpedge.specs.declared.event.Event as events
 use Rattle.httpedge.specs.declared.event.Event.TheVariants as event
 use Rattle.httpedge.specs.declared.fault.HubFault as faults
@@ -54,6 +56,16 @@ outcome_of (Err fault.NotLawful) = refused (types_refused not_lawful)
 outcome_of (Err fault.TooFewRevisions) = refused (types_refused too_few_revisions)
 outcome_of (Err fault.Memory) = starved
 outcome_of (Err fault.Store) = starved
+
+-- which fault of a types file is told
+abbrev pub told_fault : faults.HubFault → Option TypesFault
+told_fault (fault.NotTypes why) = Some why
+told_fault _ = None
+
+-- where a file is told to be no types file, the fault is the file's own
+abbrev pub TellsFile : {A : Type 0} → Event → Result A faults.HubFault → Type 0
+TellsFile (retypes file) r = IfErr r (λ e. IfSome (told_fault e) (IsFileFault file))
+TellsFile e r = Unit {0}
 
 abbrev pub refusal_in : Outcome → Option Refusal
 refusal_in done = None

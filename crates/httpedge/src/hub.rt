@@ -8,7 +8,7 @@ ghost use Rattle.httpedge.specs.Changes.{event_on};
 ghost use Rattle.httpedge.specs.Connections.{ended_on, next_id, out_on, waiting_on};
 ghost use Rattle.httpedge.specs.Held.{is_above, kept_in};
 ghost use Rattle.serde_json.specs.View.{view};
-ghost use Rattle.httpedge.specs.HubSeen.{Handles, Happened, IsIn, Tells, asks_store, event_of, outcome_of, refusal_in};
+ghost use Rattle.httpedge.specs.HubSeen.{Handles, Happened, IsIn, Tells, TellsFile, asks_store, event_of, outcome_of, refusal_in};
 ghost use Rattle.httpedge.specs.Runs.{Follows, Happening, Runs, Steps, takes};
 ghost use Rattle.httpedge.specs.declared.event.Change.TheVariants as changes;
 ghost use Rattle.httpedge.specs.Steps.{State, compacts, opens, pumps, retypes, start, ticks, with_bytes_taken};
@@ -137,7 +137,8 @@ impl Hub {
     }
 
     fn retype(&mut self, file: &Value) -> Result<(), HubFault>
-        ensures { Handles self.old (retypes (view file.now)) (outcome_of result) self.new }
+        ensures handles { Handles self.old (retypes (view file.now)) (outcome_of result) self.new }
+        ensures told { TellsFile (retypes (view file.now)) result }
     {
         match self.shared.retype(file) {
             Ok(()) => Ok(()),
@@ -156,6 +157,7 @@ impl Hub {
         ensures follows { (s : State) → IsIn self.old s → (h : Happening) × (t : State) × Happened (event_of event.now) (outcome_of result) h × Follows s h t × IsIn self.new t }
         ensures runs { (r s : State) (before : List Happening) → Runs r before s → IsIn self.old s → (h : Happening) × (t : State) × Happened (event_of event.now) (outcome_of result) h × Runs r (before ++ h ∷ []) t × IsIn self.new t }
         ensures refused { (s : State) → IsIn self.old s → Tells s (event_of event.now) (outcome_of result) }
+        ensures told { TellsFile (event_of event.now) result }
         ensures unchanged { refusal_in (outcome_of result) ≢ None → self.new ≡ self.old }
         ensures store { asks_store (event_of event.now) ≡ false → result ≢ Err HubFault.Store }
     {

@@ -6,7 +6,7 @@ ghost use Rattle.api_types.specs.TypesFile.{ServedShape};
 ghost use Rattle.history.specs.History.{History, compacted_to};
 ghost use Rattle.serde_json.specs.View as value;
 ghost use Rattle.verbs.specs.Retyping.{retyped, retyping};
-ghost use Rattle.verbs.specs.Seen.{Stands, retype_refusal};
+ghost use Rattle.verbs.specs.Seen.{IsFileFault, Stands, retype_refusal, told_of_file};
 ghost use Rattle.watchline.specs.Watches.{from_history, moved, pumped, with_bookmarks};
 ghost use Rattle.httpedge.specs.Held.{Pumps, left};
 ghost use Rattle.httpedge.specs.Shares.{Ends, IsLast, SharedStands};
@@ -164,6 +164,7 @@ impl Shared {
             → OnOk result ((others : List ServedShape) × (retyping types m (value.view file.now) ≡ Ok others) × SharedStands self.new others (retyped types others m)) }
         ensures refused { (types : List ServedShape) (m : History) → SharedStands self.old types m
             → IfErr result (λ e. IfSome (retype_refusal e) (λ why. retyping types m (value.view file.now) ≡ Err why)) }
+        ensures told { IfErr result (λ e. IfSome (told_of_file e) (IsFileFault (value.view file.now))) }
         ensures unchanged { OnErr result (self.new ≡ self.old) }
     {
         match self.api.retype(file) {

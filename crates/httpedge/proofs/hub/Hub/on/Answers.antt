@@ -1,5 +1,5 @@
 use Rattle.std.proofs.Common.{sym, ap, subst, ◌∙◌}
-use Rattle.httpedge.specs.HubSeen.{Handles, event_of, outcome_of}
+use Rattle.httpedge.specs.HubSeen.{Handles, TellsFile, event_of, outcome_of}
 use Rattle.httpedge.specs.Steps.{Event, comes}
 use Rattle.httpedge.proofs.Ended.{follows_in, told_in, runs_in, unchanged_in}
 use Rattle.httpedge.proofs.Representing.{bytes_arent, gone_isnt}
@@ -19,6 +19,9 @@ pub returns-in-Open-clause-refused : goal.returns-in-Open-clause-refused
 returns-in-Open-clause-refused c =
     told_in c.args.self.now c.open.new.self (event_of c.args.event.now) (outcome_of c.open.result)
     (subst (λ (e : Event). Handles c.args.self.now e (outcome_of c.open.result) c.open.new.self) (sym (ap event_of c.in-Open.is)) c.open.ensures.handles)
+
+pub returns-in-Open-clause-told : goal.returns-in-Open-clause-told
+returns-in-Open-clause-told c = subst (λ (e : Event). TellsFile e c.open.result) (sym (ap event_of c.in-Open.is)) tt
 
 pub returns-in-Open-clause-unchanged : goal.returns-in-Open-clause-unchanged
 returns-in-Open-clause-unchanged c =
@@ -40,6 +43,9 @@ returns-in-In-clause-refused c =
     told_in c.args.self.now c.change.new.self (event_of c.args.event.now) (outcome_of c.change.result)
     (subst (λ (e : Event). Handles c.args.self.now e (outcome_of c.change.result) c.change.new.self) (sym (ap event_of c.in-In.is ∙ ap (comes c.in-In.id) (sym c.deref.ensures.value))) (c.change.ensures.handles (bytes_arent c.deref.result)))
 
+pub returns-in-In-clause-told : goal.returns-in-In-clause-told
+returns-in-In-clause-told c = subst (λ (e : Event). TellsFile e c.change.result) (sym (ap event_of c.in-In.is)) tt
+
 pub returns-in-In-clause-unchanged : goal.returns-in-In-clause-unchanged
 returns-in-In-clause-unchanged c =
     unchanged_in c.args.self.now c.change.new.self (event_of c.args.event.now) (outcome_of c.change.result)
@@ -59,6 +65,9 @@ pub returns-in-Gone-clause-refused : goal.returns-in-Gone-clause-refused
 returns-in-Gone-clause-refused c =
     told_in c.args.self.now c.change-in-Gone.new.self (event_of c.args.event.now) (outcome_of c.change-in-Gone.result)
     (subst (λ (e : Event). Handles c.args.self.now e (outcome_of c.change-in-Gone.result) c.change-in-Gone.new.self) (sym (ap event_of c.in-Gone.is)) (c.change-in-Gone.ensures.handles gone_isnt))
+
+pub returns-in-Gone-clause-told : goal.returns-in-Gone-clause-told
+returns-in-Gone-clause-told c = subst (λ (e : Event). TellsFile e c.change-in-Gone.result) (sym (ap event_of c.in-Gone.is)) tt
 
 pub returns-in-Gone-clause-unchanged : goal.returns-in-Gone-clause-unchanged
 returns-in-Gone-clause-unchanged c =
@@ -80,6 +89,9 @@ returns-in-Pump-clause-refused c =
     told_in c.args.self.now c.pump.new.self (event_of c.args.event.now) (outcome_of c.pump.result)
     (subst (λ (e : Event). Handles c.args.self.now e (outcome_of c.pump.result) c.pump.new.self) (sym (ap event_of c.in-Pump.is)) c.pump.ensures)
 
+pub returns-in-Pump-clause-told : goal.returns-in-Pump-clause-told
+returns-in-Pump-clause-told c = subst (λ (e : Event). TellsFile e c.pump.result) (sym (ap event_of c.in-Pump.is)) tt
+
 pub returns-in-Pump-clause-unchanged : goal.returns-in-Pump-clause-unchanged
 returns-in-Pump-clause-unchanged c =
     unchanged_in c.args.self.now c.pump.new.self (event_of c.args.event.now) (outcome_of c.pump.result)
@@ -99,6 +111,9 @@ pub returns-in-Tick-clause-refused : goal.returns-in-Tick-clause-refused
 returns-in-Tick-clause-refused c =
     told_in c.args.self.now c.tick.new.self (event_of c.args.event.now) (outcome_of c.tick.result)
     (subst (λ (e : Event). Handles c.args.self.now e (outcome_of c.tick.result) c.tick.new.self) (sym (ap event_of c.in-Tick.is)) c.tick.ensures.handles)
+
+pub returns-in-Tick-clause-told : goal.returns-in-Tick-clause-told
+returns-in-Tick-clause-told c = subst (λ (e : Event). TellsFile e c.tick.result) (sym (ap event_of c.in-Tick.is)) tt
 
 pub returns-in-Tick-clause-unchanged : goal.returns-in-Tick-clause-unchanged
 returns-in-Tick-clause-unchanged c =
@@ -120,6 +135,9 @@ returns-in-Compact-clause-refused c =
     told_in c.args.self.now c.compact.new.self (event_of c.args.event.now) (outcome_of c.compact.result)
     (subst (λ (e : Event). Handles c.args.self.now e (outcome_of c.compact.result) c.compact.new.self) (sym (ap event_of c.in-Compact.is)) c.compact.ensures)
 
+pub returns-in-Compact-clause-told : goal.returns-in-Compact-clause-told
+returns-in-Compact-clause-told c = subst (λ (e : Event). TellsFile e c.compact.result) (sym (ap event_of c.in-Compact.is)) tt
+
 pub returns-in-Compact-clause-unchanged : goal.returns-in-Compact-clause-unchanged
 returns-in-Compact-clause-unchanged c =
     unchanged_in c.args.self.now c.compact.new.self (event_of c.args.event.now) (outcome_of c.compact.result)
@@ -128,19 +146,22 @@ returns-in-Compact-clause-unchanged c =
 pub returns-in-Retype-clause-follows : goal.returns-in-Retype-clause-follows
 returns-in-Retype-clause-follows c =
     follows_in c.args.self.now c.retype.new.self (event_of c.args.event.now) (outcome_of c.retype.result)
-    (subst (λ (e : Event). Handles c.args.self.now e (outcome_of c.retype.result) c.retype.new.self) (sym (ap event_of c.in-Retype.is)) c.retype.ensures)
+    (subst (λ (e : Event). Handles c.args.self.now e (outcome_of c.retype.result) c.retype.new.self) (sym (ap event_of c.in-Retype.is)) c.retype.ensures.handles)
 
 pub returns-in-Retype-clause-runs : goal.returns-in-Retype-clause-runs
 returns-in-Retype-clause-runs c =
     runs_in c.args.self.now c.retype.new.self (event_of c.args.event.now) (outcome_of c.retype.result)
-    (subst (λ (e : Event). Handles c.args.self.now e (outcome_of c.retype.result) c.retype.new.self) (sym (ap event_of c.in-Retype.is)) c.retype.ensures)
+    (subst (λ (e : Event). Handles c.args.self.now e (outcome_of c.retype.result) c.retype.new.self) (sym (ap event_of c.in-Retype.is)) c.retype.ensures.handles)
 
 pub returns-in-Retype-clause-refused : goal.returns-in-Retype-clause-refused
 returns-in-Retype-clause-refused c =
     told_in c.args.self.now c.retype.new.self (event_of c.args.event.now) (outcome_of c.retype.result)
-    (subst (λ (e : Event). Handles c.args.self.now e (outcome_of c.retype.result) c.retype.new.self) (sym (ap event_of c.in-Retype.is)) c.retype.ensures)
+    (subst (λ (e : Event). Handles c.args.self.now e (outcome_of c.retype.result) c.retype.new.self) (sym (ap event_of c.in-Retype.is)) c.retype.ensures.handles)
+
+pub returns-in-Retype-clause-told : goal.returns-in-Retype-clause-told
+returns-in-Retype-clause-told c = subst (λ (e : Event). TellsFile e c.retype.result) (sym (ap event_of c.in-Retype.is)) c.retype.ensures.told
 
 pub returns-in-Retype-clause-unchanged : goal.returns-in-Retype-clause-unchanged
 returns-in-Retype-clause-unchanged c =
     unchanged_in c.args.self.now c.retype.new.self (event_of c.args.event.now) (outcome_of c.retype.result)
-    (subst (λ (e : Event). Handles c.args.self.now e (outcome_of c.retype.result) c.retype.new.self) (sym (ap event_of c.in-Retype.is)) c.retype.ensures)
+    (subst (λ (e : Event). Handles c.args.self.now e (outcome_of c.retype.result) c.retype.new.self) (sym (ap event_of c.in-Retype.is)) c.retype.ensures.handles)
