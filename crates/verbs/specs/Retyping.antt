@@ -1,6 +1,6 @@
 -- What becomes of the machine where other types are served from here on: each object whose text changes gets the next revision
 -- (Kubernetes docs, "Server-Side Apply", "Compatibility across topology changes").
-use Rattle.std.specs.Prelude.{ℕ, suc, ◌+◌, Bool, false, not, nat_le, if◌then◌else◌, List, [], ◌∷◌, filter, length, Option, Some, None, option_and_then, option_map, slice_get}
+use Rattle.std.specs.Prelude.{ℕ, suc, ◌+◌, Bool, true, not, nat_le, if◌then◌else◌, List, [], ◌∷◌, filter, length, Option, Some, None, option_and_then, option_map, slice_get}
 use Rattle.std.specs.declared.result.Result.{Result}
 use Rattle.std.specs.declared.result.Result.TheVariants.{Ok, Err}
 use Rattle.std.specs.FinMap as fin
@@ -28,8 +28,9 @@ carried_text t u revision k o = text_at u k revision (carried_state t.shape u.sh
 abbrev pub text_under : List ServedShape → List ServedShape → ℕ → Key → Object → Option (List ℕ)
 text_under types others revision k o = option_and_then (λ t. option_map (λ u. carried_text t u revision k o) (slice_get others k.kind)) (slice_get types k.kind)
 
+-- an object whose type isn't there, as no machine has one, keeps its text
 abbrev pub is_text : Option (List ℕ) → List ℕ → Bool
-is_text None text = false
+is_text None text = true
 is_text (Some other) text = bytes_eq other text
 
 -- the text that stands is another than its new one at the same revision
