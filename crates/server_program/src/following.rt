@@ -1,12 +1,12 @@
 //! Follows the types file while its types are served: each second its text is read, and where it has another the types that
 //! this declares are served from then on. Which change of types is lawful stands in `api_types`.
 
-use crate::fault::ServerFault;
 use httpedge::HubFault;
 use observing::Observer;
 use polling::Server;
 use programs::{RunFault, types_in, types_text};
 use serde_json::Value;
+use std::io;
 use std::rt::{Clock, Files};
 use std::time::{Duration, Instant};
 
@@ -35,14 +35,14 @@ impl<'a> FollowedFile<'a> {
     }
 
     /// Looks at the file, a second after the last look: where it has another text, its types are served, or it is told on
-    /// the standard error why not.
+    /// the standard error why not. It fails where the clock can't be read, and nowhere else.
     pub fn look<O: Observer, R: Files + Clock + Eprint + AllocGlobal>(
         &mut self,
         rt: &R,
         observer: &mut O,
         server: &mut Server,
-    ) -> Result<(), ServerFault> {
-        let now = Instant::now(rt).map_err(ServerFault::Clock)?;
+    ) -> io::Result<()> {
+        let now = Instant::now(rt)?;
         if now.duration_since(self.looked) < Duration::from_millis(LOOKS) {
             return Ok(());
         }

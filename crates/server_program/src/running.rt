@@ -5,7 +5,6 @@ use crate::arguments::{ServerOptions, options};
 use crate::fault::ServerFault;
 use crate::following::FollowedFile;
 use crate::witness::Witness;
-use observing::Observer;
 use programs::{RunFault, end_with, types_in, types_text};
 use serving::{Limits, Server, serve_all};
 use std::io::{self, ErrorKind};
@@ -82,23 +81,24 @@ fn fault_at_once<R: Clock>(rt: &R, error: io::Error) -> ServerFault {
 }
 
 /// Serves many connections at once, until so many are over, and follows the types file.
-fn serve_at_once<O: Observer, R: Files + Clock + Print + Eprint + AllocGlobal>(
-    rt: &R,
-    observer: &mut O,
+fn serve_at_once<'a, R: Files + Clock + Print + Eprint + AllocGlobal>(
+    rt: &'a R,
     server: &mut polling::Server,
-    file: &mut FollowedFile<'_>,
-    most: u64,
+    file: &mut FollowedFile<'a>,
+    options: &ServerOptions<'a>,
 ) -> Result<(), ServerFault> {
     let port = server.port()?;
     tell_port(rt, port)?;
+    let mut witness = witness_of(rt, options)?;
     'turns: for _ in 0..u64::MAX {
-        if server.over() >= most {
+        if server.over() >= options.serve {
             return Ok(());
         }
         server
-            .turn(rt, observer)
+            .turn(rt, &mut witness)
             .map_err(|error| fault_at_once(rt, error))?;
-        file.look(rt, observer, server)?;
+        file.look(rt, &mut witness, server)
+            .map_err(ServerFault::Clock)?;
     }
     // More turns than a count of connections can tell.
     Err(ServerFault::Socket(io::Error::from(ErrorKind::Other)))
@@ -123,8 +123,7 @@ fn run_at_once<'a, R: Files + Net + Clock + Print + Eprint + AllocGlobal>(
     ))?;
     let now = Instant::now(rt).map_err(ServerFault::Clock)?;
     let mut file = FollowedFile::new(options.types, text, now);
-    let mut witness = witness_of(rt, options)?;
-    serve_at_once(rt, &mut witness, &mut server, &mut file, options.serve)
+    serve_at_once(rt, &mut server, &mut file, options)
 }
 
 fn run<R: Files + Net + Clock + Print + Eprint + AllocGlobal>(
