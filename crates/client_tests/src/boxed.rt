@@ -8,12 +8,12 @@ ghost use Rattle.summary.specs.Counts.{value_of};
 
 use crate::playing::widgets;
 use crate::replies::replies;
-use crate::rows::expect_text;
-use indexer::{IndexBy, Indexer, Object, ObjectKey};
+use indexer::{IndexBy, Indexer, Object};
 use reflector::Informer;
 use std::alloc::{AllocError, Global};
-use std::collections::BTreeSet;
+use std::mem;
 use std::test::Fail;
+use test_rows::{expect_text, told};
 
 /// By the value of a label; an object without the label has no key.
 #[derive(Drop)]
@@ -58,29 +58,50 @@ fn one_or_none(alloc: Global, value: Option<&str>) -> Result<Vec<String>, AllocE
     }
 }
 
-/// `VALUE NAME.. `, or `VALUE - ` where the index has no objects under the value.
-fn push_names(
-    text: &mut String,
-    value: &str,
-    keys: Option<&BTreeSet<ObjectKey>>,
-) -> Result<(), AllocError> {
-    push_word(text, value)?;
-    let Some(keys) = keys else {
-        return push_word(text, "-");
-    };
-    for key in keys {
-        push_word(text, key.name.as_str())?;
+/// The objects' keys under each value, after these replies.
+fn fed<I: IndexBy + Drop>(
+    alloc: Global,
+    informer: &mut Informer<I>,
+    words: &str,
+) -> Result<String, Fail> {
+    informer.next_request()?;
+    informer.feed(replies(alloc, words)?.as_bytes())?;
+    let indexer = informer.indexer();
+    told(
+        alloc,
+        (
+            indexer.by_index("tier", "web"),
+            indexer.by_index("tier", "db"),
+        ),
+    )
+}
+
+fn fed_all<I: IndexBy + Drop>(alloc: Global, informer: &mut Informer<I>) -> Result<(), Fail> {
+    for (words, wanted) in [
+        (
+            "page 4 - a@1,web b@2,web c@3",
+            "(Some({ObjectKey { namespace: \"default\", name: \"a\" }, ObjectKey { namespace: \"default\", name: \"b\" }}), None)",
+        ),
+        (
+            "watch;line ADDED d@5,db",
+            "(Some({ObjectKey { namespace: \"default\", name: \"a\" }, ObjectKey { namespace: \"default\", name: \"b\" }}), Some({ObjectKey { namespace: \"default\", name: \"d\" }}))",
+        ),
+        (
+            "line MODIFIED a@6,db",
+            "(Some({ObjectKey { namespace: \"default\", name: \"b\" }}), Some({ObjectKey { namespace: \"default\", name: \"a\" }, ObjectKey { namespace: \"default\", name: \"d\" }}))",
+        ),
+        (
+            "line DELETED b@7,web",
+            "(None, Some({ObjectKey { namespace: \"default\", name: \"a\" }, ObjectKey { namespace: \"default\", name: \"d\" }}))",
+        ),
+    ] {
+        expect_text(fed(alloc, informer, words)?, wanted)?;
     }
     Ok(())
 }
 
-fn push_word(text: &mut String, word: &str) -> Result<(), AllocError> {
-    text.push_str(word)?;
-    text.push_str(" ")
-}
-
-/// One function makes the boxes, feeds the informer and asks it, since another that took boxes behind a reference
-/// would hide what is in them.
+/// One function makes the boxes and the informer, since another that took boxes behind a reference would hide what is in
+/// them; what feeds it takes any index.
 #[test]
 fn a_boxed_index_follows(rt: HostRuntime) -> Result<(), Fail> {
     let alloc = rt.alloc();
@@ -91,19 +112,7 @@ fn a_boxed_index_follows(rt: HostRuntime) -> Result<(), Fail> {
     let source = widgets(alloc)?;
     let made = Informer::new(alloc, source, None, String::new(alloc), 500, indexer);
     let mut informer = made.map_err(|_| "refused settings")?;
-    let mut text = String::new(alloc);
-    for words in [
-        "page 4 - a@1,web b@2,web c@3",
-        "watch;line ADDED d@5,db",
-        "line MODIFIED a@6,db",
-        "line DELETED b@7,web",
-    ] {
-        informer.next_request()?;
-        informer.feed(replies(alloc, words)?.as_bytes())?;
-        push_names(&mut text, "web", informer.indexer().by_index("tier", "web"))?;
-        push_names(&mut text, "db", informer.indexer().by_index("tier", "db"))?;
-        text.push_str("| ")?;
-    }
-    let wanted = "web a b db - | web a b db d | web b db a d | web - db a d | ";
-    expect_text(text, wanted)
+    let followed = fed_all(alloc, &mut informer);
+    mem::forget(informer);
+    followed
 }

@@ -1,8 +1,8 @@
 //! Tests of informers, summaries and mirrors, against replies written by hand, by public calls alone. Replies cut at
 //! every place are tested in `store_client_tests`.
 //!
-//! One function holds an informer, one a mirror; all else are rows that are played on them, but for the test of boxed
-//! indexes.
+//! One function holds an informer and doesn't drop it; all else are rows that are played on it, but for the test of boxed
+//! indexes and the program.
 #![tactic(auto)]
 
 #[cfg(test)]
@@ -19,8 +19,6 @@ mod pages;
 mod playing;
 #[cfg(test)]
 mod replies;
-#[cfg(test)]
-mod rows;
 #[cfg(test)]
 mod starting;
 #[cfg(test)]

@@ -1,9 +1,8 @@
 //! The loop that a caller of an informer writes, over connections that are dialled: `docs/CLIENT.md` has it. The
 //! connections are those of `mirrors`.
 
-use crate::mirrors::server_of;
-use crate::playing::{Namespace, informer, tiers};
-use crate::rows::expect_text;
+use crate::mirrors::Server;
+use crate::playing::{Namespace, expect_rows};
 use mirroring::Dial;
 use reflector::{Informer, Trouble};
 use std::alloc::Global;
@@ -40,13 +39,16 @@ fn follow<D: Dial>(
 }
 
 /// The revision that is reported after each of these connections, and where the caller waits.
-fn followed(alloc: Global, words: &str, turns: usize) -> Result<String, Fail> {
-    let mut server = server_of(alloc, words)?;
-    let mut informer = informer(alloc, "")?;
-    let mut summary = tiers(alloc)?;
+pub fn followed(
+    alloc: Global,
+    server: &mut Server,
+    informer: &mut Informer<Namespace>,
+    summary: &mut Summary,
+    turns: u64,
+) -> Result<String, Fail> {
     let mut text = String::new(alloc);
     for _ in 0..turns {
-        let trouble = follow(alloc, &mut server, &mut informer, &mut summary)?;
+        let trouble = follow(alloc, server, informer, summary)?;
         push_turn(alloc, &mut text, informer.revision(), trouble)?;
     }
     Ok(text)
@@ -59,10 +61,10 @@ fn push_turn(
     trouble: Option<Trouble>,
 ) -> Result<(), Fail> {
     if let Some(revision) = revision {
-        text.push_str(format!(in alloc; "at {revision}\n")?.as_str())?;
+        text.push_str(format!(in alloc; "at {revision};")?.as_str())?;
     }
     if let Some(trouble) = trouble {
-        text.push_str(format!(in alloc; "{trouble}: waits\n")?.as_str())?;
+        text.push_str(format!(in alloc; "{trouble}: waits;")?.as_str())?;
     }
     Ok(())
 }
@@ -71,18 +73,17 @@ fn push_turn(
 /// and an end are not.
 #[test]
 fn a_caller_waits_where_a_reply_is_given_up(rt: HostRuntime) -> Result<(), Fail> {
-    let alloc = rt.alloc();
-    let words =
-        "status 400 Bad Request|page 4 - w1@2,web w2@3,db|watch;line MODIFIED w1@5,db;line BOOKMARK 4;line ADDED w3@9\
-        |status 503 Service Unavailable|page 6 - w1@5,db w2@3,db|watch;line DELETED w2@7,db;end|watch;half ADDED w4@8";
-    let text = "status 400: waits\n\
-        at 4\n\
-        at 5\n\
-        a bookmark at a version below the reported one: waits\n\
-        at 5\n\
-        status 503: waits\n\
-        at 6\n\
-        at 7\n\
-        at 7\n";
-    expect_text(followed(alloc, words, 7)?, text)
+    let rows = "a_caller_waits_where_a_reply_is_given_up\n\
+        follow 7 status 400 Bad Request|page 4 - w1@2,web w2@3,db|watch;line MODIFIED w1@5,db;line BOOKMARK 4;line ADDED w3@9\
+        |status 503 Service Unavailable|page 6 - w1@5,db w2@3,db|watch;line DELETED w2@7,db;end|watch;half ADDED w4@8 => \
+        status 400: waits;\
+        at 4;\
+        at 5;\
+        a bookmark at a version below the reported one: waits;\
+        at 5;\
+        status 503: waits;\
+        at 6;\
+        at 7;\
+        at 7;";
+    expect_rows(rt.alloc(), "", rows)
 }

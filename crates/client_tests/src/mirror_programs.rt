@@ -2,7 +2,6 @@
 //! streams fail, and the exit status of each fault. The connections are those of `mirrors`.
 
 use crate::mirrors::server_of;
-use crate::rows::expect_text;
 use api_types::Types;
 use mirror_program::{MirrorOptions, ProgramFault, options, print_changes};
 use programs::Resource;
@@ -11,6 +10,7 @@ use std::alloc::Global;
 use std::io;
 use std::io::{ErrorKind, Write};
 use std::test::Fail;
+use test_rows::{Answers, expect_text, first_word, number, play_all, told};
 
 /// One type.
 const WIDGETS: &str =
@@ -48,192 +48,152 @@ impl Write for Output {
     }
 }
 
-/// The options of these words, as they are shown; or the exit status and the text of their fault.
-fn shown(alloc: Global, words: &str) -> Result<String, Fail> {
-    let words: Vec<&str> = words.split(' ').collect(alloc)?;
-    match options(alloc, words.as_slice()) {
-        Ok(found) => Ok(format!(in alloc;
-            "{} {} {:?} {:?} {:?} {} {}",
-            found.types,
-            found.port,
-            found.resource,
-            found.namespace,
-            found.selector,
-            found.page,
-            found.turns
-        )?),
-        Err(fault) => ended(alloc, fault),
+/// Runs of the program, and its options.
+///
+/// | question | answer |
+/// |---|---|
+/// | `options WORD ..` | the options of these words behind a types file, or the exit status and the text of their fault |
+/// | `print TURNS PAGE NAMESPACE PLURAL SELECTOR` | what is printed, and how it ends |
+#[derive(Drop)]
+struct Programs;
+
+impl Answers for Programs {
+    fn answer(&mut self, alloc: Global, question: &str) -> Result<String, Fail> {
+        let (call, words) = first_word(question);
+        match call {
+            "options" => shown(alloc, words),
+            _ => told(
+                alloc,
+                printed(alloc, &options_of(words)?, usize::MAX, usize::MAX)?,
+            ),
+        }
     }
 }
 
-fn ended(alloc: Global, fault: ProgramFault) -> Result<String, Fail> {
-    Ok(format!(in alloc; "{}: {fault}", fault.status())?)
+fn shown(alloc: Global, words: &str) -> Result<String, Fail> {
+    let words = format!(in alloc; "ssa-mirror --types t {words}")?;
+    let words: Vec<&str> = words.split(' ').collect(alloc)?;
+    match options(alloc, words.as_slice()) {
+        Ok(found) => told(alloc, found),
+        Err(fault) => ended(alloc, Err(fault)),
+    }
 }
 
-/// The options that ask for all widgets.
-fn all_widgets<'a>() -> MirrorOptions<'a> {
-    MirrorOptions {
+fn ended(alloc: Global, done: Result<(), ProgramFault>) -> Result<String, Fail> {
+    match done {
+        Ok(()) => Ok(String::from_str(alloc, "done")?),
+        Err(fault) => Ok(format!(in alloc; "{}: {fault}", fault.status())?),
+    }
+}
+
+/// The options that ask for widgets, of these words.
+fn options_of<'a>(words: &'a str) -> Result<MirrorOptions<'a>, Fail> {
+    let (turns, words) = first_word(words);
+    let (page, words) = first_word(words);
+    let (namespace, words) = first_word(words);
+    let (plural, selector) = first_word(words);
+    Ok(MirrorOptions {
         types: "types.json",
         port: 8001,
         resource: Resource {
             group: "demo.example",
             version: "v1",
-            plural: "widgets",
+            plural,
         },
-        namespace: None,
-        selector: "",
-        page: 500,
-        turns: 3,
-    }
-}
-
-fn widgets(alloc: Global) -> Result<Types, Fail> {
-    Ok(Types::read(alloc, &Value::from_str(alloc, WIDGETS)?)?)
+        namespace: if namespace == "-" {
+            None
+        } else {
+            Some(namespace)
+        },
+        selector,
+        page: page.parse::<u32>().unwrap_or(0),
+        turns: number(turns)?,
+    })
 }
 
 /// What is printed with so many reads and so many writes, and how it ends.
 fn printed(
     alloc: Global,
-    options: MirrorOptions<'_>,
+    options: &MirrorOptions<'_>,
     reads: usize,
     writes: usize,
 ) -> Result<(String, String), Fail> {
     let mut server = server_of(alloc, REPLIES)?;
     server.reads = reads;
+    let types = Types::read(alloc, &Value::from_str(alloc, WIDGETS)?)?;
     let mut output = Output {
         taken: Vec::new(alloc),
         writes,
     };
-    let done = print_changes(alloc, &widgets(alloc)?, &options, &mut server, &mut output);
-    let text = String::from_utf8(output.taken).map_err(|_| "no text")?;
-    let end = match done {
-        Ok(()) => String::from_str(alloc, "done")?,
-        Err(fault) => ended(alloc, fault)?,
-    };
-    Ok((text, end))
+    let done = print_changes(alloc, &types, options, &mut server, &mut output);
+    let end = ended(alloc, done)?;
+    Ok((String::from_utf8(output.taken).map_err(|_| "no text")?, end))
 }
 
-/// Of words that are read, each option; of others, the exit status and what is told.
+/// Of words that are read, each option; of others, the exit status and what is told. What can't be mirrored ends with status
+/// 2 and prints nothing. Three connections are all told; a fourth, which can't be dialled, is status 6 after them.
 #[test]
-fn arguments_are_read(rt: HostRuntime) -> Result<(), Fail> {
-    let alloc = rt.alloc();
-    let rows =
-        "--port 8001 --type g/v/p => t 8001 Resource { group: \"g\", version: \"v\", plural: \"p\" } None \"\" 500 18446744073709551615
---port 65535 --type /v/ --namespace default --selector a=b --page 4294967295 --turns 7 => t 65535 Resource { group: \"\", version: \"v\", plural: \"\" } Some(\"default\") \"a=b\" 4294967295 7
---port 1 --type g/v/p --page 0 => t 1 Resource { group: \"g\", version: \"v\", plural: \"p\" } None \"\" 0 18446744073709551615
---port 0 --type g/v/p => 2: --port: a whole number from 1 to 65535
---port 65536 --type g/v/p => 2: --port: a whole number from 1 to 65535
---port x --type g/v/p => 2: --port: a whole number from 1 to 65535
---port 8001 --type g/v => 2: --type: group/version/plural
---port 8001 --type g/v/p/q => 2: --type: group/version/plural
---port 8001 --type g/v/p --page 4294967296 => 2: --page: a whole number from 0 to 4294967295
---port 8001 --type g/v/p --turns 18446744073709551616 => 2: --turns: a whole number from 0 to 18446744073709551615";
-    for row in rows.lines() {
-        let (words, wanted) = row.split_once(" => ").ok_or("no answer is wanted")?;
-        let words = format!(in alloc; "ssa-mirror --types t {words}")?;
-        expect_text(shown(alloc, words.as_str())?, wanted)?;
+fn programs_are_told(rt: HostRuntime) -> Result<(), Fail> {
+    let rows = r#"arguments_are_read
+options --port 8001 --type g/v/p => MirrorOptions { types: "t", port: 8001, resource: Resource { group: "g", version: "v", plural: "p" }, namespace: None, selector: "", page: 500, turns: 18446744073709551615 }
+options --port 65535 --type /v/ --namespace default --selector a=b --page 4294967295 --turns 7 => MirrorOptions { types: "t", port: 65535, resource: Resource { group: "", version: "v", plural: "" }, namespace: Some("default"), selector: "a=b", page: 4294967295, turns: 7 }
+options --port 1 --type g/v/p --page 0 => MirrorOptions { types: "t", port: 1, resource: Resource { group: "g", version: "v", plural: "p" }, namespace: None, selector: "", page: 0, turns: 18446744073709551615 }
+options --port 0 --type g/v/p => 2: --port: a whole number from 1 to 65535
+options --port 65536 --type g/v/p => 2: --port: a whole number from 1 to 65535
+options --port x --type g/v/p => 2: --port: a whole number from 1 to 65535
+options --port 8001 --type g/v => 2: --type: group/version/plural
+options --port 8001 --type g/v/p/q => 2: --type: group/version/plural
+options --port 8001 --type g/v/p --page 4294967296 => 2: --page: a whole number from 0 to 4294967295
+options --port 8001 --type g/v/p --turns 18446744073709551616 => 2: --turns: a whole number from 0 to 18446744073709551615
+
+settings_are_refused
+print 3 0 - widgets  => ("", "2: a page has 1 to 500 objects")
+print 3 501 - widgets  => ("", "2: a page has 1 to 500 objects")
+print 3 500 Default widgets  => ("", "2: the namespace is no DNS label")
+print 3 500 - widgets tier in (web => ("", "2: --selector: a bracket is misplaced")
+print 3 500 - gadgets  => ("", "2: --type: the types file has no such type")
+
+turns_are_connections
+print 3 500 - widgets  => ("synced 6\nadded default/w1 2\nadded default/w2 3\nadded default/w3 7\ndeleted default/w1 2\nadded default/w4 9\n", "done")
+print 4 500 - widgets  => ("synced 6\nadded default/w1 2\nadded default/w2 3\nadded default/w3 7\ndeleted default/w1 2\nadded default/w4 9\n", "6: port 8001: connection refused")"#;
+    play_all(rt.alloc(), &mut Programs, rows)
+}
+
+/// The test fails unless what is printed is a front of all, and ends so, or is all and ends well. Whether it is all.
+fn is_all(printed: (String, String), wanted: &str) -> Result<bool, Fail> {
+    let (text, end) = printed;
+    if text.as_str() == PRINTED {
+        expect_text(end, "done")?;
+        return Ok(true);
     }
-    Ok(())
-}
-
-/// What can't be mirrored ends with status 2 and prints nothing.
-#[test]
-fn settings_are_refused(rt: HostRuntime) -> Result<(), Fail> {
-    let alloc = rt.alloc();
-    let refused = [
-        (
-            MirrorOptions {
-                page: 0,
-                ..all_widgets()
-            },
-            "2: a page has 1 to 500 objects",
-        ),
-        (
-            MirrorOptions {
-                page: 501,
-                ..all_widgets()
-            },
-            "2: a page has 1 to 500 objects",
-        ),
-        (
-            MirrorOptions {
-                namespace: Some("Default"),
-                ..all_widgets()
-            },
-            "2: the namespace is no DNS label",
-        ),
-        (
-            MirrorOptions {
-                selector: "tier in (web",
-                ..all_widgets()
-            },
-            "2: --selector: a bracket is misplaced",
-        ),
-        (
-            MirrorOptions {
-                resource: Resource {
-                    plural: "gadgets",
-                    ..all_widgets().resource
-                },
-                ..all_widgets()
-            },
-            "2: --type: the types file has no such type",
-        ),
-    ];
-    for (options, wanted) in refused {
-        let (text, end) = printed(alloc, options, usize::MAX, usize::MAX)?;
-        expect_text(text, "")?;
-        expect_text(end, wanted)?;
+    if !PRINTED.starts_with(text.as_str()) {
+        return Err(Fail::new(text));
     }
-    Ok(())
-}
-
-/// Three connections are all told; a fourth, which can't be dialled, is status 6 after them.
-#[test]
-fn turns_are_connections(rt: HostRuntime) -> Result<(), Fail> {
-    let alloc = rt.alloc();
-    let (text, end) = printed(alloc, all_widgets(), usize::MAX, usize::MAX)?;
-    expect_text(text, PRINTED)?;
-    expect_text(end, "done")?;
-    let more = MirrorOptions {
-        turns: 4,
-        ..all_widgets()
-    };
-    let (text, end) = printed(alloc, more, usize::MAX, usize::MAX)?;
-    expect_text(text, PRINTED)?;
-    expect_text(end, "6: port 8001: connection refused")
+    expect_text(end, wanted)?;
+    Ok(false)
 }
 
 /// An output that takes so many writes and then fails has a front of what is printed, and ends it with status 1.
 #[test]
 fn outputs_that_fail_keep_a_front(rt: HostRuntime) -> Result<(), Fail> {
-    let alloc = rt.alloc();
+    let options = options_of("3 500 - widgets ")?;
     for writes in 0..1000 {
-        let (text, end) = printed(alloc, all_widgets(), usize::MAX, writes)?;
-        if !PRINTED.starts_with(text.as_str()) {
-            return Err(Fail::new(text));
+        let printed = printed(rt.alloc(), &options, usize::MAX, writes)?;
+        if is_all(printed, "1: standard output: broken pipe")? {
+            return Ok(());
         }
-        if text.as_str() == PRINTED {
-            return expect_text(end, "done");
-        }
-        expect_text(end, "1: standard output: broken pipe")?;
     }
-    Err(Fail::from("all writes fail"))
+    Err("all writes fail".into())
 }
 
 /// Where reads fail from one on, the connections are cut: what was told before stays, and no fault ends it.
 #[test]
 fn reads_that_fail_are_cuts(rt: HostRuntime) -> Result<(), Fail> {
-    let alloc = rt.alloc();
+    let options = options_of("3 500 - widgets ")?;
     for reads in 0..1000 {
-        let (text, end) = printed(alloc, all_widgets(), reads, usize::MAX)?;
-        expect_text(end, "done")?;
-        if text.as_str() == PRINTED {
+        if is_all(printed(rt.alloc(), &options, reads, usize::MAX)?, "done")? {
             return Ok(());
         }
-        if !PRINTED.starts_with(text.as_str()) {
-            return Err(Fail::new(text));
-        }
     }
-    Err(Fail::from("all reads fail"))
+    Err("all reads fail".into())
 }

@@ -1,15 +1,18 @@
 //! Mirrors over connections that rows dial: what is printed of the replies, and how it ends. The replies are made in
-//! `replies`.
+//! `replies`, the informer in `playing`.
+//!
+//! `mirror TURNS REPLIES|REPLIES`: how so many turns of a mirror end, what is printed of them, how often the dialer was told of
+//! trouble, and of which last. `turns TURNS REPLIES|REPLIES`: the trouble that a caller sees who takes turn after turn.
 
-use crate::playing::informer;
+use crate::playing::{Namespace, expect_rows};
 use crate::replies::replies;
-use crate::rows::expect_text;
 use mirroring::{Dial, MirrorFault, mirror, turn};
-use reflector::Trouble;
-use std::alloc::Global;
+use reflector::{Informer, Trouble};
+use std::alloc::{AllocError, Global};
 use std::io::{ErrorKind, Read};
 use std::test::Fail;
 use std::{cmp, io};
+use test_rows::told;
 
 /// The most bytes that are read at a time.
 const MOST: usize = 7;
@@ -90,7 +93,7 @@ pub fn server_of(alloc: Global, words: &str) -> Result<Server, Fail> {
     })
 }
 
-fn ending(done: Result<(), MirrorFault>) -> &'static str {
+fn ending(done: &Result<(), MirrorFault>) -> &'static str {
     match done {
         Ok(()) => "done",
         Err(MirrorFault::Dial(_)) => "no connection",
@@ -98,95 +101,81 @@ fn ending(done: Result<(), MirrorFault>) -> &'static str {
     }
 }
 
-/// What is printed of so many turns, and how they end.
-fn mirrored(alloc: Global, words: &str, turns: u64) -> Result<String, Fail> {
-    let mut server = server_of(alloc, words)?;
-    let mut informer = informer(alloc, "")?;
+/// How so many turns of a mirror end, what is printed of them, how often the dialer was told of trouble, and of which last.
+pub fn mirrored(
+    alloc: Global,
+    server: &mut Server,
+    informer: &mut Informer<Namespace>,
+    turns: u64,
+) -> Result<String, Fail> {
     let mut out = Vec::new(alloc);
-    let done = mirror(alloc, &mut server, &mut informer, &mut out, turns);
-    let text = str::from_utf8(&out).map_err(|_| "no text")?;
-    Ok(format!(in alloc; "{text}{}", ending(done))?)
+    let done = mirror(alloc, server, informer, &mut out, turns);
+    let end = ending(&done);
+    told(
+        alloc,
+        (end, str::from_utf8(&out), server.times, server.trouble),
+    )
+}
+
+/// What a caller of so many turns sees of trouble.
+pub fn troubled(
+    alloc: Global,
+    server: &mut Server,
+    informer: &mut Informer<Namespace>,
+    turns: u64,
+) -> Result<String, Fail> {
+    let mut out = Vec::new(alloc);
+    let mut text = String::new(alloc);
+    for _ in 0..turns {
+        let done = turn(alloc, server, informer, &mut out);
+        push_turn(alloc, &mut text, done.is_ok(), informer.trouble())?;
+    }
+    Ok(text)
+}
+
+fn push_turn(
+    alloc: Global,
+    text: &mut String,
+    is_done: bool,
+    trouble: Option<Trouble>,
+) -> Result<(), AllocError> {
+    match trouble {
+        Some(trouble) if is_done => text.push_str(format!(in alloc; "{trouble};")?.as_str()),
+        None if is_done => Ok(()),
+        _ => text.push_str("a fault;"),
+    }
 }
 
 /// The first list's revision once, before all notices, whatever is cut.
 #[test]
 fn mirrors_print_what_changes(rt: HostRuntime) -> Result<(), Fail> {
-    let words =
-        "page 6 6.default.w2 w1@2 w2@3|page 6 - w3@4|watch;line MODIFIED w1@7,red;half ADDED w4@8\
-        |watch;line ADDED w4@8;line DELETED w2@9|status 410 Gone|page 12 - w4@8 w5@12";
-    let text = "synced 6\n\
-        added default/w1 2\n\
-        added default/w2 3\n\
-        added default/w3 4\n\
-        updated default/w1 7\n\
-        added default/w4 8\n\
-        deleted default/w2 3\n";
-    let listed = "deleted default/w1 7\n\
-        deleted default/w3 4\n\
-        added default/w5 12\n";
-    let alloc = rt.alloc();
-    expect_text(mirrored(alloc, words, 0)?, "done")?;
-    expect_text(mirrored(alloc, words, 1)?, "done")?;
-    expect_text(
-        mirrored(alloc, words, 4)?,
-        &format!(in alloc; "{text}done")?,
-    )?;
-    expect_text(
-        mirrored(alloc, words, 6)?,
-        &format!(in alloc; "{text}{listed}done")?,
-    )?;
-    expect_text(
-        mirrored(alloc, words, 7)?,
-        &format!(in alloc; "{text}{listed}no connection")?,
-    )
-}
-
-/// How often a dialer was told of trouble in so many turns, and of which one last.
-fn told(alloc: Global, words: &str, turns: u64) -> Result<String, Fail> {
-    let mut server = server_of(alloc, words)?;
-    let mut informer = informer(alloc, "")?;
-    let mut out = Vec::new(alloc);
-    mirror(alloc, &mut server, &mut informer, &mut out, turns).map_err(|_| "a fault")?;
-    let times = server.times;
-    match server.trouble {
-        Some(trouble) => Ok(format!(in alloc; "{times} {trouble:?}")?),
-        None => Ok(String::from_str(alloc, "none")?),
-    }
-}
-
-/// What a caller of so many turns sees of trouble, each in a line.
-fn seen(alloc: Global, words: &str, turns: u64) -> Result<String, Fail> {
-    let mut server = server_of(alloc, words)?;
-    let mut informer = informer(alloc, "")?;
-    let mut out = Vec::new(alloc);
-    let mut text = String::new(alloc);
-    for _ in 0..turns {
-        turn(alloc, &mut server, &mut informer, &mut out).map_err(|_| "a fault")?;
-        if let Some(trouble) = informer.trouble() {
-            text.push_str(format!(in alloc; "{trouble}\n")?.as_str())?;
-        }
-    }
-    Ok(text)
+    let rows = r#"mirrors_print_what_changes
+mirror 0 page 6 6.default.w2 w1@2 w2@3|page 6 - w3@4|watch;line MODIFIED w1@7,red;half ADDED w4@8|watch;line ADDED w4@8;line DELETED w2@9|status 410 Gone|page 12 - w4@8 w5@12 => ("done", Ok(""), 0, None)
+mirror 1 page 6 6.default.w2 w1@2 w2@3|page 6 - w3@4|watch;line MODIFIED w1@7,red;half ADDED w4@8|watch;line ADDED w4@8;line DELETED w2@9|status 410 Gone|page 12 - w4@8 w5@12 => ("done", Ok(""), 0, None)
+mirror 4 page 6 6.default.w2 w1@2 w2@3|page 6 - w3@4|watch;line MODIFIED w1@7,red;half ADDED w4@8|watch;line ADDED w4@8;line DELETED w2@9|status 410 Gone|page 12 - w4@8 w5@12 => ("done", Ok("synced 6\nadded default/w1 2\nadded default/w2 3\nadded default/w3 4\nupdated default/w1 7\nadded default/w4 8\ndeleted default/w2 3\n"), 0, None)
+mirror 6 page 6 6.default.w2 w1@2 w2@3|page 6 - w3@4|watch;line MODIFIED w1@7,red;half ADDED w4@8|watch;line ADDED w4@8;line DELETED w2@9|status 410 Gone|page 12 - w4@8 w5@12 => ("done", Ok("synced 6\nadded default/w1 2\nadded default/w2 3\nadded default/w3 4\nupdated default/w1 7\nadded default/w4 8\ndeleted default/w2 3\ndeleted default/w1 7\ndeleted default/w3 4\nadded default/w5 12\n"), 1, Some(Status(410)))
+mirror 7 page 6 6.default.w2 w1@2 w2@3|page 6 - w3@4|watch;line MODIFIED w1@7,red;half ADDED w4@8|watch;line ADDED w4@8;line DELETED w2@9|status 410 Gone|page 12 - w4@8 w5@12 => ("no connection", Ok("synced 6\nadded default/w1 2\nadded default/w2 3\nadded default/w3 4\nupdated default/w1 7\nadded default/w4 8\ndeleted default/w2 3\ndeleted default/w1 7\ndeleted default/w3 4\nadded default/w5 12\n"), 1, Some(Status(410)))"#;
+    expect_rows(rt.alloc(), "", rows)
 }
 
 /// A dialer is told of each reply that was given up, and of no cut; and who takes turn after turn sees the same.
 #[test]
 fn dialers_are_told_of_trouble(rt: HostRuntime) -> Result<(), Fail> {
-    let alloc = rt.alloc();
-    let words =
-        "status 400 Bad Request|page 6 - w1@2|watch;half MODIFIED w1@7|status 410 Gone|page 12 - w1@8|watch;end";
-    expect_text(told(alloc, words, 0)?, "none")?;
-    expect_text(told(alloc, words, 1)?, "1 Status(400)")?;
-    expect_text(told(alloc, words, 3)?, "1 Status(400)")?;
-    expect_text(told(alloc, words, 4)?, "2 Status(410)")?;
-    expect_text(told(alloc, words, 6)?, "2 Status(410)")?;
-    expect_text(seen(alloc, words, 6)?, "status 400\nstatus 410\n")
+    let rows = r#"dialers_are_told_of_trouble
+mirror 0 status 400 Bad Request|page 6 - w1@2|watch;half MODIFIED w1@7|status 410 Gone|page 12 - w1@8|watch;end => ("done", Ok(""), 0, None)
+mirror 1 status 400 Bad Request|page 6 - w1@2|watch;half MODIFIED w1@7|status 410 Gone|page 12 - w1@8|watch;end => ("done", Ok(""), 1, Some(Status(400)))
+mirror 3 status 400 Bad Request|page 6 - w1@2|watch;half MODIFIED w1@7|status 410 Gone|page 12 - w1@8|watch;end => ("done", Ok("synced 6\nadded default/w1 2\n"), 1, Some(Status(400)))
+mirror 4 status 400 Bad Request|page 6 - w1@2|watch;half MODIFIED w1@7|status 410 Gone|page 12 - w1@8|watch;end => ("done", Ok("synced 6\nadded default/w1 2\n"), 2, Some(Status(410)))
+mirror 6 status 400 Bad Request|page 6 - w1@2|watch;half MODIFIED w1@7|status 410 Gone|page 12 - w1@8|watch;end => ("done", Ok("synced 6\nadded default/w1 2\nupdated default/w1 8\n"), 2, Some(Status(410)))
+turns 6 status 400 Bad Request|page 6 - w1@2|watch;half MODIFIED w1@7|status 410 Gone|page 12 - w1@8|watch;end => status 400;status 410;"#;
+    expect_rows(rt.alloc(), "", rows)
 }
 
 /// A connection that can't be dialled ends the mirror, the first one too.
 #[test]
 fn undialled_connections_end_it(rt: HostRuntime) -> Result<(), Fail> {
-    let alloc = rt.alloc();
-    expect_text(mirrored(alloc, "bytes no head", 1)?, "done")?;
-    expect_text(mirrored(alloc, "bytes no head", 2)?, "no connection")
+    let rows = r#"undialled_connections_end_it
+mirror 1 bytes no head => ("done", Ok(""), 0, None)
+mirror 2 bytes no head => ("no connection", Ok(""), 0, None)"#;
+    expect_rows(rt.alloc(), "", rows)
 }

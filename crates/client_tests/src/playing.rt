@@ -1,13 +1,15 @@
 //! An informer and a summary that answer the questions of rows; the replies that they are fed are made in `replies`.
 
+use crate::looping::followed;
+use crate::mirrors::{mirrored, server_of, troubled};
 use crate::replies::{replies, reply};
-use crate::rows::expect_text;
 use indexer::{IndexBy, Indexer, Object};
-use reflector::{Informer, Notice, Source};
+use reflector::{Informer, Notice, SettingsFault, Source};
 use std::alloc::{AllocError, Global};
+use std::mem;
 use std::test::Fail;
 use summary::Summary;
-use test_rows::{first_word, mark};
+use test_rows::{Answers, expect_text, first_word, mark, number, play, told};
 
 /// By the object's namespace.
 #[derive(Drop)]
@@ -38,17 +40,16 @@ pub fn widgets(alloc: Global) -> Result<Source, AllocError> {
     })
 }
 
-/// Without objects, by namespace.
-pub fn indexer(alloc: Global) -> Result<Indexer<Namespace>, Fail> {
-    Ok(Indexer::new(alloc, vec![in alloc; Namespace]?)?)
-}
-
-/// Of all namespaces, two in a page.
-pub fn informer(alloc: Global, selector: &str) -> Result<Informer<Namespace>, Fail> {
+/// Without objects, by namespace, with this page size; or why the settings are refused.
+pub fn informer(
+    alloc: Global,
+    page: u32,
+    namespace: Option<String>,
+    selector: &str,
+) -> Result<Result<Informer<Namespace>, SettingsFault>, Fail> {
     let selector = String::from_str(alloc, selector)?;
-    let indexer = indexer(alloc)?;
-    let made = Informer::new(alloc, widgets(alloc)?, None, selector, 2, indexer);
-    Ok(made.map_err(|_| "refused settings")?)
+    let indexer = Indexer::new(alloc, vec![in alloc; Namespace]?)?;
+    Ok(Informer::new(alloc, widgets(alloc)?, namespace, selector, page, indexer))
 }
 
 pub fn tiers(alloc: Global) -> Result<Summary, AllocError> {
@@ -56,38 +57,74 @@ pub fn tiers(alloc: Global) -> Result<Summary, AllocError> {
 }
 
 #[derive(Drop)]
-pub struct Play {
+struct Play {
     informer: Informer<Namespace>,
     summary: Summary,
 }
 
-impl Play {
-    /// With nothing kept yet.
-    pub fn new(alloc: Global, selector: &str) -> Result<Play, Fail> {
-        Ok(Play {
-            informer: informer(alloc, selector)?,
-            summary: tiers(alloc)?,
-        })
-    }
+/// Plays rows on an informer of all namespaces, two objects in a page, with nothing kept yet. It isn't dropped, and no other
+/// function holds one that may drop it.
+pub fn expect_rows(alloc: Global, selector: &str, rows: &str) -> Result<(), Fail> {
+    let summary = tiers(alloc)?;
+    let made = informer(alloc, 2, None, selector)?;
+    let mut it = Play {
+        informer: made.map_err(|_| "refused settings")?,
+        summary,
+    };
+    let played = play(alloc, &mut it, rows);
+    mem::forget(it);
+    played
+}
 
-    /// `ask`: the request that is due. `counts`, `apply`: what the summary says. `after A;B <- C;D`: what stands after
-    /// these replies, and what is asked then. `why A;B <- C;D`: why the reply was given up, after these. `fronts A;B <- C;D`: the same after each front of the bytes of C and D
-    /// and a cut. `marked S|T: A;B <- C;D`: what stands after A and B in one piece between the marks of refused memory; where it is
-    /// refused, S or T stands, a first page is asked, and C and D lead to the same. Else an event, and what stands after it.
-    pub fn answer(&mut self, alloc: Global, question: &str) -> Result<String, Fail> {
+impl Answers for Play {
+    /// | question | answer |
+    /// |---|---|
+    /// | `ask` | the request that is due |
+    /// | `counts`, `apply` | what the summary says |
+    /// | `after A;B <- C;D` | what stands after these replies, and what is asked then |
+    /// | `why A;B <- C;D` | why the reply was given up, after these |
+    /// | `fronts A;B <- C;D` | as `after`, of each front of the bytes of C and D and a cut: each answer where it first comes |
+    /// | `cuts A;B <- C;D` | the same of these bytes in two pieces, wherever they are cut |
+    /// | `marked S\|T: A;B <- C;D` | what stands after A and B in one piece between the marks of refused memory; where it is refused, S or T stands, a first page is asked, and C and D lead to the same |
+    /// | `mirror`, `turns`, `follow` | as `mirrors` and `looping` say |
+    /// | another event | what stands after it |
+    fn answer(&mut self, alloc: Global, question: &str) -> Result<String, Fail> {
         let (word, rest) = first_word(question);
         match word {
             "ask" => ask(alloc, &mut self.informer),
-            "counts" => counts(alloc, &self.summary),
+            "counts" => told(alloc, self.summary.counts()),
             "apply" => apply(alloc, &self.summary),
-            "after" => self.after(alloc, rest),
-            "why" => self.why(alloc, rest),
-            "fronts" => self.fronts(alloc, rest),
+            "after" => {
+                self.replay(alloc, rest)?;
+                self.stands_and_asks(alloc)
+            }
+            "why" => {
+                self.replay(alloc, rest)?;
+                told(alloc, self.informer.trouble())
+            }
+            "fronts" | "cuts" => self.cut(alloc, word, rest),
             "marked" => self.marked(alloc, rest),
+            "mirror" | "turns" | "follow" => self.connected(alloc, word, rest),
             _ => {
                 self.event(alloc, question)?;
                 self.stands(alloc)
             }
+        }
+    }
+}
+
+impl Play {
+    /// What is told of so many connections, after a restart.
+    fn connected(&mut self, alloc: Global, word: &str, words: &str) -> Result<String, Fail> {
+        self.restart(alloc)?;
+        let (turns, words) = first_word(words);
+        let turns = number(turns)?;
+        let mut server = server_of(alloc, words)?;
+        let server = &mut server;
+        match word {
+            "mirror" => mirrored(alloc, server, &mut self.informer, turns),
+            "turns" => troubled(alloc, server, &mut self.informer, turns),
+            _ => followed(alloc, server, &mut self.informer, &mut self.summary, turns),
         }
     }
 
@@ -115,7 +152,7 @@ impl Play {
         Ok(())
     }
 
-    /// The revision, how many objects there are, how many of them the index has, and the notices.
+    /// What stands, and the notices.
     fn stands(&mut self, alloc: Global) -> Result<String, Fail> {
         let mut text = standing(alloc, &self.informer)?;
         let notices = self.informer.take_notices();
@@ -126,32 +163,27 @@ impl Play {
         Ok(text)
     }
 
-    /// After a restart and these events.
-    fn begin(&mut self, alloc: Global, events: &str) -> Result<(), Fail> {
-        self.restart(alloc)?;
+    /// Events with semicolons between them.
+    fn events(&mut self, alloc: Global, events: &str) -> Result<(), Fail> {
         for event in events.split(';') {
             self.event(alloc, event)?;
         }
-        drop(self.stands(alloc)?);
         Ok(())
     }
 
-    fn after(&mut self, alloc: Global, words: &str) -> Result<String, Fail> {
-        let (events, words) = words.split_once(" <- ").ok_or("no replies")?;
-        self.begin(alloc, events)?;
-        for event in words.split(';') {
-            self.event(alloc, event)?;
-        }
-        self.stands_and_asks(alloc)
+    /// After a restart and these events.
+    fn begin(&mut self, alloc: Global, events: &str) -> Result<(), Fail> {
+        self.restart(alloc)?;
+        self.events(alloc, events)?;
+        drop(self.informer.take_notices());
+        Ok(())
     }
 
-    fn why(&mut self, alloc: Global, words: &str) -> Result<String, Fail> {
+    /// After a restart and events, what comes next.
+    fn replay(&mut self, alloc: Global, words: &str) -> Result<(), Fail> {
         let (events, words) = words.split_once(" <- ").ok_or("no replies")?;
         self.begin(alloc, events)?;
-        for event in words.split(';') {
-            self.event(alloc, event)?;
-        }
-        trouble(alloc, &self.informer)
+        self.events(alloc, words)
     }
 
     fn stands_and_asks(&mut self, alloc: Global) -> Result<String, Fail> {
@@ -161,15 +193,26 @@ impl Play {
         Ok(text)
     }
 
-    fn fronts(&mut self, alloc: Global, words: &str) -> Result<String, Fail> {
+    fn cut(&mut self, alloc: Global, word: &str, words: &str) -> Result<String, Fail> {
         let (events, words) = words.split_once(" <- ").ok_or("no replies")?;
         let text = replies(alloc, words)?;
-        let mut runs = Runs::new(alloc);
+        let mut shown = String::new(alloc);
+        let mut last = String::new(alloc);
         for n in 0..text.len() + 1 {
             self.begin(alloc, events)?;
-            runs.push(alloc, self.after_front(alloc, &text.as_bytes()[..n])?)?;
+            let (front, back) = text.as_bytes().split_at(n);
+            self.informer.feed(front)?;
+            if word == "cuts" {
+                self.informer.feed(back)?;
+            }
+            self.informer.closed();
+            let next = self.stands_and_asks(alloc)?;
+            if next.as_str() != last.as_str() {
+                shown.push_str(format!(in alloc; "{n}: {next} | ")?.as_str())?;
+            }
+            last = next;
         }
-        Ok(runs.text)
+        Ok(shown)
     }
 
     fn marked(&mut self, alloc: Global, words: &str) -> Result<String, Fail> {
@@ -177,13 +220,11 @@ impl Play {
         let (standings, words) = words.split_once(": ").ok_or("no standings")?;
         let text = replies(alloc, words)?;
         mark(alloc)?;
-        let fed = self.informer.feed(text.as_bytes());
+        let is_refused = self.informer.feed(text.as_bytes()).is_err();
         mark(alloc)?;
-        if fed.is_err() {
+        if is_refused {
             self.given_up(alloc, standings)?;
-            for event in events.split(';') {
-                self.event(alloc, event)?;
-            }
+            self.events(alloc, events)?;
         }
         self.stands(alloc)
     }
@@ -194,78 +235,23 @@ impl Play {
         if !standings.split('|').any(|it| it == standing.as_str()) {
             return Err(Fail::new(standing));
         }
-        expect_text(trouble(alloc, &self.informer)?, "OutOfMemory")?;
+        expect_text(told(alloc, self.informer.trouble())?, "Some(OutOfMemory)")?;
         expect_text(ask(alloc, &mut self.informer)?, "/widgets?limit=2")
     }
-
-    fn after_front(&mut self, alloc: Global, front: &[u8]) -> Result<String, Fail> {
-        self.informer.feed(front)?;
-        self.informer.closed();
-        self.stands_and_asks(alloc)
-    }
 }
 
-/// Texts, each once where it comes several times in turn, behind the place where it first came.
-#[derive(Drop)]
-struct Runs {
-    text: String,
-    last: String,
-    count: usize,
-}
-
-impl Runs {
-    fn new(alloc: Global) -> Runs {
-        Runs {
-            text: String::new(alloc),
-            last: String::new(alloc),
-            count: 0,
-        }
-    }
-
-    fn push(&mut self, alloc: Global, next: String) -> Result<(), Fail> {
-        if next.as_str() != self.last.as_str() {
-            push_run(alloc, &mut self.text, self.count, next.as_str())?;
-        }
-        self.last = next;
-        self.count = self.count.saturating_add(1);
-        Ok(())
-    }
-}
-
-fn push_run(alloc: Global, text: &mut String, at: usize, next: &str) -> Result<(), AllocError> {
-    if at > 0 {
-        text.push_str(" | ")?;
-    }
-    text.push_str(at.to_string(alloc)?.as_str())?;
-    text.push_str(": ")?;
-    text.push_str(next)
-}
-
+/// The revision, how many objects there are, and how many of them the index has.
 fn standing(alloc: Global, informer: &Informer<Namespace>) -> Result<String, Fail> {
-    let mut text = match informer.revision() {
-        Some(revision) => revision.to_string(alloc)?,
-        None => String::from_str(alloc, "-")?,
-    };
-    text.push_str(" ")?;
-    text.push_str(informer.indexer().len().to_string(alloc)?.as_str())?;
-    text.push_str("=")?;
-    text.push_str(in_default(informer).to_string(alloc)?.as_str())?;
-    Ok(text)
-}
-
-/// Why the last reply was given up, or `none`.
-fn trouble(alloc: Global, informer: &Informer<Namespace>) -> Result<String, Fail> {
-    match informer.trouble() {
-        Some(trouble) => Ok(format!(in alloc; "{trouble:?}")?),
-        None => Ok(String::from_str(alloc, "none")?),
-    }
-}
-
-fn in_default(informer: &Informer<Namespace>) -> usize {
-    informer
-        .indexer()
-        .by_index("namespace", "default")
-        .map_or(0, |keys| keys.len())
+    let indexer = informer.indexer();
+    let all = indexer.by_index("namespace", "default");
+    told(
+        alloc,
+        (
+            informer.revision(),
+            indexer.len(),
+            all.map_or(0, |keys| keys.len()),
+        ),
+    )
 }
 
 fn push_notice(text: &mut String, notice: &Notice) -> Result<(), AllocError> {
@@ -309,22 +295,6 @@ fn target_of(alloc: Global, request: &[u8]) -> Result<String, Fail> {
         .strip_suffix(" HTTP/1.1\r\nHost: localhost\r\n\r\n")
         .ok_or("another head")?;
     Ok(String::from_str(alloc, target)?)
-}
-
-/// `VALUE=COUNT` of each value.
-fn counts(alloc: Global, summary: &Summary) -> Result<String, Fail> {
-    let mut text = String::new(alloc);
-    for (value, count) in summary.counts().iter() {
-        push_count(alloc, &mut text, value.as_str(), *count)?;
-    }
-    Ok(text)
-}
-
-fn push_count(alloc: Global, text: &mut String, value: &str, count: u64) -> Result<(), AllocError> {
-    text.push_str(value)?;
-    text.push_str("=")?;
-    text.push_str(count.to_string(alloc)?.as_str())?;
-    text.push_str(" ")
 }
 
 /// The lines of the apply, with bars between them.

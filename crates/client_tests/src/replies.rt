@@ -7,7 +7,7 @@ use test_rows::first_word;
 const WATCH: &str =
     "HTTP/1.1 200 OK\r\nContent-Type: application/json\r\nTransfer-Encoding: chunked\r\nConnection: close\r\n\r\n";
 
-/// The bytes that a word stands for.
+/// The bytes that a word stands for; in plain bytes `¶` is the end of a line.
 pub fn reply(alloc: Global, words: &str) -> Result<String, Fail> {
     let (word, rest) = first_word(words);
     match word {
@@ -19,7 +19,7 @@ pub fn reply(alloc: Global, words: &str) -> Result<String, Fail> {
         "text" => chunk(alloc, rest),
         "half" => half(alloc, line(alloc, rest)?.as_str()),
         "end" => Ok(String::from_str(alloc, "0\r\n\r\n")?),
-        "bytes" => Ok(String::from_str(alloc, rest)?),
+        "bytes" => Ok(rest.replace(alloc, "¶", "\r\n")?),
         _ => Err(Fail::new("no such word")),
     }
 }
