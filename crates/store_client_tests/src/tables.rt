@@ -145,7 +145,7 @@ fn anew(alloc: Global, table: &mut Table, call: &str, words: &str) -> Result<Str
         return told(alloc, true);
     }
     expect_text(seen(alloc, table)?, before.as_str())?;
-    told(alloc, change(table, call, &key, word))
+    told(alloc, change(table, call, &key, word).is_ok())
 }
 
 /// Plays an example on a table that begins at this revision. The table is not dropped, and no other function holds one: one
