@@ -1,14 +1,12 @@
 //! Tests of calls on objects and of the server's side of the wire, by public calls alone. Streams and sockets are tested in
 //! `serving_tests`, scripts in `script_tests`.
 //!
-//! Each call stands in a helper with no clause, so that a test carries few facts. All that is done to hubs are rows of text
-//! that one function plays (`hub_rows`): they cost the prover nothing, and each function some seconds.
+//! All that is done to hubs are rows of text, which functions of `test_rows` play that know nothing of a hub: rows cost the
+//! prover nothing, and here stands no more of a hub than its calls (`hub_rows`).
 #![tactic(auto)]
 
 #[cfg(test)]
 mod connections;
-#[cfg(test)]
-mod forms;
 #[cfg(test)]
 mod given;
 #[cfg(test)]

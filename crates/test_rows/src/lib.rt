@@ -1,12 +1,21 @@
-//! What crates of tests share: examples as rows of text, and the marks between which memory is refused.
+//! What crates of tests share: examples as rows of text, those of a server of connections, and the marks between which
+//! memory is refused.
 //!
 //! It stands on nothing of this repository, and no program stands on it. Nothing in it has a contract.
 #![tactic(auto)]
 
 mod marking;
+mod pieces;
+mod replies;
 mod rows;
+mod served;
+mod served_rows;
+mod texts;
 mod words;
 
 pub use marking::mark;
 pub use rows::{Answers, play, play_all};
+pub use served::Serves;
+pub use served_rows::play_served;
+pub use texts::{bytes_of, line_of, plain_bytes};
 pub use words::{expect_text, first_word, number, told};

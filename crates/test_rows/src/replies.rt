@@ -1,5 +1,7 @@
-//! The form of a reply: its head by its status, and the body of a refusal by its message.
+//! Replies as rows tell them: the status, and the body or the words that it tells. The head of a reply, and the body of a
+//! refusal that has no details, must be those of its status.
 
+use crate::texts::between;
 use std::alloc::{AllocError, Global};
 use std::test::Fail;
 
@@ -53,7 +55,7 @@ fn expect_same(text: &str, wanted: String) -> Result<(), Fail> {
 }
 
 /// The test fails, and shows what was wanted, unless a reply in one line has the head of its status and of its body's length.
-pub fn expect_head(alloc: Global, head: &str, code: &str, body: &str) -> Result<(), Fail> {
+fn expect_head(alloc: Global, head: &str, code: &str, body: &str) -> Result<(), Fail> {
     let (phrase, _) = phrase_and_reason(code).ok_or("no such status")?;
     let length = body.len();
     let wanted = format!(in alloc;
@@ -63,7 +65,28 @@ pub fn expect_head(alloc: Global, head: &str, code: &str, body: &str) -> Result<
 }
 
 /// The test fails, and shows what was wanted, unless the body of a reply is the refusal of its status with this message.
-pub fn expect_refusal(alloc: Global, body: &str, code: &str, message: &str) -> Result<(), Fail> {
+fn expect_refusal(alloc: Global, body: &str, code: &str, message: &str) -> Result<(), Fail> {
     let (_, reason) = phrase_and_reason(code).ok_or("no such status")?;
     expect_same(body, status_of(alloc, code, reason, message)?)
+}
+
+/// The status of a reply in one line, and its body, or else its message or the version of its object.
+pub fn reply_told(alloc: Global, reply: &str, is_whole: bool) -> Result<String, Fail> {
+    let (head, body) = reply.split_once("|$|$").ok_or("no reply")?;
+    let status = between(head, "HTTP/1.1 ", " ").ok_or("no status")?;
+    expect_head(alloc, head, status, body)?;
+    let message = between(body, "\"message\":\"", "\",\"metadata\":");
+    if let (Some(message), false) = (message, body.contains("\"details\":")) {
+        expect_refusal(alloc, body, status, message)?;
+    }
+    let version = between(body, "\"resourceVersion\":\"", "\"");
+    let words = message.or(version).unwrap_or("");
+    let words = if is_whole { body } else { words };
+    Ok(format!(in alloc; "{status} {words}")?)
+}
+
+/// The status of a reply, or `-`.
+pub fn status_told(alloc: Global, reply: &[u8]) -> Result<String, Fail> {
+    let reply = str::from_utf8(reply)?;
+    Ok(String::from_str(alloc, between(reply, "HTTP/1.1 ", " ").unwrap_or("-"))?)
 }
