@@ -22,7 +22,7 @@ returns-clause-steps g c = λ task w stands.
       did.2,
       record {
         refused = refuses;
-        opened = c.opened_by.ensures (refusal_of task w e) refuses ∙ ap (λ id. if opens_own e && is_none (refusal_of task w e) then id else None) (c.next_id.ensures w.hub stands.hub);
+        opened = c.opened_by.ensures (refusal_of task w e) refuses ∙ ap (λ id. if opens_own e && is_none (refusal_of task w e) then id else None) (c.next_id-next.ensures w.hub stands.hub);
         written = c.in_ok-written.ensures w.hub v.hub did.2.hub marks;
         ended = c.in_ok-ended.ensures w.hub v.hub did.2.hub marks;
         report = subst (λ (s : Setup g.row.I.Denot). AllShow (λ b o. g.I.IndexBy.keys b o) s.indexes s.names task.settings.label (option_to_list c.in_ok-report.report) (reports_after c.args.number w v)) c.in_ok-refused.ensures.setup made;
