@@ -12,5 +12,5 @@ loop-id-init c = λ s records q. ap (λ es. unwrap_or (option_map mark_seen (loo
 
 pub loop-id-preserved : goal.loop-id-preserved
 loop-id-preserved c = λ s records.
-    marks_more s c.args.ids.now c.loop-id.id-index _ _ _ _ c.loop-id-test.true refl c.in_ok-insert.ensures.updates.0
+    marks_more s c.args.ids.now c.loop-id.id-index _ c.loop-id.marks c.insert.new.self _ c.loop-id-test.true refl c.in_ok-insert.ensures.updates.0
     (ap₂ (λ n b. (n, b)) (ap length (c.written.ensures s records)) (c.ended.ensures s records)) (c.loop-id.invariant s records)
