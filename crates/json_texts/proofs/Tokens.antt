@@ -1,6 +1,7 @@
 -- One token more, behind what is written.
-use Rattle.std.proofs.Common.{◌≡◌, Bool, true, false, List, [], ◌∷◌, ◌++◌, Result, Ok, Err, OnOk, refl, sym, ap, ◌∙◌}
+use Rattle.std.proofs.Common.{◌≡◌, Bool, true, false, List, [], ◌∷◌, ◌++◌, Result, Ok, Err, OnOk, IsUtf8, ℕ, if◌then◌else◌, is_ok, refl, sym, ap, subst, ◌∙◌}
 use Rattle.std.proofs.lemmas.List.{append_assoc, append-nil}
+use Rattle.std.proofs.lemmas.Str.{IsUtf8-append}
 use Rattle.json.specs.Token.{Token}
 use Rattle.json.specs.Print.{begins, ends, ends_value, print, print_from, separator, token_text}
 use Rattle.json.specs.Written.{Written}
@@ -37,6 +38,12 @@ ended old new t stops before tokens = one_more old new t before tokens ∙ ap (�
 -- what follows a token is the writer's own again
 pub follows : (old new : List Token) (t : Token) → new ≡ old ++ t ∷ [] → Follows (ends t) false new
 follows old new t is = record { own = λ _. ap ends_value is ∙ ends_push false old t; anew = λ e. cc; due = λ e. cc }
+
+-- ---- UTF-8
+
+pub still_utf8 : {E : Type 0} (r : Result (Unit {0}) E) (old new text : List ℕ) → new ≡ (if is_ok r then old ++ text else old) → IsUtf8 text → IsUtf8 old → IsUtf8 new
+still_utf8 (Ok x) old new text is t o = subst IsUtf8 (sym is) (IsUtf8-append old text o t)
+still_utf8 (Err e) old new text is t o = subst IsUtf8 (sym is) o
 
 -- ---- a writer that begins anew
 

@@ -1,5 +1,5 @@
 -- A JSON text that is being written (RFC 8259), and what appending to it gives.
-use Rattle.std.specs.Prelude.{◌≡◌, ℕ, Bool, true, false, List, [], ◌∷◌, ◌++◌, refl}
+use Rattle.std.specs.Prelude.{◌≡◌, ℕ, Bool, true, false, List, [], ◌∷◌, ◌++◌, IsUtf8, refl}
 use Rattle.std.specs.Coded.{Coded, code_by, coded×, coded_list, coded_ℕ, coded_bool}
 use Rattle.json.specs.Print.{quoted, print, ends_value}
 use Rattle.json.specs.Token.{Token}
@@ -49,3 +49,8 @@ pub record Follows (later is_behind_text : Bool) (ts : List Token) : Type 0 wher
   pub own : is_behind_text ≡ false → ends_value ts ≡ later
   pub anew : is_behind_text ≡ true → ts ≡ []
   pub due : is_behind_text ≡ true → later ≡ true
+
+-- that, and that the bytes are UTF-8: tokens are always
+pub record IsWriting (later is_behind_text : Bool) (w : Written) : Type 0 where
+  pub follows : Follows later is_behind_text w.tokens
+  pub utf8 : IsUtf8 w.before

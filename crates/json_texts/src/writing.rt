@@ -1,7 +1,7 @@
 //! JSON texts written token by token, with the commas that the JSON library puts; the text of a value that is there already
 //! is taken as it is. They are read in `reading`.
 
-ghost use Rattle.std.specs.Prelude.{◌≡◌, ◌++◌, ◌∷◌, [], false, Bool, IfOk, OnOk};
+ghost use Rattle.std.specs.Prelude.{◌≡◌, ◌++◌, ◌∷◌, [], false, Bool, IfOk, IsUtf8, OnOk, string_bytes};
 ghost use Rattle.json.specs.Print.{ends_value};
 ghost use Rattle.serde_json.specs.Data.{object, string};
 ghost use Rattle.serde_json.specs.View.{members_view, view};
@@ -25,7 +25,7 @@ pub struct TextWriter {
 }
 
 impl Model for TextWriter {
-    ghost use Rattle.json_texts.specs.Writing.{Follows, Writing, bytes_of, writing_code};
+    ghost use Rattle.json_texts.specs.Writing.{IsWriting, Writing, bytes_of, writing_code};
 
     ghost Value = { Writing };
 
@@ -33,28 +33,40 @@ impl Model for TextWriter {
 
     ghost view = { λ w. record { text = bytes_of w.writer; later = w.is_later } };
 
-    ghost invariant = { λ w. Follows w.is_later w.is_behind_text w.writer.tokens };
+    ghost invariant = { λ w. IsWriting w.is_later w.is_behind_text w.writer };
 }
 
 /// The bytes that were written.
 fn taken(writer: &mut Writer, alloc: Global) -> Vec<u8>
     ensures bytes { result.items ≡ bytes_of writer.old }
+    ensures utf8 { IsUtf8 writer.old.before → IsUtf8 result.items }
 {
     mem::replace(writer, Writer::new(Vec::new(alloc))).into_inner()
 }
 
-/// Appends a text, behind a comma where one is due.
-fn extend(all: &mut Vec<u8>, later: bool, text: &[u8]) -> Result<(), AllocError>
-    ensures { OnOk result (all.new.items ≡ all.old.items ++ (comma_if later ++ text.now)) }
+/// Appends a comma where one is due.
+fn push_comma(all: &mut Vec<u8>, later: bool) -> Result<(), AllocError>
+    ensures utf8 { IsUtf8 all.old.items → IsUtf8 all.new.items }
+    ensures appended { OnOk result (all.new.items ≡ all.old.items ++ comma_if later) }
 {
     if later {
-        all.push(b',')?;
+        return all.extend_from_slice(",".as_bytes());
     }
-    all.extend_from_slice(text)
+    Ok(())
+}
+
+/// Appends a text, behind a comma where one is due.
+fn extend(all: &mut Vec<u8>, later: bool, text: &str) -> Result<(), AllocError>
+    ensures utf8 { IsUtf8 all.old.items → IsUtf8 all.new.items }
+    ensures appended { OnOk result (all.new.items ≡ all.old.items ++ (comma_if later ++ text.now)) }
+{
+    push_comma(all, later)?;
+    all.extend_from_slice(text.as_bytes())
 }
 
 /// Appends a text, behind a comma where one is due; the writer begins anew behind it.
-fn append(writer: &mut Writer, alloc: Global, later: bool, text: &[u8]) -> Result<(), AllocError>
+fn append(writer: &mut Writer, alloc: Global, later: bool, text: &str) -> Result<(), AllocError>
+    ensures utf8 { IsUtf8 writer.old.before → IsUtf8 writer.new.before }
     ensures bytes { OnOk result (bytes_of writer.new ≡ bytes_of writer.old ++ (comma_if later ++ text.now)) }
     ensures anew { writer.new.tokens ≡ [] }
 {
@@ -66,12 +78,13 @@ fn append(writer: &mut Writer, alloc: Global, later: bool, text: &[u8]) -> Resul
 
 /// Puts the comma that is due behind a text that was taken as it is.
 fn settle(writer: &mut Writer, alloc: Global, is_behind_text: bool) -> Result<(), AllocError>
+    ensures utf8 { IsUtf8 writer.old.before → IsUtf8 writer.new.before }
     ensures kept { (later : Bool) → Follows later is_behind_text writer.old.tokens → Follows later is_behind_text writer.new.tokens }
     ensures settled { OnOk result ((later : Bool) → Follows later is_behind_text writer.old.tokens
         → bytes_of writer.new ++ comma_if (ends_value writer.new.tokens) ≡ bytes_of writer.old ++ comma_if later) }
 {
     if is_behind_text {
-        return append(writer, alloc, true, b"");
+        return append(writer, alloc, true, "");
     }
     Ok(())
 }
@@ -153,7 +166,7 @@ impl TextWriter {
     }
 
     /// Appends a value by its text, which is taken as it is.
-    pub fn raw(&mut self, alloc: Global, text: &[u8]) -> Result<(), AllocError>
+    pub fn raw(&mut self, alloc: Global, text: &str) -> Result<(), AllocError>
         ensures { OnOk result (self.new ≡ with_text text.now self.old) }
     {
         let later = self.is_later;
@@ -171,8 +184,8 @@ impl TextWriter {
         match value {
             Value::Object(members) => self.object(alloc, members),
             _ => {
-                let text = value.to_vec(alloc)?;
-                self.raw(alloc, text.as_slice())
+                let text = value.to_string(alloc)?;
+                self.raw(alloc, text.as_str())
             }
         }
     }
@@ -190,10 +203,13 @@ impl TextWriter {
         self.end_object()
     }
 
-    /// The bytes.
-    pub fn into_bytes(self) -> Vec<u8>
-        ensures { result.items ≡ self.text }
+    /// The text.
+    pub fn into_text(self) -> String
+        ensures { string_bytes result ≡ self.text }
     {
-        self.writer.into_inner()
+        match String::from_utf8(self.writer.into_inner()) {
+            Ok(text) => text,
+            Err(_) => unreachable!(),
+        }
     }
 }

@@ -25,17 +25,6 @@ use std::alloc::{AllocError, Global};
 /// Room for the text of most objects.
 const ROOM: usize = 1024;
 
-/// The text of these bytes. Each part that is written here is UTF-8, so that they are; no contract says so, and the other
-/// case answers out of memory.
-fn text_of(bytes: Vec<u8>) -> Result<String, AllocError>
-    ensures { IfOk result (λ t. string_bytes t ≡ bytes.items) }
-{
-    match String::from_utf8(bytes) {
-        Ok(text) => Ok(text),
-        Err(_) => Err(AllocError),
-    }
-}
-
 impl Owned {
     /// Writes the members of these fields up to `metadata`, with the type among them.
     fn write_type(
@@ -95,36 +84,36 @@ impl Owned {
         out.end_object()
     }
 
-    /// The bytes of the object's text, where what is printed of `metadata` is at hand.
-    fn bytes_with(
+    /// The object's text, where what is printed of `metadata` is at hand.
+    fn text_with(
         &self,
         alloc: Global,
         schema: &Schema,
         envelope: Envelope<'_>,
         metadata_members: Map<String, Value>,
         capacity: usize,
-    ) -> Result<Vec<u8>, AllocError>
+    ) -> Result<String, AllocError>
         ensures { is_lawful (shape schema.now) ≡ true → IsContent (shape schema.now) self.now.tree → members_view metadata_members.entries ≡ texts.metadata_members (print (shape schema.now) self.now.tree)
-            → IfOk result (λ v. v.items ≡ object_text (shape schema.now) (identity_of envelope.entry.of) envelope.entry.version (state_of self.now)) }
+            → IfOk result (λ t. string_bytes t ≡ object_text (shape schema.now) (identity_of envelope.entry.of) envelope.entry.version (state_of self.now)) }
     {
         let mut out = TextWriter::with_capacity(alloc, capacity)?;
         self.write_object(&mut out, alloc, schema, envelope, metadata_members)?;
-        Ok(out.into_bytes())
+        Ok(out.into_text())
     }
 
-    /// The bytes of the object's text, with room for so many from the start.
-    pub(crate) fn object_bytes(
+    /// The object's text, with room for so many bytes from the start.
+    pub(crate) fn sized_text(
         &self,
         alloc: Global,
         schema: &Schema,
         envelope: Envelope<'_>,
         capacity: usize,
-    ) -> Result<Vec<u8>, AllocError>
+    ) -> Result<String, AllocError>
         ensures { is_lawful (shape schema.now) ≡ true → IsContent (shape schema.now) self.now.tree
-            → IfOk result (λ v. v.items ≡ object_text (shape schema.now) (identity_of envelope.entry.of) envelope.entry.version (state_of self.now)) }
+            → IfOk result (λ t. string_bytes t ≡ object_text (shape schema.now) (identity_of envelope.entry.of) envelope.entry.version (state_of self.now)) }
     {
         let metadata_members = self.printed_metadata(alloc, schema)?;
-        self.bytes_with(alloc, schema, envelope, metadata_members, capacity)
+        self.text_with(alloc, schema, envelope, metadata_members, capacity)
     }
 
     /// The object's text as `to_object` answers it, and how many labels it has, whatever its key and version: of one print.
@@ -142,8 +131,7 @@ impl Owned {
         let metadata_members = self.printed_metadata(alloc, schema)?;
         let labels = count_labels(&metadata_members);
         let envelope = Envelope { of, version };
-        let bytes = self.bytes_with(alloc, schema, envelope, metadata_members, ROOM)?;
-        let text = text_of(bytes)?;
+        let text = self.text_with(alloc, schema, envelope, metadata_members, ROOM)?;
         Ok((text, labels))
     }
 
@@ -158,6 +146,6 @@ impl Owned {
         ensures { is_lawful (shape schema.now) ≡ true → IsContent (shape schema.now) self.now.tree
             → IfOk result (λ t. string_bytes t ≡ object_text (shape schema.now) (identity_of of.entry) version (state_of self.now)) }
     {
-        text_of(self.object_bytes(alloc, schema, Envelope { of, version }, ROOM)?)
+        self.sized_text(alloc, schema, Envelope { of, version }, ROOM)
     }
 }

@@ -84,11 +84,10 @@ fn all_stand_in(tree: &Tree, entries: &[Entry]) -> bool
 /// How many bytes the JSON library's writer wants free behind a whole text, so that it doesn't grow at its end.
 const AHEAD: usize = 8;
 
-/// Whether these bytes are the text's.
-fn are_of(bytes: &[u8], text: &str) -> bool
-    ensures { result ≡ bytes_eq bytes.now text.now }
+fn are_same(printed: &str, text: &str) -> bool
+    ensures { result ≡ bytes_eq printed.now text.now }
 {
-    bytes == text.as_bytes()
+    printed == text
 }
 
 impl Owned {
@@ -118,8 +117,8 @@ impl Owned {
             return Err(ObjectFault::NotCanonical);
         }
         let room = text.len().saturating_add(AHEAD);
-        let printed = owned.object_bytes(alloc, schema, Envelope { of, version }, room)?;
-        if are_of(printed.as_slice(), text) {
+        let printed = owned.sized_text(alloc, schema, Envelope { of, version }, room)?;
+        if are_same(printed.as_str(), text) {
             return Ok((owned, version));
         }
         Err(ObjectFault::NotCanonical)

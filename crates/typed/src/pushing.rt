@@ -34,7 +34,7 @@ fn push_held(out: &mut TextWriter, alloc: Global, held: &Held) -> Result<(), All
 {
     match held {
         Held::Text(text) => out.string(alloc, text.as_str()),
-        Held::Plain(text) => out.raw(alloc, text.as_str().as_bytes()),
+        Held::Plain(text) => out.raw(alloc, text.as_str()),
         _ => {
             let value = print_held(alloc, held)?;
             push_some(out, alloc, &value)

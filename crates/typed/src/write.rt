@@ -100,7 +100,7 @@ fn write_item(
 {
     match inner {
         Schema::Struct(fields, _) => write_object(fields, alloc, name, keys, below, out),
-        _ => out.raw(alloc, keys.as_bytes()),
+        _ => out.raw(alloc, keys),
     }
 }
 
@@ -119,11 +119,11 @@ fn write_object(
         → OnOk result (out.new ≡ with_text (compact_text (object (print_fields (fields_in fields.now) (content below.now) (member name.now d no_members)))) out.old) }
 {
     if below.children().len() == 0 {
-        return out.raw(alloc, keys.as_bytes());
+        return out.raw(alloc, keys);
     }
     out.begin_object(alloc)?;
     write_fields(fields, alloc, None, Some(name), below, out)?;
-    out.raw(alloc, within_braces(keys.as_bytes()))?;
+    out.raw(alloc, within_braces(keys))?;
     write_fields(fields, alloc, Some(name), None, below, out)?;
     out.end_object()
 }

@@ -19,7 +19,7 @@ fn push_scalar(out: &mut TextWriter, alloc: Global, element: &ElemText) -> Resul
     ensures { IsScalarElement (string_bytes element.now) → OnOk result (out.new ≡ with_value (scalar_in (string_bytes element.now)) out.old) }
 {
     match element.scalar_json() {
-        Some(text) => out.raw(alloc, text.as_bytes()),
+        Some(text) => out.raw(alloc, text),
         None => Ok(()),
     }
 }
@@ -49,11 +49,14 @@ pub(crate) fn write_set(
 }
 
 /// What stands between the braces of an object's text.
-pub(crate) fn within_braces(text: &[u8]) -> &[u8]
+pub(crate) fn within_braces(text: &str) -> &str
     ensures { (members : List ℕ) → text.now ≡ 123 ∷ (members ++ 125 ∷ []) → result.now ≡ members }
 {
-    if text.len() < 2 {
+    let Some(rest) = text.strip_prefix('{') else {
         return text;
-    }
-    &text[1..text.len() - 1]
+    };
+    let Some(members) = rest.strip_suffix('}') else {
+        return text;
+    };
+    members
 }

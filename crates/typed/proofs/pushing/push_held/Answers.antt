@@ -12,5 +12,5 @@ returns-in-Plain c = λ writable.
     let compact = (subst (λ h. IsWritable (Some (standing h))) c.in-Plain.is writable).1 in
     let out = c.args.out.now in
     weaker c.raw.result
-    (λ wrote. wrote ∙ ap (λ t. with_text t out) (c.as_bytes.ensures.value ∙ c.as_str-in-Plain.ensures.value ∙ compact.2) ∙ sym (ap (λ o. with_value o out) compact.1)
+    (λ wrote. wrote ∙ ap (λ t. with_text t out) (c.as_str-in-Plain.ensures.value ∙ compact.2) ∙ sym (ap (λ o. with_value o out) compact.1)
     ∙ sym (ap (λ h. with_value (value_of (standing h)) out) c.in-Plain.is)) c.raw.ensures

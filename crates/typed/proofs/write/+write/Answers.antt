@@ -113,7 +113,7 @@ pub write_object-returns-then-children-eq0 : goal.write_object-returns-then-chil
 write_object-returns-then-children-eq0 t c = λ d is fit.
     let below = content c.args.below.now in
     let alone = no_fields_below (fields_in c.args.fields.now) below c.children.result.now (member c.args.name.now d no_members) c.children.ensures (none_left c.children.result.now c.if-children-eq0.true) in
-    let whole = c.as_bytes.ensures.value ∙ is ∙ ap (λ ms. compact_text (object ms)) (sym alone) in
+    let whole = is ∙ ap (λ ms. compact_text (object ms)) (sym alone) in
     weaker c.raw.result (λ wrote. wrote ∙ ap (λ t. with_text t c.args.out.now) whole) c.raw.ensures
 
 pub write_object-returns : goal.write_object-returns
@@ -122,7 +122,7 @@ write_object-returns t c = λ d is fit.
     let all = fields_in c.args.fields.now in
     let below = content c.args.below.now in
     let lower = c.in_ok-write_fields.ensures fit.0 ∙ ap (with_fields (fields_between None (Some n) all) below) c.in_ok-begin_object.ensures in
-    let within = c.within_braces.ensures (quoted n ++ 58 ∷ compact_text d) (c.as_bytes-2.ensures.value ∙ member_within n c.args.keys.now d is) in
+    let within = c.within_braces.ensures (quoted n ++ 58 ∷ compact_text d) (member_within n c.args.keys.now d is) in
     let key = c.in_ok-raw.ensures ∙ ap (λ t. with_text t c.write_fields.new.out) within in
     weaker c.end_object.result
     (λ closed. closed ∙ key_wrote n d all below c.args.out.now c.write_fields.new.out c.raw-2.new.self c.write_fields-2.new.out fit lower key (c.in_ok-write_fields-2.ensures fit.0))

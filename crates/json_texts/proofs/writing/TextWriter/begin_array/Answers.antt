@@ -6,5 +6,5 @@ use Rattle.json_texts.proofs.writing.TextWriter.begin_array.Goals as goal
 
 pub returns : goal.returns
 returns c =
-    let text = begun c.self.inside.writer c.settle.new.writer c.begin_array.new.self c.self.inside.is_later (begin_array) refl (c.in_ok-settle.ensures.settled c.self.inside.is_later c.self.invariant) c.in_ok-begin_array.ensures.room.0 c.in_ok-begin_array.ensures.ok in
+    let text = begun c.self.inside.writer c.settle.new.writer c.begin_array.new.self c.self.inside.is_later (begin_array) refl (c.in_ok-settle.ensures.settled c.self.inside.is_later c.self.invariant.follows) c.in_ok-begin_array.ensures.room.0 c.in_ok-begin_array.ensures.ok in
     (λ i. record { text = text i; later = false }) ∙ ap (with_opening 91) c.self.view_is

@@ -1,4 +1,4 @@
-use Rattle.std.proofs.Common.{Global, ◌∙◌, sym, true≢false}
+use Rattle.std.proofs.Common.{Global, ◌∙◌, string_bytes, sym, true≢false}
 use Rattle.std.specs.Cmp.Lexicographic.{bytes_decides}
 use Rattle.json.specs.Value.{value_view}
 use Rattle.json_texts.specs.InOrder.{data_of}
@@ -29,14 +29,14 @@ returns-then-not-owned_stand c = λ shaped.
     not_standing (shape c.args.schema.now) (identity_of c.args.of) c.args.text.now shaped (data_of (value_view c.in_ok-value.value)) c.in_ok-value.ensures.value (state_of c.in_ok-owned.owned) c.in_ok-owned.version c.in_ok-owned.ensures
     (λ stand. true≢false (sym (c.owned_stand.ensures.1 stand) ∙ c.if-not-owned_stand.true))
 
-pub returns-then-are_of : goal.returns-then-are_of
-returns-then-are_of c = λ shaped.
-    read_back (shape c.args.schema.now) (identity_of c.args.of) c.args.text.now shaped (data_of (value_view c.in_ok-value.value)) (state_of c.in_ok-owned.owned) c.in_ok-owned.version c.in_ok-printed.printed.items c.in_ok-value.ensures.value c.in_ok-owned.ensures
+pub returns-then-are_same : goal.returns-then-are_same
+returns-then-are_same c = λ shaped.
+    read_back (shape c.args.schema.now) (identity_of c.args.of) c.args.text.now shaped (data_of (value_view c.in_ok-value.value)) (state_of c.in_ok-owned.owned) c.in_ok-owned.version (string_bytes c.in_ok-printed.printed) c.in_ok-value.ensures.value c.in_ok-owned.ensures
     (c.owned_stand.ensures.0 c.if-not-owned_stand.false) c.in_ok-printed.ensures
-    (sym c.as_slice.ensures.value ∙ (bytes_decides c.as_slice.result.now c.args.text.now).0 (sym c.are_of.ensures ∙ c.if-are_of.true))
+    (sym c.as_str.ensures.value ∙ (bytes_decides c.as_str.result.now c.args.text.now).0 (sym c.are_same.ensures ∙ c.if-are_same.true))
 
 pub returns : goal.returns
 returns c = λ shaped.
     not_printed (shape c.args.schema.now) (identity_of c.args.of) c.args.text.now shaped (data_of (value_view c.in_ok-value.value)) c.in_ok-value.ensures.value (state_of c.in_ok-owned.owned) c.in_ok-owned.version c.in_ok-owned.ensures
-    c.in_ok-printed.printed.items c.in_ok-printed.ensures
-    (λ same. true≢false (sym ((bytes_decides c.as_slice.result.now c.args.text.now).1 (c.as_slice.ensures.value ∙ same)) ∙ sym c.are_of.ensures ∙ c.if-are_of.false))
+    (string_bytes c.in_ok-printed.printed) c.in_ok-printed.ensures
+    (λ same. true≢false (sym ((bytes_decides c.as_str.result.now c.args.text.now).1 (c.as_str.ensures.value ∙ same)) ∙ sym c.are_same.ensures ∙ c.if-are_same.false))
