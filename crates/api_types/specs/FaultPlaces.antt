@@ -7,9 +7,8 @@ use Rattle.std.specs.List.{All}
 use Rattle.serde_json.specs.Data.{Data, Items, no_items, item, Members}
 use Rattle.serde_json.specs.Find.{get_item, get_member, as_object}
 use Rattle.json_values.specs.Members.{members_at}
-use Rattle.api_types.specs.Forms.{Form, known_form}
-use Rattle.api_types.specs.Keywords.{has_only, keywords}
-use Rattle.api_types.specs.Refusals.{Refusal, unknown_keyword, misfit, and_then, some_or}
+use Rattle.api_types.specs.Forms.{Form, known_form, own_form}
+use Rattle.api_types.specs.Refusals.{Refusal, misfit, and_then, some_or}
 use Rattle.api_types.specs.Seen.{Fails, Tells}
 use Rattle.api_types.specs.TypesFile.{ServedShape, listed, type_of, type_properties}
 use Rattle.api_types.specs.declared.fault.TypesFault.{TypesFault}
@@ -25,36 +24,65 @@ behind (step.Property name) ms = option_and_then (get_member (string_bytes name)
 behind step.Values ms = get_member (codes "additionalProperties") ms
 behind step.Items ms = get_member (codes "items") ms
 
--- the keywords of a schema are known
-abbrev pub has_known : Members → Result (Unit {0}) Refusal
-has_known ms = if has_only keywords ms then Ok tt else Err unknown_keyword
-
--- what a schema's own keywords say at a depth, those that are unknown apart, or the rule that they break; at depth 1, a type's
+-- what a schema's own keywords say at a depth, its form read in this way, or the rule that they break; at depth 1, a type's
 -- schema, they are those of a granular object with properties
-abbrev pub says : ℕ → Members → Result Form Refusal
-says depth ms = and_then (known_form depth ms) (λ form. if depth == 1 && not (is_some (type_properties form ms)) then Err misfit else Ok form)
+abbrev pub says : (ℕ → Members → Result Form Refusal) → ℕ → Members → Result Form Refusal
+says form_at depth ms = and_then (form_at depth ms) (λ form. if depth == 1 && not (is_some (type_properties form ms)) then Err misfit else Ok form)
 
--- a schema at a depth breaks the rule of the fault behind these steps: a keyword is unknown, or else the others break it
-abbrev pub BreaksAt : TypesFault → ℕ → List Step → Data → Type 0
-BreaksAt fault depth [] d = Fails fault (and_then (some_or misfit (as_object d)) has_known) ⊎ Fails fault (and_then (some_or misfit (as_object d)) (says depth))
-BreaksAt fault depth (step ∷ steps) d = (part : Data) × (option_and_then (behind step) (as_object d) ≡ Some part) × BreaksAt fault (suc depth) steps part
+-- the fault by which reading ends at the own keywords of a schema at a depth; one that is unknown comes before all others
+abbrev pub EndsReading : TypesFault → ℕ → Data → Type 0
+EndsReading fault depth d = Fails fault (and_then (some_or misfit (as_object d)) (says own_form depth))
 
--- each of these parts of a schema at a depth breaks its rule
+-- the known ones of its own keywords break the rule of the fault
+abbrev pub BreaksKnown : TypesFault → ℕ → Data → Type 0
+BreaksKnown fault depth d = Fails fault (and_then (some_or misfit (as_object d)) (says known_form depth))
+
+-- its own keywords break the rule, by which reading ends or beside one that is unknown
+abbrev pub Breaks : TypesFault → ℕ → Data → Type 0
+Breaks fault depth d = EndsReading fault depth d ⊎ BreaksKnown fault depth d
+
+-- a schema at a depth breaks the rule of the fault behind these steps, in this sense
+abbrev pub BreaksAt : (TypesFault → ℕ → Data → Type 0) → TypesFault → ℕ → List Step → Data → Type 0
+BreaksAt breaks fault depth [] d = breaks fault depth d
+BreaksAt breaks fault depth (step ∷ steps) d = (part : Data) × (option_and_then (behind step) (as_object d) ≡ Some part) × BreaksAt breaks fault (suc depth) steps part
+
+-- of a list, the first, if there is one
+abbrev pub FirstIs : {X : Type 0} → (X → Type 0) → List X → Type 0
+FirstIs is [] = ⊤
+FirstIs is (x ∷ xs) = is x
+
+-- this part of a schema at a depth breaks its rule
+abbrev pub IsBroken : (TypesFault → ℕ → Data → Type 0) → ℕ → Data → Broken → Type 0
+IsBroken breaks depth d broken = BreaksAt breaks broken.fault depth broken.part.steps.items d
+
+-- each of these parts does, the first so that reading ends there
 abbrev pub AreBroken : ℕ → Data → List Broken → Type 0
-AreBroken depth d = All (λ broken. BreaksAt broken.fault depth broken.part.steps.items d)
+AreBroken depth d all = All (IsBroken Breaks depth d) all × FirstIs (IsBroken EndsReading depth d) all
 
 -- a type breaks it behind these steps from its schema, or else as a whole
-abbrev pub TypeBreaks : TypesFault → Option (List Step) → Data → Type 0
-TypeBreaks fault None t = Fails fault (type_of t)
-TypeBreaks fault (Some steps) t = (schema : Data) × (option_and_then (get_member (codes "schema")) (as_object t) ≡ Some schema) × BreaksAt fault 1 steps schema
+abbrev pub TypeBreaks : (TypesFault → ℕ → Data → Type 0) → TypesFault → Option (List Step) → Data → Type 0
+TypeBreaks breaks fault None t = Fails fault (type_of t)
+TypeBreaks breaks fault (Some steps) t = (schema : Data) × (option_and_then (get_member (codes "schema")) (as_object t) ≡ Some schema) × BreaksAt breaks fault 1 steps schema
 
--- each of these parts of its schema breaks its rule
+-- this part of a type's schema breaks its rule
+abbrev pub IsBrokenIn : (TypesFault → ℕ → Data → Type 0) → Data → Broken → Type 0
+IsBrokenIn breaks t broken = TypeBreaks breaks broken.fault (Some broken.part.steps.items) t
+
+-- each of these does, the first so that reading ends there
 abbrev pub AreBrokenIn : Data → List Broken → Type 0
-AreBrokenIn t = All (λ broken. TypeBreaks broken.fault (Some broken.part.steps.items) t)
+AreBrokenIn t all = All (IsBrokenIn Breaks t) all × FirstIs (IsBrokenIn EndsReading t) all
+
+-- what is told of a part of the schema of the type of this number
+abbrev pub IsPlaced : ℕ → Broken → PlacedFault → Type 0
+IsPlaced n broken told = (told.fault ≡ broken.fault) × (told.place.number ≡ n) × (option_map (λ part. part.steps.items) told.place.part ≡ Some broken.part.steps.items)
 
 -- of the type of this number, which breaks its rule there
-abbrev pub IsToldOf : ℕ → Data → PlacedFault → Type 0
-IsToldOf n t told = (told.place.number ≡ n) × TypeBreaks told.fault (option_map (λ part. part.steps.items) told.place.part) t
+abbrev pub IsToldOf : (TypesFault → ℕ → Data → Type 0) → ℕ → Data → PlacedFault → Type 0
+IsToldOf breaks n t told = (told.place.number ≡ n) × TypeBreaks breaks told.fault (option_map (λ part. part.steps.items) told.place.part) t
+
+-- each of these is, the first so that reading ends there
+abbrev pub AreToldOf : ℕ → Data → List PlacedFault → Type 0
+AreToldOf n t all = All (IsToldOf Breaks n t) all × FirstIs (IsToldOf EndsReading n t) all
 
 -- the fault that a type is refused for; none where it is read
 abbrev pub IsRefusedBy : Result ServedShape Refusal → Option TypesFault → Type 0
@@ -71,7 +99,7 @@ BeginsBy (Err e) (told ∷ others) = Tells told.fault e
 
 -- what is told of a type
 abbrev pub TellsType : ℕ → Data → List PlacedFault → Type 0
-TellsType n t all = BeginsBy (type_of t) all × All (IsToldOf n t) all
+TellsType n t all = BeginsBy (type_of t) all × AreToldOf n t all
 
 -- of types in turn, numbered from here
 abbrev pub TellsTypes : ℕ → Items → List PlacedFault → Type 0
@@ -84,9 +112,17 @@ TellsFile (Ok ts) all = TellsTypes 0 ts all
 TellsFile (Err e) all = all ≡ []
 
 -- of these types, the one of the place's number breaks the rule of the fault there
-abbrev pub IsPlaceAmong : TypesFault → FaultPlace → Items → Type 0
-IsPlaceAmong fault place ts = (t : Data) × (get_item place.number ts ≡ Some t) × TypeBreaks fault (option_map (λ part. part.steps.items) place.part) t
+abbrev pub IsPlaceAmong : (TypesFault → ℕ → Data → Type 0) → TypesFault → FaultPlace → Items → Type 0
+IsPlaceAmong breaks fault place ts = (t : Data) × (get_item place.number ts ≡ Some t) × TypeBreaks breaks fault (option_map (λ part. part.steps.items) place.part) t
 
--- the file lists types, of which one does
-abbrev pub IsPlaceOf : TypesFault → FaultPlace → Data → Type 0
-IsPlaceOf fault place file = (ts : Items) × (listed file ≡ Ok ts) × IsPlaceAmong fault place ts
+-- each of these faults has its place there, the first so that reading ends at it
+abbrev pub ArePlacesAmong : Items → List PlacedFault → Type 0
+ArePlacesAmong ts all = All (λ told. IsPlaceAmong Breaks told.fault told.place ts) all × FirstIs (λ told. IsPlaceAmong EndsReading told.fault told.place ts) all
+
+-- the file lists types, of which one breaks the rule there
+abbrev pub IsPlaceOf : (TypesFault → ℕ → Data → Type 0) → TypesFault → FaultPlace → Data → Type 0
+IsPlaceOf breaks fault place file = (ts : Items) × (listed file ≡ Ok ts) × IsPlaceAmong breaks fault place ts
+
+-- each of these faults has its place in the file, the first so that reading ends at it
+abbrev pub ArePlacesOf : Data → List PlacedFault → Type 0
+ArePlacesOf file all = All (λ told. IsPlaceOf Breaks told.fault told.place file) all × FirstIs (λ told. IsPlaceOf EndsReading told.fault told.place file) all

@@ -1,12 +1,13 @@
 //! Finds where a types file breaks rules, in the order in which the file is read. The reading itself stands in `file` and
 //! `read`.
-ghost use Rattle.std.specs.Prelude.{◌≡◌, ◌≤◌, ◌+◌, ℕ, List, ◌∷◌, [], IfOk, IfSome, None, Some, codes, is_some, option_map, true, ◌++◌};
+ghost use Rattle.std.specs.Prelude.{◌≡◌, ◌≤◌, ◌+◌, ℕ, List, ◌∷◌, [], IfOk, IfSome, None, Some, codes, is_some, true, ◌++◌};
 ghost use Rattle.std.specs.List.{All};
 ghost use Rattle.serde_json.specs.Data.{Data, Members, object};
 ghost use Rattle.serde_json.specs.Find.{as_object, get_member};
 ghost use Rattle.json_values.specs.Members.{members_at};
 ghost use Rattle.serde_json.specs.View.{items_view, members_view, view};
-ghost use Rattle.api_types.specs.FaultPlaces.{AreBroken, AreBrokenIn, BreaksAt, IsPlaceAmong, IsPlaceOf, IsRefusedBy, IsToldOf, TellsFile, TellsType, TellsTypes, TypeBreaks, behind};
+ghost use Rattle.api_types.specs.FaultPlaces.{AreBroken, AreBrokenIn, ArePlacesAmong, ArePlacesOf, AreToldOf, Breaks, BreaksAt, BreaksKnown, EndsReading, IsBroken, IsPlaced, IsRefusedBy, TellsFile, TellsType, TellsTypes, behind};
+ghost use Rattle.api_types.specs.Keywords.{has_only, keywords};
 ghost use Rattle.api_types.specs.TypesFile.{listed, type_of, type_properties};
 ghost use Rattle.api_types.specs.Seen.{form_view};
 ghost use Rattle.api_types.specs.declared.fault_place.PlacedFault.{PlacedFault};
@@ -55,13 +56,14 @@ fn unknown_keywords(
     depth: usize,
     schema: &Map<String, Value>,
 ) -> Result<Vec<Broken>, AllocError>
-    ensures { IfOk result (λ v. AreBroken depth (object (members_view schema.now.entries)) v.items) }
+    ensures ends { IfOk result (λ v. All (IsBroken EndsReading depth (object (members_view schema.now.entries))) v.items) }
+    ensures known { IfOk result (λ v. v.items ≡ [] → has_only keywords (members_view schema.now.entries) ≡ true) }
 {
     let mut found = Vec::new(alloc);
     if has_only(schema, &KEYWORDS) {
         return Ok(found);
     }
-    for name in schema.keys() {
+    for (name, _) in schema.iter() {
         if !is_in(&KEYWORDS, name.as_str()) {
             let word = Some(name.as_str());
             found.push(here(alloc, TypesFault::UnknownKeyword, word, false)?)?;
@@ -98,7 +100,7 @@ fn form_fault(
     depth: usize,
     schema: &Map<String, Value>,
 ) -> Result<Option<Broken>, AllocError>
-    ensures { IfOk result (λ o. IfSome o (λ broken. BreaksAt broken.fault depth broken.part.steps.items (object (members_view schema.now.entries)))) }
+    ensures { IfOk result (λ o. IfSome o (λ broken. (broken.part.steps.items ≡ []) × BreaksKnown broken.fault depth (object (members_view schema.now.entries)))) }
 {
     let form = match known_form(alloc, depth, schema) {
         Ok(form) => form,
@@ -120,14 +122,17 @@ fn own_faults(
     ensures { IfOk result (λ v. AreBroken depth (object (members_view schema.now.entries)) v.items) }
 {
     let mut found = unknown_keywords(alloc, depth, schema)?;
-    if let Some(broken) = form_fault(alloc, depth, schema)? {
-        found.push(broken)?;
-    }
+    let Some(broken) = form_fault(alloc, depth, schema)? else {
+        return Ok(found);
+    };
+    found.push(broken)?;
     Ok(found)
 }
 
 fn joined(front: Vec<Broken>, rest: Vec<Broken>) -> Result<Vec<Broken>, AllocError>
-    ensures { IfOk result (λ v. v.items ≡ front.items ++ rest.items) }
+    ensures order { IfOk result (λ v. v.items ≡ front.items ++ rest.items) }
+    ensures broken { (depth : ℕ) (d : Data) → AreBroken depth d front.items → AreBroken depth d rest.items
+        → IfOk result (λ v. AreBroken depth d v.items) }
 {
     let mut all = front;
     let mut rest = rest;
@@ -146,8 +151,10 @@ fn no_object(alloc: Global) -> Result<Vec<Broken>, AllocError>
 
 /// The same behind one step more.
 fn one_behind(step: &Step, broken: Broken) -> Result<Broken, AllocError>
-    ensures { (depth : ℕ) (ms : Members) (d : Data) → behind step.now ms ≡ Some d → BreaksAt broken.fault (depth + 1) broken.part.steps.items d
-        → IfOk result (λ more. BreaksAt more.fault depth more.part.steps.items (object ms)) }
+    ensures breaks { (depth : ℕ) (ms : Members) (d : Data) → behind step.now ms ≡ Some d → BreaksAt Breaks broken.fault (depth + 1) broken.part.steps.items d
+        → IfOk result (λ more. BreaksAt Breaks more.fault depth more.part.steps.items (object ms)) }
+    ensures ends { (depth : ℕ) (ms : Members) (d : Data) → behind step.now ms ≡ Some d → BreaksAt EndsReading broken.fault (depth + 1) broken.part.steps.items d
+        → IfOk result (λ more. BreaksAt EndsReading more.fault depth more.part.steps.items (object ms)) }
 {
     let mut broken = broken;
     let step = step.try_copy()?;
@@ -296,8 +303,7 @@ fn placed(
     fault: TypesFault,
     part: Option<Part>,
 ) -> Result<PlacedFault, AllocError>
-    ensures fault { IfOk result (λ told. told.fault ≡ fault) }
-    ensures told { TypeBreaks fault (option_map (λ p. p.steps.items) part) (view value.now) → IfOk result (IsToldOf number (view value.now)) }
+    ensures { IfOk result (λ told. (told.fault ≡ fault) × (told.place.number ≡ number) × (told.place.part ≡ part)) }
 {
     let names = names_of(alloc, value)?;
     let place = FaultPlace {
@@ -314,7 +320,7 @@ fn placed_part(
     value: &Value,
     broken: Broken,
 ) -> Result<PlacedFault, AllocError>
-    ensures { TypeBreaks broken.fault (Some broken.part.steps.items) (view value.now) → IfOk result (IsToldOf number (view value.now)) }
+    ensures { IfOk result (IsPlaced number broken) }
 {
     let Broken { fault, part } = broken;
     placed(alloc, number, value, fault, Some(part))
@@ -326,7 +332,7 @@ fn all_placed(
     value: &Value,
     inner: Vec<Broken>,
 ) -> Result<Vec<PlacedFault>, AllocError>
-    ensures { AreBrokenIn (view value.now) inner.items → IfOk result (λ v. All (IsToldOf number (view value.now)) v.items) }
+    ensures { AreBrokenIn (view value.now) inner.items → IfOk result (λ v. AreToldOf number (view value.now) v.items) }
 {
     let mut all = Vec::new(alloc);
     for broken in inner {
@@ -388,7 +394,7 @@ fn places_of(alloc: Global, number: usize, value: &Value) -> Result<Vec<PlacedFa
 /// The places in these types.
 fn places_among(alloc: Global, types: &[Value]) -> Result<Vec<PlacedFault>, AllocError>
     ensures told { IfOk result (λ v. TellsTypes 0 (items_view types.now) v.items) }
-    ensures places { IfOk result (λ v. All (λ told. IsPlaceAmong told.fault told.place (items_view types.now)) v.items) }
+    ensures places { IfOk result (λ v. ArePlacesAmong (items_view types.now) v.items) }
 {
     let mut all = Vec::new(alloc);
     for (number, value) in types.iter().enumerate() {
@@ -403,11 +409,12 @@ fn places_among(alloc: Global, types: &[Value]) -> Result<Vec<PlacedFault>, Allo
 /// a schema that are unknown, then what its others break, before its parts, these in byte order.
 ///
 /// Exact is which types have entries, and which the first of each is; the first of all is what `Types::read` refuses the
-/// file for. Of each entry it is promised that the rule is broken there. None where the file's own form is at fault, or its
-/// types are read and two have one name.
+/// file for. Of the first of each it is promised that reading ends at the schema there by this fault, of the others that
+/// the rule is broken there, if need be beside a keyword that is unknown. None where the file's own form is at fault, or
+/// its types are read and two have one name.
 pub fn all_places(alloc: Global, file: &Value) -> Result<Vec<PlacedFault>, AllocError>
     ensures told { IfOk result (λ v. TellsFile (listed (view file.now)) v.items) }
-    ensures places { IfOk result (λ v. All (λ told. IsPlaceOf told.fault told.place (view file.now)) v.items) }
+    ensures places { IfOk result (λ v. ArePlacesOf (view file.now) v.items) }
 {
     match listed(file) {
         Ok(types) => places_among(alloc, types),

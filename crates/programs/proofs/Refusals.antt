@@ -1,11 +1,10 @@
 -- The refusals of a types file are those of the faults that are told of it.
 use Rattle.std.proofs.Common.{◌≡◌, ◌==◌, ℕ, suc, Bool, true, false, length, List, [], ◌∷◌, ◌++◌, append_assoc, append-nil, get_or, Option, Some, None, Ok, Err, IfOk, IfSome, inl, inr, refl, sym, ap, subst, ◌∙◌, if◌then◌else◌}
-use Rattle.std.proofs.lemmas.List.Elements.{All-head, All-nil}
-use Rattle.std.specs.List.{All}
+use Rattle.std.proofs.lemmas.List.Elements.{All-nil}
 use Rattle.std.specs.declared.alloc.AllocError.{AllocError}
 use Rattle.std.specs.declared.result.Result.{Result}
 use Rattle.serde_json.specs.Data.{Data, Items, no_items, item}
-use Rattle.api_types.specs.FaultPlaces.{BeginsBy, IsPlaceOf, TellsFile, TellsTypes}
+use Rattle.api_types.specs.FaultPlaces.{ArePlacesOf, BeginsBy, Breaks, EndsReading, IsPlaceOf, TellsFile, TellsTypes}
 use Rattle.api_types.specs.Refusals.{Refusal, unknown_keyword, unknown_type, misfit, too_deep, same_names, not_the_form, and_then}
 use Rattle.api_types.specs.Seen.{Fails, Tells as TellsRefusal}
 use Rattle.api_types.specs.TypesFile.{ServedShape, declared_types, listed, names_differ, one_type, type_of, types_of}
@@ -93,8 +92,8 @@ one_numbered whole left rest told done new refusal steps pushed is kept more h =
 pub none_left : (whole left : List PlacedFault) (done : List TypesRefusal) → left ≡ [] → ((more : List TypesRefusal) → AreNumbered left more → AreNumbered whole (done ++ more)) → AreNumbered whole done
 none_left whole left done none kept = subst (AreNumbered whole) (append-nil done) (kept [] (subst (λ ts. AreNumbered ts []) (sym none) tt))
 
-refusals_told : (file : Data) (all : List PlacedFault) (refusals : List TypesRefusal) → (all ≡ [] → ⊥) → TellsFile (listed file) all → All (λ told. IsPlaceOf told.fault told.place file) all
-    → AreNumbered all refusals → AreRefusals file refusals
+refusals_told : (file : Data) (all : List PlacedFault) (refusals : List TypesRefusal) → (all ≡ [] → ⊥) → TellsFile (listed file) all → ArePlacesOf file all → AreNumbered all refusals
+    → AreRefusals file refusals
 refusals_told file [] refusals some tells places numbered = absurd (some refl)
 refusals_told file (told ∷ all) [] some tells places numbered = absurd numbered
 refusals_told file (told ∷ all) (first ∷ others) some tells places numbered = (first_is, (told ∷ all, tells, places, inl numbered))
@@ -106,8 +105,7 @@ refusals_told file (told ∷ all) (first ∷ others) some tells places numbered 
         let telling : TellsRefusal first.fault declared.0 = subst (λ f. TellsRefusal f declared.0) (sym same) declared.2 in (
           (declared.0, declared.1, number.2 ∙ ap types_refusal_number (same_refusal first.fault number.0 declared.0 number.1 telling)),
           fails_told first.fault (declared_types file) declared.0 declared.1 telling,
-          subst (λ o. IfSome o (λ p. IsPlaceOf first.fault p file)) (sym place)
-              (subst (λ f. IsPlaceOf f told.place file) (sym same) (All-head (λ t. IsPlaceOf t.fault t.place file) told all places)),
+          subst (λ o. IfSome o (λ p. IsPlaceOf EndsReading first.fault p file)) (sym place) (subst (λ f. IsPlaceOf EndsReading f told.place file) (sym same) places.1),
         )
 
 pub whole_refusals : (file : Data) (f : TypesFault) (all : List PlacedFault) (refusals : List TypesRefusal) → all ≡ [] → TellsFile (listed file) all → Fails f (declared_types file) → IsWhole f refusals
@@ -115,12 +113,12 @@ pub whole_refusals : (file : Data) (f : TypesFault) (all : List PlacedFault) (re
 whole_refusals file f all refusals none tells fails (refusal, one, same, place, number) =
     let failed : Fails refusal.fault (declared_types file) = subst (λ g. Fails g (declared_types file)) (sym same) fails in
     subst (AreRefusals file) (sym one) (
-      (number_of refusal.fault (declared_types file) refusal.number failed number, failed, subst (λ o. IfSome o (λ p. IsPlaceOf refusal.fault p file)) (sym place) tt),
-      ([], subst (TellsFile (listed file)) none tells, All-nil (λ told. IsPlaceOf told.fault told.place file), inr (refl, refl)),
+      (number_of refusal.fault (declared_types file) refusal.number failed number, failed, subst (λ o. IfSome o (λ p. IsPlaceOf EndsReading refusal.fault p file)) (sym place) tt),
+      ([], subst (TellsFile (listed file)) none tells, (All-nil (λ told. IsPlaceOf Breaks told.fault told.place file), tt), inr (refl, refl)),
     )
 
 pub all_refusals : {V : Type 0} (items : V → List TypesRefusal) (file : Data) (all : List PlacedFault) (r : Result (Option V) AllocError) → (all ≡ [] → ⊥) → TellsFile (listed file) all
-    → All (λ told. IsPlaceOf told.fault told.place file) all → IfOk r (λ o. IfSome o (λ v. AreNumbered all (items v))) → IfOk r (λ o. IfSome o (λ v. AreRefusals file (items v)))
+    → ArePlacesOf file all → IfOk r (λ o. IfSome o (λ v. AreNumbered all (items v))) → IfOk r (λ o. IfSome o (λ v. AreRefusals file (items v)))
 all_refusals items file all (Ok None) some tells places numbered = tt
 all_refusals items file all (Ok (Some v)) some tells places numbered = refusals_told file all (items v) some tells places numbered
 all_refusals items file all (Err e) some tells places numbered = tt

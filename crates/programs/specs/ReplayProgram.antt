@@ -1,10 +1,9 @@
 -- How a program tells what it found.
 use Rattle.std.specs.Prelude.{◌≡◌, ◌⊎◌, ℕ, List, [], ◌∷◌, length, Some, None, Result, Ok, Err, IfSome, ⊤, string_bytes}
-use Rattle.std.specs.List.{All}
 use Rattle.clap.specs.Values.{kind_of}
 use Rattle.clap.specs.declared.error.kind.ErrorKind.{ErrorKind}
 use Rattle.clap.specs.declared.error.kind.ErrorKind.TheVariants as kind
-use Rattle.api_types.specs.FaultPlaces.{IsPlaceOf, TellsFile}
+use Rattle.api_types.specs.FaultPlaces.{ArePlacesOf, EndsReading, IsPlaceOf, TellsFile}
 use Rattle.api_types.specs.Refusals.{Refusal, unknown_keyword, unknown_type, misfit, too_deep, same_names, not_the_form}
 use Rattle.api_types.specs.Seen.{Fails, Tells as TellsRefusal}
 use Rattle.api_types.specs.Served.{types_view}
@@ -53,10 +52,10 @@ types_refusal_number not_the_form = 6
 abbrev pub IsNumberOf : TypesFault → ℕ → Type 0
 IsNumberOf f n = (e : Refusal) × TellsRefusal f e × (n ≡ types_refusal_number e)
 
--- the first refusal of a types file, by its number, and a place in it where its rule is broken, if one is named
+-- the first refusal of a types file, by its number, and a place in it where reading ends by it, if one is named
 abbrev pub IsRefusal : Data → TypesRefusal → Type 0
 IsRefusal file refusal =
-    ((e : Refusal) × (declared_types file ≡ Err e) × (refusal.number ≡ types_refusal_number e)) × Fails refusal.fault (declared_types file) × IfSome refusal.place (λ place. IsPlaceOf refusal.fault place file)
+    ((e : Refusal) × (declared_types file ≡ Err e) × (refusal.number ≡ types_refusal_number e)) × Fails refusal.fault (declared_types file) × IfSome refusal.place (λ place. IsPlaceOf EndsReading refusal.fault place file)
 
 -- the refusal of a fault that is told with its place
 abbrev pub IsNumbered : PlacedFault → TypesRefusal → Type 0
@@ -75,7 +74,7 @@ IsWhole f refusals = (refusal : TypesRefusal) × (refusals ≡ refusal ∷ []) �
 
 -- what is told of its types, in their order and with places where the rules are broken; where nothing is, there is no other
 abbrev pub AreTold : Data → List TypesRefusal → Type 0
-AreTold file refusals = (all : List PlacedFault) × TellsFile (listed file) all × All (λ told. IsPlaceOf told.fault told.place file) all × (AreNumbered all refusals ⊎ ((all ≡ []) × (length refusals ≡ 1)))
+AreTold file refusals = (all : List PlacedFault) × TellsFile (listed file) all × ArePlacesOf file all × (AreNumbered all refusals ⊎ ((all ≡ []) × (length refusals ≡ 1)))
 
 -- the refusals of a types file; the first is the one by which its reading ends
 abbrev pub AreRefusals : Data → List TypesRefusal → Type 0

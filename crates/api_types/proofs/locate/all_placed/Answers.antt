@@ -1,15 +1,30 @@
-use Rattle.std.proofs.Common.{Some}
 use Rattle.serde_json.specs.View.{view}
-use Rattle.api_types.specs.FaultPlaces.{IsToldOf, TypeBreaks}
-use Rattle.api_types.proofs.FaultPlaces.{none_moved, one_moved}
+use Rattle.api_types.specs.FaultPlaces.{Breaks, EndsReading, IsBrokenIn, IsToldOf}
+use Rattle.api_types.proofs.FaultPlaces.{first_is_moved, first_moved, no_first, none_moved, one_moved, told_part}
 use Rattle.api_types.proofs.locate.all_placed.Goals as goal
 
 pub loop-broken-preserved : goal.loop-broken-preserved
 loop-broken-preserved c =
-    one_moved (λ b. TypeBreaks b.fault (Some b.part.steps.items) (view c.args.value.now)) (IsToldOf c.args.number (view c.args.value.now)) c.args.inner.items c.loop-broken.broken-iterator.rest.items c.next.new.self.rest.items
-    c.in-Some.broken c.loop-broken.all.items c.push.new.self.items c.in_ok-placed_part.field-0 c.in-Some.ensures.steps.0 c.in_ok-push.ensures.items c.in_ok-placed_part.ensures c.loop-broken.invariant
+    let t = view c.args.value.now in
+    let placed = c.in_ok-placed_part.ensures in
+    let told = c.in_ok-placed_part.field-0 in (
+      one_moved (IsBrokenIn Breaks t) (IsToldOf Breaks c.args.number t) c.args.inner.items c.loop-broken.broken-iterator.rest.items c.next.new.self.rest.items c.in-Some.broken c.loop-broken.all.items c.push.new.self.items told
+          c.in-Some.ensures.steps.0 c.in_ok-push.ensures.items (told_part Breaks c.args.number t c.in-Some.broken told placed) c.loop-broken.invariant.0,
+      first_moved (IsBrokenIn EndsReading t) (IsToldOf EndsReading c.args.number t) c.args.inner.items c.loop-broken.broken-iterator.rest.items c.next.new.self.rest.items c.in-Some.broken c.loop-broken.all.items c.push.new.self.items told
+          c.in-Some.ensures.steps.0 c.in_ok-push.ensures.items (told_part EndsReading c.args.number t c.in-Some.broken told placed) c.loop-broken.invariant.1,
+    )
 
 pub loop-broken-init : goal.loop-broken-init
 loop-broken-init c =
-    none_moved (λ b. TypeBreaks b.fault (Some b.part.steps.items) (view c.args.value.now)) (IsToldOf c.args.number (view c.args.value.now)) c.args.inner.items c.into_iter-broken-iterator.result.rest.items c.new-all.result.items
-    c.into_iter-broken-iterator.ensures.into_iter_gives.0 c.new-all.ensures.items
+    let t = view c.args.value.now in
+    let given = c.into_iter-broken-iterator.ensures.into_iter_gives.0 in (
+      none_moved (IsBrokenIn Breaks t) (IsToldOf Breaks c.args.number t) c.args.inner.items c.into_iter-broken-iterator.result.rest.items c.new-all.result.items given c.new-all.ensures.items,
+      no_first (IsBrokenIn EndsReading t) (IsToldOf EndsReading c.args.number t) c.args.inner.items c.into_iter-broken-iterator.result.rest.items c.new-all.result.items given c.new-all.ensures.items,
+    )
+
+pub returns : goal.returns
+returns c all =
+    let t = view c.args.value.now in (
+      (c.loop-broken.invariant.0 all.0).1,
+      first_is_moved (IsBrokenIn EndsReading t) (IsToldOf EndsReading c.args.number t) c.args.inner.items c.loop-broken.broken-iterator.rest.items c.loop-broken.all.items c.loop-broken.invariant.1 all.1,
+    )

@@ -1,18 +1,16 @@
-use Rattle.std.proofs.Common.{sym, subst, ◌∙◌}
-use Rattle.std.proofs.lemmas.List.Elements.{All-cons}
-use Rattle.std.specs.List.{All}
+use Rattle.std.proofs.Common.{sym, ◌∙◌}
 use Rattle.serde_json.specs.View.{view}
-use Rattle.api_types.specs.FaultPlaces.{IsToldOf}
 use Rattle.api_types.specs.TypesFile.{type_of}
-use Rattle.api_types.proofs.FaultPlaces.{begun, fails_by}
+use Rattle.api_types.proofs.FaultPlaces.{begun, fails_by, whole_first}
 use Rattle.api_types.proofs.locate.places_of_refused.Goals as goal
 
 pub returns : goal.returns
 returns c refused =
     let t = view c.args.value.now in
-    let told = c.in_ok-placed.ensures.told (fails_by c.args.own (type_of t) refused) in (
-      begun c.args.own (type_of t) c.in_ok-placed.field-0 c.in_ok-all.all.items c.insert.new.self.items refused c.in_ok-insert.ensures.items c.in_ok-placed.ensures.fault,
-      subst (All (IsToldOf c.args.number t)) (sym c.in_ok-insert.ensures.items) (All-cons (IsToldOf c.args.number t) c.in_ok-placed.field-0 c.in_ok-all.all.items told (c.in_ok-all.ensures c.in_ok-broken.ensures)),
+    let told = c.in_ok-placed.field-0 in
+    let (same, number, none) = c.in_ok-placed.ensures in (
+      begun c.args.own (type_of t) told c.in_ok-all.all.items c.insert.new.self.items refused c.in_ok-insert.ensures.items same,
+      whole_first c.args.number t c.args.own told c.in_ok-all.all.items c.insert.new.self.items c.in_ok-insert.ensures.items same number none (fails_by c.args.own (type_of t) refused) (c.in_ok-all.ensures c.in_ok-broken.ensures),
     )
 
 pub returns-then-begins_by : goal.returns-then-begins_by
