@@ -2,19 +2,21 @@
 use Rattle.std.proofs.Common.{◌≡◌, ◌≢◌, ℕ, Bool, true, false, List, [], ◌∷◌, ◌++◌, take, drop, length, Option, refl, sym, ap, subst, ◌∙◌, append_assoc, append-nil}
 use Rattle.std.specs.Prelude.{◌==◌}
 use Rattle.std.specs.List.{flat_map}
+use Rattle.std.specs.declared.result.Result.{Result}
 use Rattle.std.proofs.lemmas.Grind.{flat_map-append}
 use Rattle.std.proofs.lemmas.List.{take-append-drop}
 use Rattle.std.specs.Io.KnownBytes.{Appends, Consumes, Keeps}
 use Rattle.std.proofs.KnownBytes.{Appends-kept, Appends-nil, Appends-trans, Consumes-nil, Consumes-trans}
 use Rattle.httpedge.specs.Connections.{out_on}
-use Rattle.httpedge.specs.HubSeen.{Happened, IsIn, Outcome}
+use Rattle.httpedge.specs.HubSeen.{Happened, IsIn, Outcome, Tells as TellsWhy, TellsFile, outcome_of}
 use Rattle.httpedge.specs.Runs.{Follows, Happening, IsElsewhere, Runs, came, happens, starves, subject, takes}
 use Rattle.httpedge.specs.Steps.{Event, State, comes, with_bytes_taken}
 use Rattle.httpedge.specs.Streams.{Compacts, MovesBy, Hands, HandsIf}
+use Rattle.httpedge.specs.declared.fault.HubFault.{HubFault}
 use Rattle.httpedge.specs.declared.hub.Hub.{Hub}
 use Rattle.httpedge.proofs.Handed.{by_hands, runs_then}
 use Rattle.wire.proofs.Pieces.{reads_none}
-use Rattle.polling.specs.Happens.{Each, Hears, IsAny, IsComing, IsOn, IsTaking, Leads, LeadsBy, LeadsOn, Tells}
+use Rattle.polling.specs.Happens.{Answers, Each, Hears, IsAny, IsComing, IsOn, IsTaking, Leads, LeadsBy, LeadsOn, Tells}
 
 wrong : false ≡ true → ⊥
 wrong e = cc
@@ -82,6 +84,17 @@ pub leads_by_call : (x y : Hub) (e : Event) (o : Outcome) → ((s : State) → I
 leads_by_call x y e o follows = λ s is.
     let one = follows s is in
     (one.0 ∷ [], one.1, (one.1, one.3, refl), (tt, tt), one.4)
+
+-- what the hub says of an event, and others after it
+pub answers_then : {A : Type 0} (x y z : Hub) (e : Event) (r : Result A HubFault) → TellsFile e r → ((s : State) → IsIn x s → TellsWhy s e (outcome_of r))
+    → ((s : State) → IsIn x s → (h : Happening) × (t : State) × Happened e (outcome_of r) h × Follows s h t × IsIn y t) → Leads y z → Answers e r x z
+answers_then x y z e r of_file told follows more = (
+  of_file,
+  λ s is.
+      let one = follows s is in
+      let others = more one.1 one.4 in
+      (told s is, one.0, one.1, one.2, one.3, others.0, others.1, others.2, others.4),
+)
 
 -- a compaction, or none
 any_if : (b : Bool) (e : Event) (s t : State) → HandsIf b e s t → (hs : List Happening) × Runs s hs t × Each IsAny hs

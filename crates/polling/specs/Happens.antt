@@ -2,10 +2,12 @@
 use Rattle.std.specs.Prelude.{◌≡◌, ◌≢◌, ℕ, List, [], ◌∷◌, ◌++◌, Some, ⊤}
 use Rattle.std.specs.List.{flat_map}
 use Rattle.httpedge.specs.Connections.{out_on}
-use Rattle.httpedge.specs.HubSeen.{IsIn}
-use Rattle.httpedge.specs.Runs.{Happening, HappensElsewhere, Runs, came, takes}
-use Rattle.httpedge.specs.Steps.{State, comes}
+use Rattle.std.specs.declared.result.Result.{Result}
+use Rattle.httpedge.specs.HubSeen.{Happened, IsIn, Tells as TellsWhy, TellsFile, outcome_of}
+use Rattle.httpedge.specs.Runs.{Follows, Happening, HappensElsewhere, Runs, came, takes}
+use Rattle.httpedge.specs.Steps.{Event, State, comes}
 use Rattle.httpedge.specs.Streams.{event_in}
+use Rattle.httpedge.specs.declared.fault.HubFault.{HubFault}
 use Rattle.httpedge.specs.declared.hub.Hub.{Hub}
 
 -- each of them is so
@@ -22,6 +24,19 @@ IsAny h = ⊤
 
 abbrev pub Leads : Hub → Hub → Type 0
 Leads old new = LeadsBy IsAny old new
+
+-- ---- one event, and what comes after it
+
+-- the answer is what the hub says of this event at this state: that it is refused, and why, or that it isn't; it leads to another
+-- state, and from there, where others may happen in turn, to the hub after
+abbrev pub AnswersAt : {A : Type 0} → Event → Result A HubFault → State → Hub → Type 0
+AnswersAt e answer s new =
+    TellsWhy s e (outcome_of answer) × (h : Happening) × (between : State) × Happened e (outcome_of answer) h × Follows s h between
+    × (hs : List Happening) × (t : State) × Runs between hs t × IsIn new t
+
+-- the same at each state of the hub before; where the event brings a file that declares no types, its own fault is told
+abbrev pub Answers : {A : Type 0} → Event → Result A HubFault → Hub → Hub → Type 0
+Answers e answer old new = TellsFile e answer × ((s : State) → IsIn old s → AnswersAt e answer s new)
 
 -- ---- on one connection
 

@@ -2,7 +2,9 @@
 //! stands in `peer`.
 
 ghost use Rattle.std.specs.Prelude.{◌≡◌};
-ghost use Rattle.polling.specs.Happens.{Leads, LeadsOn};
+ghost use Rattle.serde_json.specs.View.{view};
+ghost use Rattle.httpedge.specs.Steps.{retypes};
+ghost use Rattle.polling.specs.Happens.{Answers, Leads, LeadsOn};
 
 use crate::options::Options;
 use crate::peer::{Next, Peer};
@@ -239,7 +241,8 @@ impl Peers {
         file: Value,
         now: Instant,
     ) -> Result<(), HubFault>
-        ensures { Leads self.old.hub self.new.hub }
+        ensures answers { Answers (retypes (view file)) result self.old.hub self.new.hub }
+        ensures leads { Leads self.old.hub self.new.hub }
     {
         let done = on(&mut self.hub, observer, &Event::Retype(file));
         self.settle(observer, now);

@@ -5,8 +5,9 @@ ghost use Rattle.api_types.specs.TypesFile.{ServedShape};
 ghost use Rattle.history.specs.History.{History};
 ghost use Rattle.verbs.specs.Seen.{Stands};
 ghost use Rattle.httpedge.specs.HubSeen.{IsIn};
-ghost use Rattle.httpedge.specs.Steps.{State, start};
-ghost use Rattle.polling.specs.Happens.{Leads};
+ghost use Rattle.httpedge.specs.Steps.{State, retypes, start};
+ghost use Rattle.serde_json.specs.View.{view};
+ghost use Rattle.polling.specs.Happens.{Answers, Leads};
 ghost use Rattle.polling.specs.ServerSeen.{hub_of, over_of};
 
 use crate::options::Options;
@@ -91,7 +92,8 @@ impl Server {
         file: Value,
         now: Instant,
     ) -> Result<(), HubFault>
-        ensures { Leads (hub_of self.old) (hub_of self.new) }
+        ensures answers { Answers (retypes (view file)) result (hub_of self.old) (hub_of self.new) }
+        ensures leads { Leads (hub_of self.old) (hub_of self.new) }
     {
         self.peers.retype(observer, file, now)
     }
