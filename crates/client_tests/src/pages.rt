@@ -85,14 +85,14 @@ fn a_page_that_is_refused_memory_is_given_up(rt: HostRuntime) -> Result<(), Fail
         ask => /widgets?limit=2&continue=6.default.w2\n\
         marked (None, 0, 0): page 6 6.default.w4 w3@4 w4@5 <- page 6 6.default.w2 w1@2 w2@3;ask;page 6 6.default.w4 w3@4 w4@5 => (None, 0, 0)\n\
         ask => /widgets?limit=2&continue=6.default.w4\n\
-        marked (None, 0, 0): page 6 - w5@6 <- page 6 6.default.w2 w1@2 w2@3;ask;page 6 6.default.w4 w3@4 w4@5;ask;page 6 - w5@6 => (Some(6), 5, 5) +w1 +w2 +w3 +w4 +w5\n\
+        marked (None, 0, 0): page 6 - w5@6 <- page 6 6.default.w2 w1@2 w2@3;ask;page 6 6.default.w4 w3@4 w4@5;ask;page 6 - w5@6 => (Some(6), 5, 5) +w1 +w2 +w3 +w4 +w5 w1@2 w2@3 w3@4 w4@5 w5@6\n\
         ask => /widgets?watch=true&resourceVersion=6&allowWatchBookmarks=true\n\
         status 410 Gone => (Some(6), 5, 5)\n\
         ask => /widgets?limit=2\n\
-        marked (Some(6), 5, 5): page 8 8.default.w2 w1@2 w2@3 <- page 8 8.default.w2 w1@2 w2@3 => (Some(6), 5, 5)\n\
+        marked (Some(6), 5, 5) w1@2 w2@3 w3@4 w4@5 w5@6: page 8 8.default.w2 w1@2 w2@3 <- page 8 8.default.w2 w1@2 w2@3 => (Some(6), 5, 5) w1@2 w2@3 w3@4 w4@5 w5@6\n\
         ask => /widgets?limit=2&continue=8.default.w2\n\
-        marked (Some(6), 5, 5): page 8 8.default.w4 w3@4 w4@5 <- page 8 8.default.w2 w1@2 w2@3;ask;page 8 8.default.w4 w3@4 w4@5 => (Some(6), 5, 5)\n\
+        marked (Some(6), 5, 5) w1@2 w2@3 w3@4 w4@5 w5@6: page 8 8.default.w4 w3@4 w4@5 <- page 8 8.default.w2 w1@2 w2@3;ask;page 8 8.default.w4 w3@4 w4@5 => (Some(6), 5, 5) w1@2 w2@3 w3@4 w4@5 w5@6\n\
         ask => /widgets?limit=2&continue=8.default.w4\n\
-        marked (Some(6), 5, 5): page 8 - w5@8 <- page 8 8.default.w2 w1@2 w2@3;ask;page 8 8.default.w4 w3@4 w4@5;ask;page 8 - w5@8 => (Some(8), 5, 5) *w5\n";
+        marked (Some(6), 5, 5) w1@2 w2@3 w3@4 w4@5 w5@6: page 8 - w5@8 <- page 8 8.default.w2 w1@2 w2@3;ask;page 8 8.default.w4 w3@4 w4@5;ask;page 8 - w5@8 => (Some(8), 5, 5) *w5 w1@2 w2@3 w3@4 w4@5 w5@8\n";
     expect_rows(rt.alloc(), "", rows)
 }

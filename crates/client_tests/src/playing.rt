@@ -84,8 +84,8 @@ impl Answers for Play {
     /// | `after A;B <- C;D` | what stands after these replies, and what is asked then |
     /// | `why A;B <- C;D` | why the reply was given up, after these |
     /// | `fronts A;B <- C;D` | as `after`, of each front of the bytes of C and D and a cut: each answer where it first comes |
-    /// | `cuts A;B <- C;D` | the same of these bytes in two pieces, wherever they are cut |
-    /// | `marked S\|T: A;B <- C;D` | what stands after A and B in one piece between the marks of refused memory; where it is refused, S or T stands, a first page is asked, and C and D lead to the same |
+    /// | `cuts A;B <- C;D` | the same of these bytes in two pieces, wherever they are cut, behind why the reply was given up |
+    /// | `marked S\|T: A;B <- C;D` | what stands after A and B in one piece between the marks of refused memory, and which objects; where it is refused, S or T stands, a first page is asked, and C and D lead to the same |
     /// | `mirror`, `turns`, `follow` | as `mirrors` and `looping` say |
     /// | another event | what stands after it |
     fn answer(&mut self, alloc: Global, question: &str) -> Result<String, Fail> {
@@ -193,6 +193,14 @@ impl Play {
         Ok(text)
     }
 
+    /// Why the reply was given up, before its connection ends, and what stands then.
+    fn gives_up_and_asks(&mut self, alloc: Global) -> Result<String, Fail> {
+        let trouble = self.informer.trouble();
+        self.informer.closed();
+        let text = self.stands_and_asks(alloc)?;
+        Ok(format!(in alloc; "{trouble:?} {text}")?)
+    }
+
     fn cut(&mut self, alloc: Global, word: &str, words: &str) -> Result<String, Fail> {
         let (events, words) = words.split_once(" <- ").ok_or("no replies")?;
         let text = replies(alloc, words)?;
@@ -202,11 +210,13 @@ impl Play {
             self.begin(alloc, events)?;
             let (front, back) = text.as_bytes().split_at(n);
             self.informer.feed(front)?;
-            if word == "cuts" {
+            let next = if word == "cuts" {
                 self.informer.feed(back)?;
-            }
-            self.informer.closed();
-            let next = self.stands_and_asks(alloc)?;
+                self.gives_up_and_asks(alloc)?
+            } else {
+                self.informer.closed();
+                self.stands_and_asks(alloc)?
+            };
             if next.as_str() != last.as_str() {
                 shown.push_str(format!(in alloc; "{n}: {next} | ")?.as_str())?;
             }
@@ -226,12 +236,15 @@ impl Play {
             self.given_up(alloc, standings)?;
             self.events(alloc, events)?;
         }
-        self.stands(alloc)
+        let mut text = self.stands(alloc)?;
+        push_objects(alloc, &mut text, &self.informer)?;
+        Ok(text)
     }
 
-    /// The test fails unless one of these stands, out of memory is told, and a first page is asked.
+    /// The test fails unless one of these stands, with just its objects, out of memory is told, and a first page is asked.
     fn given_up(&mut self, alloc: Global, standings: &str) -> Result<(), Fail> {
-        let standing = standing(alloc, &self.informer)?;
+        let mut standing = standing(alloc, &self.informer)?;
+        push_objects(alloc, &mut standing, &self.informer)?;
         if !standings.split('|').any(|it| it == standing.as_str()) {
             return Err(Fail::new(standing));
         }
@@ -252,6 +265,19 @@ fn standing(alloc: Global, informer: &Informer<Namespace>) -> Result<String, Fai
             all.map_or(0, |keys| keys.len()),
         ),
     )
+}
+
+/// Puts the objects, ` NAME@REVISION` each.
+fn push_objects(
+    alloc: Global,
+    text: &mut String,
+    informer: &Informer<Namespace>,
+) -> Result<(), Fail> {
+    for (_, object) in informer.indexer().objects()? {
+        push_named(text, " ", object)?;
+        text.push_str(format!(in alloc; "@{}", object.revision)?.as_str())?;
+    }
+    Ok(())
 }
 
 fn push_notice(text: &mut String, notice: &Notice) -> Result<(), AllocError> {

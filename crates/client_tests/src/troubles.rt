@@ -67,13 +67,11 @@ fn no_trouble_where_replies_fit(rt: HostRuntime) -> Result<(), Fail> {
 #[test]
 fn faults_at_every_cutting(rt: HostRuntime) -> Result<(), Fail> {
     let rows = "faults_at_every_cutting\n\
-        cuts ask <- bytes HTTP/1.1 200 OK¶Content-Length: 1¶Transfer-Encoding: chunked¶¶ => 0: (None, 0, 0) /widgets?limit=2 | \n\
-        cuts ask <- bytes HTTP/1.1 200 OK¶¶ => 0: (None, 0, 0) /widgets?limit=2 | \n\
-        cuts ask <- bytes HTTP/1.1 200 OK¶Content-Length: 1¶Content-Length: 1¶¶ => 0: (None, 0, 0) /widgets?limit=2 | \n\
-        why ask <- bytes HTTP/1.1 200 OK¶¶ => Some(Http)\n\
-        cuts ask;page 2 - w1@2;ask <- watch;bytes 00000000000000000001¶a¶ => 0: (Some(2), 1, 1) /widgets?limit=2 | \n\
-        why ask;page 2 - w1@2;ask <- watch;bytes 00000000000000000001¶a¶ => Some(Http)\n\
-        cuts ask;page 2 - w1@2;ask <- watch;line MODIFIED w1@2 => 0: (Some(2), 1, 1) /widgets?limit=2 | \n\
-        cuts ask;page 2 - w1@2;ask <- watch;line MODIFIED w1@2;line ADDED w2@9 => 0: (Some(2), 1, 1) /widgets?limit=2 | \n";
+        cuts ask <- bytes HTTP/1.1 200 OK¶Content-Length: 1¶Transfer-Encoding: chunked¶¶ => 0: Some(Http) (None, 0, 0) /widgets?limit=2 | \n\
+        cuts ask <- bytes HTTP/1.1 200 OK¶¶ => 0: Some(Http) (None, 0, 0) /widgets?limit=2 | \n\
+        cuts ask <- bytes HTTP/1.1 200 OK¶Content-Length: 1¶Content-Length: 1¶¶ => 0: Some(Http) (None, 0, 0) /widgets?limit=2 | \n\
+        cuts ask;page 2 - w1@2;ask <- watch;bytes 00000000000000000001¶a¶ => 0: Some(Http) (Some(2), 1, 1) /widgets?limit=2 | \n\
+        cuts ask;page 2 - w1@2;ask <- watch;line MODIFIED w1@2 => 0: Some(NotAbove) (Some(2), 1, 1) /widgets?limit=2 | \n\
+        cuts ask;page 2 - w1@2;ask <- watch;line MODIFIED w1@2;line ADDED w2@9 => 0: Some(NotAbove) (Some(2), 1, 1) /widgets?limit=2 | \n";
     expect_rows(rt.alloc(), "", rows)
 }

@@ -89,7 +89,7 @@ fn a_piece_that_is_refused_memory_is_given_up(rt: HostRuntime) -> Result<(), Fai
         page 2 - w1@2 => (Some(2), 1, 1) +w1\n\
         ask => /widgets?watch=true&resourceVersion=2&allowWatchBookmarks=true\n\
         watch => (Some(2), 1, 1)\n\
-        marked (Some(2), 1, 1)|(Some(3), 1, 1)|(Some(4), 2, 2): line MODIFIED w1@3;line ADDED w2@4,web <- page 4 - w1@3 w2@4,web => (Some(4), 2, 2) *w1 +w2\n\
+        marked (Some(2), 1, 1) w1@2|(Some(3), 1, 1) w1@3|(Some(4), 2, 2) w1@3 w2@4: line MODIFIED w1@3;line ADDED w2@4,web <- page 4 - w1@3 w2@4,web => (Some(4), 2, 2) *w1 +w2 w1@3 w2@4\n\
         counts => {\"web\": 1}\n";
     expect_rows(rt.alloc(), "", rows)
 }

@@ -95,10 +95,10 @@ fn fields_v1(alloc: Global, schema: &Schema, call: &str, text: &str) -> Result<S
 pub fn written(alloc: Global, schema: &Schema, set: &FieldSet) -> Result<String, Fail> {
     let mut out = TextWriter::with_capacity(alloc, 0)?;
     set.write_fields_v1(&mut out, alloc, schema)?;
-    let bytes = out.into_bytes();
+    let direct = out.into_text();
     let text = set.to_fields_v1(alloc, schema)?.to_string(alloc)?;
-    if text.as_bytes() != bytes.as_slice() {
-        return Err("other bytes are written".into());
+    if text.as_str() != direct.as_str() {
+        return Err("another text is written".into());
     }
     Ok(text)
 }

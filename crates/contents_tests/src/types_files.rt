@@ -9,6 +9,7 @@
 //! | `find GROUP VERSION PLURAL` | where the widgets' file has the type |
 //! | `kind N`, `shown N` | the kind of its type and whether the schema is lawful; how the schema is shown |
 //! | `made TEXT` | how the schema of a file of one type is shown, and whether it is lawful |
+//! | `change TEXT -> TEXT`, `becomes TEXT -> TEXT` | whether the second file may follow the first; the same of files of one type with these properties |
 
 use crate::contents::play_under;
 use crate::given::{WIDGET_TYPES, first_schema, types_of};
@@ -36,6 +37,8 @@ impl Answers for TypesFile {
             "kind" => kind_of(alloc, &self.types, words),
             "shown" => shown(alloc, &self.types, words),
             "made" => made(alloc, words),
+            "change" => verdict_on_change(alloc, words),
+            "becomes" => verdict_on_becoming(alloc, words),
             _ => Err("no such call".into()),
         }
     }
@@ -76,9 +79,36 @@ fn verdict_on_schema(alloc: Global, schema: &str) -> Result<String, Fail> {
     verdict(alloc, file_of(alloc, schema)?.as_str())
 }
 
-fn verdict_on_property(alloc: Global, property: &str) -> Result<String, Fail> {
+/// A types file of one type with this property.
+fn file_with(alloc: Global, property: &str) -> Result<String, Fail> {
     let schema = format!(in alloc; r#"{{"type":"object","properties":{{"a":{property}}}}}"#)?;
-    verdict_on_schema(alloc, schema.as_str())
+    file_of(alloc, schema.as_str())
+}
+
+fn verdict_on_property(alloc: Global, property: &str) -> Result<String, Fail> {
+    verdict(alloc, file_with(alloc, property)?.as_str())
+}
+
+fn change_told(alloc: Global, old: &Types, new: &Types) -> Result<String, Fail> {
+    match old.change_to(new) {
+        Ok(_) => Ok(String::from_str(alloc, "lawful")?),
+        Err(fault) => told(alloc, fault),
+    }
+}
+
+fn change_of(alloc: Global, old: &str, new: &str) -> Result<String, Fail> {
+    change_told(alloc, &types_of(alloc, old)?, &types_of(alloc, new)?)
+}
+
+fn verdict_on_change(alloc: Global, files: &str) -> Result<String, Fail> {
+    let (old, new) = files.split_once(" -> ").ok_or("no other file")?;
+    change_of(alloc, old, new)
+}
+
+fn verdict_on_becoming(alloc: Global, properties: &str) -> Result<String, Fail> {
+    let (old, new) = properties.split_once(" -> ").ok_or("no other property")?;
+    let old = file_with(alloc, old)?;
+    change_of(alloc, old.as_str(), file_with(alloc, new)?.as_str())
 }
 
 /// A property of a schema of this depth, at least 2: lists of lists of texts.
@@ -163,6 +193,56 @@ places {"types":[{"group":"g","version":"v","kind":"K","plural":"p","schema":{"t
 places {"types":[{"group":"g","version":"v","kind":"K","plural":"p","schema":{"type":"object","properties":{}}},{"group":"g","version":"v","kind":"L","plural":"p","schema":{"type":"object","properties":{}}}]} => 
 places {"types":[5,{"group":"g","version":"v","kind":"L","plural":"p","schema":5}]} => not the form of a types file at types[0];list or map kind that does not fit at g/v/p;
 places {"types":[{"group":"g","version":"v","kind":"K","plural":"p","schema":{"type":"object","properties":{"kind":{"enum":[]},"b":{"type":"number","nullable":true,"minimum":0},"a":{"type":"array","items":{"type":"object","properties":{"c":{"type":"string","enum":[]}}},"x-kubernetes-list-type":"set"}}}},{"group":"g","version":"v","kind":"L","plural":"namespaces","schema":{"type":"object","additionalProperties":{"type":"object","additionalProperties":true}}}]} => list or map kind that does not fit at g/v/p .a;unknown keyword "enum" at g/v/p .a[].c;unknown keyword "minimum" at g/v/p .b;unknown keyword "nullable" at g/v/p .b;unknown type "number" at g/v/p .b;not the form of a types file at types[1];list or map kind that does not fit at types[1];list or map kind that does not fit at types[1] .*;
+
+changes_of_files: no type may have another name, be left out or come in
+change {"types":[]} -> {"types":[]} => lawful
+change {"types":[{"group":"g","version":"v","kind":"K","plural":"p","schema":{"type":"object","properties":{}}}]} -> {"types":[{"group":"g","version":"v","kind":"K","plural":"p","schema":{"type":"object","properties":{}}}]} => lawful
+change {"types":[{"group":"g","version":"v","kind":"K","plural":"p","schema":{"type":"object","properties":{}}},{"group":"g","version":"v","kind":"L","plural":"q","schema":{"type":"object","properties":{}}}]} -> {"types":[{"group":"g","version":"v","kind":"K","plural":"p","schema":{"type":"object","properties":{}}},{"group":"g","version":"v","kind":"L","plural":"q","schema":{"type":"object","properties":{}}}]} => lawful
+change {"types":[{"group":"g","version":"v","kind":"K","plural":"p","schema":{"type":"object","properties":{}}}]} -> {"types":[{"group":"h","version":"v","kind":"K","plural":"p","schema":{"type":"object","properties":{}}}]} => NotLawful
+change {"types":[{"group":"g","version":"v","kind":"K","plural":"p","schema":{"type":"object","properties":{}}}]} -> {"types":[{"group":"g","version":"w","kind":"K","plural":"p","schema":{"type":"object","properties":{}}}]} => NotLawful
+change {"types":[{"group":"g","version":"v","kind":"K","plural":"p","schema":{"type":"object","properties":{}}}]} -> {"types":[{"group":"g","version":"v","kind":"L","plural":"p","schema":{"type":"object","properties":{}}}]} => NotLawful
+change {"types":[{"group":"g","version":"v","kind":"K","plural":"p","schema":{"type":"object","properties":{}}}]} -> {"types":[{"group":"g","version":"v","kind":"K","plural":"q","schema":{"type":"object","properties":{}}}]} => NotLawful
+change {"types":[{"group":"g","version":"v","kind":"K","plural":"p","schema":{"type":"object","properties":{}}}]} -> {"types":[]} => NotLawful
+change {"types":[{"group":"g","version":"v","kind":"K","plural":"p","schema":{"type":"object","properties":{}}},{"group":"g","version":"v","kind":"L","plural":"q","schema":{"type":"object","properties":{}}}]} -> {"types":[{"group":"g","version":"v","kind":"K","plural":"p","schema":{"type":"object","properties":{}}}]} => NotLawful
+change {"types":[]} -> {"types":[{"group":"g","version":"v","kind":"K","plural":"p","schema":{"type":"object","properties":{}}}]} => NotLawful
+change {"types":[{"group":"g","version":"v","kind":"K","plural":"p","schema":{"type":"object","properties":{}}}]} -> {"types":[{"group":"g","version":"v","kind":"K","plural":"p","schema":{"type":"object","properties":{}}},{"group":"g","version":"v","kind":"L","plural":"q","schema":{"type":"object","properties":{}}}]} => NotLawful
+change {"types":[{"group":"g","version":"v","kind":"K","plural":"p","schema":{"type":"object","properties":{}}},{"group":"g","version":"v","kind":"L","plural":"q","schema":{"type":"object","properties":{}}}]} -> {"types":[{"group":"g","version":"v","kind":"L","plural":"q","schema":{"type":"object","properties":{}}},{"group":"g","version":"v","kind":"K","plural":"p","schema":{"type":"object","properties":{}}}]} => NotLawful
+change {"types":[{"group":"g","version":"v","kind":"K","plural":"p","schema":{"type":"object","properties":{}}},{"group":"g","version":"v","kind":"L","plural":"q","schema":{"type":"object","properties":{}}}]} -> {"types":[{"group":"g","version":"v","kind":"K","plural":"p","schema":{"type":"object","properties":{}}},{"group":"g","version":"v","kind":"L","plural":"q","schema":{"type":"object","properties":{"a":{"type":"string"}}}}]} => NotLawful
+
+changes_of_schemas: sets, map lists and granular maps may become atomic, at any depth; what they hold, and all else, stays
+becomes {"type":"array","items":{"type":"string"},"x-kubernetes-list-type":"set"} -> {"type":"array","items":{"type":"string"},"x-kubernetes-list-type":"atomic"} => lawful
+becomes {"type":"array","items":{"type":"string"},"x-kubernetes-list-type":"set"} -> {"type":"array","items":{"type":"string"}} => lawful
+becomes {"type":"array","items":{"type":"object","properties":{"x":{"type":"string"},"y":{"type":"string"},"z":{"type":"integer"}}},"x-kubernetes-list-type":"map","x-kubernetes-list-map-keys":["x"]} -> {"type":"array","items":{"type":"object","properties":{"x":{"type":"string"},"y":{"type":"string"},"z":{"type":"integer"}}},"x-kubernetes-list-type":"atomic"} => lawful
+becomes {"type":"object","additionalProperties":{"type":"string"}} -> {"type":"object","additionalProperties":{"type":"string"},"x-kubernetes-map-type":"atomic"} => lawful
+becomes {"type":"object","additionalProperties":{"type":"array","items":{"type":"string"},"x-kubernetes-list-type":"set"}} -> {"type":"object","additionalProperties":{"type":"array","items":{"type":"string"}}} => lawful
+becomes {"type":"object","properties":{"b":{"type":"array","items":{"type":"string"},"x-kubernetes-list-type":"set"},"c":{"type":"object","additionalProperties":{"type":"string"}}}} -> {"type":"object","properties":{"b":{"type":"array","items":{"type":"string"}},"c":{"type":"object","additionalProperties":{"type":"string"},"x-kubernetes-map-type":"atomic"}}} => lawful
+becomes {"type":"array","items":{"type":"object","properties":{"x":{"type":"string"},"y":{"type":"string"},"z":{"type":"integer"}}},"x-kubernetes-list-type":"map","x-kubernetes-list-map-keys":["x","y"]} -> {"type":"array","items":{"type":"object","properties":{"x":{"type":"string"},"y":{"type":"string"},"z":{"type":"integer"}}},"x-kubernetes-list-type":"map","x-kubernetes-list-map-keys":["y","x"]} => lawful
+becomes {"type":"array","items":{"type":"object","properties":{"x":{"type":"string"},"y":{"type":"array","items":{"type":"string"},"x-kubernetes-list-type":"set"}}},"x-kubernetes-list-type":"map","x-kubernetes-list-map-keys":["x"]} -> {"type":"array","items":{"type":"object","properties":{"x":{"type":"string"},"y":{"type":"array","items":{"type":"string"}}}},"x-kubernetes-list-type":"map","x-kubernetes-list-map-keys":["x"]} => lawful
+becomes {"type":"string"} -> {"type":"integer"} => NotLawful
+becomes {"type":"integer"} -> {"type":"boolean"} => NotLawful
+becomes {"type":"boolean"} -> {"type":"string"} => NotLawful
+becomes {"type":"string"} -> {"type":"array","items":{"type":"string"}} => NotLawful
+becomes {"type":"object","properties":{"b":{"type":"string"}}} -> {"type":"object","additionalProperties":{"type":"string"}} => NotLawful
+becomes {"type":"object","additionalProperties":{"type":"string"}} -> {"type":"object","properties":{"b":{"type":"string"}}} => NotLawful
+becomes {"type":"array","items":{"type":"string"}} -> {"type":"object","additionalProperties":{"type":"string"}} => NotLawful
+becomes {"type":"object","properties":{"b":{"type":"string"}}} -> {"type":"object","properties":{"b":{"type":"string"},"c":{"type":"string"}}} => NotLawful
+becomes {"type":"object","properties":{"b":{"type":"string"},"c":{"type":"string"}}} -> {"type":"object","properties":{"b":{"type":"string"}}} => NotLawful
+becomes {"type":"object","properties":{"b":{"type":"string"}}} -> {"type":"object","properties":{"c":{"type":"string"}}} => NotLawful
+becomes {"type":"object","properties":{"b":{"type":"string"}}} -> {"type":"object","properties":{"b":{"type":"integer"}}} => NotLawful
+becomes {"type":"object","properties":{"b":{"type":"string"}}} -> {"type":"object","properties":{"b":{"type":"string"}},"x-kubernetes-map-type":"atomic"} => NotLawful
+becomes {"type":"object","properties":{"b":{"type":"string"}},"x-kubernetes-map-type":"atomic"} -> {"type":"object","properties":{"b":{"type":"string"}}} => NotLawful
+becomes {"type":"object","additionalProperties":{"type":"string"},"x-kubernetes-map-type":"atomic"} -> {"type":"object","additionalProperties":{"type":"string"}} => NotLawful
+becomes {"type":"object","additionalProperties":{"type":"string"}} -> {"type":"object","additionalProperties":{"type":"integer"}} => NotLawful
+becomes {"type":"object","additionalProperties":{"type":"array","items":{"type":"string"},"x-kubernetes-list-type":"set"}} -> {"type":"object","additionalProperties":{"type":"array","items":{"type":"string"}},"x-kubernetes-map-type":"atomic"} => NotLawful
+becomes {"type":"array","items":{"type":"string"}} -> {"type":"array","items":{"type":"string"},"x-kubernetes-list-type":"set"} => NotLawful
+becomes {"type":"array","items":{"type":"object","properties":{"x":{"type":"string"},"y":{"type":"string"},"z":{"type":"integer"}}}} -> {"type":"array","items":{"type":"object","properties":{"x":{"type":"string"},"y":{"type":"string"},"z":{"type":"integer"}}},"x-kubernetes-list-type":"map","x-kubernetes-list-map-keys":["x"]} => NotLawful
+becomes {"type":"array","items":{"type":"string"},"x-kubernetes-list-type":"set"} -> {"type":"array","items":{"type":"integer"},"x-kubernetes-list-type":"set"} => NotLawful
+becomes {"type":"array","items":{"type":"string"}} -> {"type":"array","items":{"type":"integer"}} => NotLawful
+becomes {"type":"array","items":{"type":"object","properties":{"x":{"type":"string"},"y":{"type":"string"},"z":{"type":"integer"}}},"x-kubernetes-list-type":"map","x-kubernetes-list-map-keys":["x"]} -> {"type":"array","items":{"type":"object","properties":{"x":{"type":"string"},"y":{"type":"string"},"z":{"type":"integer"}}},"x-kubernetes-list-type":"map","x-kubernetes-list-map-keys":["y"]} => NotLawful
+becomes {"type":"array","items":{"type":"object","properties":{"x":{"type":"string"},"y":{"type":"string"},"z":{"type":"integer"}}},"x-kubernetes-list-type":"map","x-kubernetes-list-map-keys":["x"]} -> {"type":"array","items":{"type":"object","properties":{"x":{"type":"string"},"y":{"type":"string"},"z":{"type":"integer"}}},"x-kubernetes-list-type":"map","x-kubernetes-list-map-keys":["x","y"]} => NotLawful
+becomes {"type":"array","items":{"type":"object","properties":{"x":{"type":"string"},"y":{"type":"string"},"z":{"type":"integer"}}},"x-kubernetes-list-type":"map","x-kubernetes-list-map-keys":["x","y"]} -> {"type":"array","items":{"type":"object","properties":{"x":{"type":"string"},"y":{"type":"string"},"z":{"type":"integer"}}},"x-kubernetes-list-type":"map","x-kubernetes-list-map-keys":["x"]} => NotLawful
+becomes {"type":"array","items":{"type":"object","properties":{"x":{"type":"string"},"y":{"type":"array","items":{"type":"string"},"x-kubernetes-list-type":"set"}}},"x-kubernetes-list-type":"map","x-kubernetes-list-map-keys":["x"]} -> {"type":"array","items":{"type":"object","properties":{"x":{"type":"string"},"y":{"type":"array","items":{"type":"string"}}}}} => NotLawful
+becomes {"type":"array","items":{"type":"object","properties":{"x":{"type":"string"},"y":{"type":"object","additionalProperties":{"type":"string"}}}}} -> {"type":"array","items":{"type":"object","properties":{"x":{"type":"string"},"y":{"type":"object","additionalProperties":{"type":"string"},"x-kubernetes-map-type":"atomic"}}}} => lawful
 
 widget_types
 find demo.example v1 widgets => Some(0)

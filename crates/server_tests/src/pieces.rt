@@ -31,7 +31,7 @@ cut 21000 PUT /apis/demo.example/v1/namespaces/default/widgets/w1 HTTP/1.1|$Host
 cut 22000 PUT /apis/demo.example/v1/namespaces/default/widgets/w1 HTTP/1.1|$Host: x|$Content-Length: 256|$|$<128 [><128 ]> => 400 body is not JSON
 got 30000 GET widgets => 200 {"apiVersion":"demo.example/v1","items":[],"kind":"WidgetList","metadata":{"resourceVersion":"1"}}
 
-no_front_of_a_request_is_answered on widgets: but by a refusal once its head is whole; nor does one change anything
+no_front_of_a_request_is_answered on widgets: but by a refusal from its head's last byte on, where the head alone decides; nor does one change anything
 fronts 0 single objects => -
 fronts 0 lists => -
 fronts 0 watches => -

@@ -6,6 +6,7 @@
 //! | question | answer |
 //! |---|---|
 //! | `write KEY BODY`, `erase KEY`, `compact REVISION` | a change is made |
+//! | `both NAME BODY` | it is written under this name in `default` and in `other`, at once |
 //! | `anew write KEY BODY`, `anew compact KEY REVISION` | whether it is made between marks; where it failed it must leave all as it was, and is made again |
 //! | `get KEY`, `before KEY REVISION` | what stands under the key, or stood before the revision, which is one that has come and isn't compacted |
 //! | `list REVISION`, `changes REVISION` | the objects that stand at it; the changes that came in `default` after it |
@@ -13,7 +14,7 @@
 //! | `numbers`, `seen` | the current and the compacted revision; all that there is to be seen |
 
 use crate::tables::{key, play_each, table_at};
-use history::{Key, Object};
+use history::{Key, Object, Write};
 use revstore::{Store, WriteFault};
 use revtable::{Fault, Keep};
 use std::alloc::{AllocError, Global};
@@ -59,6 +60,35 @@ impl Keep for OfLength {
     }
 }
 
+fn written(alloc: Global, place: &str, body: &str) -> Result<(Key, String), AllocError> {
+    Ok((key(alloc, place)?, String::from_str(alloc, body)?))
+}
+
+fn write_both(
+    alloc: Global,
+    store: &mut Store,
+    one: (Key, String),
+    other: (Key, String),
+) -> Result<String, Fail> {
+    let writes = [
+        Write {
+            key: one.0,
+            body: Some(one.1),
+        },
+        Write {
+            key: other.0,
+            body: Some(other.1),
+        },
+    ];
+    told(alloc, store.write_all(&writes))
+}
+
+fn both(alloc: Global, store: &mut Store, name: &str, body: &str) -> Result<String, Fail> {
+    let one = written(alloc, name, body)?;
+    let other = format!(in alloc; "other/{name}")?;
+    write_both(alloc, store, one, written(alloc, other.as_str(), body)?)
+}
+
 fn kept(alloc: Global, store: &mut Store, revision: u64, max: u64) -> Result<String, Fail> {
     let keep = OfLength {
         length: 1,
@@ -87,6 +117,7 @@ impl Answers for Stored {
             "changes" => told(alloc, store.changes(7, Some("default"), number(one)?, 10)),
             "compact" => told(alloc, store.compact(number(one)?)),
             "anew" => anew(alloc, store, one, other),
+            "both" => both(alloc, store, one, other),
             _ => answer_of_key(alloc, store, call, &key(alloc, one)?, other),
         }
     }
@@ -190,7 +221,24 @@ kept 3 9 => (Ok([Entry { key: Key { kind: 7, namespace: "default", name: "b" }, 
 
 store 9223372036854775807 revisions_are_used_up
 write w1 a => Err(Exhausted)
-get w1 => Ok(None)"#;
+both w1 a => Err(Exhausted)
+get w1 => Ok(None)
+
+store 9223372036854775805 two_revisions_for_two_changes
+both w1 a => Ok(9223372036854775807)
+list 9223372036854775806 => Ok([Entry { key: Key { kind: 7, namespace: "default", name: "w1" }, object: Object { revision: 9223372036854775806, body: "a" } }])
+list 9223372036854775807 => Ok([Entry { key: Key { kind: 7, namespace: "default", name: "w1" }, object: Object { revision: 9223372036854775806, body: "a" } }, Entry { key: Key { kind: 7, namespace: "other", name: "w1" }, object: Object { revision: 9223372036854775807, body: "a" } }])
+both w1 b => Err(Exhausted)
+numbers => (9223372036854775807, 9223372036854775805)
+
+store 9223372036854775806 one_revision_for_two_changes: neither is made
+both w1 a => Err(Exhausted)
+numbers => (9223372036854775806, 9223372036854775806)
+get w1 => Ok(None)
+changes 9223372036854775806 => Ok([])
+write w1 a => Ok(9223372036854775807)
+both w1 b => Err(Exhausted)
+get w1 => Ok(Some(Object { revision: 9223372036854775807, body: "a" }))"#;
 
 #[test]
 fn examples(rt: HostRuntime) -> Result<(), Fail> {

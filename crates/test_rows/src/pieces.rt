@@ -46,33 +46,37 @@ pub fn cut_anywhere<S: Serves>(
     Ok(answer)
 }
 
-/// A front of a request comes, and its peer goes. The test fails where it was answered, unless its head is whole and it was
-/// refused.
+/// A front of a request comes, and its peer goes: whether it was refused. The test fails where it was answered, unless it was
+/// refused and may be.
 fn front_comes<S: Serves>(
     alloc: Global,
     served: &mut S,
     front: &[u8],
-    is_head: bool,
-) -> Result<(), Fail> {
+    may_be_refused: bool,
+) -> Result<bool, Fail> {
     let id = served.next_id().ok_or("no id is left")?;
     asks(alloc, served, id, front)?;
     let waits = served.wants(id);
     let reply = heard(alloc, served, id)?;
     let is_unanswered = waits && reply.as_str() == "-";
-    if !is_unanswered && !(is_head && reply.starts_with("HTTP/1.1 4")) {
+    if !is_unanswered && !(may_be_refused && reply.starts_with("HTTP/1.1 4")) {
         return Err(Fail::new(format!(in alloc;
             "a front was answered: {} {reply}",
             str::from_utf8(front)?
         )?));
     }
-    goes(alloc, served, id)
+    goes(alloc, served, id)?;
+    Ok(!is_unanswered)
 }
 
+/// Every front comes. A request that its head alone decides is refused with the head's last byte, and with more.
 fn fronts_come<S: Serves>(alloc: Global, served: &mut S, request: &[u8]) -> Result<(), Fail> {
     let head = str::from_utf8(request)?.find("\r\n\r\n");
-    let head = head.unwrap_or(request.len());
+    let head = head.unwrap_or(request.len()).saturating_add(4);
+    let mut is_refused = false;
     for length in 0..request.len() {
-        front_comes(alloc, served, &request[..length], head < length)?;
+        let may_be_refused = is_refused || length == head;
+        is_refused = front_comes(alloc, served, &request[..length], may_be_refused)?;
     }
     Ok(())
 }

@@ -12,11 +12,14 @@
 //! | `index EVENT NAME` | the index of this name in the report of this event, each key with the objects that have it |
 //! | `text NAME` | the text of the object in the last report |
 //! | `carried` | the targets of the client's requests that the link carried |
+//! | `cuts WORD M N FRONT <- BACK` | no event; of runs of their own: the reports behind the events of FRONT, with `WORD M` to `WORD N` between these and those of BACK, each where it first comes (`cutting`) |
+//! | `fronts EXAMPLES` | no event; every front of each request of these examples comes, in runs of their own: how many different requests there are (`cutting`) |
 //!
 //! All events since `from` are run anew with each row. A report is `EVENT REVISION [OBJECT@REVISION ..] {VALUE=COUNT ..}`,
 //! the event by its place among all, the object with its namespace before it where that isn't `default`. Bytes have `|`
 //! for a carriage return and `$` for a line feed; where nothing is to be shown it is `-`.
 
+use crate::cutting::{cuts, fronts};
 use crate::events::events;
 use crate::given::{indexes, settings, types, value_of};
 use crate::links::Noting;
@@ -36,7 +39,11 @@ pub struct Play {
 }
 
 /// Over memory.
-fn ran(alloc: Global, words: &str, all: &[WorldEvent]) -> Result<Result<Trace, WorldFault>, Fail> {
+pub fn ran(
+    alloc: Global,
+    words: &str,
+    all: &[WorldEvent],
+) -> Result<Result<Trace, WorldFault>, Fail> {
     Ok(run(
         alloc,
         types(alloc)?,
@@ -169,6 +176,8 @@ impl Answers for Play {
             }
             "carried" => targets(alloc, &self.link.carried),
             "anew" => self.goes_on(alloc, rest, true),
+            "cuts" => cuts(alloc, self.words.as_str(), rest),
+            "fronts" => fronts(alloc, rest),
             _ => self.goes_on(alloc, question, false),
         }
     }

@@ -362,6 +362,46 @@ client 1; send; server; client => 14 3 [w1@3] {web=1}
 connection 4 => HTTP/1.1 410 Gone|$Content-Type: application/json|$Content-Length: 142|$Connection: close|$|${"apiVersion":"v1","code":410,"kind":"Status","message":"too old resource version: 2 (3)","metadata":{},"reason":"Expired","status":"Failure"}
 connection 5 => HTTP/1.1 200 OK|$Content-Type: application/json|$Content-Length: 408|$Connection: close|$|${"apiVersion":"demo.example/v1","items":[{"apiVersion":"demo.example/v1","kind":"Widget","metadata":{"labels":{"tier":"web"},"managedFields":[{"apiVersion":"demo.example/v1","fieldsType":"FieldsV1","fieldsV1":{"f:metadata":{"f:labels":{"f:tier":{}}}},"manager":"unknown","operation":"Update"}],"name":"w1","namespace":"default","resourceVersion":"3"}}],"kind":"WidgetList","metadata":{"resourceVersion":"3"}}"#;
 
+/// What comes in part: no front of a request is answered, nor does one change anything; a client that is cut reports what it
+/// has read whole, and then what it lists or watches again. (`client_tests` cuts replies at every byte.)
+const CUTTING: &str = r#"no_front_of_a_request_is_answered
+fronts relisting => 7
+fronts resuming => 15
+fronts summing => 6
+fronts pieces => 4
+fronts indexing => 7
+fronts retyping => 4
+fronts settings => 5
+fronts events => 6
+
+requests_are_cut_at_every_byte: the next one asks the same
+from page=2 => -
+cuts server 0 71 create w1; send <- client; server; client => ; 0: 6 2 [w1@2] {}; 71: 4 2 [w1@2] {}
+
+pages_are_cut_round_their_ends: one that is whole leads to the next one
+from page=2 => -
+cuts client 446 450 create w1; create w2; create w3; send; server <- cut; send; server; client; send; server; client => ; 446: 13 4 [w1@2 w2@3 w3@4] {}; 450: 10 4 [w1@2 w2@3 w3@4] {}
+cuts client 302 306 create w1; create w2; create w3; send; server; client; send; server <- cut; send; server; client; send; server; client => ; 302: 16 4 [w1@2 w2@3 w3@4] {}; 306: 9 4 [w1@2 w2@3 w3@4] {}
+
+watches_are_cut_round_their_line_feeds: a line counts with its line feed
+from page=2 => -
+cuts client 440 446 create w1; send; server; client; send; server; change w1 web; change w1 db; pump 3 10 <- cut; send; server; pump 6 10; client => ; 440: 15 4 [w1@4] {db=1}; 443: 10 3 [w1@3] {web=1} | 15 4 [w1@4] {db=1}
+cuts client 786 792 create w1; send; server; client; send; server; change w1 web; change w1 db; pump 3 10 <- cut; send; server; pump 6 10; client => ; 786: 10 3 [w1@3] {web=1} | 15 4 [w1@4] {db=1}; 789: 10 4 [w1@4] {db=1}"#;
+
+/// The examples of a name; the last where there are none.
+pub fn examples_named(name: &str) -> &'static str {
+    match name {
+        "relisting" => RELISTING,
+        "resuming" => RESUMING,
+        "summing" => SUMMING,
+        "pieces" => PIECES,
+        "indexing" => INDEXING,
+        "retyping" => RETYPING,
+        "settings" => SETTINGS,
+        _ => EVENTS,
+    }
+}
+
 #[test]
 fn paged_relist_over_compaction(rt: HostRuntime) -> Result<(), Fail> {
     play_all(rt.alloc(), &mut Play::new(rt.alloc()), RELISTING)
@@ -386,6 +426,11 @@ fn a_run_that_is_refused_memory(rt: HostRuntime) -> Result<(), Fail> {
 #[test]
 fn requests_in_pieces(rt: HostRuntime) -> Result<(), Fail> {
     play_all(rt.alloc(), &mut Play::new(rt.alloc()), PIECES)
+}
+
+#[test]
+fn bytes_in_part(rt: HostRuntime) -> Result<(), Fail> {
+    play_all(rt.alloc(), &mut Play::new(rt.alloc()), CUTTING)
 }
 
 #[test]
