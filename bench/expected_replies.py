@@ -1,18 +1,20 @@
 #!/usr/bin/env python3
-"""Writes the stored run of ssa_replay: a script that meets each message that a PATCH can be told, and watches, and
-what it must print.
+"""Writes the stored runs of ssa_replay: what the worked applies must print, and a script that meets each message that a
+PATCH can be told, and watches, and what it must print.
 
-Usage: bench/expected_replies.py   (writes crates/ssa_replay/data/messages.jsonl and crates/ssa_replay/stdout)
+Usage: bench/expected_replies.py   (writes crates/ssa_replay/stdout, and script.jsonl and stdout of
+                                    crates/ssa_replay/runs/messages)
 
 The program is not run here. Each request stands beside the status, the reason and the message of the tables below, or
 beside the object that it has to leave; heads, lengths and versions are computed here. The last check is that no message
-of the table is left out. `rt ci` compares what the program prints with what stands in `stdout`.
+of the table is left out. The gate compares what the program prints with what stands in each `stdout`.
 """
 import json
 import os
 
 TOP = os.path.dirname(os.path.dirname(os.path.abspath(__file__)))
 PROGRAM = os.path.join(TOP, "crates", "ssa_replay")
+MESSAGES = os.path.join(PROGRAM, "runs", "messages")
 
 # code, phrase, reason, messages
 TABLE = [
@@ -728,9 +730,11 @@ def main():
     with open(os.path.join(PROGRAM, "data", "script.jsonl")) as script:
         six = [json.loads(text) for text in script if text != "\n"]
     assert six == [json.loads(text) for text in lines[:6]]
-    with open(os.path.join(PROGRAM, "data", "messages.jsonl"), "w") as out:
-        out.write("".join(text + "\n" for text in lines))
     with open(os.path.join(PROGRAM, "stdout"), "w", newline="") as out:
+        out.write("".join(replies[:6]))
+    with open(os.path.join(MESSAGES, "script.jsonl"), "w") as out:
+        out.write("".join(text + "\n" for text in lines))
+    with open(os.path.join(MESSAGES, "stdout"), "w", newline="") as out:
         out.write("".join(replies))
         for connection, text in sorted(written.items()):
             out.write(f"connection {connection} {len(text)}\n{text}\n")
