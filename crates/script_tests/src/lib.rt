@@ -7,6 +7,8 @@ mod failing;
 #[cfg(test)]
 mod failing_net;
 #[cfg(test)]
+mod pipes;
+#[cfg(test)]
 mod recording;
 #[cfg(test)]
 mod replays;

@@ -11,7 +11,7 @@
 //! | `both OPTIONS` | so do both, and they print the same |
 //! | `full` | as `play`, but nothing can be printed on the standard output |
 //! | `offline` | as `loop`, but no socket can be had |
-//! | `bad LINE` | as `play`, with a script whose third line is this one, between good ones: it is refused |
+//! | `bad LINE => WHY` | as `play`, with a script whose third line is this one, between good ones: it is refused, and why |
 //!
 //! A run is followed by ` => STATUS PRINTED`. What is printed on the standard error has a `!` before it; a carriage return is
 //! shown as `|`, a line feed as `$`. Where `..` stands first, what is printed begins in other words.
@@ -137,7 +137,8 @@ fn play(rt: &HostRuntime, row: &str) -> Result<(), Fail> {
         "bad" => {
             let script = format!(in rt.alloc(); "{GOOD}$${rest}${GOOD}")?;
             write(rt, SCRIPT, script.as_str())?;
-            play_files(rt, "play", "", "4 !line 3: bad event$")
+            let wanted = format!(in rt.alloc(); "4 !line 3: bad event: {wanted}$")?;
+            play_files(rt, "play", "", wanted.as_str())
         }
         "run" => expect_run(rt, Asked::by(word, rest), wanted),
         _ => play_files(rt, word, rest, wanted),
@@ -186,7 +187,7 @@ play => 3 !types file replayed-types.json: refusal 6: not the form of a types fi
 types {"types":[{"group":"demo.example","version":"v1","kind":"Widget","plural":"widgets","schema":{"type":"object","properties":{"spec":{"type":"object","properties":{"config":{"type":"object","additionalProperties":{"type":"string"}},"image":{"type":"string"},"replicas":{"type":"integer"}}}}}}]}
 play => 3 !script replayed-script.jsonl: No such file or directory (os error 2)$
 script $$ $
-play => 4 !line 3: bad event$
+play => 4 !line 3: bad event: not JSON: column 1$
 script $
 play => 0 
 script {"open":1}$
@@ -205,10 +206,10 @@ play --namespace A => 2 !--namespace: it is no DNS label$
 play --page 0 --selector =a --namespace A => 2 !--page: a page has 1 to 500 objects$
 loop --page 0 => 2 !--page: a page has 1 to 500 objects$
 script $x
-play --page 0 => 4 !line 2: bad event$
-play --type demo.example/v1/gadgets => 4 !line 2: bad event$
+play --page 0 => 4 !line 2: bad event: not JSON: column 1$
+play --type demo.example/v1/gadgets => 4 !line 2: bad event: not JSON: column 1$
 play --type gadgets => 2 !--type: group/version/plural$
-loop => 4 !line 2: bad event$
+loop => 4 !line 2: bad event: not JSON: column 1$
 script {"open":1}$
 # sixteen_levels_are_read
 types {"types":[{"group":"g","version":"v","kind":"K","plural":"p","schema":{"type":"object","properties":{"a":{"type":"object","additionalProperties":{"type":"object","additionalProperties":{"type":"object","additionalProperties":{"type":"object","additionalProperties":{"type":"object","additionalProperties":{"type":"object","additionalProperties":{"type":"object","additionalProperties":{"type":"object","additionalProperties":{"type":"object","additionalProperties":{"type":"object","additionalProperties":{"type":"object","additionalProperties":{"type":"object","additionalProperties":{"type":"object","additionalProperties":{"type":"object","additionalProperties":{"type":"string"}}}}}}}}}}}}}}}}}}]}
@@ -217,56 +218,63 @@ types {"types":[{"group":"g","version":"v","kind":"K","plural":"p","schema":{"ty
 play => 3 !types file replayed-types.json: refusal 4: schema deeper than 16 at g/v/p .a.*.*.*.*.*.*.*.*.*.*.*.*.*.*.*$
 types {"types":[{"group":"demo.example","version":"v1","kind":"Widget","plural":"widgets","schema":{"type":"object","properties":{"spec":{"type":"object","properties":{"args":{"type":"array","items":{"type":"string"}},"config":{"type":"object","additionalProperties":{"type":"string"}},"image":{"type":"string"},"ports":{"type":"array","x-kubernetes-list-type":"map","x-kubernetes-list-map-keys":["name"],"items":{"type":"object","properties":{"name":{"type":"string"},"note":{"type":"string"},"port":{"type":"integer"}}}},"replicas":{"type":"integer"},"tags":{"type":"array","x-kubernetes-list-type":"set","items":{"type":"string"}}}}}}},{"group":"summary.example","version":"v1","kind":"LabelSummary","plural":"labelsummaries","schema":{"type":"object","properties":{"spec":{"type":"object","properties":{"counts":{"type":"object","additionalProperties":{"type":"integer"}},"label":{"type":"string"},"total":{"type":"integer"}}}}}}]}
 # bad_lines_are_refused
-bad x
-bad {}
-bad {"open":-1}
-bad {"open":1.0}
-bad {"open":18446744073709551616}
-bad {"open":"1"}
-bad {"compact":-1}
-bad {"compact":"1"}
-bad {"compact":[1]}
-bad {"types":{"types":[]},"tick":1}
-bad {"Types":{"types":[]}}
-bad {"gone":"1"}
-bad {"gone":[1]}
-bad {"tick":-1}
-bad {"tick":1.5}
-bad {"tick":18446744073709551616}
-bad {"pump":1}
-bad {"pump":[1]}
-bad {"pump":[1,"2"]}
-bad {"pump":["1",2]}
-bad {"pump":[1,-2]}
-bad {"pump":[1,2,3]}
-bad {"pump":[1,2],"tick":1}
-bad {"in":[1]}
-bad {"in":[1,2]}
-bad {"in":["1","GET"]}
-bad {"in":[1,"GET",2]}
-bad {"in":{"1":"GET"}}
-bad {"in":[1,"GET"],"open":1}
-bad {"client":"sends"}
-bad {"client":""}
-bad {"client":["send"]}
-bad {"client":"send","toServer":1}
-bad {"toServer":-1}
-bad {"toServer":1.0}
-bad {"toServer":"1"}
-bad {"toServer":[1]}
-bad {"toServer":18446744073709551616}
-bad {"toClient":-1}
-bad {"toClient":null}
-bad {"toclient":1}
-bad {"apply":[]}
-bad {"apply":{"force":false,"manager":"m","target":"t"}}
-bad {"apply":{"body":1,"force":0,"manager":"m","target":"t"}}
-bad {"apply":{"body":1,"force":false,"manager":null,"target":"t"}}
-bad {"apply":{"body":1,"force":false,"manager":"m","target":"t?x"}}
-bad {"apply":{"body":1,"force":false,"manager":"m","target":"a b"}}
-bad {"apply":{"body":1,"force":false,"manager":"m","more":1,"target":"t"}}
-bad {"apply":{"body":1,"force":false,"manager":"m","target":"t"},"more":1}
-bad |
+bad x => not JSON: column 1
+bad {} => not an object of one member
+bad {"open":-1} => "open": not a whole number below 2^64
+bad {"open":1.0} => "open": not a whole number below 2^64
+bad {"open":18446744073709551616} => "open": not a whole number below 2^64
+bad {"open":"1"} => "open": not a whole number below 2^64
+bad {"compact":-1} => "compact": not a whole number below 2^64
+bad {"compact":"1"} => "compact": not a whole number below 2^64
+bad {"compact":[1]} => "compact": not a whole number below 2^64
+bad {"types":{"types":[]},"tick":1} => not an object of one member
+bad {"Types":{"types":[]}} => unknown member "Types"
+bad {"gone":"1"} => "gone": not a whole number below 2^64
+bad {"gone":[1]} => "gone": not a whole number below 2^64
+bad {"tick":-1} => "tick": not a whole number below 2^64
+bad {"tick":1.5} => "tick": not a whole number below 2^64
+bad {"tick":18446744073709551616} => "tick": not a whole number below 2^64
+bad {"pump":1} => "pump": not a list of a connection and a number of lines
+bad {"pump":[1]} => "pump": not a list of a connection and a number of lines
+bad {"pump":[1,"2"]} => "pump": not a list of a connection and a number of lines
+bad {"pump":["1",2]} => "pump": not a list of a connection and a number of lines
+bad {"pump":[1,-2]} => "pump": not a list of a connection and a number of lines
+bad {"pump":[1,2,3]} => "pump": not a list of a connection and a number of lines
+bad {"pump":[1,2],"tick":1} => not an object of one member
+bad {"in":[1]} => "in": not a list of a connection and a text
+bad {"in":[1,2]} => "in": not a list of a connection and a text
+bad {"in":["1","GET"]} => "in": not a list of a connection and a text
+bad {"in":[1,"GET",2]} => "in": not a list of a connection and a text
+bad {"in":{"1":"GET"}} => "in": not a list of a connection and a text
+bad {"in":[1,"GET"],"open":1} => not an object of one member
+bad {"client":"sends"} => "client": not send, cut, restart or reconcile
+bad {"client":""} => "client": not send, cut, restart or reconcile
+bad {"client":["send"]} => "client": not send, cut, restart or reconcile
+bad {"client":"send","toServer":1} => not an object of one member
+bad {"toServer":-1} => "toServer": not a whole number below 2^64
+bad {"toServer":1.0} => "toServer": not a whole number below 2^64
+bad {"toServer":"1"} => "toServer": not a whole number below 2^64
+bad {"toServer":[1]} => "toServer": not a whole number below 2^64
+bad {"toServer":18446744073709551616} => "toServer": not a whole number below 2^64
+bad {"toClient":-1} => "toClient": not a whole number below 2^64
+bad {"toClient":null} => "toClient": not a whole number below 2^64
+bad {"toclient":1} => unknown member "toclient"
+bad {"apply":[]} => "apply": not an object of body, force, manager and target: a value, true or false, a text and a path
+bad {"apply":{"force":false,"manager":"m","target":"t"}} => "apply": not an object of body, force, manager and target: a value, true or false, a text and a path
+bad {"apply":{"body":1,"force":0,"manager":"m","target":"t"}} => "apply": not an object of body, force, manager and target: a value, true or false, a text and a path
+bad {"apply":{"body":1,"force":false,"manager":null,"target":"t"}} => "apply": not an object of body, force, manager and target: a value, true or false, a text and a path
+bad {"apply":{"body":1,"force":false,"manager":"m","target":"t?x"}} => "apply": not an object of body, force, manager and target: a value, true or false, a text and a path
+bad {"apply":{"body":1,"force":false,"manager":"m","target":"a b"}} => "apply": not an object of body, force, manager and target: a value, true or false, a text and a path
+bad {"apply":{"body":1,"force":false,"manager":"m","more":1,"target":"t"}} => "apply": not an object of body, force, manager and target: a value, true or false, a text and a path
+bad {"apply":{"body":1,"force":false,"manager":"m","target":"t"},"more":1} => not an object of one member
+bad {"bytes":[1]} => "bytes": not a list of a connection and hexadecimal digits
+bad {"bytes":[1,"0"]} => "bytes": not a list of a connection and hexadecimal digits
+bad {"bytes":[1,"0g"]} => "bytes": not a list of a connection and hexadecimal digits
+bad {"bytes":["1","00"]} => "bytes": not a list of a connection and hexadecimal digits
+bad {"bytes":[1,"00",2]} => "bytes": not a list of a connection and hexadecimal digits
+bad {"pmup":[1,1]} => unknown member "pmup"
+bad {"p\"":1} => unknown member "p\""
+bad | => not JSON: column 1
 script {"apply":{"body":null,"force":false,"manager":"alice","target":"/x"}}
 play => 0 404 {"apiVersion":"v1","code":404,"kind":"Status","message":"no such path","metadata":{},"reason":"NotFound","status":"Failure"}$
 # lines_of_connections_read

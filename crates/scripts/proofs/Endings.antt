@@ -1,5 +1,5 @@
 -- How a play ends, by what ends a part of it.
-use Rattle.std.proofs.Common.{◌≡◌, ◌∙◌, ℕ, List, Result, Ok, Err, Option, None, Some, ap, refl, subst, sym, inl, inr}
+use Rattle.std.proofs.Common.{◌≡◌, ◌∙◌, ℕ, List, [], Result, Ok, Err, Option, None, Some, ap, refl, subst, sym, inl, inr}
 use Rattle.std.specs.Prelude.{◌⊎◌, IfErr, OnErr}
 use Rattle.std.specs.Result.{IsErrAnd}
 use Rattle.api_types.specs.TypesFile.{ServedShape}
@@ -8,11 +8,13 @@ use Rattle.world.specs.declared.fault.WorldFault.{WorldFault}
 use Rattle.world.specs.declared.fault.WorldFault.TheVariants as stopped
 use Rattle.world_laws.specs.Tasks.{RunSettings, settings_fault}
 use Rattle.programs.specs.declared.run_fault.RunFault.TheVariants as run
-use Rattle.scripts.specs.Asked.{Ends, EndsBy, IsGood}
+use Rattle.scripts.specs.Asked.{CanBeHad, Ends, EndsBy, IsGood}
 use Rattle.scripts.specs.Parts.{IsOfOutput}
+use Rattle.scripts.specs.Piped.{EndsPlaying, IsOfPlay}
 use Rattle.scripts.specs.Plays.{Answers, AnswersBy, index_names, replay_fault_of}
 use Rattle.scripts.specs.Script.{IsFirstBad}
 use Rattle.scripts.specs.Statuses.{replay_fault_told, script_fault_told}
+use Rattle.scripts.specs.declared.line_fault.LineFault.{LineFault}
 use Rattle.scripts.specs.declared.program_fault.ProgramFault.{ProgramFault}
 use Rattle.scripts.specs.declared.program_fault.ProgramFault.TheVariants as fault
 use Rattle.scripts.specs.declared.replay_fault.ReplayFault.{ReplayFault}
@@ -86,8 +88,8 @@ module _ (types : List ServedShape) (asked : Option RunSettings) (lines : List (
   ends_as (Ok x) f given is = absurd given
   ends_as (Err x) f given is = subst (EndsBy types asked lines) (sym given) is
 
-  pub ends_reading : (f : ScriptFault) → ((n : ℕ) → f ≡ script.BadEvent n → IsFirstBad lines n) → EndsBy types asked lines (script_fault_told f)
-  ends_reading (script.BadEvent n) bad = bad n refl
+  pub ends_reading : (f : ScriptFault) → ((n : ℕ) (why : LineFault) → f ≡ script.BadEvent n why → IsFirstBad lines n) → EndsBy types asked lines (script_fault_told f)
+  ends_reading (script.BadEvent n why) bad = bad n why refl
   ends_reading script.Memory bad = tt
 
   pub ends_asking : (f : ProgramFault) → IsGood lines → (f ≡ fault.Run run.Memory) ⊎ ((f ≡ fault.NoType) × (asked ≡ None)) → EndsBy types asked lines f
@@ -114,7 +116,7 @@ spares_link (Ok x) f given isnt is = absurd given
 spares_link (Err e) f given isnt is = isnt (sym given ∙ ap program_error is)
 
 pub reading_spares_link : (f : ScriptFault) → script_fault_told f ≡ fault.Link → ⊥
-reading_spares_link (script.BadEvent n) is = cc
+reading_spares_link (script.BadEvent n why) is = cc
 reading_spares_link script.Memory is = cc
 
 pub asking_spares_link : {X : Type 0} (f : ProgramFault) → (f ≡ fault.Run run.Memory) ⊎ ((f ≡ fault.NoType) × X) → f ≡ fault.Link → ⊥
@@ -135,3 +137,46 @@ playing_spares_link replay.Store isnt is = cc
 playing_spares_link (replay.Settings n) isnt is = cc
 playing_spares_link replay.Link isnt is = isnt refl
 playing_spares_link (replay.Write e) isnt is = cc
+
+-- ---- lines that are answered one by one
+
+play_fails : (f : ReplayFault) → AnswersBy None f → IsOfPlay (replay_fault_told f)
+play_fails replay.Memory is = tt
+play_fails replay.Store is = tt
+play_fails (replay.Settings n) is = absurd cc
+play_fails replay.Link is = tt
+play_fails (replay.Write e) is = tt
+
+-- what ends a play of settings without a fault
+pub fails_playing : {A : Type 0} (r : Result A ProgramFault) (f : ReplayFault) → IsErrAnd r (λ x. x ≡ replay_fault_told f) → AnswersBy None f → EndsPlaying r
+fails_playing (Ok x) f given is = tt
+fails_playing (Err e) f given is = subst IsOfPlay (sym given) (play_fails f is)
+
+-- a fault that is handed on
+pub fails_as : {A : Type 0} (r : Result A ProgramFault) (f : ProgramFault) → IsErrAnd r (λ x. x ≡ f) → IsOfPlay f → EndsPlaying r
+fails_as (Ok x) f given is = tt
+fails_as (Err e) f given is = subst IsOfPlay (sym given) is
+
+-- with no lines the settings have been checked all the same
+pub ends_piping : (types : List ServedShape) (asked : Option RunSettings) (e : ProgramFault) → IsOfPlay e → CanBeHad types asked → EndsBy types asked [] e
+ends_piping types asked (fault.Run run.Memory) is had = tt
+ends_piping types asked (fault.Run run.Store) is had = (([], tt), had)
+ends_piping types asked (fault.Run (run.Output x)) is had = (([], tt), had)
+ends_piping types asked (fault.Run (run.Arguments x)) is had = absurd is
+ends_piping types asked (fault.Run run.NotText) is had = absurd is
+ends_piping types asked (fault.Run (run.Number o)) is had = absurd is
+ends_piping types asked (fault.Run (run.TypesFile p x)) is had = absurd is
+ends_piping types asked (fault.Run (run.TypesText p x)) is had = absurd is
+ends_piping types asked (fault.Run (run.Types x)) is had = absurd is
+ends_piping types asked (fault.Run (run.Port n x)) is had = absurd is
+ends_piping types asked fault.Form is had = absurd is
+ends_piping types asked (fault.ScriptFile p x) is had = absurd is
+ends_piping types asked (fault.Script n why) is had = absurd is
+ends_piping types asked fault.NoType is had = absurd is
+ends_piping types asked (fault.Settings n) is had = absurd is
+ends_piping types asked fault.Link is had = (([], tt), had)
+ends_piping types asked (fault.Input x) is had = (([], tt), had)
+
+pub ends_all : {A : Type 0} (types : List ServedShape) (asked : Option RunSettings) (r : Result A ProgramFault) → EndsPlaying r → CanBeHad types asked → Ends types asked [] r
+ends_all types asked (Ok x) is had = (([], tt), had)
+ends_all types asked (Err e) is had = ends_piping types asked e is had

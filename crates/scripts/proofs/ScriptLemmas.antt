@@ -1,8 +1,9 @@
 -- Lines and their events.
-use Rattle.std.proofs.Common.{◌≡◌, ◌≢◌, ◌∙◌, ◌<◌, ◌+◌, ◌&&◌, ◌≤◌, ◌==◌, ℕ, suc, Bool, true, false, cond, not, nat_le, ap, ap₂, refl, sym, subst, arith, inl, inr, List, [], ◌∷◌, ◌++◌, length, map, take, drop, Option, Some, None, option_map, codes}
+use Rattle.std.proofs.Common.{◌≡◌, ◌≢◌, ◌∙◌, ◌<◌, ◌+◌, ◌&&◌, ◌≤◌, ◌==◌, ℕ, suc, Bool, true, false, cond, not, nat_le, ap, ap₂, refl, sym, subst, arith, inl, inr, List, [], ◌∷◌, ◌++◌, length, map, take, drop, Option, Some, None, Result, Ok, Err, option_map, codes}
 use Rattle.std.specs.Prelude.{option_and_then, slice_index_or}
 use Rattle.std.specs.Borrow.{Bor}
 use Rattle.std.specs.List.{AllZip, filter}
+use Rattle.std.specs.Result.{result_ok}
 use Rattle.std.specs.Str.{bytes_eq}
 use Rattle.std.proofs.lemmas.Bool.{le-leb}
 use Rattle.std.proofs.lemmas.Bool.Decides.{eqb_tells, leb_tells}
@@ -14,11 +15,13 @@ use Rattle.std.proofs.lemmas.Slice.Eq.{bytes_eq-Decides}
 use Rattle.serde_json.specs.Data.{unsigned, negative, float, Data, null, boolean, number, string, array, object, Items, no_items, item, Members, no_members, member}
 use Rattle.serde_json.specs.Find.{as_array, as_bool, as_object, as_str}
 use Rattle.serde_json.specs.Read.{read as read_json}
+use Rattle.hex.specs.Hex.{decode_of}
+use Rattle.hex.specs.declared.error.FromHexError.{FromHexError}
 use Rattle.httpedge.specs.Steps.{opens, comes, goes, pumps, ticks, compacts, retypes}
 use Rattle.world_laws.specs.World.{WorldEvent, other, request, send, to_server, to_client, cut, restart, reconcile}
 use Rattle.scripts.specs.Requests.{Apply}
-use Rattle.scripts.specs.Script.{AreEvents, IsFirstBad, IsTarget, IsEventLine, IsEventObject, apply_object, is_filled, only, pair, whole}
-use Rattle.scripts.specs.ScriptSteps.{Line, Makes, applies, apply_in, client_named, comes_in, event_named, happens, if_target, is_last, is_last_item, is_target, line_in, line_named, line_of, next_item, next_named, number_in, numbered, only_member, pumps_in, with_items, with_rest}
+use Rattle.scripts.specs.Script.{AreEvents, IsFirstBad, IsTarget, IsEventLine, IsEventObject, ReadsLine, apply_object, is_filled, only, pair, whole}
+use Rattle.scripts.specs.ScriptSteps.{Line, Makes, applies, apply_in, brings, client_named, comes_in, digits_in, event_named, happens, if_target, is_last, is_last_item, is_target, line_in, line_named, line_of, next_item, next_named, number_in, numbered, only_member, pumps_in, text_in, with_items, with_rest}
 
 some≢none : {X : Type 0} (x : X) → Some x ≡ None → ⊥
 some≢none x e = cc
@@ -179,15 +182,32 @@ last_item : {X : Type 0} (x y : X) (ds : Items) → is_last_item x ds ≡ Some y
 last_item x y no_items e = (refl, cc)
 last_item x y (item d ds) e = cc
 
-comes_is : (ds : Items) (e : WorldEvent) → comes_in ds ≡ Some e → IsEventObject (only (codes "in") (array ds)) e
-comes_is ds e is =
-    let k = and_then-Some _ _ e is in
+comes_is : (ds : Items) (p : ℕ × List ℕ) → comes_in ds ≡ Some p → array ds ≡ pair (whole p.0) (string p.1)
+comes_is ds p is =
+    let k = and_then-Some _ _ p is in
     let first = leading number_in ds k.0 k.1 in
-    let t = and_then-Some _ _ e k.2 in
+    let t = and_then-Some _ _ p k.2 in
     let second = leading as_str k.0.1 t.0 t.1 in
-    let end = last_item _ e t.0.1 t.2 in
+    let end = last_item _ p t.0.1 t.2 in
     let all : ds ≡ item (whole k.0.0) (item (string t.0.0) no_items) = first.1 ∙ ap₂ item (counted first.0 k.0.0 first.2) (second.1 ∙ ap₂ item (text second.0 t.0.0 second.2) end.0) in
-    subst (IsEventObject (only (codes "in") (array ds))) end.1 (ap (λ (items : Items). only (codes "in") (array items)) all)
+    ap array all ∙ ap (λ (q : ℕ × List ℕ). pair (whole q.0) (string q.1)) end.1
+
+text_is : (ds : Items) (e : WorldEvent) → text_in ds ≡ Some e → IsEventObject (only (codes "in") (array ds)) e
+text_is ds e is =
+    let p = map-Some (λ (q : ℕ × List ℕ). other (comes q.0 q.1)) (comes_in ds) e is in
+    subst (IsEventObject (only (codes "in") (array ds))) p.2 (inl (ap (only (codes "in")) (comes_is ds p.0 p.1)))
+
+digits_made : (d : Data) (k : ℕ) (digits : List ℕ) (e : WorldEvent) (r : Result (List ℕ) FromHexError) → d ≡ pair (whole k) (string digits) → decode_of digits ≡ r
+    → Some e ≡ option_map (λ bytes. other (comes k bytes)) (result_ok r) → IsEventObject (only (codes "bytes") d) e
+digits_made d k digits e (Ok bytes) is decoded made =
+    let same : other (comes k bytes) ≡ e = cc in
+    subst (IsEventObject (only (codes "bytes") d)) same (inr (digits, ap (only (codes "bytes")) is, decoded))
+digits_made d k digits e (Err why) is decoded made = cc
+
+digits_are : (ds : Items) (l : Line) (e : WorldEvent) → digits_in ds ≡ Some l → Makes l (Some e) → IsEventObject (only (codes "bytes") (array ds)) e
+digits_are ds l e is makes =
+    let p = map-Some (λ (q : ℕ × List ℕ). brings q.0 q.1) (comes_in ds) l is in
+    digits_made (array ds) p.0.0 p.0.1 e (decode_of p.0.1) (comes_is ds p.0 p.1) refl (subst (λ (x : Line). Makes x (Some e)) (sym p.2) makes)
 
 pumps_is : (ds : Items) (e : WorldEvent) → pumps_in ds ≡ Some e → IsEventObject (only (codes "pump") (array ds)) e
 pumps_is ds e is =
@@ -249,12 +269,12 @@ named_is : (name : List ℕ) (d : Data) (e : WorldEvent) → event_named name d 
 named_is name d e is = go (bytes_eq name (codes "in")) (bytes_eq name (codes "pump")) (bytes_eq name (codes "client")) refl refl refl is
   where
     go : (i p c : Bool) → bytes_eq name (codes "in") ≡ i → bytes_eq name (codes "pump") ≡ p → bytes_eq name (codes "client") ≡ c
-        → cond i (option_and_then comes_in (as_array d))
+        → cond i (option_and_then text_in (as_array d))
         (cond p (option_and_then pumps_in (as_array d)) (cond c (option_and_then client_named (as_str d)) (option_and_then (numbered name) (number_in d)))) ≡ Some e
         → IsEventObject (only name d) e
     go true p c it pt ct h =
-        let ds = and_then-Some comes_in _ e h in
-        named_so name (codes "in") d (array ds.0) e it (listed d ds.0 ds.1) (comes_is ds.0 e ds.2)
+        let ds = and_then-Some text_in _ e h in
+        named_so name (codes "in") d (array ds.0) e it (listed d ds.0 ds.1) (text_is ds.0 e ds.2)
     go false true c it pt ct h =
         let ds = and_then-Some pumps_in _ e h in
         named_so name (codes "pump") d (array ds.0) e pt (listed d ds.0 ds.1) (pumps_is ds.0 e ds.2)
@@ -265,54 +285,91 @@ named_is name d e is = go (bytes_eq name (codes "in")) (bytes_eq name (codes "pu
         let n = and_then-Some (numbered name) _ e h in
         subst (λ (v : Data). IsEventObject (only name v) e) (sym (counted d n.0 n.1)) (numbered_is name n.0 e n.2)
 
-named_line_is : (name : List ℕ) (d : Data) (l : Line) (e : WorldEvent) → line_named name d ≡ Some l → Makes l e → IsEventObject (only name d) e
-named_line_is name d l e is makes = go (bytes_eq name (codes "apply")) (bytes_eq name (codes "types")) refl refl is
+some_one : {X : Type 0} (x y : X) → Some x ≡ Some y → x ≡ y
+some_one x y e = cc
+
+named_line_is : (name : List ℕ) (d : Data) (l : Line) (e : WorldEvent) → line_named name d ≡ Some l → Makes l (Some e) → IsEventObject (only name d) e
+named_line_is name d l e is makes = go (bytes_eq name (codes "apply")) (bytes_eq name (codes "bytes")) (bytes_eq name (codes "types")) refl refl refl is
   where
-    go : (a t : Bool) → bytes_eq name (codes "apply") ≡ a → bytes_eq name (codes "types") ≡ t
-        → cond a (option_map applies (option_and_then apply_in (as_object d))) (cond t (Some (happens (other (retypes d)))) (option_map happens (event_named name d))) ≡ Some l
+    go : (a b t : Bool) → bytes_eq name (codes "apply") ≡ a → bytes_eq name (codes "bytes") ≡ b → bytes_eq name (codes "types") ≡ t
+        → cond a (option_map applies (option_and_then apply_in (as_object d))) (cond b (option_and_then digits_in (as_array d)) (cond t (Some (happens (other (retypes d)))) (option_map happens (event_named name d)))) ≡ Some l
         → IsEventObject (only name d) e
-    go true t at yt h =
+    go true b t at bt yt h =
         let a = map-Some applies _ l h in
         let ms = and_then-Some apply_in _ a.0 a.1 in
         let said = apply_is ms.0 a.0 ms.2 in
-        let made = subst (λ (x : Line). Makes x e) (sym a.2) makes in
-        subst (IsEventObject (only name d)) (sym made.2)
+        let made = subst (λ (x : Line). Makes x (Some e)) (sym a.2) makes in
+        subst (IsEventObject (only name d)) (sym (some_one e (request made.0) made.2))
         (named_so name (codes "apply") d (apply_object a.0) (request made.0) at (inner d ms.0 ms.1 ∙ ap object said.0) (a.0, refl, said.1, made.1))
-    go false true at yt h =
+    go false true t at bt yt h =
+        let ds = and_then-Some digits_in _ l h in
+        named_so name (codes "bytes") d (array ds.0) e bt (listed d ds.0 ds.1) (digits_are ds.0 l e ds.2 makes)
+    go false false true at bt yt h =
         let same : happens (other (retypes d)) ≡ l = cc in
-        let made = subst (λ (x : Line). Makes x e) (sym same) makes in
-        subst (IsEventObject (only name d)) (sym made) (ap (λ (n : List ℕ). only n d) ((bytes_eq-Decides name (codes "types")).0 yt))
-    go false false at yt h =
+        let made = subst (λ (x : Line). Makes x (Some e)) (sym same) makes in
+        subst (IsEventObject (only name d)) (sym (some_one e (other (retypes d)) made)) (ap (λ (n : List ℕ). only n d) ((bytes_eq-Decides name (codes "types")).0 yt))
+    go false false false at bt yt h =
         let x = map-Some happens _ l h in
-        let made = subst (λ (y : Line). Makes y e) (sym x.2) makes in
-        subst (IsEventObject (only name d)) (sym made) (named_is name d x.0 x.1)
+        let made = subst (λ (y : Line). Makes y (Some e)) (sym x.2) makes in
+        subst (IsEventObject (only name d)) (sym (some_one e x.0 made)) (named_is name d x.0 x.1)
 
-line_is : (d : Data) (l : Line) (e : WorldEvent) → line_in d ≡ Some l → Makes l e → IsEventObject d e
+line_is : (d : Data) (l : Line) (e : WorldEvent) → line_in d ≡ Some l → Makes l (Some e) → IsEventObject d e
 line_is d l e is makes =
     let p = and_then-Some _ _ l is in
     let ms = and_then-Some only_member _ p.0 p.1 in
     subst (λ (x : Data). IsEventObject x e) (sym (inner d ms.0 ms.1 ∙ the_only ms.0 p.0 ms.2)) (named_line_is p.0.0 p.0.1 l e p.2 makes)
 
-pub says_event : (text : List ℕ) (l : Line) (e : WorldEvent) → line_of text ≡ Some l → Makes l e → IsEventLine text e
+says_event : (text : List ℕ) (l : Line) (e : WorldEvent) → line_of text ≡ Some l → Makes l (Some e) → IsEventLine text e
 says_event text l e is makes =
     let d = and_then-Some line_in (read_json text) l is in
     (d.0, d.1, line_is d.0 l e d.2 makes)
 
-event_said : (text : List ℕ) (e : WorldEvent) → IsEventLine text e → (l : Line) × (line_of text ≡ Some l)
-event_said text (other (opens k)) (d, reads, is) = (happens (other (opens k)), rw (reads, is) refl)
-event_said text (other (comes k bytes)) (d, reads, is) = (happens (other (comes k bytes)), rw (reads, is) refl)
-event_said text (other (goes k)) (d, reads, is) = (happens (other (goes k)), rw (reads, is) refl)
-event_said text (other (pumps k max)) (d, reads, is) = (happens (other (pumps k max)), rw (reads, is) refl)
-event_said text (other (ticks ms)) (d, reads, is) = (happens (other (ticks ms)), rw (reads, is) refl)
-event_said text (other (compacts c)) (d, reads, is) = (happens (other (compacts c)), rw (reads, is) refl)
-event_said text (other (retypes file)) (d, reads, is) = (happens (other (retypes file)), rw (reads, is) refl)
-event_said text (request bytes) (d, reads, (a, is, target, asked)) = (applies a, rw (reads, is, is_target_of a.target target) refl)
-event_said text send (d, reads, is) = (happens send, rw (reads, is) refl)
-event_said text (to_server n) (d, reads, is) = (happens (to_server n), rw (reads, is) refl)
-event_said text (to_client n) (d, reads, is) = (happens (to_client n), rw (reads, is) refl)
-event_said text cut (d, reads, is) = (happens cut, rw (reads, is) refl)
-event_said text restart (d, reads, is) = (happens restart, rw (reads, is) refl)
-event_said text reconcile (d, reads, is) = (happens reconcile, rw (reads, is) refl)
+-- a line that is an event's says what makes it
+Says : List ℕ → WorldEvent → Type 0
+Says text e = (l : Line) × (line_of text ≡ Some l) × Makes l (Some e)
+
+brought : (text digits : List ℕ) (k : ℕ) (bytes : List ℕ) (d : Data) → read_json text ≡ Some d → d ≡ only (codes "bytes") (pair (whole k) (string digits)) → decode_of digits ≡ Ok bytes → Says text (other (comes k bytes))
+unfolding Says
+brought text digits k bytes d reads is decoded =
+    (brings k digits, rw (reads, is) refl, sym (ap (λ (r : Result (List ℕ) FromHexError). option_map (λ bs. other (comes k bs)) (result_ok r)) decoded))
+
+event_said : (text : List ℕ) (e : WorldEvent) → IsEventLine text e → Says text e
+unfolding Says
+event_said text (other (opens k)) (d, reads, is) = (happens (other (opens k)), rw (reads, is) refl, refl)
+event_said text (other (comes k bytes)) (d, reads, inl is) = (happens (other (comes k bytes)), rw (reads, is) refl, refl)
+event_said text (other (comes k bytes)) (d, reads, inr (digits, is, decoded)) = brought text digits k bytes d reads is decoded
+event_said text (other (goes k)) (d, reads, is) = (happens (other (goes k)), rw (reads, is) refl, refl)
+event_said text (other (pumps k max)) (d, reads, is) = (happens (other (pumps k max)), rw (reads, is) refl, refl)
+event_said text (other (ticks ms)) (d, reads, is) = (happens (other (ticks ms)), rw (reads, is) refl, refl)
+event_said text (other (compacts c)) (d, reads, is) = (happens (other (compacts c)), rw (reads, is) refl, refl)
+event_said text (other (retypes file)) (d, reads, is) = (happens (other (retypes file)), rw (reads, is) refl, refl)
+event_said text (request bytes) (d, reads, (a, is, target, asked)) = (applies a, rw (reads, is, is_target_of a.target target) refl, (bytes, asked, refl))
+event_said text send (d, reads, is) = (happens send, rw (reads, is) refl, refl)
+event_said text (to_server n) (d, reads, is) = (happens (to_server n), rw (reads, is) refl, refl)
+event_said text (to_client n) (d, reads, is) = (happens (to_client n), rw (reads, is) refl, refl)
+event_said text cut (d, reads, is) = (happens cut, rw (reads, is) refl, refl)
+event_said text restart (d, reads, is) = (happens restart, rw (reads, is) refl, refl)
+event_said text reconcile (d, reads, is) = (happens reconcile, rw (reads, is) refl, refl)
+
+-- what makes no event makes none
+makes_one : (l : Line) (e : WorldEvent) → Makes l None → Makes l (Some e) → ⊥
+makes_one (applies a) e none one = some≢none _ (sym none.2)
+makes_one (brings k digits) e none one = some≢none e (one ∙ sym none)
+makes_one (happens x) e none one = some≢none x (sym none)
+
+same_line : (l m : Line) → Some l ≡ Some m → l ≡ m
+same_line l m e = cc
+
+pub reads_some : (text : List ℕ) (l : Line) (o : Option WorldEvent) → line_of text ≡ Some l → Makes l o → ReadsLine text o
+unfolding Says
+reads_some text l (Some e) is makes = says_event text l e is makes
+reads_some text l None is makes = λ e says.
+    let said = event_said text e says in
+    makes_one l e makes (subst (λ (x : Line). Makes x (Some e)) (same_line said.0 l (sym said.1 ∙ is)) said.2)
+
+pub reads_none : (text : List ℕ) → line_of text ≡ None → ReadsLine text None
+unfolding Says
+reads_none text none = λ e says. let said = event_said text e says in some≢none said.0 (sym said.1 ∙ none)
 
 -- ---- lists of lines
 
@@ -339,18 +396,18 @@ past_empty lines i d events lt empty before =
     subst (λ xs. AllZip IsEventLine xs events) (sym same) before
 
 -- an event's line adds it
-pub with_event : (lines : List (Bor (List ℕ))) (i : ℕ) (d : Bor (List ℕ)) (events : List WorldEvent) (l : Line) (a : WorldEvent) → i < length lines → is_filled (slice_index_or lines i d).now ≡ true
-    → line_of (slice_index_or lines i d).now ≡ Some l → Makes l a → AreEvents (texts (take i lines)) events → AreEvents (texts (take (i + 1) lines)) (events ++ a ∷ [])
-with_event lines i d events l a lt full says makes before =
+pub with_event : (lines : List (Bor (List ℕ))) (i : ℕ) (d : Bor (List ℕ)) (events : List WorldEvent) (a : WorldEvent) → i < length lines → is_filled (slice_index_or lines i d).now ≡ true
+    → IsEventLine (slice_index_or lines i d).now a → AreEvents (texts (take i lines)) events → AreEvents (texts (take (i + 1) lines)) (events ++ a ∷ [])
+with_event lines i d events a lt full says before =
     let line = (slice_index_or lines i d).now in
     let same : filter is_filled (texts (take (i + 1) lines)) ≡ filter is_filled (texts (take i lines)) ++ line ∷ [] =
     ap (filter is_filled) (one_more lines i d lt) ∙ filter-append is_filled (texts (take i lines)) (line ∷ [])
     ∙ ap (λ xs. filter is_filled (texts (take i lines)) ++ xs) (rw full refl) in
-    subst (λ xs. AllZip IsEventLine xs (events ++ a ∷ [])) (sym same) (zip_push _ events line a before (says_event line l a says makes))
+    subst (λ xs. AllZip IsEventLine xs (events ++ a ∷ [])) (sym same) (zip_push _ events line a before says)
 
 -- a line that isn't empty and is no event's is the first bad one
 pub first_bad : (lines : List (Bor (List ℕ))) (i : ℕ) (d : Bor (List ℕ)) (events : List WorldEvent) (n : ℕ) → i < length lines → is_filled (slice_index_or lines i d).now ≡ true
-    → line_of (slice_index_or lines i d).now ≡ None → AreEvents (texts (take i lines)) events → n ≡ i + 1 → IsFirstBad (texts lines) n
+    → ReadsLine (slice_index_or lines i d).now None → AreEvents (texts (take i lines)) events → n ≡ i + 1 → IsFirstBad (texts lines) n
 first_bad lines i d events n lt full none before counted = record {
   before = texts (take i lines);
   line = (slice_index_or lines i d).now;
@@ -360,5 +417,5 @@ first_bad lines i d events n lt full none before counted = record {
   good = before;
   place = counted ∙ ap (λ k. k + 1) (sym (length-map (take i lines) (λ (l : Bor (List ℕ)). l.now) ∙ length-take-le i lines (omega arith)));
   filled = λ e. let bad : true ≡ false = sym full ∙ ap is_filled e in cc;
-  bad = λ a says. let said = event_said _ a says in some≢none said.0 (sym said.1 ∙ none);
+  bad = none;
 }

@@ -6,12 +6,12 @@ use Rattle.world_laws.specs.Tasks.{RunSettings, settings_fault}
 use Rattle.world_laws.specs.World.{WorldEvent}
 use Rattle.scripts.specs.Plays.{Plays, PlaysFront, index_names}
 use Rattle.scripts.specs.Script.{AreEvents, IsFirstBad}
-use Rattle.scripts.specs.declared.arguments.PlayerOptions.{PlayerOptions}
+use Rattle.scripts.specs.declared.arguments.ClientOptions.{ClientOptions}
 use Rattle.scripts.specs.declared.program_fault.ProgramFault.{ProgramFault}
 use Rattle.scripts.specs.declared.program_fault.ProgramFault.TheVariants as fault
 
 -- to mirror the objects of the type with these names, if it is served, and to apply the counts to the object summary of the namespace default
-abbrev pub settings_asked : List ServedShape → PlayerOptions → Option RunSettings
+abbrev pub settings_asked : List ServedShape → ClientOptions → Option RunSettings
 settings_asked types o =
     option_map (λ kind. record { kind = kind; namespace = option_map (λ s. s.now) o.namespace; selector = o.selector.now; page = o.page; label = o.label.now; summary = (codes "default", codes "summary") })
     (type_number o.resource.group.now o.resource.version.now o.resource.plural.now types)
@@ -27,10 +27,11 @@ CanBeHad types asked = (settings : RunSettings) × (asked ≡ Some settings) × 
 -- a play of these lines ends by this fault, the first of several: the first bad line; that the type isn't served; the number of the settings'
 -- fault; one of the play itself. That memory is out says nothing of them, and no other fault is told
 abbrev pub EndsBy : List ServedShape → Option RunSettings → List (List ℕ) → ProgramFault → Type 0
-EndsBy types asked lines (fault.Script n) = IsFirstBad lines n
+EndsBy types asked lines (fault.Script n why) = IsFirstBad lines n
 EndsBy types asked lines fault.NoType = IsGood lines × (asked ≡ None)
 EndsBy types asked lines (fault.Settings n) = IsGood lines × ((settings : RunSettings) × (asked ≡ Some settings) × (settings_fault types index_names settings ≡ Some n))
 EndsBy types asked lines fault.Link = IsGood lines × CanBeHad types asked
+EndsBy types asked lines (fault.Input e) = IsGood lines × CanBeHad types asked
 EndsBy types asked lines (fault.Run run.Store) = IsGood lines × CanBeHad types asked
 EndsBy types asked lines (fault.Run (run.Output e)) = IsGood lines × CanBeHad types asked
 EndsBy types asked lines (fault.Run run.Memory) = ⊤

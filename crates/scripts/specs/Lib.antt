@@ -1,6 +1,7 @@
 pub mod Asked
 pub mod Output
 pub mod Parts
+pub mod Piped
 pub mod PlayerCommand
 pub mod Plays
 pub mod Requests

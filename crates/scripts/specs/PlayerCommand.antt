@@ -43,6 +43,15 @@ pub record IsPlayerCommand (name : Text) (command : Command) : Type 0 where
   pub types : (m : ArgMatches) → IsParsedFrom command m → is_some (first_value (found_of m) (codes "types")) ≡ true
   pub script : (m : ArgMatches) → IsParsedFrom command m → is_some (first_value (found_of m) (codes "script")) ≡ true
 
+-- the command of the program with this name that reads a script from its standard input
+abbrev pub pipe_app : Text → App
+pipe_app name = with_wanted (with_rule (program name) (file_option (codes "types")))
+
+-- a command as above, of which each parse has the path of the types file
+pub record IsPipeCommand (name : Text) (command : Command) : Type 0 where
+  pub app : app_of command ≡ pipe_app name
+  pub types : (m : ArgMatches) → IsParsedFrom command m → is_some (first_value (found_of m) (codes "types")) ≡ true
+
 -- whether the words are refused, and why: they have a fault of one of these kinds; or of none, and the page is no number below 2^32, or the
 -- type is not told by a group, a version and a plural
 abbrev pub RefusedBy : {A : Type 0} → Kinds → List Row → Result A ProgramFault → Type 0

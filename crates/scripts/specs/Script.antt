@@ -1,5 +1,6 @@
 -- Scripts: the events of a text, one JSON object (RFC 8259) a line.
-use Rattle.std.specs.Prelude.{◌≡◌, ◌≢◌, ◌≤◌, ◌+◌, ◌==◌, ℕ, Bool, not, List, [], ◌∷◌, ◌++◌, length, Some, codes}
+use Rattle.std.specs.Prelude.{◌≡◌, ◌⊎◌, ◌≢◌, ◌≤◌, ◌+◌, ◌==◌, ℕ, Bool, not, List, [], ◌∷◌, ◌++◌, length, Option, Some, None, Ok, codes}
+use Rattle.hex.specs.Hex.{decode_of}
 use Rattle.std.specs.List.{All, AllZip, filter, slice_split}
 use Rattle.serde_json.specs.Data.{Data, unsigned, boolean, number, string, array, object, no_items, item, no_members, member}
 use Rattle.serde_json.specs.Read.{read as read_json}
@@ -31,10 +32,10 @@ apply_object a = object (member (codes "body") a.body (member (codes "force") (b
 abbrev pub IsTarget : List ℕ → Type 0
 IsTarget = All (λ b. (33 ≤ b) × (b ≤ 126) × (b ≢ 63))
 
--- the JSON object of each event; that of a request is its apply
+-- the JSON object of each event; that of a request is its apply, and that of bytes has them as a text, or their digits, two a byte
 abbrev pub IsEventObject : Data → WorldEvent → Type 0
 IsEventObject d (other (opens k)) = d ≡ only (codes "open") (whole k)
-IsEventObject d (other (comes k text)) = d ≡ only (codes "in") (pair (whole k) (string text))
+IsEventObject d (other (comes k bytes)) = (d ≡ only (codes "in") (pair (whole k) (string bytes))) ⊎ ((digits : List ℕ) × (d ≡ only (codes "bytes") (pair (whole k) (string digits))) × (decode_of digits ≡ Ok bytes))
 IsEventObject d (other (goes k)) = d ≡ only (codes "gone") (whole k)
 IsEventObject d (other (pumps k max)) = d ≡ only (codes "pump") (pair (whole k) (whole max))
 IsEventObject d (other (ticks ms)) = d ≡ only (codes "tick") (whole ms)
@@ -53,6 +54,11 @@ abbrev pub IsEventLine : List ℕ → WorldEvent → Type 0
 IsEventLine line e = (d : Data) × (read_json line ≡ Some d) × IsEventObject d e
 
 -- ---- the lines of a script
+
+-- what is read of a line: the event whose line it is, or that it is none's
+abbrev pub ReadsLine : List ℕ → Option WorldEvent → Type 0
+ReadsLine line None = (e : WorldEvent) → IsEventLine line e → ⊥
+ReadsLine line (Some e) = IsEventLine line e
 
 abbrev pub is_filled : List ℕ → Bool
 is_filled line = not (length line == 0)

@@ -1,5 +1,7 @@
 -- What each step of reading a line finds. Words of private clauses, step by step as the code goes; what a line says is said without them.
 use Rattle.std.specs.Prelude.{◌≡◌, ◌&&◌, ◌==◌, ℕ, Bool, not, nat_le, List, Option, Some, None, option_and_then, option_map, if◌then◌else◌, codes}
+use Rattle.std.specs.Result.{result_ok}
+use Rattle.hex.specs.Hex.{decode_of}
 use Rattle.std.specs.List.{list_all}
 use Rattle.std.specs.Str.{bytes_eq}
 use Rattle.serde_json.specs.Data.{Data, Items, no_items, item, Members, no_members, member}
@@ -56,11 +58,15 @@ abbrev pub is_last_item : {X : Type 0} → X → Items → Option X
 is_last_item x no_items = Some x
 is_last_item x (item d ds) = None
 
-abbrev pub comes_in : Items → Option WorldEvent
+-- a connection, and a text that comes on it
+abbrev pub comes_in : Items → Option (ℕ × List ℕ)
 comes_in ds =
-    option_and_then (λ k. option_and_then (λ t. is_last_item (other (comes k.0 t.0)) t.1)
+    option_and_then (λ k. option_and_then (λ t. is_last_item (k.0, t.0) t.1)
     (with_items as_str (next_item k.1)))
     (with_items number_in (next_item ds))
+
+abbrev pub text_in : Items → Option WorldEvent
+text_in ds = option_map (λ p. other (comes p.0 p.1)) (comes_in ds)
 
 abbrev pub pumps_in : Items → Option WorldEvent
 pumps_in ds =
@@ -90,19 +96,24 @@ client_named name =
 
 abbrev pub event_named : List ℕ → Data → Option WorldEvent
 event_named name d =
-    if bytes_eq name (codes "in") then option_and_then comes_in (as_array d)
+    if bytes_eq name (codes "in") then option_and_then text_in (as_array d)
     else if bytes_eq name (codes "pump") then option_and_then pumps_in (as_array d)
     else if bytes_eq name (codes "client") then option_and_then client_named (as_str d)
     else option_and_then (numbered name) (number_in d)
 
--- what a line says: an apply, or an event as it is
+-- what a line says: an apply, digits of bytes that come on a connection, or an event as it is
 pub data Line : Type 0 where
   applies : Apply → Line
+  brings : ℕ → List ℕ → Line
   happens : WorldEvent → Line
+
+abbrev pub digits_in : Items → Option Line
+digits_in ds = option_map (λ p. brings p.0 p.1) (comes_in ds)
 
 abbrev pub line_named : List ℕ → Data → Option Line
 line_named name d =
     if bytes_eq name (codes "apply") then option_map applies (option_and_then apply_in (as_object d))
+    else if bytes_eq name (codes "bytes") then option_and_then digits_in (as_array d)
     else if bytes_eq name (codes "types") then Some (happens (other (retypes d)))
     else option_map happens (event_named name d)
 
@@ -112,7 +123,12 @@ line_in d = option_and_then (λ p. line_named p.0 p.1) (option_and_then only_mem
 abbrev pub line_of : List ℕ → Option Line
 line_of text = option_and_then line_in (read_json text)
 
--- the event of what a line says; of an apply it is a request of its own
-abbrev pub Makes : Line → WorldEvent → Type 0
-Makes (applies a) e = (bytes : List ℕ) × IsRequestOf a bytes × (e ≡ request bytes)
-Makes (happens x) e = e ≡ x
+-- the event of bytes that come on a connection, if these are digits of bytes
+abbrev pub event_of_digits : ℕ → List ℕ → Option WorldEvent
+event_of_digits k digits = option_map (λ bytes. other (comes k bytes)) (result_ok (decode_of digits))
+
+-- the event of what a line says, if there is one; of an apply it is a request of its own
+abbrev pub Makes : Line → Option WorldEvent → Type 0
+Makes (applies a) o = (bytes : List ℕ) × IsRequestOf a bytes × (o ≡ Some (request bytes))
+Makes (brings k digits) o = o ≡ event_of_digits k digits
+Makes (happens x) o = o ≡ Some x

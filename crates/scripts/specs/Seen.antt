@@ -3,7 +3,7 @@ use Rattle.std.specs.Prelude.{string_bytes}
 use Rattle.serde_json.specs.View.{view}
 use Rattle.world.specs.Seen.{event_seen}
 use Rattle.scripts.specs.Requests.{Apply}
-use Rattle.scripts.specs.ScriptSteps.{Line, applies, happens}
+use Rattle.scripts.specs.ScriptSteps.{Line, applies, brings, happens}
 use Rattle.scripts.specs.declared.apply_line.ApplyLine.{ApplyLine}
 use Rattle.scripts.specs.declared.script.Line as lines
 use Rattle.scripts.specs.declared.script.Line.TheVariants as line
@@ -13,4 +13,5 @@ apply_of a = record { body = view a.body; force = a.force; manager = string_byte
 
 abbrev pub line_view : lines.Line → Line
 line_view (line.Apply a) = applies (apply_of a)
+line_view (line.Bytes k digits) = brings k (string_bytes digits)
 line_view (line.Event e) = happens (event_seen e)

@@ -9,18 +9,19 @@ use Rattle.scripts.specs.declared.replay_fault.ReplayFault.TheVariants as replay
 use Rattle.scripts.specs.declared.script.ScriptFault.{ScriptFault}
 use Rattle.scripts.specs.declared.script.ScriptFault.TheVariants as script
 
--- the exit status: 2 for the type or the settings, 3 for the script's file, 4 for one of its lines, 6 for the link, else that of the run's fault
+-- the exit status: 2 for the type or the settings, 3 for the script's file or the input, 4 for one of the script's lines, 6 for the link, else that of the run's fault
 abbrev pub status_of : ProgramFault → ℕ
 status_of (fault.Run f) = runs.status_of f
 status_of fault.Form = runs.wrong_usage
 status_of (fault.ScriptFile path e) = 3
-status_of (fault.Script n) = 4
+status_of (fault.Script n why) = 4
 status_of fault.NoType = runs.wrong_usage
 status_of (fault.Settings n) = runs.wrong_usage
 status_of fault.Link = 6
+status_of (fault.Input e) = 3
 
 abbrev pub script_fault_told : ScriptFault → ProgramFault
-script_fault_told (script.BadEvent n) = fault.Script n
+script_fault_told (script.BadEvent n why) = fault.Script n why
 script_fault_told script.Memory = fault.Run run.Memory
 
 abbrev pub replay_fault_told : ReplayFault → ProgramFault

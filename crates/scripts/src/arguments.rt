@@ -6,7 +6,7 @@ ghost use Rattle.clap.specs.Words.{fault_of, first_of, matches_of};
 ghost use Rattle.programs.specs.Numbers.{IsNumberOr};
 ghost use Rattle.programs.specs.Resources.{resource_in};
 ghost use Rattle.programs.specs.Seen.{resource_of};
-ghost use Rattle.scripts.specs.PlayerCommand.{IsPlayerCommand, RefusedBy, default_label, default_page, default_type, player};
+ghost use Rattle.scripts.specs.PlayerCommand.{IsPlayerCommand, IsPipeCommand, RefusedBy, default_label, default_page, default_type, pipe_app, player};
 ghost use Rattle.scripts.specs.declared.program_fault.ProgramFault.TheVariants.{Form};
 
 use crate::program_fault::ProgramFault;
@@ -75,6 +75,20 @@ pub struct PlayerOptions<'a> {
     pub types: &'a str,
     /// The path of the script.
     pub script: &'a str,
+    pub client: ClientOptions<'a>,
+}
+
+/// What the arguments of a program that reads a script from its standard input name.
+#[derive(Clone, Copy, Debug)]
+pub struct PipeOptions<'a> {
+    /// The path of the types file.
+    pub types: &'a str,
+    pub client: ClientOptions<'a>,
+}
+
+/// What the arguments of a program ask of its client.
+#[derive(Clone, Copy, Debug)]
+pub struct ClientOptions<'a> {
     /// How many objects a page of the client's list has at most.
     pub page: u32,
     /// The label selector of the client's objects; the empty text selects all.
@@ -85,6 +99,19 @@ pub struct PlayerOptions<'a> {
     pub resource: Resource<'a>,
     /// The label whose values are counted.
     pub label: &'a str,
+}
+
+/// The command of a program that reads a script from its standard input.
+fn pipe_command<'a>(alloc: Global, asked: Player<'a>) -> Result<Command<'a>, AllocError>
+    ensures { IfOk result (IsPipeCommand asked.entry.name.now) }
+{
+    program(alloc, asked.name, asked.about, asked.notes)
+        .arg(file_option(alloc, TYPES, TYPES_HELP))?
+        .arg(number_option(alloc, PAGE))?
+        .arg(text_option(alloc, SELECTOR))?
+        .arg(text_option(alloc, NAMESPACE))?
+        .arg(text_option(alloc, TYPE))?
+        .arg(text_option(alloc, LABEL))
 }
 
 fn player_command<'a>(alloc: Global, asked: Player<'a>) -> Result<Command<'a>, AllocError>
@@ -127,11 +154,11 @@ pub fn options<'a, S: AsStr>(
 ) -> Result<PlayerOptions<'a>, ProgramFault>
     ensures types { IfOk result (λ o. first_of (codes "types") (matches_of (player asked.entry.name.now) (map S.text arguments.entry.now)) ≡ Some o.types.now) }
     ensures script { IfOk result (λ o. first_of (codes "script") (matches_of (player asked.entry.name.now) (map S.text arguments.entry.now)) ≡ Some o.script.now) }
-    ensures page { IfOk result (λ o. IsNumberOr default_page (first_of (codes "page") (matches_of (player asked.entry.name.now) (map S.text arguments.entry.now))) o.page) }
-    ensures selector { IfOk result (λ o. o.selector.now ≡ unwrap_or (first_of (codes "selector") (matches_of (player asked.entry.name.now) (map S.text arguments.entry.now))) []) }
-    ensures namespace { IfOk result (λ o. option_map (λ s. s.now) o.namespace ≡ first_of (codes "namespace") (matches_of (player asked.entry.name.now) (map S.text arguments.entry.now))) }
-    ensures resource { IfOk result (λ o. resource_in (unwrap_or (first_of (codes "type") (matches_of (player asked.entry.name.now) (map S.text arguments.entry.now))) default_type) ≡ Some (resource_of o.resource)) }
-    ensures label { IfOk result (λ o. o.label.now ≡ unwrap_or (first_of (codes "label") (matches_of (player asked.entry.name.now) (map S.text arguments.entry.now))) default_label) }
+    ensures page { IfOk result (λ o. IsNumberOr default_page (first_of (codes "page") (matches_of (player asked.entry.name.now) (map S.text arguments.entry.now))) o.client.page) }
+    ensures selector { IfOk result (λ o. o.client.selector.now ≡ unwrap_or (first_of (codes "selector") (matches_of (player asked.entry.name.now) (map S.text arguments.entry.now))) []) }
+    ensures namespace { IfOk result (λ o. option_map (λ s. s.now) o.client.namespace ≡ first_of (codes "namespace") (matches_of (player asked.entry.name.now) (map S.text arguments.entry.now))) }
+    ensures resource { IfOk result (λ o. resource_in (unwrap_or (first_of (codes "type") (matches_of (player asked.entry.name.now) (map S.text arguments.entry.now))) default_type) ≡ Some (resource_of o.client.resource)) }
+    ensures label { IfOk result (λ o. o.client.label.now ≡ unwrap_or (first_of (codes "label") (matches_of (player asked.entry.name.now) (map S.text arguments.entry.now))) default_label) }
     ensures refused { RefusedBy (fault_of (player asked.entry.name.now) (map S.text arguments.entry.now)) (matches_of (player asked.entry.name.now) (map S.text arguments.entry.now)) result }
 {
     let matches = player_command(alloc, asked)?.try_get_matches_from(arguments)?;
@@ -140,10 +167,41 @@ pub fn options<'a, S: AsStr>(
     Ok(PlayerOptions {
         types: matches.get_str(TYPES).unwrap(),
         script: matches.get_str(SCRIPT).unwrap(),
-        page: page_of(page),
-        selector: matches.get_str(SELECTOR.name).unwrap_or(""),
-        namespace: matches.get_str(NAMESPACE.name),
-        resource,
-        label: matches.get_str(LABEL.name).unwrap_or(DEFAULT_LABEL),
+        client: ClientOptions {
+            page: page_of(page),
+            selector: matches.get_str(SELECTOR.name).unwrap_or(""),
+            namespace: matches.get_str(NAMESPACE.name),
+            resource,
+            label: matches.get_str(LABEL.name).unwrap_or(DEFAULT_LABEL),
+        },
+    })
+}
+
+/// Reads the arguments of a program that reads a script from its standard input, the program's name first.
+pub fn pipe_options<'a, S: AsStr>(
+    alloc: Global,
+    asked: Player<'a>,
+    arguments: &'a [S],
+) -> Result<PipeOptions<'a>, ProgramFault>
+    ensures types { IfOk result (λ o. first_of (codes "types") (matches_of (pipe_app asked.entry.name.now) (map S.text arguments.entry.now)) ≡ Some o.types.now) }
+    ensures page { IfOk result (λ o. IsNumberOr default_page (first_of (codes "page") (matches_of (pipe_app asked.entry.name.now) (map S.text arguments.entry.now))) o.client.page) }
+    ensures selector { IfOk result (λ o. o.client.selector.now ≡ unwrap_or (first_of (codes "selector") (matches_of (pipe_app asked.entry.name.now) (map S.text arguments.entry.now))) []) }
+    ensures namespace { IfOk result (λ o. option_map (λ s. s.now) o.client.namespace ≡ first_of (codes "namespace") (matches_of (pipe_app asked.entry.name.now) (map S.text arguments.entry.now))) }
+    ensures resource { IfOk result (λ o. resource_in (unwrap_or (first_of (codes "type") (matches_of (pipe_app asked.entry.name.now) (map S.text arguments.entry.now))) default_type) ≡ Some (resource_of o.client.resource)) }
+    ensures label { IfOk result (λ o. o.client.label.now ≡ unwrap_or (first_of (codes "label") (matches_of (pipe_app asked.entry.name.now) (map S.text arguments.entry.now))) default_label) }
+    ensures refused { RefusedBy (fault_of (pipe_app asked.entry.name.now) (map S.text arguments.entry.now)) (matches_of (pipe_app asked.entry.name.now) (map S.text arguments.entry.now)) result }
+{
+    let matches = pipe_command(alloc, asked)?.try_get_matches_from(arguments)?;
+    let page = number(&matches, PAGE)?;
+    let resource = resource_of(&matches)?;
+    Ok(PipeOptions {
+        types: matches.get_str(TYPES).unwrap(),
+        client: ClientOptions {
+            page: page_of(page),
+            selector: matches.get_str(SELECTOR.name).unwrap_or(""),
+            namespace: matches.get_str(NAMESPACE.name),
+            resource,
+            label: matches.get_str(LABEL.name).unwrap_or(DEFAULT_LABEL),
+        },
     })
 }

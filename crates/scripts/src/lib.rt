@@ -9,10 +9,14 @@
 //! the reading of a reply, on `clap` for the arguments.
 #![tactic(auto)]
 
+mod answer_text;
+mod answering;
 mod apply_line;
 mod arguments;
 mod by_namespace;
+mod line_fault;
 mod over_loopback;
+mod piping;
 mod playing;
 mod printing;
 mod program;
@@ -22,10 +26,12 @@ mod replaying;
 mod script;
 mod settings;
 
-pub use arguments::{Player, PlayerOptions, options};
+pub use arguments::{ClientOptions, PipeOptions, Player, PlayerOptions, options, pipe_options};
+pub use line_fault::LineFault;
 pub use over_loopback::OverLoopback;
+pub use piping::{answers_join, pipe};
 pub use playing::play_script;
-pub use program::{ssa_loop, ssa_replay};
+pub use program::{ssa_loop, ssa_pipe, ssa_replay};
 pub use program_fault::ProgramFault;
 pub use replay_fault::ReplayFault;
 pub use replaying::replay;

@@ -25,12 +25,12 @@ pub fn play_script<L: Link, W: Write>(
     link: &mut L,
     writer: &mut W,
 ) -> Result<(), ProgramFault>
-    ensures ok { OnOk result ((text : List ℕ) × PlaysAsked (types_view types) (settings_asked (types_view types) options.now) (lines_of script.now) text × Appends (W.contents writer.old) (W.contents writer.new) text) }
-    ensures front { OnErr result ((text : List ℕ) × PlaysFrontAsked (types_view types) (settings_asked (types_view types) options.now) (lines_of script.now) text × Appends (W.contents writer.old) (W.contents writer.new) text) }
-    ensures ends { Ends (types_view types) (settings_asked (types_view types) options.now) (lines_of script.now) result }
+    ensures ok { OnOk result ((text : List ℕ) × PlaysAsked (types_view types) (settings_asked (types_view types) options.now.client) (lines_of script.now) text × Appends (W.contents writer.old) (W.contents writer.new) text) }
+    ensures front { OnErr result ((text : List ℕ) × PlaysFrontAsked (types_view types) (settings_asked (types_view types) options.now.client) (lines_of script.now) text × Appends (W.contents writer.old) (W.contents writer.new) text) }
+    ensures ends { Ends (types_view types) (settings_asked (types_view types) options.now.client) (lines_of script.now) result }
     ensures link { L.may_fail ≡ false → result ≢ Err ProgramFault.Link }
 {
     let events = read_script(alloc, script)?;
-    let settings = settings_of(alloc, &types, options)?;
+    let settings = settings_of(alloc, &types, &options.client)?;
     Ok(replay(alloc, types, settings, &events, link, writer)?)
 }

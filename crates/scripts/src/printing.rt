@@ -94,7 +94,10 @@ fn count_members(
 }
 
 /// The counts as compact JSON.
-fn counts_text(alloc: Global, counts: &BTreeMap<String, u64>) -> Result<String, AllocError>
+pub(crate) fn counts_text(
+    alloc: Global,
+    counts: &BTreeMap<String, u64>,
+) -> Result<String, AllocError>
     ensures { IfOk result (λ s. string_bytes s ≡ counts_text counts.now) }
 {
     Value::Object(count_members(alloc, counts)?).to_string(alloc)

@@ -1,12 +1,13 @@
 //! The programs that play scripts, from their arguments to their exit status. The play of a script's text stands in `playing`.
 
-use crate::arguments::{Player, PlayerOptions, options};
+use crate::arguments::{Player, PlayerOptions, options, pipe_options};
 use crate::over_loopback::OverLoopback;
+use crate::piping::pipe;
 use crate::playing::play_script;
 use crate::program_fault::ProgramFault;
 use api_types::Types;
 use programs::{RunFault, end_with, read_types, unread_path};
-use std::io::{BufWriter, Write};
+use std::io::{BufReader, BufWriter, Write};
 use std::net::Net;
 use std::process::ExitCode;
 use std::rt::Files;
@@ -44,6 +45,21 @@ Exit status:
   4  bad line of the script
   5  out of memory, or the store failed
   6  the socket failed",
+};
+
+/// `ssa-pipe`: both ends in one process, and a line at a time.
+const PIPE: Player<'static> = Player {
+    name: "ssa-pipe",
+    about: "Plays a script that it reads from the standard input, and answers each line before it reads the next",
+    notes: "Example:
+  ssa-pipe --types examples/widgets.json
+
+Exit status:
+  0  the standard input has ended
+  1  the standard output can't be written
+  2  wrong usage, or a type, a page, a selector or a namespace that can't be had
+  3  the types file is bad, or it or the standard input can't be read
+  5  out of memory, or the store failed",
 };
 
 fn read_script<R: Files + AllocGlobal>(rt: &R, path: &str) -> Result<String, ProgramFault> {
@@ -86,14 +102,9 @@ fn run<R: Files + Print + AllocGlobal, L: Link>(
     print_play(rt, types, &options, script.as_str(), link)
 }
 
-/// Runs a program over a link. Answers the exit status; a fault is printed on the standard error.
-fn play<R: Files + Print + Eprint + AllocGlobal, L: Link>(
-    rt: &R,
-    player: Player<'_>,
-    link: &mut L,
-    arguments: &[String],
-) -> ExitCode {
-    match run(rt, player, link, arguments) {
+/// The exit status of a run; a fault is printed on the standard error.
+fn ended<R: Print + Eprint>(rt: &R, done: Result<(), ProgramFault>) -> ExitCode {
+    match done {
         Ok(()) => ExitCode::SUCCESS,
         Err(ProgramFault::Run(fault)) => end_with(rt, &fault),
         Err(fault) => {
@@ -102,6 +113,29 @@ fn play<R: Files + Print + Eprint + AllocGlobal, L: Link>(
             ExitCode::from(fault.status())
         }
     }
+}
+
+/// Runs a program over a link. Answers the exit status; a fault is printed on the standard error.
+fn play<R: Files + Print + Eprint + AllocGlobal, L: Link>(
+    rt: &R,
+    player: Player<'_>,
+    link: &mut L,
+    arguments: &[String],
+) -> ExitCode {
+    ended(rt, run(rt, player, link, arguments))
+}
+
+fn run_pipe<R: Files + Input + Print + AllocGlobal>(
+    rt: &R,
+    arguments: &[String],
+) -> Result<(), ProgramFault> {
+    let options = pipe_options(rt.alloc(), PIPE, arguments)?;
+    let types = read_types(rt, options.types)?;
+    let Ok(mut reader) = BufReader::new(rt.alloc(), rt.reader()) else {
+        return Err(ProgramFault::Run(RunFault::Memory));
+    };
+    let mut writer = io::writer(rt);
+    pipe(rt.alloc(), types, &options.client, &mut reader, &mut writer)
 }
 
 /// Runs `ssa-replay` on its arguments, the program's name first: reads both files, plays the script's lines and prints
@@ -119,4 +153,13 @@ pub fn ssa_loop<R: Files + Net + Print + Eprint + AllocGlobal>(
     arguments: &[String],
 ) -> ExitCode {
     play(rt, LOOP, &mut OverLoopback::new(rt), arguments)
+}
+
+/// Runs `ssa-pipe` on its arguments, the program's name first: reads the types file, and answers the lines of the standard
+/// input, each before it reads the next. Answers the exit status; a fault is printed on the standard error.
+pub fn ssa_pipe<R: Files + Input + Print + Eprint + AllocGlobal>(
+    rt: &R,
+    arguments: &[String],
+) -> ExitCode {
+    ended(rt, run_pipe(rt, arguments))
 }

@@ -2,6 +2,7 @@
 ghost use Rattle.std.specs.Prelude.{◌≡◌};
 ghost use Rattle.scripts.specs.Statuses.{status_of};
 
+use crate::line_fault::LineFault;
 use crate::replay_fault::ReplayFault;
 use crate::script::ScriptFault;
 use programs::{RunFault, WRONG_USAGE};
@@ -22,9 +23,9 @@ pub enum ProgramFault {
     /// The script cannot be read.
     #[error("script {0}: {1}")]
     ScriptFile(String, io::Error),
-    /// The first bad line of the script, counted from 1.
-    #[error("{}", ScriptFault::BadEvent(*.0))]
-    Script(usize),
+    /// The first bad line of the script, counted from 1, and why it is bad.
+    #[error("line {0}: bad event: {1}")]
+    Script(usize, LineFault),
     /// The types file has no such type.
     #[error("--type: the types file has no such type")]
     NoType,
@@ -34,6 +35,9 @@ pub enum ProgramFault {
     /// The link between server and client failed.
     #[error("{}", WorldFault::Link)]
     Link,
+    /// The standard input cannot be read.
+    #[error("standard input: {0}")]
+    Input(io::Error),
 }
 
 /// A fault of the settings, by its number.
@@ -47,16 +51,16 @@ fn text_of(number: u32) -> &'static str {
 }
 
 impl ProgramFault {
-    /// The exit status that tells the fault: 2 for the type or the settings, 3 for the script's file, 4 for one of its
-    /// lines, 6 for the link, else that of the run's fault.
+    /// The exit status that tells the fault: 2 for the type or the settings, 3 for the script's file or the input, 4
+    /// for one of the script's lines, 6 for the link, else that of the run's fault.
     pub fn status(&self) -> u8
         ensures { result ≡ status_of self.now }
     {
         match self {
             ProgramFault::Run(fault) => fault.status(),
             ProgramFault::Form | ProgramFault::NoType | ProgramFault::Settings(_) => WRONG_USAGE,
-            ProgramFault::ScriptFile(..) => 3,
-            ProgramFault::Script(_) => 4,
+            ProgramFault::ScriptFile(..) | ProgramFault::Input(_) => 3,
+            ProgramFault::Script(..) => 4,
             ProgramFault::Link => 6,
         }
     }
@@ -105,7 +109,7 @@ impl From<ScriptFault> for ProgramFault {
 
     fn from(fault: ScriptFault) -> ProgramFault {
         match fault {
-            ScriptFault::BadEvent(line) => ProgramFault::Script(line),
+            ScriptFault::BadEvent(line, why) => ProgramFault::Script(line, why),
             ScriptFault::Memory => ProgramFault::Run(RunFault::Memory),
         }
     }

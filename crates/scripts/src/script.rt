@@ -4,11 +4,16 @@ ghost use Rattle.std.specs.Vec.Iter.{into_iter_items};
 ghost use Rattle.serde_json.specs.View.{items_view, members_view, view};
 ghost use Rattle.serde_json.specs.Find.{as_bool, as_object, as_str};
 ghost use Rattle.world.specs.Seen.{event_seen};
-ghost use Rattle.scripts.specs.Script.{AreEvents, IsFirstBad, lines_of};
-ghost use Rattle.scripts.specs.ScriptSteps.{Makes, applies, apply_in, client_named, comes_in, happens, is_target, line_in, line_named, event_named, line_of, next_item, next_named, number_in, numbered, only_member, pumps_in, with_items, with_rest};
+ghost use Rattle.std.specs.Result.{result_ok};
+ghost use Rattle.hex.specs.Hex.{decode_of};
+ghost use Rattle.scripts.specs.Script.{AreEvents, IsFirstBad, ReadsLine, lines_of};
+ghost use Rattle.scripts.specs.declared.line_fault.LineFault.{LineFault};
+ghost use Rattle.scripts.specs.ScriptSteps.{Makes, applies, apply_in, client_named, comes_in, digits_in, event_of_digits, happens, is_target, line_in, line_named, event_named, line_of, next_item, next_named, number_in, numbered, only_member, pumps_in, text_in, with_items, with_rest};
 ghost use Rattle.scripts.specs.Seen.{apply_of, line_view};
 
 use crate::apply_line::{ApplyLine, request_of};
+use crate::line_fault::{LineFault, line_fault};
+use hex::FromHexError;
 use httpedge::Event;
 use json_values::{into_array, into_object};
 use serde_json::{Map, Value};
@@ -18,10 +23,12 @@ use std::vec;
 use thiserror::Error;
 use world::WorldEvent;
 
-/// What a line says: an apply, whose request is still to be made, or an event as it is.
+/// What a line says: an apply, whose request is still to be made, bytes of a connection, whose digits are still to be read, or
+/// an event as it is.
 #[derive(Debug, Drop)]
 pub(crate) enum Line {
     Apply(ApplyLine),
+    Bytes(u64, String),
     Event(WorldEvent),
 }
 
@@ -115,9 +122,9 @@ fn next_words(items: &mut vec::IntoIter<Value>) -> Option<String>
     into_text(next_item(items)?)
 }
 
-/// The bytes that come on a connection.
-fn comes_in(items: Vec<Value>) -> Option<WorldEvent>
-    ensures { option_map event_seen result ≡ comes_in (items_view items.items) }
+/// A connection, and a text that comes on it.
+fn comes_in(items: Vec<Value>) -> Option<(u64, String)>
+    ensures { option_map (λ p. (p.0, string_bytes p.1)) result ≡ comes_in (items_view items.items) }
 {
     let mut items = items.into_iter();
     let connection = next_number(&mut items)?;
@@ -125,7 +132,23 @@ fn comes_in(items: Vec<Value>) -> Option<WorldEvent>
     if items.next().is_some() {
         return None;
     }
+    Some((connection, text))
+}
+
+/// The text's bytes come on a connection.
+fn text_in(items: Vec<Value>) -> Option<WorldEvent>
+    ensures { option_map event_seen result ≡ text_in (items_view items.items) }
+{
+    let (connection, text) = comes_in(items)?;
     Some(WorldEvent::Other(Event::In(connection, text.into_bytes())))
+}
+
+/// The bytes whose hexadecimal digits the text has come on a connection.
+fn digits_in(items: Vec<Value>) -> Option<Line>
+    ensures { option_map line_view result ≡ digits_in (items_view items.items) }
+{
+    let (connection, digits) = comes_in(items)?;
+    Some(Line::Bytes(connection, digits))
 }
 
 /// A connection, and how many lines may be written on it.
@@ -173,7 +196,7 @@ fn event_named(name: &str, value: Value) -> Option<WorldEvent>
     ensures { option_map event_seen result ≡ event_named name.now (view value) }
 {
     match name {
-        "in" => comes_in(into_array(value)?),
+        "in" => text_in(into_array(value)?),
         "pump" => pumps_in(into_array(value)?),
         "client" => client_named(value.as_str()?),
         _ => numbered(name, value.as_u64()?),
@@ -185,6 +208,7 @@ fn line_named(name: &str, value: Value) -> Option<Line>
 {
     match name {
         "apply" => Some(Line::Apply(apply_in(into_object(value)?)?)),
+        "bytes" => digits_in(into_array(value)?),
         "types" => Some(Line::Event(WorldEvent::Other(Event::Retype(value)))),
         _ => Some(Line::Event(event_named(name, value)?)),
     }
@@ -208,22 +232,60 @@ fn line_of(alloc: Global, text: &str) -> Result<Option<Line>, AllocError>
     }
 }
 
-/// The event of a line; of an apply it is its request.
-fn event_of(alloc: Global, line: Line) -> Result<WorldEvent, AllocError>
-    ensures { IfOk result (λ e. Makes (line_view line) (event_seen e)) }
+/// The bytes that hexadecimal digits tell, two digits a byte, or None where a text has no such digits.
+fn bytes_of(alloc: Global, digits: &str) -> Result<Option<Vec<u8>>, AllocError>
+    ensures { IfOk result (λ o. option_map (λ v. v.items) o ≡ result_ok (decode_of digits.now)) }
+{
+    match hex::decode(alloc, digits) {
+        Ok(bytes) => Ok(Some(bytes)),
+        Err(FromHexError::OutOfMemory) => Err(AllocError),
+        Err(FromHexError::InvalidHexCharacter { .. }) => Ok(None),
+        Err(FromHexError::OddLength) => Ok(None),
+        Err(FromHexError::InvalidStringLength) => Ok(None),
+    }
+}
+
+/// The event of bytes that come on a connection.
+fn event_of_bytes(
+    alloc: Global,
+    connection: u64,
+    digits: &str,
+) -> Result<Option<WorldEvent>, AllocError>
+    ensures { IfOk result (λ o. option_map event_seen o ≡ event_of_digits connection digits.now) }
+{
+    match bytes_of(alloc, digits)? {
+        Some(bytes) => Ok(Some(WorldEvent::Other(Event::In(connection, bytes)))),
+        None => Ok(None),
+    }
+}
+
+/// The event of a line, of an apply its request; or None where there are no bytes.
+fn event_of(alloc: Global, line: Line) -> Result<Option<WorldEvent>, AllocError>
+    ensures { IfOk result (λ o. Makes (line_view line) (option_map event_seen o)) }
 {
     match line {
-        Line::Apply(line) => Ok(WorldEvent::Request(request_of(alloc, &line)?)),
-        Line::Event(event) => Ok(event),
+        Line::Apply(line) => Ok(Some(WorldEvent::Request(request_of(alloc, &line)?))),
+        Line::Bytes(connection, digits) => event_of_bytes(alloc, connection, digits.as_str()),
+        Line::Event(event) => Ok(Some(event)),
+    }
+}
+
+/// The event whose line a text is, or None where it is no event's.
+pub(crate) fn read_line(alloc: Global, text: &str) -> Result<Option<WorldEvent>, AllocError>
+    ensures { IfOk result (λ o. ReadsLine text.now (option_map event_seen o)) }
+{
+    match line_of(alloc, text)? {
+        Some(line) => event_of(alloc, line),
+        None => Ok(None),
     }
 }
 
 /// Why a script has no events. A program tells it as a `RunFault`.
-#[derive(Clone, Copy, Debug, PartialEq, Eq, Error)]
+#[derive(Debug, Drop, Error)]
 pub enum ScriptFault {
-    /// The first bad line, counted from 1.
-    #[error("line {0}: bad event")]
-    BadEvent(usize),
+    /// The first bad line, counted from 1, and why it is bad.
+    #[error("line {0}: bad event: {1}")]
+    BadEvent(usize, LineFault),
     /// Out of memory.
     #[error("out of memory")]
     Memory,
@@ -253,16 +315,16 @@ impl<T: Drop> From<AllocFailed<T>> for ScriptFault {
 
 fn read_lines(alloc: Global, lines: &[&str]) -> Result<Vec<WorldEvent>, ScriptFault>
     ensures ok { IfOk result (λ v. AreEvents (map (λ l. l.now) lines.now) (map event_seen v.items)) }
-    ensures bad { (n : ℕ) → IsErrOf result (ScriptFault.BadEvent n) → IsFirstBad (map (λ l. l.now) lines.now) n }
+    ensures bad { (n : ℕ) (why : LineFault) → IsErrOf result (ScriptFault.BadEvent n why) → IsFirstBad (map (λ l. l.now) lines.now) n }
 {
     let mut events = Vec::new(alloc);
     for (index, line) in lines.iter().enumerate() {
         if line.is_empty() {
             continue;
         }
-        match line_of(alloc, line)? {
-            Some(line) => events.push(event_of(alloc, line)?)?,
-            None => return Err(ScriptFault::BadEvent(index + 1)),
+        match read_line(alloc, line)? {
+            Some(event) => events.push(event)?,
+            None => return Err(ScriptFault::BadEvent(index + 1, line_fault(alloc, line)?)),
         }
     }
     Ok(events)
@@ -271,7 +333,7 @@ fn read_lines(alloc: Global, lines: &[&str]) -> Result<Vec<WorldEvent>, ScriptFa
 /// Reads a script: the events of its lines in order, or its first bad line.
 pub fn read_script(alloc: Global, text: &str) -> Result<Vec<WorldEvent>, ScriptFault>
     ensures ok { IfOk result (λ v. AreEvents (lines_of text.now) (map event_seen v.items)) }
-    ensures bad { (n : ℕ) → IsErrOf result (ScriptFault.BadEvent n) → IsFirstBad (lines_of text.now) n }
+    ensures bad { (n : ℕ) (why : LineFault) → IsErrOf result (ScriptFault.BadEvent n why) → IsFirstBad (lines_of text.now) n }
 {
     let lines: Vec<&str> = text.split('\n').collect(alloc)?;
     read_lines(alloc, &lines)

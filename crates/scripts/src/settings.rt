@@ -6,7 +6,7 @@ ghost use Rattle.programs.specs.declared.run_fault.RunFault.TheVariants.{Memory}
 ghost use Rattle.scripts.specs.Asked.{settings_asked};
 ghost use Rattle.scripts.specs.declared.program_fault.ProgramFault.TheVariants.{NoType, Run};
 
-use crate::arguments::PlayerOptions;
+use crate::arguments::ClientOptions;
 use crate::program_fault::ProgramFault;
 use api_types::Types;
 use std::alloc::{AllocError, Global};
@@ -25,7 +25,7 @@ fn copied(alloc: Global, text: Option<&str>) -> Result<Option<String>, AllocErro
 pub(crate) fn settings_of(
     alloc: Global,
     types: &Types,
-    options: &PlayerOptions<'_>,
+    options: &ClientOptions<'_>,
 ) -> Result<Settings, ProgramFault>
     ensures ok { IfOk result (λ s. settings_asked (types_view types.now) options.now ≡ Some (settings_seen s)) }
     ensures refused { IfErr result (λ f. (f ≡ Run Memory) ⊎ ((f ≡ NoType) × (settings_asked (types_view types.now) options.now ≡ None))) }

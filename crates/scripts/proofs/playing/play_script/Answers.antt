@@ -15,9 +15,9 @@ returns-in_err-events-clause-front g c = where_it_fails c.from_residual.result (
 pub returns-in_err-events-clause-ends : goal.returns-in_err-events-clause-ends
 returns-in_err-events-clause-ends g c =
     let types = types_view c.args.types in
-    let asked = settings_asked types c.args.options.now in
+    let asked = settings_asked types c.args.options.now.client in
     let lines = lines_of c.args.script.now in
-    ends_as types asked lines _ _ c.from_residual.ensures.1 (ends_reading types asked lines c.in_err-events.field-0.0 (λ n is. c.in_err-events.ensures.bad n (ap Err is)))
+    ends_as types asked lines _ _ c.from_residual.ensures.1 (ends_reading types asked lines c.in_err-events.field-0.0 (λ n why is. c.in_err-events.ensures.bad n why (ap Err is)))
 
 pub returns-in_err-events-clause-link : goal.returns-in_err-events-clause-link
 returns-in_err-events-clause-link g c = λ lawful. spares_link _ _ c.from_residual.ensures.1 (reading_spares_link c.in_err-events.field-0.0)
@@ -28,7 +28,7 @@ returns-in_err-settings-clause-front g c = where_it_fails c.from_residual-in_err
 pub returns-in_err-settings-clause-ends : goal.returns-in_err-settings-clause-ends
 returns-in_err-settings-clause-ends g c =
     let types = types_view c.args.types in
-    let asked = settings_asked types c.args.options.now in
+    let asked = settings_asked types c.args.options.now.client in
     let lines = lines_of c.args.script.now in
     ends_as types asked lines _ _ c.from_residual-in_err-settings.ensures.1
     (ends_asking types asked lines c.in_err-settings.field-0.0 (map event_seen c.in_ok-events.events.items, c.in_ok-events.ensures.ok) c.in_err-settings.ensures.refused)
@@ -46,7 +46,7 @@ returns-in_err-replay-clause-front g c =
 pub returns-in_err-replay-clause-ends : goal.returns-in_err-replay-clause-ends
 returns-in_err-replay-clause-ends g c =
     let types = types_view c.args.types in
-    let asked = settings_asked types c.args.options.now in
+    let asked = settings_asked types c.args.options.now.client in
     let lines = lines_of c.args.script.now in
     ends_as types asked lines _ _ c.from_residual-in_err-replay.ensures.1
     (ends_playing types asked lines c.in_err-replay.field-0.0 (settings_seen c.in_ok-settings.settings) (map event_seen c.in_ok-events.events.items, c.in_ok-events.ensures.ok) c.in_ok-settings.ensures.ok
