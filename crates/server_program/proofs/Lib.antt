@@ -1,1 +1,2 @@
+mod Creating
 mod ServerArguments

@@ -36,13 +36,16 @@ log_own = ((λ e. absurd (omega arith)), (λ e. absurd (omega arith)), (λ e. ab
 pub record_own : IsOwn (codes "record")
 record_own = ((λ e. absurd (omega arith)), (λ e. absurd (omega arith)), (λ e. absurd (omega arith)))
 
-abbrev pub names : List Text
-names = codes "types" ∷ codes "port" ∷ codes "keep" ∷ codes "pump" ∷ codes "serve" ∷ codes "concurrent" ∷ codes "patience" ∷ codes "log" ∷ codes "record" ∷ []
+pub objects_own : IsOwn (codes "objects")
+objects_own = ((λ e. absurd (omega arith)), (λ e. absurd (omega arith)), (λ e. absurd (omega arith)))
 
-pub names_are : {types port keep pump serve flag patience log recorded : Text} → types ≡ codes "types" → port ≡ codes "port" → keep ≡ codes "keep" → pump ≡ codes "pump"
+abbrev pub names : List Text
+names = codes "types" ∷ codes "port" ∷ codes "keep" ∷ codes "pump" ∷ codes "serve" ∷ codes "concurrent" ∷ codes "patience" ∷ codes "log" ∷ codes "record" ∷ codes "objects" ∷ []
+
+pub names_are : {types port keep pump serve flag patience log recorded objects : Text} → types ≡ codes "types" → port ≡ codes "port" → keep ≡ codes "keep" → pump ≡ codes "pump"
     → serve ≡ codes "serve" → flag ≡ codes "concurrent" → patience ≡ codes "patience"
-    → log ≡ codes "log" → recorded ≡ codes "record" → types ∷ port ∷ keep ∷ pump ∷ serve ∷ flag ∷ patience ∷ log ∷ recorded ∷ [] ≡ names
-names_are t p k u s f a l r = rw (t, p, k, u, s, f, a, l, r) refl
+    → log ≡ codes "log" → recorded ≡ codes "record" → objects ≡ codes "objects" → types ∷ port ∷ keep ∷ pump ∷ serve ∷ flag ∷ patience ∷ log ∷ recorded ∷ objects ∷ [] ≡ names
+names_are t p k u s f a l r o = rw (t, p, k, u, s, f, a, l, r, o) refl
 
 pub names_differ : differ names ≡ true
 unfolding clap_on_literals

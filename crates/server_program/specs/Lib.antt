@@ -1,2 +1,3 @@
+pub mod Creations
 pub mod ServerCommand
 pub mod Statuses

@@ -1,4 +1,4 @@
--- The arguments that `ssa-server` takes (its command, as `clap` reads it): `--types FILE`, which is required, numbers, flags, and the path of a record.
+-- The arguments that `ssa-server` takes (its command, as `clap` reads it): `--types FILE`, which is required, numbers, flags, and the paths of a record and of the first objects.
 use Rattle.std.specs.Prelude.{◌≡◌, Bool, Option, Some, None, true, false, codes, is_some}
 use Rattle.clap.specs.Built.{IsParsedFrom}
 use Rattle.clap.specs.Words.{App, Rule, Text, app_of, first_value, found_of, new_rule, with_rule}
@@ -20,7 +20,9 @@ abbrev with_modes : App → App
 with_modes app = with_rule (with_rule app (flag_option (codes "concurrent"))) (number_option (Some (codes "30000")) (codes "patience"))
 
 abbrev pub ssa_server : App
-ssa_server = with_rule (with_rule (with_modes (with_numbers (with_rule (program (codes "ssa-server")) (file_option (codes "types"))))) (flag_option (codes "log"))) (text_option (codes "record"))
+ssa_server =
+    with_rule (with_rule (with_rule (with_modes (with_numbers (with_rule (program (codes "ssa-server")) (file_option (codes "types"))))) (flag_option (codes "log"))) (text_option (codes "record")))
+    (text_option (codes "objects"))
 
 -- a command as above, of which each parse has the path of the types file
 pub record IsServerCommand (command : Command) : Type 0 where

@@ -25,7 +25,7 @@ Exit status:
   0  the connections that --serve asks for were served
   1  the standard output can't be written
   2  wrong usage
-  3  the types file is bad or can't be read
+  3  the types file or the objects file is bad or can't be read
   5  out of memory, or the store failed
   6  the port can't be listened on, the clock can't be read, or the system can't say which sockets are ready";
 
@@ -85,6 +85,12 @@ const CONCURRENT: &str = "concurrent";
 const CONCURRENT_HELP: &str =
     "Serve many connections at once, not one after another, and follow the types file";
 
+const OBJECTS: TextOption<'static> = TextOption {
+    name: "objects",
+    value: "FILE",
+    help: "The objects to begin with, one JSON object a line; without it, none",
+};
+
 /// What the arguments of `ssa-server` name.
 #[derive(Clone, Copy, Debug)]
 pub struct ServerOptions<'a> {
@@ -106,6 +112,8 @@ pub struct ServerOptions<'a> {
     pub log: bool,
     /// The path of the file to which events are recorded.
     pub record: Option<&'a str>,
+    /// The path of the file of the first objects.
+    pub objects: Option<&'a str>,
 }
 
 /// `--<name>`
@@ -132,7 +140,8 @@ fn server_command<'a>(alloc: Global) -> Result<Command<'a>, AllocError>
         .arg(flag_option(alloc, CONCURRENT, CONCURRENT_HELP))?
         .arg(number_option(alloc, PATIENCE))?
         .arg(flag_option(alloc, LOG, LOG_HELP))?
-        .arg(text_option(alloc, RECORD))
+        .arg(text_option(alloc, RECORD))?
+        .arg(text_option(alloc, OBJECTS))
 }
 
 /// Reads the arguments of `ssa-server`, the program's name first.
@@ -149,6 +158,7 @@ pub fn options<'a, S: AsStr>(
     ensures patience { IfOk result (λ o. IsNumberOr (codes "30000") (first_of (codes "patience") (matches_of ssa_server (map S.text arguments.entry.now))) o.patience) }
     ensures log { IfOk result (λ o. IsFlag (one_of (codes "log") (matches_of ssa_server (map S.text arguments.entry.now))) o.log) }
     ensures record { IfOk result (λ o. option_map (λ s. s.now) o.record ≡ first_of (codes "record") (matches_of ssa_server (map S.text arguments.entry.now))) }
+    ensures objects { IfOk result (λ o. option_map (λ s. s.now) o.objects ≡ first_of (codes "objects") (matches_of ssa_server (map S.text arguments.entry.now))) }
 {
     let matches = server_command(alloc)?.try_get_matches_from(arguments)?;
     let port = number(&matches, PORT)?;
@@ -168,5 +178,6 @@ pub fn options<'a, S: AsStr>(
         patience,
         log: matches.get_flag(LOG),
         record: matches.get_str(RECORD.name),
+        objects: matches.get_str(OBJECTS.name),
     })
 }

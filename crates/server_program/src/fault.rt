@@ -3,6 +3,7 @@
 ghost use Rattle.std.specs.Prelude.{◌≡◌};
 ghost use Rattle.server_program.specs.Statuses.{status_of};
 
+use crate::object_fault::ObjectFault;
 use programs::RunFault;
 use std::alloc::AllocError;
 use std::io::{self, ErrorKind};
@@ -15,6 +16,12 @@ pub enum ServerFault {
     /// A fault of the arguments, the types file, the port, the output or the store, or out of memory.
     #[error("{0}")]
     Run(RunFault),
+    /// The file of the first objects cannot be read.
+    #[error("objects file {0}: {1}")]
+    ObjectsFile(String, io::Error),
+    /// The object of a line of it isn't created.
+    #[error("objects file {0} line {1}: {2}")]
+    Object(String, usize, ObjectFault),
     /// The port cannot be told, or the system cannot say which sockets are ready.
     #[error("socket: {0}")]
     Socket(io::Error),
@@ -24,12 +31,15 @@ pub enum ServerFault {
 }
 
 impl ServerFault {
-    /// The exit status that tells the fault: 6 for the sockets or the clock, else that of the run's fault.
+    /// The exit status that tells the fault: 3 for the file of the first objects, 6 for the sockets or the clock, else that
+    /// of the run's fault.
     pub fn status(&self) -> u8
         ensures { result ≡ status_of self.now }
     {
         match self {
             ServerFault::Run(fault) => fault.status(),
+            ServerFault::ObjectsFile(..) => 3,
+            ServerFault::Object(..) => 3,
             ServerFault::Socket(_) => 6,
             ServerFault::Clock(_) => 6,
         }

@@ -2,6 +2,7 @@
 //! `serving` and `polling`.
 
 use crate::arguments::{ServerOptions, options};
+use crate::creations::create_from;
 use crate::fault::ServerFault;
 use crate::following::FollowedFile;
 use crate::witness::Witness;
@@ -133,7 +134,10 @@ fn run<R: Files + Net + Clock + Print + Eprint + AllocGlobal>(
     let options = options(rt.alloc(), arguments)?;
     let text = types_text(rt, options.types)?;
     let types = types_in(rt.alloc(), options.types, text.as_str())?;
-    let api = Api::new(rt.alloc(), types)?;
+    let mut api = Api::new(rt.alloc(), types)?;
+    if let Some(path) = options.objects {
+        create_from(rt, &mut api, path)?;
+    }
     if options.concurrent {
         run_at_once(rt, api, text, &options)
     } else {

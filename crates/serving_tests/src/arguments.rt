@@ -43,13 +43,14 @@ fn expect_row(alloc: Global, row: &str) -> Result<(), Fail> {
 /// Defaults; each option once; the least and the greatest numbers, where 0 connections are no limit; other forms of words and
 /// numbers; numbers that are none or out of range; what clap says of other words; help and the version.
 const ROWS: &str =
-    r#"--types t => ServerOptions { types: "t", port: 0, keep: 1000, pump: 500, serve: 18446744073709551615, concurrent: false, patience: 30000, log: false, record: None }
---types widgets.json --port 8001 --keep 2 --pump 3 --serve 4 --concurrent --patience 5 => ServerOptions { types: "widgets.json", port: 8001, keep: 2, pump: 3, serve: 4, concurrent: true, patience: 5, log: false, record: None }
---types t --log --record r.jsonl => ServerOptions { types: "t", port: 0, keep: 1000, pump: 500, serve: 18446744073709551615, concurrent: false, patience: 30000, log: true, record: Some("r.jsonl") }
---types t --port 0 --keep 0 --pump 1 --serve 0 --patience 1 => ServerOptions { types: "t", port: 0, keep: 0, pump: 1, serve: 18446744073709551615, concurrent: false, patience: 1, log: false, record: None }
---types t --port 65535 --keep 18446744073709551615 => ServerOptions { types: "t", port: 65535, keep: 18446744073709551615, pump: 500, serve: 18446744073709551615, concurrent: false, patience: 30000, log: false, record: None }
---types t --pump 18446744073709551615 --serve 18446744073709551615 --patience 18446744073709551615 => ServerOptions { types: "t", port: 0, keep: 1000, pump: 18446744073709551615, serve: 18446744073709551615, concurrent: false, patience: 18446744073709551615, log: false, record: None }
---concurrent --serve=1 --pump=007 --keep=+7 --types=t => ServerOptions { types: "t", port: 0, keep: 7, pump: 7, serve: 1, concurrent: true, patience: 30000, log: false, record: None }
+    r#"--types t => ServerOptions { types: "t", port: 0, keep: 1000, pump: 500, serve: 18446744073709551615, concurrent: false, patience: 30000, log: false, record: None, objects: None }
+--types widgets.json --port 8001 --keep 2 --pump 3 --serve 4 --concurrent --patience 5 => ServerOptions { types: "widgets.json", port: 8001, keep: 2, pump: 3, serve: 4, concurrent: true, patience: 5, log: false, record: None, objects: None }
+--types t --log --record r.jsonl => ServerOptions { types: "t", port: 0, keep: 1000, pump: 500, serve: 18446744073709551615, concurrent: false, patience: 30000, log: true, record: Some("r.jsonl"), objects: None }
+--types t --port 0 --keep 0 --pump 1 --serve 0 --patience 1 => ServerOptions { types: "t", port: 0, keep: 0, pump: 1, serve: 18446744073709551615, concurrent: false, patience: 1, log: false, record: None, objects: None }
+--types t --port 65535 --keep 18446744073709551615 => ServerOptions { types: "t", port: 65535, keep: 18446744073709551615, pump: 500, serve: 18446744073709551615, concurrent: false, patience: 30000, log: false, record: None, objects: None }
+--types t --pump 18446744073709551615 --serve 18446744073709551615 --patience 18446744073709551615 => ServerOptions { types: "t", port: 0, keep: 1000, pump: 18446744073709551615, serve: 18446744073709551615, concurrent: false, patience: 18446744073709551615, log: false, record: None, objects: None }
+--concurrent --serve=1 --pump=007 --keep=+7 --types=t => ServerOptions { types: "t", port: 0, keep: 7, pump: 7, serve: 1, concurrent: true, patience: 30000, log: false, record: None, objects: None }
+--types t --objects o => ServerOptions { types: "t", port: 0, keep: 1000, pump: 500, serve: 18446744073709551615, concurrent: false, patience: 30000, log: false, record: None, objects: Some("o") }
 --types t --port 65536 => 2: --port: a whole number from 0 to 65535
 --types t --port=-1 => 2: --port: a whole number from 0 to 65535
 --types t --port x => 2: --port: a whole number from 0 to 65535

@@ -1,5 +1,5 @@
 //! Tests of turns of connections, one after another (`serving`) and many at once (`polling`), by public calls alone:
-//! over memory, where streams fail, and over loopback within this process; and of the arguments and the faults of `ssa-server`.
+//! over memory, where streams fail, and over loopback within this process; and of the arguments, the faults and the first objects of `ssa-server`.
 //! What a hub answers is tested in `server_tests`.
 //!
 //! Each call stands in a helper with no clause, so that a test carries few facts; one function of each module holds a hub
@@ -8,6 +8,8 @@
 
 #[cfg(test)]
 mod arguments;
+#[cfg(test)]
+mod creations;
 #[cfg(test)]
 mod faults;
 #[cfg(test)]

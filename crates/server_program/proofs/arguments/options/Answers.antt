@@ -39,3 +39,6 @@ returns-clause-log g c =
 
 pub returns-clause-record : goal.returns-clause-record
 returns-clause-record g c = c.get_str-2.ensures ∙ value_is _ is_plain _ c.in_ok-server_command.ensures.app _ _ c.in_ok-matches.ensures.matches (codes "record")
+
+pub returns-clause-objects : goal.returns-clause-objects
+returns-clause-objects g c = c.get_str-3.ensures ∙ value_is _ is_plain _ c.in_ok-server_command.ensures.app _ _ c.in_ok-matches.ensures.matches (codes "objects")
