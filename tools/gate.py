@@ -194,10 +194,17 @@ def whole(results: Results) -> None:
         results.run(
             "refused memory", [f"{folder}/tree/tools/failing_memory.py", "--gate"]
         )
-        quick.over_the_server(f"{folder}/tree", results)
+        quick.over_the_programs(f"{folder}/tree", results)
+    release(results)
     watch.ended.set()
     watch.join()
     print(gate_cost.table(watch), flush=True)
+
+
+def release(results: Results) -> None:
+    """Holds what was built to the release of the same sources, and sees that a difference is told."""
+    results.run("planted differences of a release", ["tools/test_release.py"])
+    results.run("the release", ["tools/release.py", "--check"])
 
 
 def stored_runs(folder: str, results: Results) -> None:

@@ -10,6 +10,7 @@ PROGRAM is crates/ssa_server/out/ssa_server where none is named. The commands ar
 begin with such a line, in the order of the page; the lines behind one are what it prints. A command of ./ssa-server starts a
 fresh server, on a free port in place of the page's; the next ones set variables (NAME=VALUE), the first of them the server's
 address; those after them are run by bash.
+A page's filter behind " | " makes of a reply what is compared, also of urllib's.
 urllib leaves out the commands of curl -si, whose replies are shown with their heads: it can't make some of these requests.
 Each command has to end with status 0, with each one of a pipe, and a server may not end by itself. A page has to have so
 many commands at the least, and no line "$ COMMAND" outside of such blocks. The last line counts the commands, `N passed, M
@@ -170,6 +171,13 @@ def status_of(body):
     return value["code"] if value.get("kind") == "Status" else None
 
 
+def filtered(command, text):
+    """What a filter of a page makes of a text."""
+    if not command:
+        return text
+    return subprocess.run(["bash", "-c", command], input=text, stdout=subprocess.PIPE, text=True, check=False).stdout.rstrip("\n")
+
+
 def by_urllib(names, rows):
     """Makes a session's requests. Of a command with a watch in the background that is opened, then the other request is
     made, and the watch's lines are read."""
@@ -177,14 +185,15 @@ def by_urllib(names, rows):
         if " -si " in command:
             continue
         steps = [step for part in command.split(" & ") for step in part.split("; ") if step.startswith("curl ")]
-        asked = [request_of(shlex.split(expanded(step, names))) for step in steps]
+        calls, _, by = zip(*(step.partition(" | ") for step in steps))
+        asked = [request_of(shlex.split(expanded(call, names))) for call in calls]
         replies = [opened(request) for request in asked]
         if len(replies) > 1:
             body = "".join(replies[0].readline().decode() for _ in wanted.splitlines()).rstrip("\n")
         else:
             body = replies[0].read().decode().rstrip("\n")
             differs(command, f"urllib: status of {command}", replies[0].status if status_of(body) else None, status_of(body))
-        differs(command, f"urllib: {command}", body, wanted)
+        differs(command, f"urllib: {command}", filtered(by[0], body), wanted)
         for reply in replies:
             reply.close()
 

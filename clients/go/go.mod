@@ -1,0 +1,3 @@
+module nazhuvem
+
+go 1.19

@@ -1,0 +1,93 @@
+#!/usr/bin/env python3
+"""Runs the tests of the packages in clients/ and their examples, over the programs that the packages find (NAZHUVEM_BIN names
+another folder); part of the gate.
+
+    tools/clients_test.py
+
+What needs something that isn't installed is told as skipped: Go (Debian's `golang-go`), the package `kubernetes` (Debian's
+`python3-kubernetes`), and client-go, which is taken from the GOPATH that CLIENT_GO names (examples/go.md says how to make one).
+The last line counts what passed and what failed; the status is 1 where something fails.
+"""
+from __future__ import annotations
+
+import concurrent.futures
+import importlib.util
+import os
+import shutil
+import subprocess
+import sys
+import tempfile
+import time
+from collections.abc import Iterator
+
+TOP = os.path.dirname(os.path.dirname(os.path.realpath(__file__)))
+PYTHON = f"{TOP}/clients/python"
+GO = f"{TOP}/clients/go"
+# What a step may take; the first build of client-go takes some minutes.
+SECONDS = 900
+
+
+class Step:
+    """A command with its folder and what is set for it, or why it is skipped."""
+
+    def __init__(self, name: str, folder: str, *command: str, skipped: str = "", **variables: str) -> None:
+        self.name = name
+        self.folder = folder
+        self.command = command
+        self.skipped = skipped
+        self.variables = variables
+
+    def run(self) -> bool:
+        """Runs it, and tells whether it passed; what it printed is shown where it didn't."""
+        began = time.monotonic()
+        command = ["timeout", str(SECONDS), *self.command]
+        done = subprocess.run(command, cwd=self.folder, env={**os.environ, **self.variables}, stdin=subprocess.DEVNULL,
+                              stdout=subprocess.PIPE, stderr=subprocess.STDOUT, text=True, errors="replace", check=False)
+        passed = done.returncode == 0
+        said = "" if passed else done.stdout
+        print(f"{said}{'passed' if passed else 'FAILED'}: {self.name}, {time.monotonic() - began:.1f} s\n", end="", flush=True)
+        return passed
+
+
+def python_steps() -> Iterator[Step]:
+    missing = "" if importlib.util.find_spec("kubernetes") else "python3-kubernetes isn't installed"
+    yield Step("clients/python", PYTHON, sys.executable, "-W", "error::ResourceWarning", "-m", "unittest", "-q")
+    yield Step("clients/python, the package kubernetes", PYTHON, sys.executable, "-m", "unittest", "-q", "tests.test_kubernetes",
+               skipped=missing)
+    for name in ("reconcile.py", "lease.py"):
+        yield Step(f"examples/{name}", f"{TOP}/examples", sys.executable, name, PYTHONPATH=PYTHON)
+
+
+def go_steps(room: str) -> Iterator[Step]:
+    missing = "" if shutil.which("go") and shutil.which("gofmt") else "golang-go isn't installed"
+    sources = [os.path.join(folder, name) for folder in (GO, f"{TOP}/examples/reconcile_go") for name in sorted(os.listdir(folder))
+               if name.endswith(".go")]
+    yield Step("the form of the Go sources", TOP, "sh", "-c", 'test -z "$(gofmt -l "$@" | tee /dev/stderr)"', "sh", *sources, skipped=missing)
+    yield Step("clients/go, vet", GO, "go", "vet", ".", skipped=missing)
+    yield Step("clients/go", GO, "go", "test", "-count=1", ".", skipped=missing)
+    client_go = os.environ.get("CLIENT_GO", "")
+    if not missing and not os.path.isdir(f"{client_go}/src/k8s.io/client-go"):
+        missing = "CLIENT_GO names no GOPATH with client-go"
+    os.makedirs(f"{room}/src")
+    os.symlink(GO, f"{room}/src/nazhuvem")
+    yield Step("examples/reconcile_go", f"{TOP}/examples/reconcile_go", "go", "test", "-count=1", ".", skipped=missing,
+               GO111MODULE="off", CGO_ENABLED="0", GOPATH=f"{client_go}:{room}")
+
+
+def main() -> int:
+    processors = len(os.sched_getaffinity(0))
+    with tempfile.TemporaryDirectory() as room, concurrent.futures.ThreadPoolExecutor(processors) as pool:
+        steps = [*python_steps(), *go_steps(room)]
+        for step in steps:
+            if step.skipped:
+                print(f"skipped: {step.name}: {step.skipped}", flush=True)
+        ended = list(pool.map(Step.run, [step for step in steps if not step.skipped]))
+    print(f"clients: {len(steps) - len(ended)} skipped")
+    print(f"{ended.count(True)} passed, {ended.count(False)} failed")
+    return int(False in ended)
+
+
+if __name__ == "__main__":
+    if len(sys.argv) > 1:
+        sys.exit(__doc__)
+    sys.exit(main())

@@ -1,0 +1,313 @@
+#!/usr/bin/env python3
+"""Tests the programs as processes: how they end, which fault is told first, and what a server tells and follows.
+
+    tools/programs_test.py [FOLDER]
+
+FOLDER has the programs as a release names them (`ssa-server`); without FOLDER they are crates/NAME/out/NAME, as `rt run`
+and the gate build them. What calls answer is tested in the crates of tests.
+"""
+
+import json
+import os
+import queue
+import re
+import socket
+import subprocess
+import sys
+import tempfile
+import threading
+import time
+import unittest
+from collections.abc import Iterator
+from contextlib import contextmanager
+from typing import Any
+
+from running import TOP
+
+WIDGETS = "/apis/demo.example/v1/namespaces/default/widgets"
+LIST = f"GET {WIDGETS} HTTP/1.1\r\nHost: localhost\r\n\r\n"
+TYPE = "demo.example/v1/widgets"
+UNKNOWN = f'refusal 1: unknown keyword "nullable" at {TYPE} .spec.tags'
+# After so many seconds something has happened; a types file is looked at each second.
+SECONDS, FOLLOWED = 60, 4
+folder = ""
+
+
+def types_text(list_type: str = "set", **more: object) -> str:
+    """A types file with a list of this kind."""
+    tags: dict[str, object] = {"type": "array", "items": {"type": "string"}, **more}
+    tags["x-kubernetes-list-type"] = list_type
+    spec = {"type": "object", "properties": {"tags": tags}}
+    schema = {"type": "object", "properties": {"spec": spec}}
+    names = {"group": "demo.example", "version": "v1", "kind": "Widget"}
+    return json.dumps({"types": [{**names, "plural": "widgets", "schema": schema}]})
+
+
+def path_of(name: str) -> str:
+    """The path of a program."""
+    if folder:
+        return f"{folder}/{name.replace('_', '-')}"
+    return f"{TOP}/crates/{name}/out/{name}"
+
+
+def run(name: str, *words: str, **how: Any) -> subprocess.CompletedProcess[str]:
+    """Runs a program to its end."""
+    how.setdefault("stdout", subprocess.PIPE)
+    how.setdefault("timeout", SECONDS)
+    return subprocess.run(
+        [path_of(name), *words],
+        stdin=subprocess.DEVNULL,
+        stderr=subprocess.PIPE,
+        text=True,
+        check=False,
+        **how,
+    )
+
+
+def reply_to(port: int, request: str) -> str:
+    """The whole reply to a request."""
+    with socket.create_connection(("127.0.0.1", port), SECONDS) as stream:
+        stream.sendall(request.encode())
+        return b"".join(iter(lambda: stream.recv(65536), b"")).decode()
+
+
+def applied(tags: list[str], name: str = "w1") -> str:
+    """The request that applies an object with these tags."""
+    body = json.dumps(
+        {
+            "apiVersion": "demo.example/v1",
+            "kind": "Widget",
+            "spec": {"tags": tags},
+        }
+    )
+    return (
+        f"PATCH {WIDGETS}/{name}?fieldManager=alice HTTP/1.1\r\nHost: localhost\r\n"
+        "Content-Type: application/apply-patch+yaml\r\n"
+        f"Content-Length: {len(body)}\r\n\r\n{body}"
+    )
+
+
+class Server:
+    """A server on a free port, and what it says on its standard error."""
+
+    def __init__(self, *words: str) -> None:
+        self.process = subprocess.Popen(
+            [path_of("ssa_server"), *words, "--port", "0"],
+            stdin=subprocess.DEVNULL,
+            stdout=subprocess.PIPE,
+            stderr=subprocess.PIPE,
+            text=True,
+        )
+        assert self.process.stdout is not None
+        self.port = int(self.process.stdout.readline().rpartition(":")[2])
+        self.lines: queue.Queue[str] = queue.Queue()
+        self.reader = threading.Thread(target=self.listen, daemon=True)
+        self.reader.start()
+
+    def listen(self) -> None:
+        """Keeps the lines of the standard error."""
+        assert self.process.stderr is not None
+        for line in self.process.stderr:
+            self.lines.put(line.rstrip("\n"))
+
+    def said(self, seconds: float = SECONDS) -> str:
+        """The next line of the standard error, or nothing after so many seconds."""
+        try:
+            return self.lines.get(timeout=seconds)
+        except queue.Empty:
+            return ""
+
+    def end(self) -> None:
+        """Ends the server, and what reads of it."""
+        self.process.kill()
+        self.process.wait()
+        self.reader.join()
+        for stream in (self.process.stdout, self.process.stderr):
+            assert stream is not None
+            stream.close()
+
+    def version(self) -> str:
+        """The version of the list."""
+        return str(self.listed()["metadata"]["resourceVersion"])
+
+    def listed(self) -> Any:
+        """The list of all objects."""
+        return json.loads(reply_to(self.port, LIST).partition("\r\n\r\n")[2])
+
+
+@contextmanager
+def serving(*words: str) -> Iterator[Server]:
+    """A server that is killed at the end of the block."""
+    server = Server(*words)
+    try:
+        yield server
+    finally:
+        server.end()
+
+
+class InRoom(unittest.TestCase):
+    """A test with a folder of its own and a types file in it."""
+
+    def setUp(self) -> None:
+        """Makes the folder."""
+        room = tempfile.TemporaryDirectory(prefix="programs-")
+        self.addCleanup(room.cleanup)
+        self.room = room.name
+        self.types = self.file("types.json", types_text())
+
+    def file(self, name: str, text: str) -> str:
+        """Puts a file, whole at once."""
+        path = f"{self.room}/{name}"
+        with open(f"{path}.new", "w", encoding="utf-8") as it:
+            it.write(text)
+        os.replace(f"{path}.new", path)
+        return path
+
+    def ends(self, row: str, status: int, said: str) -> None:
+        """A program that is called so ends with this status and says this."""
+        name, *words = row.split()
+        with self.subTest(row):
+            done = run(name, *words)
+            ended = (done.returncode, done.stdout, done.stderr.rstrip("\n"))
+            self.assertEqual(ended, (status, "", said))
+
+
+class Ends(InRoom):
+    """With which status programs end, and which of several faults is told."""
+
+    def test_faults_of_a_server_in_order(self) -> None:
+        """Words, the types file, the port."""
+        none, text = f"{self.room}/none", self.file("text", "[")
+        bad = self.file("bad", types_text(nullable=True))
+        absent = f"types file {none}: No such file or directory (os error 2)"
+        no_json = f"types file {text}: not JSON: EOF while parsing at line 1 column 1"
+        refused = f"types file {bad}: {UNKNOWN}"
+        number = "--port: a whole number from 0 to 65535"
+        with socket.create_server(("127.0.0.1", 0)) as taken:
+            port = taken.getsockname()[1]
+            used = f"port {port}: Address already in use (os error 98)"
+            for mode in ("", " --concurrent"):
+                self.ends(f"ssa_server --types {none} --port x{mode}", 2, number)
+                call = f"ssa_server --port {port}{mode} --types"
+                for path, said in ((none, absent), (text, no_json), (bad, refused)):
+                    self.ends(f"{call} {path}", 3, said)
+                self.ends(f"{call} {self.types}", 6, used)
+
+    def test_faults_of_a_mirror_in_order(self) -> None:
+        """Words, the types file, what is asked of its types, the port."""
+        none, bad = f"{self.room}/none", self.file("bad", "{}")
+        absent = f"types file {none}: No such file or directory (os error 2)"
+        refused = f"types file {bad}: refusal 6: not the form of a types file"
+        with socket.create_server(("127.0.0.1", 0)) as taken:
+            port = taken.getsockname()[1]
+        call = f"ssa_mirror --port {port} --types"
+        form = "--type: group/version/plural"
+        self.ends(f"{call} {none} --type a/b --page 0", 2, form)
+        self.ends(f"{call} {none} --type {TYPE} --page 0", 3, absent)
+        self.ends(f"{call} {bad} --type a/b/c --page 0", 3, refused)
+        no_type = "--type: the types file has no such type"
+        self.ends(f"{call} {self.types} --type a/b/c --page 0", 2, no_type)
+        page = "a page has 1 to 500 objects"
+        self.ends(f"{call} {self.types} --type {TYPE} --page 0", 2, page)
+        closed = f"port {port}: Connection refused (os error 111)"
+        self.ends(f"{call} {self.types} --type {TYPE}", 6, closed)
+
+    def test_full_output(self) -> None:
+        """A server can't tell its port, a mirror no line."""
+        said = "standard output: No space left on device (os error 28)\n"
+        with open("/dev/full", "w", encoding="utf-8") as full:
+            for mode in ((), ("--concurrent",)):
+                done = run("ssa_server", "--types", self.types, *mode, stdout=full)
+                self.assertEqual((done.returncode, done.stderr), (1, said))
+            with serving("--types", self.types) as server:
+                words = ("--types", self.types, "--type", TYPE)
+                port = str(server.port)
+                done = run("ssa_mirror", *words, "--port", port, stdout=full)
+            self.assertEqual((done.returncode, done.stderr), (1, said))
+
+    def test_so_many_connections(self) -> None:
+        """A server ends well once it has served as many as it is told."""
+        for mode in ((), ("--concurrent",)):
+            words = ("--types", self.types, "--serve", "2", *mode)
+            with self.subTest(mode), serving(*words) as server:
+                self.assertEqual(server.version(), "1")
+                time.sleep(1)
+                self.assertIsNone(server.process.poll())
+                self.assertEqual(server.version(), "1")
+                self.assertEqual(server.process.wait(SECONDS), 0)
+
+
+class Follows(InRoom):
+    """A server of many connections follows its types file, one in turn does not."""
+
+    def becomes(
+        self, server: Server, list_type: str, said: str, **more: object
+    ) -> None:
+        """The file gets a list of another kind, and the server says this."""
+        self.file("types.json", types_text(list_type, **more))
+        self.assertEqual(server.said(FOLLOWED), f"types file {self.types}: {said}")
+
+    def owned(self, server: Server) -> Any:
+        """Who owns what of the only object."""
+        (found,) = server.listed()["items"]
+        return found["metadata"]["managedFields"][0]["fieldsV1"]["f:spec"]["f:tags"]
+
+    def test_a_changed_file_is_served(self) -> None:
+        """What is refused is told, and the types that were served stay."""
+        with serving("--types", self.types, "--concurrent") as server:
+            reply_to(server.port, applied(["b", "a"]))
+            self.assertEqual(self.owned(server), {'v:"a"': {}, 'v:"b"': {}})
+            self.becomes(server, "atomic", "served at revision 3")
+            self.assertEqual((server.version(), self.owned(server)), ("3", {}))
+            self.becomes(server, "atomic", UNKNOWN, nullable=True)
+            self.becomes(server, "set", "not a lawful change of types")
+            os.remove(self.types)
+            absent = f"types file {self.types}: No such file or directory (os error 2)"
+            self.assertEqual(server.said(FOLLOWED), absent)
+            self.assertEqual(server.said(2.5), "")
+            reply_to(server.port, applied(["c", "c"]))
+            self.assertEqual((server.version(), self.owned(server)), ("4", {}))
+            self.becomes(server, "atomic", "served at revision 4")
+
+    def test_no_file_is_followed_in_turn(self) -> None:
+        """The types stay those of the start."""
+        with serving("--types", self.types) as server:
+            reply_to(server.port, applied(["b", "a"]))
+            self.file("types.json", types_text("atomic"))
+            self.assertEqual(server.said(2.5), "")
+            self.assertEqual(server.version(), "2")
+
+
+class Tells(InRoom):
+    """What a server logs and records."""
+
+    def test_a_log_and_a_record(self) -> None:
+        """A line for each request; a script that gives each reply again."""
+        line = re.compile(r"\d+\.\d{3} (\d+) (\S+) (\S+) (\d+) (\d+) \d+")
+        for mode in ((), ("--concurrent",)):
+            script = f"{self.room}/script{len(mode)}"
+            words = ("--types", self.types, "--log", "--record", script, *mode)
+            with self.subTest(mode), serving(*words) as server:
+                asked = (applied(["a"]), LIST, "GET /nothing HTTP/1.1\r\n\r\n")
+                replies = [reply_to(server.port, it) for it in asked]
+                told = [line.fullmatch(server.said()) for _ in asked]
+                wanted = [
+                    (it.split()[0], it.split()[1], reply.split()[1], str(len(reply)))
+                    for it, reply in zip(asked, replies)
+                ]
+                self.assertEqual([it and it.groups()[1:] for it in told], wanted)
+                ids = [it and int(it[1]) for it in told]
+                played = run("ssa_replay", "--types", self.types, "--script", script)
+                printed = "".join(
+                    f"connection {id} {len(reply)}\n{reply}\n"
+                    for id, reply in zip(ids, replies)
+                )
+                # (what a program prints is read with line ends of one kind)
+                self.assertEqual(played.stdout, printed.replace("\r\n", "\n"))
+
+
+if __name__ == "__main__":
+    if set(sys.argv[1:]) & {"-h", "--help"}:
+        sys.exit(__doc__)
+    folder = os.path.realpath(sys.argv[1]) if sys.argv[1:] else ""
+    unittest.main(argv=sys.argv[:1], verbosity=2)

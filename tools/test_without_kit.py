@@ -1,0 +1,116 @@
+#!/usr/bin/env python3
+"""Runs over the released programs what can be run where there is no kit, and says what is not shown by that.
+
+    tools/test_without_kit.py
+
+`./test` calls it on such a machine. The last line is "N passed, M failed".
+"""
+
+from __future__ import annotations
+
+import os
+import shutil
+import subprocess
+import sys
+import tempfile
+
+import quick
+import released
+import repository
+from released import TOP
+from results import Results
+
+SECONDS = 120
+NOT_SHOWN = """not shown here, since it needs the kit (`rt`):
+  that the programs meet their contracts (the proofs), that the prover refuses the wrong bodies, the layout of the sources
+  the tests of crates/*_tests, and that each allocation may be refused
+  that the released programs are the ones that their sources make (tools/release.py --check, after the gate)"""
+
+
+def stored_run(crate: str, program: str, results: Results) -> None:
+    """A program's stored run: its arguments and its input on a copy of its data, what it prints and its status."""
+    name, folder = f"{crate}: the stored run", f"{TOP}/crates/{crate}"
+    wanted, status = quick.read(f"{folder}/stdout"), int(
+        quick.read(f"{folder}/status") or 0
+    )
+    with tempfile.TemporaryDirectory() as room:
+        data = f"{room}/data"
+        if os.path.isdir(f"{folder}/data"):
+            shutil.copytree(f"{folder}/data", data)
+        else:
+            os.mkdir(data)
+        words = [program, *quick.read(f"{folder}/args").decode().splitlines()]
+        try:
+            done = subprocess.run(
+                words,
+                cwd=data,
+                input=quick.read(f"{folder}/stdin"),
+                stdout=subprocess.PIPE,
+                stderr=subprocess.DEVNULL,
+                timeout=SECONDS,
+                check=False,
+            )
+        except subprocess.TimeoutExpired:
+            results.failed(name, f"it had not ended after {SECONDS} seconds")
+            return
+    prints = "what is stored" if done.stdout == wanted else "something else"
+    is_well = (done.returncode, done.stdout) == (status, wanted)
+    why = f"it ends with status {done.returncode} and not {status}, and prints {prints}"
+    results.told(name, is_well, "it is as stored" if is_well else why)
+
+
+def of_the_files(results: Results) -> None:
+    """What is held of the release, the pages and the stored files."""
+    results.run("planted differences of a release", ["tools/test_release.py"])
+    results.run("the release", ["tools/release.py", "--check"])
+    results.run("the generated pages", ["tools/pages.py", "--check"])
+    with tempfile.TemporaryDirectory() as room:
+        paths = (
+            it for it in repository.files() if it.startswith(("bench/", "crates/"))
+        )
+        repository.copy(room, paths)
+        quick.stored_runs(room, results)
+
+
+def of_the_programs(folder: str, results: Results) -> None:
+    """What is held of the programs of a folder."""
+    crates = released.programs(released.lines_of_crates())
+    for name, crate in crates.items():
+        if os.path.exists(f"{folder}/{name}"):
+            stored_run(crate, f"{folder}/{name}", results)
+    os.environ["NAZHUVEM_BIN"] = folder
+    quick.over_the_programs(TOP, results, folder)
+
+
+def run(results: Results) -> None:
+    """All that can be run without the kit."""
+    release = released.manifest()
+    if not release:
+        results.failed("the programs", "there is neither a kit (`rt`) nor a release")
+        return
+    if released.sources(release.kit) != release.sources:
+        print(
+            f"the sources here are others than those of release {release.version}, which is run: what they changed may fail"
+        )
+    of_the_files(results)
+    of_the_programs(released.unpacked(release, list(release.programs)), results)
+    print(NOT_SHOWN)
+
+
+def main(words: list[str]) -> int:
+    """Runs all, and ends with the line that counts it."""
+    if words in (["-h"], ["--help"]):
+        print(__doc__)
+        return 0
+    if words:
+        print("without the kit (`rt`) all that can be run is run, whatever is named")
+    results = Results()
+    try:
+        run(results)
+    except (SystemExit, KeyboardInterrupt) as ended:
+        results.failed("the tests", f"they ended early: {ended or 'interrupted'}")
+    return results.close()
+
+
+if __name__ == "__main__":
+    sys.exit(main(sys.argv[1:]))
