@@ -14,6 +14,7 @@ connections.
 from __future__ import annotations
 
 import argparse
+import contextlib
 import json
 import os
 import random
@@ -68,8 +69,10 @@ class Peer(threading.Thread):
             head += f"Content-Type: application/apply-patch+yaml\r\nContent-Length: {len(body)}\r\n"
         data = head.encode() + b"\r\n" + (body or b"")
         with socket.create_connection(("127.0.0.1", self.port), timeout=60) as it:
-            for piece in self.pieces(data):
-                it.sendall(piece)
+            # (the server may refuse what it has, and end the connection)
+            with contextlib.suppress(ConnectionError):
+                for piece in self.pieces(data):
+                    it.sendall(piece)
             if self.draws.random() < 0.02:
                 self.got[mark] = Got(b"", False)
                 return
